@@ -1,0 +1,78 @@
+-- The two assertions (own profile; their names are PMTest's).
+use Rattle.std.specs.Prelude.{◌≡◌, ℕ, suc, ◌+◌, ◌<◌, ◌≤◌, Bool, true, false, if◌then◌else◌, List, [], ◌∷◌, Option, Some, None, IfSome, IsSomeAnd, ◌↔◌, ◌⊎◌, IsTrue}
+use Rattle.pmt_model.specs.Values.{Span}
+use Rattle.pmt_model.specs.Machine.{Act, Stores, Flushes, FlushesNow, Fences, Asserts, count, writes, State, Ends, Passes}
+use Rattle.pmt_model.specs.Fronts.{front}
+use Rattle.pmt_model.specs.Traces.{Recording, history, event}
+use Rattle.pmt_model.specs.Selections.{IsRising, Has, cut, matching_place}
+use Rattle.pmt_model.specs.Keeping.{IsKeep}
+
+-- A store, by its line and its number among the stores to the line.
+pub record Placed : Type 0 where
+  pub line : ℕ
+  pub rank : ℕ
+
+-- The last store of the history that writes the byte at b.
+abbrev pub last_store : ℕ → List Act → Option Placed
+last_store b [] = None
+last_store b (Stores l w ∷ history) = if writes w b then Some (record { line = l; rank = suc (count l history) }) else last_store b history
+last_store b (Flushes t l ∷ history) = last_store b history
+last_store b (FlushesNow l ∷ history) = last_store b history
+last_store b (Fences t ∷ history) = last_store b history
+last_store b (Asserts ∷ history) = last_store b history
+
+abbrev pub IsPersisted : (ℕ → ℕ) → Placed → Type 0
+IsPersisted persisted store = store.rank ≤ persisted store.line
+
+abbrev pub InSpan : Span → ℕ → Type 0
+InSpan A b = (A.addr ≤ b) × (b < A.addr + A.len)
+
+-- The last store of the history to each byte of A that has one is persisted.
+abbrev pub AllPersisted : List Act → (ℕ → ℕ) → Span → Type 0
+AllPersisted history persisted A = (a : ℕ) → InSpan A a → IfSome (last_store a history) (IsPersisted persisted)
+
+-- isPersist A, after this history: so it is at the end of every run.
+abbrev pub PersistPasses : List Act → Span → Type 0
+PersistPasses history A = (s : State) → Ends history s → AllPersisted history s.persisted A
+
+-- isOrderedBefore A B, after this history: at every moment of every run, where the last store to some byte of B is persisted,
+-- so is the last store to each byte of A. A store that has not come yet is not persisted, since no more stores of a line are
+-- persisted than have come.
+abbrev pub OrderedPasses : List Act → Span → Span → Type 0
+OrderedPasses history A B =
+    (s : State) → Passes history s → (b : ℕ) → InSpan B b → IsSomeAnd (last_store b history) (IsPersisted s.persisted) →
+    AllPersisted history s.persisted A
+
+-- The verdicts of assertion i in the trace and of the matching one in the kept selection are the same.
+abbrev pub VerdictsStay : Type 0
+VerdictsStay =
+    (T : Recording) (K : List ℕ) (i : ℕ) → IsKeep T K →
+    ((A : Span) → PersistPasses (history T i) A ↔ PersistPasses (history (cut T K) (matching_place K i)) A)
+    × ((A B : Span) → OrderedPasses (history T i) A B ↔ OrderedPasses (history (cut T K) (matching_place K i)) A B)
+
+-- isPersist by the fronts.
+abbrev pub PersistByFronts : Type 0
+PersistByFronts =
+    (history : List Act) (A : Span) →
+    PersistPasses history A ↔ ((a : ℕ) → InSpan A a → IfSome (last_store a history) (λ x. x.rank ≤ front x.line history))
+
+-- The history up to and with the last store that writes the byte at b.
+abbrev pub up_to_last : ℕ → List Act → List Act
+up_to_last b [] = []
+up_to_last b (Stores l w ∷ history) = if writes w b then Stores l w ∷ history else up_to_last b history
+up_to_last b (Flushes t l ∷ history) = up_to_last b history
+up_to_last b (FlushesNow l ∷ history) = up_to_last b history
+up_to_last b (Fences t ∷ history) = up_to_last b history
+up_to_last b (Asserts ∷ history) = up_to_last b history
+
+-- Store x persists no later than y, h being the history up to y.
+abbrev pub NoLater : List Act → Placed → Placed → Type 0
+NoLater h x y = ((x.line ≡ y.line) × (x.rank ≤ y.rank)) ⊎ (x.rank ≤ front x.line h)
+
+-- isOrderedBefore by the fronts as of the last store to each byte of B.
+abbrev pub OrderedByFronts : Type 0
+OrderedByFronts =
+    (history : List Act) (A B : Span) →
+    OrderedPasses history A B ↔
+    ((b : ℕ) → InSpan B b → IfSome (last_store b history) (λ y.
+    (a : ℕ) → InSpan A a → IfSome (last_store a history) (λ x. NoLater (up_to_last b history) x y)))

@@ -1,0 +1,63 @@
+-- The flushes and fences that matter, and the selection of them.
+use Rattle.std.specs.Prelude.{◌≡◌, ◌≢◌, ℕ, ◌-◌, ◌<◌, ◌≤◌, ◌↔◌, ◌==◌, if◌then◌else◌, true, false, List, [], ◌∷◌, length}
+use Rattle.pmt_model.specs.Machine.{Act, Flushes, FlushesNow, Fences}
+use Rattle.pmt_model.specs.Traces.{Recording, IsAct, count_at}
+use Rattle.pmt_model.specs.Fronts.{front_at}
+use Rattle.pmt_model.specs.Selections.{IsRising, Has, always_stays, IsFaithful}
+
+-- A fence that raises the front of some line.
+pub record IsUsefulFence (T : Recording) (j : ℕ) : Type 0 where
+  pub thread : ℕ
+  pub line : ℕ
+  pub is_fence : IsAct T j (Fences thread)
+  pub raises : front_at T line j ≢ front_at T line (j - 1)
+
+-- A flush that its thread's next fence needs: the thread's last one of that line before that fence, of more stores than the
+-- front just before that fence.
+pub record IsUsefulFlush (T : Recording) (i : ℕ) : Type 0 where
+  pub thread : ℕ
+  pub line : ℕ
+  pub fence : ℕ
+  pub is_flush : IsAct T i (Flushes thread line)
+  pub is_fence : IsAct T fence (Fences thread)
+  pub later : i < fence
+  pub next_fence : (k : ℕ) → i < k → k < fence → ¬ IsAct T k (Fences thread)
+  pub last_flush : (k : ℕ) → i < k → k < fence → ¬ IsAct T k (Flushes thread line)
+  pub needed : front_at T line (fence - 1) < count_at T line i
+
+-- A clflush that raises the front of its line.
+pub record IsUsefulClflush (T : Recording) (i : ℕ) : Type 0 where
+  pub line : ℕ
+  pub is_clflush : IsAct T i (FlushesNow line)
+  pub raises : front_at T line i ≢ front_at T line (i - 1)
+
+-- A store, an assertion, or a useful flush or fence.
+pub data IsKept (T : Recording) (i : ℕ) : Type 0 where
+  Stays : (a : Act) → IsAct T i a → always_stays a ≡ true → IsKept T i
+  ByFence : IsUsefulFence T i → IsKept T i
+  ByFlush : IsUsefulFlush T i → IsKept T i
+  ByClflush : IsUsefulClflush T i → IsKept T i
+
+-- K is the rising list of the events that are kept.
+pub record IsKeep (T : Recording) (K : List ℕ) : Type 0 where
+  pub rising : IsRising 0 K
+  pub just : (i : ℕ) → Has K i ↔ IsKept T i
+
+-- There is one such list.
+abbrev pub KeepIsUnique : Type 0
+KeepIsUnique = (T : Recording) (K J : List ℕ) → IsKeep T K → IsKeep T J → K ≡ J
+
+-- It is a selection, and faithful at every place.
+abbrev pub KeepIsFaithful : Type 0
+KeepIsFaithful = (T : Recording) (K : List ℕ) (n : ℕ) → IsKeep T K → IsFaithful T K n
+
+-- The numbers without k.
+abbrev pub without : List ℕ → ℕ → List ℕ
+without [] k = []
+without (j ∷ js) k = if j == k then without js k else j ∷ without js k
+
+-- Without its event k, which is no store and no assertion, the selection is not faithful at some place.
+abbrev pub NoneCanGo : Type 0
+NoneCanGo =
+    (T : Recording) (K : List ℕ) (k : ℕ) (a : Act) → IsKeep T K → Has K k → IsAct T k a → always_stays a ≡ false →
+    (n : ℕ) × (n ≤ length T.events) × (IsFaithful T (without K k) n → ⊥)

@@ -1,0 +1,15 @@
+pub mod Values
+pub mod Formats
+pub mod Stored
+pub mod Constructing
+pub mod Ops
+pub mod Machine
+pub mod Traces
+pub mod Fronts
+pub mod Boxes
+pub mod Selections
+pub mod Keeping
+pub mod Assertions
+pub mod Findings
+pub mod Analyses
+pub mod Interleavings

@@ -1,0 +1,48 @@
+-- A trace cut to some of its events.
+use Rattle.std.specs.Prelude.{◌≡◌, ℕ, suc, ◌<◌, ◌≤◌, ◌⊎◌, ◌↔◌, Bool, true, false, nat_le, if◌then◌else◌, List, [], ◌∷◌, length}
+use Rattle.std.specs.List.{filter_map}
+use Rattle.pmt_model.specs.Machine.{Act, Stores, Flushes, FlushesNow, Fences, Asserts, Image}
+use Rattle.pmt_model.specs.Traces.{Recording, event, IsAct, CrashAt, VectorsAt}
+use Rattle.pmt_model.specs.Fronts.{front_at}
+
+-- The numbers rise, the first from above low.
+abbrev pub IsRising : ℕ → List ℕ → Type 0
+IsRising low [] = Unit {0}
+IsRising low (k ∷ ks) = (low < k) × IsRising k ks
+
+abbrev pub Has : List ℕ → ℕ → Type 0
+Has [] n = ⊥
+Has (k ∷ ks) n = (k ≡ n) ⊎ Has ks n
+
+-- A store or an assertion, which every selection has.
+abbrev pub always_stays : Act → Bool
+always_stays (Stores l w) = true
+always_stays (Flushes t l) = false
+always_stays (FlushesNow l) = false
+always_stays (Fences t) = false
+always_stays Asserts = true
+
+-- Rising numbers of events, among them those of all stores and assertions.
+pub record IsSelection (T : Recording) (K : List ℕ) : Type 0 where
+  pub rising : IsRising 0 K
+  pub within : (k : ℕ) → Has K k → k ≤ length T.events
+  pub whole : (i : ℕ) (a : Act) → IsAct T i a → always_stays a ≡ true → Has K i
+
+-- The events with these numbers, in the same format.
+abbrev pub cut : Recording → List ℕ → Recording
+cut T K = record { format = T.format; events = filter_map (event T) K }
+
+-- The matching place: how many of the numbers are at most n.
+abbrev pub matching_place : List ℕ → ℕ → ℕ
+matching_place [] n = 0
+matching_place (k ∷ ks) n = if nat_le k n then suc (matching_place ks n) else matching_place ks n
+
+-- After n events of the trace and after those of them that are kept, a crash may leave just the same.
+pub record IsFaithful (T : Recording) (K : List ℕ) (n : ℕ) : Type 0 where
+  pub images : (image : Image) → CrashAt T n image ↔ CrashAt (cut T K) (matching_place K n) image
+  pub vectors : (v : ℕ → ℕ) → VectorsAt T n v ↔ VectorsAt (cut T K) (matching_place K n) v
+
+-- A selection with the fronts of the trace is faithful.
+abbrev pub FrontsDecide : Type 0
+FrontsDecide =
+    (T : Recording) (K : List ℕ) (n : ℕ) → IsSelection T K → ((l : ℕ) → front_at T l n ≡ front_at (cut T K) l (matching_place K n)) → IsFaithful T K n
