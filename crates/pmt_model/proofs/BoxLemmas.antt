@@ -1,5 +1,5 @@
 -- The counts of persisted stores that the runs of a history end with are those between the fronts and the counts of stores.
-use Rattle.std.proofs.Common.{◌≡◌, ℕ, suc, ◌<◌, ◌≤◌, min, max, ◌⊎◌, inl, inr, Bool, true, false, List, [], ◌∷◌, ◌&&◌, if◌then◌else◌, ◌==◌, refl, sym, ap, subst, ◌∙◌, cond, eq-eqb, eqb-true, ne_eqb, le_trans, arith}
+use Rattle.std.proofs.Common.{◌≡◌, ℕ, suc, ◌<◌, ◌≤◌, min, max, ◌⊎◌, inl, inr, Bool, true, false, List, [], ◌∷◌, ◌&&◌, if◌then◌else◌, ◌==◌, refl, sym, ap, subst, subst₂, ◌↔◌, ◌∙◌, cond, eq-eqb, eqb-true, ne_eqb, le_trans, arith}
 use Rattle.std.specs.List.{AllByRecursion}
 use Rattle.std.proofs.lemmas.Bool.{cond_both, cond-true, cond-false, cases_lt, cases_eq}
 use Rattle.pmt_model.specs.Values.{Written}
@@ -178,3 +178,30 @@ pub vectors_are_a_box : VectorsAreABox
 vectors_are_a_box h v =
     ( λ x l. subst (λ n. (front l h ≤ n) × (n ≤ count l h)) (x.2 l) (ends-box h x.0 x.1 l)
     , λ box. box-ends h v box )
+
+-- some run ends with nothing persisted but what has to be
+pub least-vector : (h : List Act) → Vectors h (λ l. front l h)
+least-vector h = box-ends h (λ l. front l h) (λ l. (omega arith, front-le-count l h))
+
+-- and some with all persisted
+pub greatest-vector : (h : List Act) → Vectors h (λ l. count l h)
+greatest-vector h = box-ends h (λ l. count l h) (λ l. (front-le-count l h, omega arith))
+
+-- no run ends with less than the front persisted
+pub vector-ge_front : (h : List Act) (v : ℕ → ℕ) → Vectors h v → (l : ℕ) → front l h ≤ v l
+vector-ge_front h v x l = ((vectors_are_a_box h v).0 x l).0
+
+-- where runs end with the same counts, the fronts are the same
+pub same_vectors-front : (h k : List Act) → ((v : ℕ → ℕ) → Vectors h v ↔ Vectors k v) → (l : ℕ) → front l h ≡ front l k
+same_vectors-front h k same l =
+    let one = vector-ge_front k (λ j. front j h) ((same (λ j. front j h)).0 (least-vector h)) l in
+    let other = vector-ge_front h (λ j. front j k) ((same (λ j. front j k)).1 (least-vector k)) l in
+    omega arith
+
+-- where fronts and counts are the same, runs end with the same counts
+pub same_fronts-vectors : (h k : List Act) → ((l : ℕ) → front l h ≡ front l k) → ((l : ℕ) → count l h ≡ count l k) → (v : ℕ → ℕ) → Vectors h v ↔ Vectors k v
+same_fronts-vectors h k fronts counts v = (over h k fronts counts, over k h (λ l. sym (fronts l)) (λ l. sym (counts l)))
+  where
+    over : (a b : List Act) → ((l : ℕ) → front l a ≡ front l b) → ((l : ℕ) → count l a ≡ count l b) → Vectors a v → Vectors b v
+    over a b lower upper x =
+        (vectors_are_a_box b v).1 (λ l. subst₂ (λ m n. (m ≤ v l) × (v l ≤ n)) (lower l) (upper l) ((vectors_are_a_box a v).0 x l))

@@ -1,0 +1,3 @@
+//! Laws of the definitions in `specs/`: each function has an empty body, and its contract states a theorem.
+
+pub mod fronts;
