@@ -1,2 +1,5 @@
 pub mod Histories
+pub mod BoxLemmas
 pub mod CutLemmas
+pub mod FaithfulLemmas
+pub mod KeepLemmas
