@@ -61,6 +61,17 @@ place-dropped (k ∷ ks) n h =
         place-out k ks (suc n) apart ∙ place-dropped ks n (λ has. h (inr has)) ∙ sym (place-out k ks n (omega arith)))
     (cases_lt k (suc n))
 
+-- A later place has a later matching place.
+pub place-mono : (K : List ℕ) (m n : ℕ) → m ≤ n → matching_place K m ≤ matching_place K n
+place-mono [] m n h = omega arith
+place-mono (k ∷ ks) m n h = go (cases_lt m k) (cases_lt n k) (place-mono ks m n h)
+  where
+    go : (m < k) ⊎ (k ≤ m) → (n < k) ⊎ (k ≤ n) → matching_place ks m ≤ matching_place ks n → matching_place (k ∷ ks) m ≤ matching_place (k ∷ ks) n
+    go (inl before) (inl early) le = omega (arith, place-out k ks m before, place-out k ks n early)
+    go (inl before) (inr late) le = omega (arith, place-out k ks m before, place-in k ks n late)
+    go (inr after) (inl early) le = absurd (omega arith)
+    go (inr after) (inr late) le = omega (arith, place-in k ks m after, place-in k ks n late)
+
 -- Each number is that of an event.
 abbrev AreThere : Recording → List ℕ → Type 0
 AreThere T K = (k : ℕ) → Has K k → (e : Event) × (event T k ≡ Some e)
