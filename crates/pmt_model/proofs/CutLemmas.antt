@@ -57,8 +57,8 @@ place-dropped (k ∷ ks) n h =
     ⊎_elim
     (λ (below : k < suc n). place-in k ks (suc n) (omega arith) ∙ ap suc (place-dropped ks n (λ has. h (inr has))) ∙ sym (place-in k ks n (omega arith)))
     (λ (above : suc n ≤ k).
-        let apart : suc n < k = omega (arith, λ (e : k ≡ suc n). h (inl e)) in
-        place-out k ks (suc n) apart ∙ place-dropped ks n (λ has. h (inr has)) ∙ sym (place-out k ks n (omega arith)))
+    let apart : suc n < k = omega (arith, λ (e : k ≡ suc n). h (inl e)) in
+    place-out k ks (suc n) apart ∙ place-dropped ks n (λ has. h (inr has)) ∙ sym (place-out k ks n (omega arith)))
     (cases_lt k (suc n))
 
 -- A later place has a later matching place.

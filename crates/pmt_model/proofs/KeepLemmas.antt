@@ -22,17 +22,22 @@ rising-unique low (k ∷ ks) (j ∷ js) r q there back =
     at_most : (m : ℕ) (ms : List ℕ) (n : ℕ) → IsRising m ms → Has (m ∷ ms) n → m ≤ n
     at_most m ms n rises (inl same) = omega arith
     at_most m ms n rises (inr h) = let above : m < n = has-above m ms n rises h in omega arith
+
     e : k ≡ j
     e = let up : j ≤ k = at_most j js k q.1 (there k (inl refl)) in
         let down : k ≤ j = at_most k ks j r.1 (back j (inl refl)) in
         omega arith
+
     tail_rising : IsRising k js
     tail_rising = let P : ℕ → Type 0 = λ m. IsRising m js in subst P (sym e) q.1
+
     in_tail : (m : ℕ) (ms : List ℕ) (n : ℕ) → m < n → Has (m ∷ ms) n → Has ms n
     in_tail m ms n lt (inl same) = absurd (omega arith)
     in_tail m ms n lt (inr h) = h
+
     further : (n : ℕ) → Has ks n → Has js n
     further n h = let above : k < n = has-above k ks n r.1 h in in_tail j js n (omega (arith, e)) (there n (inr h))
+
     backward : (n : ℕ) → Has js n → Has ks n
     backward n h = let above : j < n = has-above j js n q.1 h in in_tail k ks n (omega (arith, e)) (back n (inr h))
 
@@ -186,28 +191,36 @@ last-flush T t l (suc n) = go (history-step T n) (last-flush T t l n)
     later : (mark t l (history T (suc n)) ≡ mark t l (history T n)) → (IsAct T (suc n) (Flushes t l) → ⊥) →
         (mark t l (history T n) ≡ 0) ⊎ ((i : ℕ) × IsLastFlush T t l n i) → (mark t l (history T (suc n)) ≡ 0) ⊎ ((i : ℕ) × IsLastFlush T t l (suc n) i)
     later same no_flush (inl e) = inl (same ∙ e)
-    later same no_flush (inr (i, last)) = inr (i, record {
-      is_flush = last.is_flush;
-      by_now = let before : i ≤ n = last.by_now in omega arith;
-      none_later = λ k after within is. ⊎_elim
-          (λ (early : k < suc n). last.none_later k after (omega arith) is)
-          (λ (late : suc n ≤ k). let e : k ≡ suc n = omega arith in let P : ℕ → Type 0 = λ j. IsAct T j (Flushes t l) in no_flush (subst P e is))
-          (cases_lt k (suc n));
-      stores = last.stores ∙ sym same;
-    })
+    later same no_flush (inr (i, last)) = inr (
+      i,
+      record {
+        is_flush = last.is_flush;
+        by_now = let before : i ≤ n = last.by_now in omega arith;
+        none_later = λ k after within is. ⊎_elim
+            (λ (early : k < suc n). last.none_later k after (omega arith) is)
+            (λ (late : suc n ≤ k). let e : k ≡ suc n = omega arith in let P : ℕ → Type 0 = λ j. IsAct T j (Flushes t l) in no_flush (subst P e is))
+            (cases_lt k (suc n));
+        stores = last.stores ∙ sym same;
+      },
+    )
+
     by_act : (a : Act) → IsAct T (suc n) a → (a ≡ Flushes t l) ⊎ (a ≡ Flushes t l → ⊥) → (mark t l (history T n) ≡ 0) ⊎ ((i : ℕ) × IsLastFlush T t l n i) →
         (mark t l (history T (suc n)) ≡ 0) ⊎ ((i : ℕ) × IsLastFlush T t l (suc n) i)
     by_act a is (inl e) before =
         let flush : IsAct T (suc n) (Flushes t l) = (is.0, is.1, is.2 ∙ e) in
         let grown = history-act T n (Flushes t l) flush in
-        inr (suc n, record {
-          is_flush = flush;
-          by_now = omega arith;
-          none_later = λ k after within at. absurd (omega arith);
-          stores = ap (count l) grown ∙ sym (ap (mark t l) grown ∙ mark-flush t l (history T n));
-        })
+        inr (
+          suc n,
+          record {
+            is_flush = flush;
+            by_now = omega arith;
+            none_later = λ k after within at. absurd (omega arith);
+            stores = ap (count l) grown ∙ sym (ap (mark t l) grown ∙ mark-flush t l (history T n));
+          },
+        )
     by_act a is (inr apart) before =
         later (ap (mark t l) (history-act T n a is) ∙ mark-other t l a (history T n) apart) (λ flush. apart (act-unique T (suc n) a (Flushes t l) is flush)) before
+
     go : ((a : Act) × IsAct T (suc n) a) ⊎ ((length T.events ≤ n) × (history T (suc n) ≡ history T n)) → (mark t l (history T n) ≡ 0) ⊎ ((i : ℕ) × IsLastFlush T t l n i) →
         (mark t l (history T (suc n)) ≡ 0) ⊎ ((i : ℕ) × IsLastFlush T t l (suc n) i)
     go (inl x) before = by_act x.0 x.1 (flush-dec t l x.0) before
@@ -242,20 +255,24 @@ needed-flush T t l n fence raises = go (last-flush T t l n)
   where
     go : (mark t l (history T n) ≡ 0) ⊎ ((i : ℕ) × IsLastFlush T t l n i) → (i : ℕ) × IsUsefulFlush T i × IsLastFlush T t l n i
     go (inl e) = absurd (omega arith)
-    go (inr (i, last)) = (i, record {
-      thread = t;
-      line = l;
-      fence = suc n;
-      is_flush = last.is_flush;
-      is_fence = fence;
-      later = let h : i ≤ n = last.by_now in omega arith;
-      next_fence = λ k after before is.
-          let up : count_at T l i ≤ front_at T l k = front-at_fence T t l i k last.is_flush is after in
-          let on : front_at T l k ≤ front_at T l n = front-mono T l k n (omega arith) in
-          omega (arith, last.stores);
-      last_flush = λ k after before is. last.none_later k after (omega arith) is;
-      needed = let e : suc n - 1 ≡ n = omega arith in rw e (omega (arith, last.stores));
-    }, last)
+    go (inr (i, last)) = (
+      i,
+      record {
+        thread = t;
+        line = l;
+        fence = suc n;
+        is_flush = last.is_flush;
+        is_fence = fence;
+        later = let h : i ≤ n = last.by_now in omega arith;
+        next_fence = λ k after before is.
+            let up : count_at T l i ≤ front_at T l k = front-at_fence T t l i k last.is_flush is after in
+            let on : front_at T l k ≤ front_at T l n = front-mono T l k n (omega arith) in
+            omega (arith, last.stores);
+        last_flush = λ k after before is. last.none_later k after (omega arith) is;
+        needed = let e : suc n - 1 ≡ n = omega arith in rw e (omega (arith, last.stores));
+      },
+      last,
+    )
 
 -- In a cut that has the flush, the mark is at least the number of stores before it.
 pub mark-from_kept : (T : Recording) (K : List ℕ) (t l i n : ℕ) → IsSelection T K → IsAct T i (Flushes t l) → Has K i → i ≤ n →
@@ -265,7 +282,7 @@ mark-from_kept T K t l (suc m) n s is has h =
     let place = place-kept K m s.rising has in
     let within : matching_place K (suc m) ≤ matching_place K n = place-mono K (suc m) n h in
     let up : count_at (cut T K) l (suc (matching_place K m)) ≤ mark t l (history (cut T K) (matching_place K n)) =
-            mark-from_flush (cut T K) t l (suc (matching_place K m)) (matching_place K n) (cut-act T K m (Flushes t l) s has is) (omega arith) in
+    mark-from_flush (cut T K) t l (suc (matching_place K m)) (matching_place K n) (cut-act T K m (Flushes t l) s has is) (omega arith) in
     let same : count_at (cut T K) l (suc (matching_place K m)) ≡ count_at T l (suc m) = ap (count_at (cut T K) l) (sym place) ∙ count-cut T K l (suc m) s in
     omega arith
 
@@ -282,10 +299,10 @@ kept-front T K l n (FlushesNow k) keep is le = go (k == l)
 kept-front T K l n (Fences t) keep is le =
     ⊎_elim
     (λ (raises : front_at T l n < mark t l (history T n)).
-        let flush = needed-flush T t l n is raises in
-        let up : count_at T l flush.0 ≤ mark t l (history (cut T K) (matching_place K n)) =
-                mark-from_kept T K t l flush.0 n (keep_is_selection T K keep) flush.2.is_flush ((keep.just flush.0).1 (ByFlush flush.1)) flush.2.by_now in
-        omega (arith, flush.2.stores))
+    let flush = needed-flush T t l n is raises in
+    let up : count_at T l flush.0 ≤ mark t l (history (cut T K) (matching_place K n)) =
+    mark-from_kept T K t l flush.0 n (keep_is_selection T K keep) flush.2.is_flush ((keep.just flush.0).1 (ByFlush flush.1)) flush.2.by_now in
+    omega (arith, flush.2.stores))
     (λ (no_more : mark t l (history T n) ≤ front_at T l n). omega arith)
     (cases_lt (front_at T l n) (mark t l (history T n)))
 kept-front T K l n Asserts keep is le = le

@@ -1,4 +1,5 @@
 pub mod Histories
+pub mod Owing
 pub mod BoxLemmas
 pub mod CutLemmas
 pub mod FaithfulLemmas

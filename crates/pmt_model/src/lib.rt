@@ -10,12 +10,15 @@ pub mod fault;
 pub mod finding;
 pub mod format;
 pub mod gate;
+pub mod laws;
 pub mod range;
 pub mod store;
 
 pub use crate::addr::Addr;
 pub use crate::event::{Event, Op};
-pub use crate::fault::{FormatError, OpError, OutOfMemory, PushError, SelectionError, SplitStoreError};
+pub use crate::fault::{
+    FormatError, OpError, OutOfMemory, PushError, SelectionError, SplitStoreError,
+};
 pub use crate::finding::{Finding, Verdict};
 pub use crate::format::{Format, line_of};
 pub use crate::gate::{Gate, NoGate};
