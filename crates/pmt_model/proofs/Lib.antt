@@ -1,3 +1,6 @@
+pub mod Falls
+pub mod Pieces
+pub mod SelectLemmas
 pub mod Histories
 pub mod Owing
 pub mod BoxLemmas
