@@ -128,19 +128,17 @@ equal_or_less m n h = grind arith
 
 grown-from_grows : (T : Recording) (f : List Act → ℕ) → ((a : Act) (h : List Act) → f h ≤ f (a ∷ h)) → (n : ℕ) → f (history T n) ≤ f (history T (suc n))
 grown-from_grows T f grows n =
-    elim (history-step T n) [
-      | inl x ↦ rw (history-act T n x.0 x.1) (grows x.0 (history T n))
-      | inr x ↦ rw x.1 (omega arith)
-    ]
+    elim (history-step T n)
+    [ inl x ↦ rw (history-act T n x.0 x.1) (grows x.0 (history T n))
+    | inr x ↦ rw x.1 (omega arith) ]
 
 -- a number read off a history that no act lowers doesn't fall from place to place
 pub mono-from_grows : (T : Recording) (f : List Act → ℕ) → ((a : Act) (h : List Act) → f h ≤ f (a ∷ h)) → (m n : ℕ) → m ≤ n → f (history T m) ≤ f (history T n)
 mono-from_grows T f grows m zero h = let e : m ≡ zero = omega arith in rw e (omega arith)
 mono-from_grows T f grows m (suc n) h =
-    elim (equal_or_less m n h) [
-      | inl e ↦ rw e (omega arith)
-      | inr less ↦ omega (arith, mono-from_grows T f grows m n less, grown-from_grows T f grows n)
-    ]
+    elim (equal_or_less m n h)
+    [ inl e ↦ rw e (omega arith)
+    | inr less ↦ omega (arith, mono-from_grows T f grows m n less, grown-from_grows T f grows n) ]
 
 -- counts don't fall from place to place
 pub count-mono : (T : Recording) (l m n : ℕ) → m ≤ n → count_at T l m ≤ count_at T l n

@@ -9,6 +9,9 @@ use Rattle.pmt_model.specs.Selections.{IsRising, Has, IsSelection, cut, matching
 use Rattle.pmt_model.specs.Keeping.{IsUsefulFlush, IsKept, Stays, ByFence, ByFlush, ByClflush, IsKeep, KeepIsUnique, KeepIsFaithful}
 use Rattle.pmt_model.proofs.Histories.{act-within, history-act, history-step, mark-le-count, front-grows, front-mono, mono-from_grows, act-unique}
 use Rattle.pmt_model.proofs.CutLemmas.{IsNext, Keeps, Drops, Ended, next-step, has-above, place-kept, place-mono, cut-act, history-zero, count-cut}
+use Rattle.pmt_model.proofs.Owing.{mark-grows}
+use Rattle.pmt_model.proofs.FrontLemmas.{mark-greatest, completed-le_front}
+use Rattle.pmt_model.proofs.LastFlushes.{IsLastFlush, last-flush}
 use Rattle.pmt_model.proofs.FaithfulLemmas.{fronts_decide}
 
 -- Rising lists of the same numbers are equal.
@@ -77,18 +80,6 @@ mark-kept t l (FlushesNow k) g h e le = le
 mark-kept t l (Fences u) g h e le = le
 mark-kept t l Asserts g h e le = le
 
--- A mark never falls.
-pub mark-grows : (t l : ℕ) (a : Act) (h : List Act) → mark t l h ≤ mark t l (a ∷ h)
-mark-grows t l (Stores k w) h = omega arith
-mark-grows t l (Flushes u k) h = go ((u == t) && (k == l))
-  where
-    go : (b : Bool) → mark t l h ≤ (if b then count l h else mark t l h)
-    go true = mark-le-count t l h
-    go false = omega arith
-mark-grows t l (FlushesNow k) h = omega arith
-mark-grows t l (Fences u) h = omega arith
-mark-grows t l Asserts h = omega arith
-
 -- The marks of the cut are at most those of the trace.
 pub mark-cut-le : (T : Recording) (K : List ℕ) (t l n : ℕ) → IsSelection T K → mark t l (history (cut T K) (matching_place K n)) ≤ mark t l (history T n)
 mark-cut-le T K t l zero s = rw (history-zero T K s) (omega arith)
@@ -147,106 +138,10 @@ raising-is-kept T l n (Fences t) is changes = ByFence (record {
 })
 raising-is-kept T l n Asserts is changes = Stays Asserts is refl
 
--- The last flush of line l by thread t among the first n events.
-pub record IsLastFlush (T : Recording) (t l n i : ℕ) : Type 0 where
-  pub is_flush : IsAct T i (Flushes t l)
-  pub by_now : i ≤ n
-  pub none_later : (k : ℕ) → i < k → k ≤ n → ¬ IsAct T k (Flushes t l)
-  pub stores : count_at T l i ≡ mark t l (history T n)
-
--- An act is a flush of the line by the thread, or not.
-flush-dec : (t l : ℕ) (a : Act) → (a ≡ Flushes t l) ⊎ (a ≡ Flushes t l → ⊥)
-flush-dec t l (Stores k w) = inr (λ e. cc)
-flush-dec t l (Flushes u k) = go (cases_eq u t) (cases_eq k l)
-  where
-    go : (u ≡ t) ⊎ (u ≡ t → ⊥) → (k ≡ l) ⊎ (k ≡ l → ⊥) → (Flushes u k ≡ Flushes t l) ⊎ (Flushes u k ≡ Flushes t l → ⊥)
-    go (inl x) (inl y) = inl (cc)
-    go (inl x) (inr y) = inr (λ e. y (cc))
-    go (inr x) y = inr (λ e. x (cc))
-flush-dec t l (FlushesNow k) = inr (λ e. cc)
-flush-dec t l (Fences u) = inr (λ e. cc)
-flush-dec t l Asserts = inr (λ e. cc)
-
--- Any other act leaves the mark.
-mark-other : (t l : ℕ) (a : Act) (h : List Act) → (a ≡ Flushes t l → ⊥) → mark t l (a ∷ h) ≡ mark t l h
-mark-other t l (Stores k w) h apart = refl
-mark-other t l (Flushes u k) h apart = go (cases_Bool ((u == t) && (k == l)))
-  where
-    go : ((u == t) && (k == l)) ≡ true ⊎ ((u == t) && (k == l)) ≡ false → mark t l (Flushes u k ∷ h) ≡ mark t l h
-    go (inl e) = let both = and_parts (u == t) (k == l) e in absurd (apart (ap₂ Flushes (eqb-true u t both.0) (eqb-true k l both.1)))
-    go (inr e) = cond-false ((u == t) && (k == l)) (count l h) (mark t l h) e
-mark-other t l (FlushesNow k) h apart = refl
-mark-other t l (Fences u) h apart = refl
-mark-other t l Asserts h apart = refl
-
--- A flush marks the stores so far.
-pub mark-flush : (t l : ℕ) (h : List Act) → mark t l (Flushes t l ∷ h) ≡ count l h
-mark-flush t l h = cond-true ((t == t) && (l == l)) (count l h) (mark t l h) (and_from (t == t) (l == l) (eq-eqb t t refl) (eq-eqb l l refl))
-
--- The mark counts the stores before the last flush, if there is one.
-pub last-flush : (T : Recording) (t l n : ℕ) → (mark t l (history T n) ≡ 0) ⊎ ((i : ℕ) × IsLastFlush T t l n i)
-last-flush T t l zero = inl refl
-last-flush T t l (suc n) = go (history-step T n) (last-flush T t l n)
-  where
-    later : (mark t l (history T (suc n)) ≡ mark t l (history T n)) → (IsAct T (suc n) (Flushes t l) → ⊥) →
-        (mark t l (history T n) ≡ 0) ⊎ ((i : ℕ) × IsLastFlush T t l n i) → (mark t l (history T (suc n)) ≡ 0) ⊎ ((i : ℕ) × IsLastFlush T t l (suc n) i)
-    later same no_flush (inl e) = inl (same ∙ e)
-    later same no_flush (inr (i, last)) = inr (
-      i,
-      record {
-        is_flush = last.is_flush;
-        by_now = let before : i ≤ n = last.by_now in omega arith;
-        none_later = λ k after within is. ⊎_elim
-            (λ (early : k < suc n). last.none_later k after (omega arith) is)
-            (λ (late : suc n ≤ k). let e : k ≡ suc n = omega arith in let P : ℕ → Type 0 = λ j. IsAct T j (Flushes t l) in no_flush (subst P e is))
-            (cases_lt k (suc n));
-        stores = last.stores ∙ sym same;
-      },
-    )
-
-    by_act : (a : Act) → IsAct T (suc n) a → (a ≡ Flushes t l) ⊎ (a ≡ Flushes t l → ⊥) → (mark t l (history T n) ≡ 0) ⊎ ((i : ℕ) × IsLastFlush T t l n i) →
-        (mark t l (history T (suc n)) ≡ 0) ⊎ ((i : ℕ) × IsLastFlush T t l (suc n) i)
-    by_act a is (inl e) before =
-        let flush : IsAct T (suc n) (Flushes t l) = (is.0, is.1, is.2 ∙ e) in
-        let grown = history-act T n (Flushes t l) flush in
-        inr (
-          suc n,
-          record {
-            is_flush = flush;
-            by_now = omega arith;
-            none_later = λ k after within at. absurd (omega arith);
-            stores = ap (count l) grown ∙ sym (ap (mark t l) grown ∙ mark-flush t l (history T n));
-          },
-        )
-    by_act a is (inr apart) before =
-        later (ap (mark t l) (history-act T n a is) ∙ mark-other t l a (history T n) apart) (λ flush. apart (act-unique T (suc n) a (Flushes t l) is flush)) before
-
-    go : ((a : Act) × IsAct T (suc n) a) ⊎ ((length T.events ≤ n) × (history T (suc n) ≡ history T n)) → (mark t l (history T n) ≡ 0) ⊎ ((i : ℕ) × IsLastFlush T t l n i) →
-        (mark t l (history T (suc n)) ≡ 0) ⊎ ((i : ℕ) × IsLastFlush T t l (suc n) i)
-    go (inl x) before = by_act x.0 x.1 (flush-dec t l x.0) before
-    go (inr x) before =
-        later (ap (mark t l) x.1) (λ flush. let past : length T.events ≤ n = x.0 in let le : suc n ≤ length T.events = (act-within T (suc n) (Flushes t l) flush).1 in absurd (omega arith)) before
-
--- A mark never falls along a trace.
-pub mark-mono : (T : Recording) (t l m n : ℕ) → m ≤ n → mark t l (history T m) ≤ mark t l (history T n)
-mark-mono T t l m n h = mono-from_grows T (mark t l) (mark-grows t l) m n h
-
--- From a flush on, the mark is at least the number of stores before it.
-pub mark-from_flush : (T : Recording) (t l i n : ℕ) → IsAct T i (Flushes t l) → i ≤ n → count_at T l i ≤ mark t l (history T n)
-mark-from_flush T t l zero n is h = omega arith
-mark-from_flush T t l (suc m) n is h =
-    let grown = history-act T m (Flushes t l) is in
-    let here : mark t l (history T (suc m)) ≡ count_at T l (suc m) = ap (mark t l) grown ∙ mark-flush t l (history T m) ∙ sym (ap (count l) grown) in
-    let up : mark t l (history T (suc m)) ≤ mark t l (history T n) = mark-mono T t l (suc m) n h in
-    omega arith
-
 -- A fence persists what its thread's flushes before it mark.
 pub front-at_fence : (T : Recording) (t l i k : ℕ) → IsAct T i (Flushes t l) → IsAct T k (Fences t) → i < k → count_at T l i ≤ front_at T l k
-front-at_fence T t l i zero flush fence h = absurd (omega arith)
-front-at_fence T t l i (suc m) flush fence h =
-    let up : count_at T l i ≤ mark t l (history T m) = mark-from_flush T t l i m flush (omega arith) in
-    let grown : front_at T l (suc m) ≡ max (front l (history T m)) (mark t l (history T m)) = ap (front l) (history-act T m (Fences t) fence) in
-    omega arith
+front-at_fence T t l i k flush fence h =
+    completed-le_front T l k (count_at T l i) (inl (record { thread = t; flush = i; fence = k; is_flush = flush; is_fence = fence; later = h; by_now = omega arith; stores = refl }))
 
 -- A fence that raises a front does so through a useful flush.
 pub needed-flush : (T : Recording) (t l n : ℕ) → IsAct T (suc n) (Fences t) → front_at T l n < mark t l (history T n) →
@@ -282,7 +177,7 @@ mark-from_kept T K t l (suc m) n s is has h =
     let place = place-kept K m s.rising has in
     let within : matching_place K (suc m) ≤ matching_place K n = place-mono K (suc m) n h in
     let up : count_at (cut T K) l (suc (matching_place K m)) ≤ mark t l (history (cut T K) (matching_place K n)) =
-    mark-from_flush (cut T K) t l (suc (matching_place K m)) (matching_place K n) (cut-act T K m (Flushes t l) s has is) (omega arith) in
+    mark-greatest (cut T K) t l (suc (matching_place K m)) (matching_place K n) (cut-act T K m (Flushes t l) s has is) (omega arith) in
     let same : count_at (cut T K) l (suc (matching_place K m)) ≡ count_at T l (suc m) = ap (count_at (cut T K) l) (sym place) ∙ count-cut T K l (suc m) s in
     omega arith
 
