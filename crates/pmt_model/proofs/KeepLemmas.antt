@@ -1,13 +1,13 @@
 -- The list of the events that are kept: there is one, it is a selection, and it has the fronts of the trace at each place.
-use Rattle.std.proofs.Common.{◌≡◌, ℕ, zero, suc, ◌-◌, ◌<◌, ◌≤◌, ◌⊎◌, ◌==◌, ◌&&◌, max, Bool, true, false, if◌then◌else◌, List, [], ◌∷◌, length, refl, sym, ◌∙◌, ap, ap₂, subst, inl, inr, ⊎_elim, arith}
-use Rattle.std.proofs.lemmas.Bool.{cases_eq, cases_lt, cases_Bool, eq-eqb, eqb-true, and_parts, cond-true, cond-false, ne_eqb, and_from}
+use Rattle.std.proofs.Common.{◌≡◌, ℕ, zero, suc, ◌-◌, ◌<◌, ◌≤◌, ◌⊎◌, ◌==◌, ◌&&◌, Bool, true, false, if◌then◌else◌, List, [], ◌∷◌, length, refl, sym, ◌∙◌, ap, ap₂, subst, inl, inr, ⊎_elim, arith}
+use Rattle.std.proofs.lemmas.Bool.{cases_eq, cases_lt, cond-false, ne_eqb}
 use Rattle.pmt_model.specs.Machine.{Act, Stores, Flushes, FlushesNow, Fences, Asserts, count}
 use Rattle.pmt_model.specs.Traces.{Recording, IsAct, history, count_at}
 use Rattle.pmt_model.specs.Fronts.{front, mark, front_at}
 use Rattle.pmt_model.specs.Boxes.{VectorsAreABox}
 use Rattle.pmt_model.specs.Selections.{IsRising, Has, IsSelection, cut, matching_place}
 use Rattle.pmt_model.specs.Keeping.{IsUsefulFlush, IsKept, Stays, ByFence, ByFlush, ByClflush, IsKeep, KeepIsUnique, KeepIsFaithful}
-use Rattle.pmt_model.proofs.Histories.{act-within, history-act, history-step, mark-le-count, front-grows, front-mono, mono-from_grows, act-unique}
+use Rattle.pmt_model.proofs.Histories.{act-within, history-act, front-grows, front-mono}
 use Rattle.pmt_model.proofs.CutLemmas.{IsNext, Keeps, Drops, Ended, next-step, has-above, place-kept, place-mono, cut-act, history-zero, count-cut}
 use Rattle.pmt_model.proofs.Owing.{mark-grows}
 use Rattle.pmt_model.proofs.FrontLemmas.{mark-greatest, completed-le_front}
