@@ -6,3 +6,7 @@ pub mod FrontLemmas
 pub mod Falls
 pub mod Pieces
 pub mod SelectLemmas
+pub mod CutLemmas
+pub mod FaithfulLemmas
+pub mod LastFlushes
+pub mod KeepLemmas

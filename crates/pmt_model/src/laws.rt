@@ -1,3 +1,4 @@
 //! Laws of the definitions in `specs/`: each function has an empty body, and its contract states a theorem.
 
 pub mod fronts;
+pub mod keeping;
