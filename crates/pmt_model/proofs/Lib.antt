@@ -10,3 +10,6 @@ pub mod CutLemmas
 pub mod FaithfulLemmas
 pub mod LastFlushes
 pub mod KeepLemmas
+pub mod AssertLemmas
+pub mod NeverLemmas
+pub mod StayLemmas

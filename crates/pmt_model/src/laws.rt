@@ -2,3 +2,4 @@
 
 pub mod fronts;
 pub mod keeping;
+pub mod verdicts;
