@@ -1,0 +1,3 @@
+//! The laws: theorems about the definitions of `specs/`.
+
+pub mod findings;
