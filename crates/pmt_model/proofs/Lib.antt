@@ -1,2 +1,4 @@
 pub mod Histories
+pub mod BoxLemmas
 pub mod OverwrittenLemmas
+pub mod RedundantLemmas
