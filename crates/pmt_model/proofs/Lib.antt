@@ -1,4 +1,9 @@
 pub mod Histories
+pub mod Owing
 pub mod BoxLemmas
+pub mod CutLemmas
+pub mod FaithfulLemmas
+pub mod KeepLemmas
 pub mod OverwrittenLemmas
 pub mod RedundantLemmas
+pub mod NoneCanGoLemmas
