@@ -1,18 +1,18 @@
 -- No kept flush or fence can go: without it, the front of some line is smaller at some place, so a crash there may leave less.
-use Rattle.std.proofs.Common.{◌≡◌, ◌≢◌, ℕ, zero, suc, ◌-◌, ◌<◌, ◌≤◌, ◌⊎◌, inl, inr, ◌==◌, ◌&&◌, Bool, true, false, max, List, [], ◌∷◌, length, refl, sym, ap, subst, ◌∙◌, arith, eqb-true, eq-eqb}
+use Rattle.std.proofs.Common.{◌≡◌, ◌≢◌, ℕ, zero, suc, ◌-◌, ◌<◌, ◌≤◌, ◌⊎◌, inl, inr, ◌==◌, ◌&&◌, Bool, true, false, max, List, [], ◌∷◌, length, refl, sym, ap, subst, ◌∙◌, arith, eqb-true}
 use Rattle.std.proofs.lemmas.Bool.{true≢false, cases_order, eqb-false, and_parts}
 use Rattle.std.specs.Prelude.{if◌then◌else◌}
-use Rattle.pmt_model.specs.Values.{Written}
 use Rattle.pmt_model.specs.Machine.{Act, Stores, Flushes, FlushesNow, Fences, Asserts, count}
 use Rattle.pmt_model.specs.Traces.{Recording, IsAct, history, count_at}
 use Rattle.pmt_model.specs.Fronts.{front, mark, front_at}
 use Rattle.pmt_model.specs.Selections.{IsRising, Has, always_stays, IsSelection, cut, matching_place, IsFaithful}
-use Rattle.pmt_model.specs.Keeping.{IsUsefulFence, IsUsefulFlush, IsUsefulClflush, IsKept, Stays, ByFence, ByFlush, ByClflush, IsKeep, without, NoneCanGo}
+use Rattle.pmt_model.specs.Keeping.{IsUsefulFlush, IsKept, Stays, ByFence, ByFlush, ByClflush, IsKeep, without, NoneCanGo}
 use Rattle.pmt_model.proofs.Histories.{act-unique, act-within, history-act, front-le-count, front-mono}
 use Rattle.pmt_model.proofs.BoxLemmas.{vectors_are_a_box}
 use Rattle.pmt_model.proofs.CutLemmas.{IsNext, Keeps, Drops, Ended, next-step, history-zero, history-dropped, count-cut}
 use Rattle.pmt_model.proofs.KeepLemmas.{keep_is_selection, front-at_fence, cut-front-le}
 
+-- what stands in a list after a choice to leave its head out stands in it with the head
 left-of : (v : Bool) (j i : ℕ) (js ks : List ℕ) → (Has js i → Has ks i) → Has (if v then js else j ∷ js) i → Has (j ∷ ks) i
 left-of true j i js ks go later = inr (go later)
 left-of false j i js ks go (inl e) = inl e
@@ -23,6 +23,7 @@ has-from_without : (K : List ℕ) (k i : ℕ) → Has (without K k) i → Has K 
 has-from_without [] k i h = h
 has-from_without (j ∷ js) k i h = left-of (j == k) j i (without js k) js (has-from_without js k i) h
 
+-- a number that is left out of the tail is left out of the whole, by the choice at the head
 gone-from : (v : Bool) (j k : ℕ) (js : List ℕ) → (j == k) ≡ v → (Has js k → ⊥) → Has (if v then js else j ∷ js) k → ⊥
 gone-from true j k js is gone later = gone later
 gone-from false j k js is gone (inl e) = eqb-false j k is e
@@ -33,6 +34,7 @@ not-without : (K : List ℕ) (k : ℕ) → Has (without K k) k → ⊥
 not-without [] k h = h
 not-without (j ∷ js) k h = gone-from (j == k) j k (without js k) refl (not-without js k) h
 
+-- a number other than the one that goes stays, by the choice at the head
 stays-in : (v : Bool) (j k i : ℕ) (js ks : List ℕ) → (j == k) ≡ v → i ≢ k → (Has ks i → Has js i) → Has (j ∷ ks) i → Has (if v then js else j ∷ js) i
 stays-in true j k i js ks is apart go (inl e) = absurd (apart (sym e ∙ eqb-true j k is))
 stays-in true j k i js ks is apart go (inr later) = go later
@@ -44,10 +46,12 @@ has-without : (K : List ℕ) (k i : ℕ) → i ≢ k → Has K i → Has (withou
 has-without [] k i apart h = h
 has-without (j ∷ js) k i apart h = stays-in (j == k) j k i (without js k) js refl apart (has-without js k i apart) h
 
+-- a rising list rises from lower too
 rising-lower : (low above : ℕ) (K : List ℕ) → low < above → IsRising above K → IsRising low K
 rising-lower low above [] less rises = tt
 rising-lower low above (k ∷ ks) less rises = (let first : above < k = rises.0 in omega arith, rises.1)
 
+-- a rising list still rises with its head left out
 rising-if : (v : Bool) (low j : ℕ) (js : List ℕ) → low < j → IsRising j js → IsRising low (if v then js else j ∷ js)
 rising-if true low j js less rises = rising-lower low j js less rises
 rising-if false low j js less rises = (less, rises)
@@ -60,14 +64,14 @@ rising-without low (j ∷ js) k rises = rising-if (j == k) low j (without js k) 
 -- without an event that is no store and no assertion, a selection is still one
 selection-without : (T : Recording) (K : List ℕ) (k : ℕ) (a : Act) → IsSelection T K → IsAct T k a → always_stays a ≡ false → IsSelection T (without K k)
 selection-without T K k a s is free = record {
-    rising = rising-without 0 K k s.rising;
-    within = λ i h. s.within i (has-from_without K k i h);
-    whole = λ i b is_b stays. has-without K k i
+  rising = rising-without 0 K k s.rising;
+  within = λ i h. s.within i (has-from_without K k i h);
+  whole = λ i b is_b stays. has-without K k i
       (λ e. let P : ℕ → Type 0 = λ n. IsAct T n b in
-            let same = act-unique T k a b is (subst P e is_b) in
-            true≢false (sym stays ∙ ap always_stays (sym same) ∙ free))
+      let same = act-unique T k a b is (subst P e is_b) in
+      true≢false (sym stays ∙ ap always_stays (sym same) ∙ free))
       (s.whole i b is_b stays);
-  }
+}
 
 -- where the cut has a smaller front, it is not faithful
 unfaithful : (T : Recording) (S : List ℕ) (l n : ℕ) → front_at (cut T S) l (matching_place S n) < front_at T l n → IsFaithful T S n → ⊥
@@ -101,13 +105,16 @@ record IsKeptFlush (T : Recording) (S : List ℕ) (t l n c : ℕ) : Type 0 where
   by_now : flush ≤ n
   stores : count_at T l flush ≡ c
 
+-- The mark is 0, or that of a kept flush.
 abbrev KeptMark : Recording → List ℕ → ℕ → ℕ → ℕ → ℕ → Type 0
 KeptMark T S t l n c = (c ≡ 0) ⊎ IsKeptFlush T S t l n c
 
+-- a kept flush is kept by the next place
 later-mark : (T : Recording) (S : List ℕ) (t l n c : ℕ) → KeptMark T S t l n c → KeptMark T S t l (suc n) c
 later-mark T S t l n c (inl e) = inl e
 later-mark T S t l n c (inr x) = inr (record { flush = x.flush; kept = x.kept; is_flush = x.is_flush; by_now = omega (arith, x.by_now); stores = x.stores })
 
+-- the mark of the cut after a flush that is kept
 flush-mark : (T : Recording) (S : List ℕ) (t l n u k : ℕ) (v : Bool) (h : List Act) → ((u == t) && (k == l)) ≡ v → IsAct T (suc n) (Flushes u k) → Has S (suc n) → count l h ≡ count_at T l n → KeptMark T S t l n (mark t l h) → KeptMark T S t l (suc n) (if v then count l h else mark t l h)
 flush-mark T S t l n u k true h same is has counts before =
     let parts = and_parts (u == t) (k == l) same in
@@ -124,6 +131,7 @@ flush-mark T S t l n u k true h same is has counts before =
     })
 flush-mark T S t l n u k false h other is has counts before = later-mark T S t l n (mark t l h) before
 
+-- the mark of the cut after one more act that is kept
 act-mark : (T : Recording) (S : List ℕ) (t l n : ℕ) (a : Act) (h : List Act) → IsAct T (suc n) a → Has S (suc n) → count l h ≡ count_at T l n → KeptMark T S t l n (mark t l h) → KeptMark T S t l (suc n) (mark t l (a ∷ h))
 act-mark T S t l n (Stores k w) h is has counts before = later-mark T S t l n (mark t l h) before
 act-mark T S t l n (Flushes u k) h is has counts before = flush-mark T S t l n u k ((u == t) && (k == l)) h refl is has counts before
@@ -147,21 +155,24 @@ kept-mark T S t l (suc n) s = go (next-step T S n s) (kept-mark T S t l n s)
         let P : List Act → Type 0 = λ h. KeptMark T S t l (suc n) (mark t l h) in
         subst P (sym part) (later-mark T S t l n (mark t l (history (cut T S) (matching_place S n))) before)
 
--- a flush of the pair that is kept before flush k, with no fence by the thread from k to place n, is in the front already
+-- a useful flush of the pair before another one has its fence before that one, so it is in the front already
 useful-before : (T : Recording) (t l f k n : ℕ) (v : IsUsefulFlush T f) → v.thread ≡ t → v.line ≡ l → IsAct T f (Flushes t l) → IsAct T k (Flushes t l) → f < k → k ≤ n → count_at T l f ≤ front_at T l n
 useful-before T t l f k n v same_thread same_line is_f is_k before by_now =
     let e : Flushes v.thread v.line ≡ Flushes t l = cc in
     let P : Act → Type 0 = λ a. IsAct T k a in
     let Q : ℕ → Type 0 = λ u. IsAct T v.fence (Fences u) in
     let fence : IsAct T v.fence (Fences t) = subst Q same_thread v.is_fence in
-    elim (cases_order v.fence k)
-    [ inl same ↦ let R : ℕ → Type 0 = λ i. IsAct T i (Fences t) in
-                 let two : Fences t ≡ Flushes t l = act-unique T k (Fences t) (Flushes t l) (subst R same fence) is_k in
-                 absurd (let no : ⊥ = cc in no)
-    | inr x ↦ elim x
-      [ inl sooner ↦ front-from_pair T t l f v.fence n is_f fence v.later (omega arith)
-      | inr later ↦ absurd (v.last_flush k before later (subst P (sym e) is_k)) ] ]
+    elim (cases_order v.fence k) [
+      | inl same ↦ let R : ℕ → Type 0 = λ i. IsAct T i (Fences t) in
+          let two : Fences t ≡ Flushes t l = act-unique T k (Fences t) (Flushes t l) (subst R same fence) is_k in
+          absurd (let no : ⊥ = cc in no)
+      | inr x ↦ elim x [
+        | inl sooner ↦ front-from_pair T t l f v.fence n is_f fence v.later (omega arith)
+        | inr later ↦ absurd (v.last_flush k before later (subst P (sym e) is_k))
+      ]
+    ]
 
+-- so is each flush of the pair that is kept before another one
 kept-before : (T : Recording) (t l f k n : ℕ) → IsAct T f (Flushes t l) → IsAct T k (Flushes t l) → f < k → k ≤ n → IsKept T f → count_at T l f ≤ front_at T l n
 kept-before T t l f k n is_f is_k before by_now (Stays a is stays) =
     let same = act-unique T f a (Flushes t l) is is_f in
@@ -182,11 +193,13 @@ kept-before T t l f k n is_f is_k before by_now (ByFlush v) =
 mark-without : (T : Recording) (K : List ℕ) (t l k n c : ℕ) → IsKeep T K → IsAct T k (Flushes t l) → k ≤ n → ((i : ℕ) → k < i → i ≤ n → ¬ IsAct T i (Flushes t l)) → front_at T l n < count_at T l k → KeptMark T (without K k) t l n c → c < count_at T l k
 mark-without T K t l k n c keep is by_now last needed (inl e) = omega arith
 mark-without T K t l k n c keep is by_now last needed (inr x) =
-    elim (cases_order x.flush k)
-    [ inl same ↦ let P : ℕ → Type 0 = λ i. Has (without K k) i in absurd (not-without K k (subst P same x.kept))
-    | inr y ↦ elim y
-      [ inl before ↦ omega (arith, x.stores, kept-before T t l x.flush k n x.is_flush is before by_now ((keep.just x.flush).0 (has-from_without K k x.flush x.kept)))
-      | inr after ↦ absurd (last x.flush after x.by_now x.is_flush) ] ]
+    elim (cases_order x.flush k) [
+      | inl same ↦ let P : ℕ → Type 0 = λ i. Has (without K k) i in absurd (not-without K k (subst P same x.kept))
+      | inr y ↦ elim y [
+        | inl before ↦ omega (arith, x.stores, kept-before T t l x.flush k n x.is_flush is before by_now ((keep.just x.flush).0 (has-from_without K k x.flush x.kept)))
+        | inr after ↦ absurd (last x.flush after x.by_now x.is_flush)
+      ]
+    ]
 
 -- at a fence the front of the cut is at most the greater of the one before and the mark of the thread
 cut-front-at_fence : (T : Recording) (S : List ℕ) (t l n : ℕ) → IsSelection T S → IsAct T (suc n) (Fences t) → front_at (cut T S) l (matching_place S (suc n)) ≤ max (front_at (cut T S) l (matching_place S n)) (mark t l (history (cut T S) (matching_place S n)))
@@ -196,7 +209,7 @@ cut-front-at_fence T S t l n s is = go (next-step T S n s)
     go (Keeps a is_a has whole part) =
         let same : a ≡ Fences t = act-unique T (suc n) a (Fences t) is_a is in
         let here : front_at (cut T S) l (matching_place S (suc n)) ≡ max (front_at (cut T S) l (matching_place S n)) (mark t l (history (cut T S) (matching_place S n))) =
-              ap (front l) part ∙ ap (λ b. front l (b ∷ history (cut T S) (matching_place S n))) same in
+        ap (front l) part ∙ ap (λ b. front l (b ∷ history (cut T S) (matching_place S n))) same in
         omega (arith, here)
     go (Drops a is_a gone free whole part) =
         let here : front_at (cut T S) l (matching_place S (suc n)) ≡ front_at (cut T S) l (matching_place S n) = ap (front l) part in

@@ -1,5 +1,5 @@
 -- An overwritten store, by the numbers of the last store to a byte and of the last flush of a line.
-use Rattle.std.proofs.Common.{◌≡◌, ◌≢◌, ℕ, zero, suc, ◌-◌, ◌<◌, ◌≤◌, ◌⊎◌, inl, inr, ◌==◌, Bool, true, false, List, [], ◌∷◌, length, Option, Some, None, refl, sym, ap, subst, ◌∙◌, arith, eqb-true}
+use Rattle.std.proofs.Common.{◌≡◌, ◌≢◌, ℕ, zero, suc, ◌-◌, ◌<◌, ◌≤◌, ◌⊎◌, inl, inr, ◌==◌, Bool, true, false, List, ◌∷◌, length, Option, Some, None, refl, sym, ap, subst, ◌∙◌, arith, eqb-true}
 use Rattle.std.proofs.lemmas.Bool.{true≢false, cases_order, eqb-false}
 use Rattle.std.specs.Prelude.{if◌then◌else◌}
 use Rattle.pmt_model.specs.Values.{Written}
@@ -26,25 +26,28 @@ LastWriter T b n (Some j) = IsLastWriter T b n j
 abbrev WritesNot : Recording → ℕ → ℕ → Type 0
 WritesNot T b n = (l : ℕ) (w : Written) → IsAct T n (Stores l w) → writes w b ≢ true
 
-equal_or_before : (k n : ℕ) → k ≤ suc n → (k ≡ suc n) ⊎ (k ≤ n)
+-- a number up to the next is the next, or comes before
+pub equal_or_before : (k n : ℕ) → k ≤ suc n → (k ≡ suc n) ⊎ (k ≤ n)
 equal_or_before k n h = grind arith
 
 -- an event that doesn't write the byte leaves its last writer
 later-writer : (T : Recording) (b n : ℕ) (o : Option ℕ) → WritesNot T b (suc n) → LastWriter T b n o → LastWriter T b (suc n) o
 later-writer T b n None not_here before =
-    λ k l w by_now is. elim (equal_or_before k n by_now)
-    [ inl e ↦ not_here l w (let P : ℕ → Type 0 = λ i. IsAct T i (Stores l w) in subst P e is)
-    | inr sooner ↦ before k l w sooner is ]
+    λ k l w by_now is. elim (equal_or_before k n by_now) [
+      | inl e ↦ not_here l w (let P : ℕ → Type 0 = λ i. IsAct T i (Stores l w) in subst P e is)
+      | inr sooner ↦ before k l w sooner is
+    ]
 later-writer T b n (Some j) not_here before = record {
-    line = before.line;
-    what = before.what;
-    is_store = before.is_store;
-    by_now = omega (arith, before.by_now);
-    writes_it = before.writes_it;
-    last = λ k l w later by_now is. elim (equal_or_before k n by_now)
-      [ inl e ↦ not_here l w (let P : ℕ → Type 0 = λ i. IsAct T i (Stores l w) in subst P e is)
-      | inr sooner ↦ before.last k l w later sooner is ];
-  }
+  line = before.line;
+  what = before.what;
+  is_store = before.is_store;
+  by_now = omega (arith, before.by_now);
+  writes_it = before.writes_it;
+  last = λ k l w later by_now is. elim (equal_or_before k n by_now) [
+    | inl e ↦ not_here l w (let P : ℕ → Type 0 = λ i. IsAct T i (Stores l w) in subst P e is)
+    | inr sooner ↦ before.last k l w later sooner is
+  ];
+}
 
 -- an event that is another act than a store writes no byte
 no-store : (T : Recording) (b n : ℕ) (a : Act) → IsAct T n a → ((l : ℕ) (w : Written) → a ≢ Stores l w) → WritesNot T b n
@@ -57,6 +60,7 @@ other-store T b n l w is not_it k x store written =
     let same_what : w ≡ x = cc in
     absurd (true≢false (sym written ∙ ap (λ y. writes y b) (sym same_what) ∙ not_it))
 
+-- the last writer after a store
 store-tells : (T : Recording) (b n l : ℕ) (w : Written) (v : Bool) → writes w b ≡ v → IsAct T (suc n) (Stores l w) → LastWriter T b n (last_number b (history T n)) → LastWriter T b (suc n) (if v then Some (suc (length (history T n))) else last_number b (history T n))
 store-tells T b n l w true it is before =
     let e : length (history T n) ≡ n = length-history T n (let h = act-within T (suc n) (Stores l w) is in omega (arith, h.1)) in
@@ -72,6 +76,7 @@ store-tells T b n l w true it is before =
     subst P (sym e) here
 store-tells T b n l w false not_it is before = later-writer T b n (last_number b (history T n)) (other-store T b (suc n) l w is not_it) before
 
+-- the last writer after one more act
 act-tells : (T : Recording) (b n : ℕ) (a : Act) → IsAct T (suc n) a → LastWriter T b n (last_number b (history T n)) → LastWriter T b (suc n) (last_number b (a ∷ history T n))
 act-tells T b n (Stores l w) is before = store-tells T b n l w (writes w b) refl is before
 act-tells T b n (Flushes t l) is before = later-writer T b n (last_number b (history T n)) (no-store T b (suc n) (Flushes t l) is (λ k w e. cc)) before
@@ -83,11 +88,12 @@ act-tells T b n Asserts is before = later-writer T b n (last_number b (history T
 pub last_number-tells : (T : Recording) (b n : ℕ) → LastWriter T b n (last_number b (history T n))
 last_number-tells T b zero = λ k l w by_now is. absurd (let h = act-within T k (Stores l w) is in omega (arith, h.0))
 last_number-tells T b (suc n) =
-    elim (history-step T n)
-    [ inl x ↦ let P : List Act → Type 0 = λ h. LastWriter T b (suc n) (last_number b h) in
-              subst P (sym (history-act T n x.0 x.1)) (act-tells T b n x.0 x.1 (last_number-tells T b n))
-    | inr x ↦ let P : List Act → Type 0 = λ h. LastWriter T b (suc n) (last_number b h) in
-              subst P (sym x.1) (later-writer T b n (last_number b (history T n)) (λ l w is. absurd (let h = act-within T (suc n) (Stores l w) is in omega (arith, h.1, x.0))) (last_number-tells T b n)) ]
+    elim (history-step T n) [
+      | inl x ↦ let P : List Act → Type 0 = λ h. LastWriter T b (suc n) (last_number b h) in
+          subst P (sym (history-act T n x.0 x.1)) (act-tells T b n x.0 x.1 (last_number-tells T b n))
+      | inr x ↦ let P : List Act → Type 0 = λ h. LastWriter T b (suc n) (last_number b h) in
+          subst P (sym x.1) (later-writer T b n (last_number b (history T n)) (λ l w is. absurd (let h = act-within T (suc n) (Stores l w) is in omega (arith, h.1, x.0))) (last_number-tells T b n))
+    ]
 
 -- Number f is that of the last flush of line l among the first n events, or 0.
 pub record IsLastFlush (T : Recording) (l n f : ℕ) : Type 0 where
@@ -102,11 +108,12 @@ flush-within T l i (ByClflush is) = act-within T i (FlushesNow l) is
 -- an event that is no flush of the line leaves its last flush
 later-flush : (T : Recording) (l n f : ℕ) → (IsFlushOf T l (suc n) → ⊥) → IsLastFlush T l n f → IsLastFlush T l (suc n) f
 later-flush T l n f not_here before = record {
-    reached = elim before.reached [ inl e ↦ inl e | inr x ↦ inr (x.0, omega (arith, x.1)) ];
-    greatest = λ k by_now flush. elim (equal_or_before k n by_now)
-      [ inl e ↦ absurd (not_here (let P : ℕ → Type 0 = λ i. IsFlushOf T l i in subst P e flush))
-      | inr sooner ↦ before.greatest k sooner flush ];
-  }
+  reached = elim before.reached [ inl e ↦ inl e | inr x ↦ inr (x.0, omega (arith, x.1)) ];
+  greatest = λ k by_now flush. elim (equal_or_before k n by_now) [
+    | inl e ↦ absurd (not_here (let P : ℕ → Type 0 = λ i. IsFlushOf T l i in subst P e flush))
+    | inr sooner ↦ before.greatest k sooner flush
+  ];
+}
 
 -- a flush of the line at the last event is its last one
 flush-here : (T : Recording) (l n : ℕ) → IsFlushOf T l (suc n) → IsLastFlush T l (suc n) (suc (length (history T n)))
@@ -125,6 +132,7 @@ flush-act T l i a is (ByClflush flush) = inr (act-unique T i a (FlushesNow l) is
 no-flush : (T : Recording) (l i : ℕ) (a : Act) → IsAct T i a → ((t : ℕ) → a ≢ Flushes t l) → a ≢ FlushesNow l → IsFlushOf T l i → ⊥
 no-flush T l i a is other other_now flush = elim (flush-act T l i a is flush) [ inl x ↦ other x.0 x.1 | inr e ↦ other_now e ]
 
+-- the last flush of the line after a flush by a thread
 flush-tells : (T : Recording) (t l n k : ℕ) (v : Bool) → (k == l) ≡ v → IsAct T (suc n) (Flushes t k) → IsLastFlush T l n (last_flush l (history T n)) → IsLastFlush T l (suc n) (if v then suc (length (history T n)) else last_flush l (history T n))
 flush-tells T t l n k true same is before =
     let e : k ≡ l = eqb-true k l same in
@@ -133,6 +141,7 @@ flush-tells T t l n k true same is before =
 flush-tells T t l n k false other is before =
     later-flush T l n (last_flush l (history T n)) (no-flush T l (suc n) (Flushes t k) is (λ u e. let s : k ≡ l = cc in eqb-false k l other s) (λ e. cc)) before
 
+-- the last flush of the line after a clflush
 clflush-tells : (T : Recording) (l n k : ℕ) (v : Bool) → (k == l) ≡ v → IsAct T (suc n) (FlushesNow k) → IsLastFlush T l n (last_flush l (history T n)) → IsLastFlush T l (suc n) (if v then suc (length (history T n)) else last_flush l (history T n))
 clflush-tells T l n k true same is before =
     let e : k ≡ l = eqb-true k l same in
@@ -141,6 +150,7 @@ clflush-tells T l n k true same is before =
 clflush-tells T l n k false other is before =
     later-flush T l n (last_flush l (history T n)) (no-flush T l (suc n) (FlushesNow k) is (λ u e. cc) (λ e. let s : k ≡ l = cc in eqb-false k l other s)) before
 
+-- the last flush of the line after one more act
 act-flushes : (T : Recording) (l n : ℕ) (a : Act) → IsAct T (suc n) a → IsLastFlush T l n (last_flush l (history T n)) → IsLastFlush T l (suc n) (last_flush l (a ∷ history T n))
 act-flushes T l n (Stores k w) is before = later-flush T l n (last_flush l (history T n)) (no-flush T l (suc n) (Stores k w) is (λ t e. cc) (λ e. cc)) before
 act-flushes T l n (Flushes t k) is before = flush-tells T t l n k (k == l) refl is before
@@ -151,25 +161,28 @@ act-flushes T l n Asserts is before = later-flush T l n (last_flush l (history T
 -- the number of the last flush of a line is that of its last flush
 pub last_flush-tells : (T : Recording) (l n : ℕ) → IsLastFlush T l n (last_flush l (history T n))
 last_flush-tells T l zero = record {
-    reached = inl refl;
-    greatest = λ k by_now flush. by_now;
-  }
+  reached = inl refl;
+  greatest = λ k by_now flush. by_now;
+}
 last_flush-tells T l (suc n) =
-    elim (history-step T n)
-    [ inl x ↦ let P : List Act → Type 0 = λ h. IsLastFlush T l (suc n) (last_flush l h) in
-              subst P (sym (history-act T n x.0 x.1)) (act-flushes T l n x.0 x.1 (last_flush-tells T l n))
-    | inr x ↦ let P : List Act → Type 0 = λ h. IsLastFlush T l (suc n) (last_flush l h) in
-              subst P (sym x.1) (later-flush T l n (last_flush l (history T n)) (λ flush. absurd (let h = flush-within T l (suc n) flush in omega (arith, h.1, x.0))) (last_flush-tells T l n)) ]
+    elim (history-step T n) [
+      | inl x ↦ let P : List Act → Type 0 = λ h. IsLastFlush T l (suc n) (last_flush l h) in
+          subst P (sym (history-act T n x.0 x.1)) (act-flushes T l n x.0 x.1 (last_flush-tells T l n))
+      | inr x ↦ let P : List Act → Type 0 = λ h. IsLastFlush T l (suc n) (last_flush l h) in
+          subst P (sym x.1) (later-flush T l n (last_flush l (history T n)) (λ flush. absurd (let h = flush-within T l (suc n) flush in omega (arith, h.1, x.0))) (last_flush-tells T l n))
+    ]
 
 -- the last writer of a byte is the one
 writer-unique : (T : Recording) (b n j : ℕ) (o : Option ℕ) → LastWriter T b n o → IsLastWriter T b n j → o ≡ Some j
 writer-unique T b n j None tells it = absurd (tells j it.line it.what it.by_now it.is_store it.writes_it)
 writer-unique T b n j (Some i) tells it =
-    elim (cases_order i j)
-    [ inl e ↦ ap Some e
-    | inr c ↦ elim c
-      [ inl before ↦ absurd (tells.last j it.line it.what before it.by_now it.is_store it.writes_it)
-      | inr after ↦ absurd (it.last i tells.line tells.what after tells.by_now tells.is_store tells.writes_it) ] ]
+    elim (cases_order i j) [
+      | inl e ↦ ap Some e
+      | inr c ↦ elim c [
+        | inl before ↦ absurd (tells.last j it.line it.what before it.by_now it.is_store it.writes_it)
+        | inr after ↦ absurd (it.last i tells.line tells.what after tells.by_now tells.is_store tells.writes_it)
+      ]
+    ]
 
 -- the number of the last store to a byte is that of its last writer
 pub last_number-from : (T : Recording) (b n j : ℕ) → IsLastWriter T b n j → last_number b (history T n) ≡ Some j
@@ -182,14 +195,17 @@ last_number-is T b n j e = let P : Option ℕ → Type 0 = λ o. LastWriter T b 
 -- a store comes after the last flush of its line, if no flush of the line comes after it
 store-after_flush : (T : Recording) (l j n f : ℕ) (w : Written) → IsAct T j (Stores l w) → ((k : ℕ) → j < k → k ≤ n → IsFlushOf T l k → ⊥) → IsLastFlush T l n f → f < j
 store-after_flush T l j n f w is unflushed it =
-    elim it.reached
-    [ inl e ↦ let h = act-within T j (Stores l w) is in omega (arith, h.0)
-    | inr x ↦ elim (cases_order f j)
-      [ inl e ↦ let P : ℕ → Type 0 = λ i. IsFlushOf T l i in
-                absurd (no-flush T l j (Stores l w) is (λ t d. cc) (λ d. cc) (subst P e x.0))
-      | inr c ↦ elim c [ inl before ↦ before | inr after ↦ absurd (unflushed f after x.1 x.0) ] ] ]
+    elim it.reached [
+      | inl e ↦ let h = act-within T j (Stores l w) is in omega (arith, h.0)
+      | inr x ↦ elim (cases_order f j) [
+        | inl e ↦ let P : ℕ → Type 0 = λ i. IsFlushOf T l i in
+            absurd (no-flush T l j (Stores l w) is (λ t d. cc) (λ d. cc) (subst P e x.0))
+        | inr c ↦ elim c [ inl before ↦ before | inr after ↦ absurd (unflushed f after x.1 x.0) ]
+      ]
+    ]
 
-before-one : (k i : ℕ) → 1 ≤ i → k ≤ i - 1 → k < i
+-- what is at most the number before comes before
+pub before-one : (k i : ℕ) → 1 ≤ i → k ≤ i - 1 → k < i
 before-one k i some h = omega arith
 
 -- an overwritten store is one by numbers
@@ -236,6 +252,7 @@ overwritten-from_numbers T l j i earlier later byte it =
 
 -- a store is overwritten exactly where it is by numbers
 pub overwritten_by_numbers : OverwrittenByNumbers
-overwritten_by_numbers T j i =
-    ( λ it. (it.line, it.earlier, it.later, it.byte, numbers-from_overwritten T j i it)
-    , λ x. overwritten-from_numbers T x.0 j i x.1 x.2 x.3 x.4 )
+overwritten_by_numbers T j i = (
+  λ it. (it.line, it.earlier, it.later, it.byte, numbers-from_overwritten T j i it),
+  λ x. overwritten-from_numbers T x.0 j i x.1 x.2 x.3 x.4,
+)

@@ -16,7 +16,9 @@ pub mod store;
 
 pub use crate::addr::Addr;
 pub use crate::event::{Event, Op};
-pub use crate::fault::{FormatError, OpError, OutOfMemory, PushError, SelectionError, SplitStoreError};
+pub use crate::fault::{
+    FormatError, OpError, OutOfMemory, PushError, SelectionError, SplitStoreError,
+};
 pub use crate::finding::{Finding, Verdict};
 pub use crate::format::{Format, line_of};
 pub use crate::gate::{Gate, NoGate};

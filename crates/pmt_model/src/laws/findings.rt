@@ -6,17 +6,14 @@ ghost use Rattle.pmt_model.specs.Findings.{OverwrittenByNumbers, RedundantFlushB
 /// of its line has a smaller number.
 pub fn overwritten_by_numbers()
     ensures { OverwrittenByNumbers }
-{
-}
+{}
 
 /// A flush is redundant exactly where the front just before it, or the open mark of its thread, counts all stores to the line.
 pub fn redundant_flush_by_fronts()
     ensures { RedundantFlushByFronts }
-{
-}
+{}
 
 /// A clflush is redundant exactly where the front just before it counts all stores to the line.
 pub fn redundant_clflush_by_fronts()
     ensures { RedundantClflushByFronts }
-{
-}
+{}

@@ -1,9 +1,8 @@
-//! What a selection needs.
+//! Which events the kept selection needs.
 
 ghost use Rattle.pmt_model.specs.Keeping.{NoneCanGo};
 
-/// No flush or fence of the kept selection can go: without it, a crash at some place may leave what the whole trace rules out.
+/// No flush, clflush or fence of the kept selection can go: without it, the selection is not faithful at some place.
 pub fn none_can_go()
     ensures { NoneCanGo }
-{
-}
+{}
