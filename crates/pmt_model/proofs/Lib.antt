@@ -1,8 +1,14 @@
 pub mod Histories
 pub mod Owing
 pub mod BoxLemmas
+pub mod Moments
+pub mod FrontLemmas
+pub mod Falls
+pub mod Pieces
+pub mod SelectLemmas
 pub mod CutLemmas
 pub mod FaithfulLemmas
+pub mod LastFlushes
 pub mod KeepLemmas
 pub mod OverwrittenLemmas
 pub mod RedundantLemmas

@@ -1,4 +1,6 @@
-//! The laws: theorems about the definitions of `specs/`.
+//! Laws of the definitions in `specs/`: each function has an empty body, and its contract states a theorem.
 
 pub mod findings;
+pub mod fronts;
+pub mod keeping;
 pub mod needed;
