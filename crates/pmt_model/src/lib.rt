@@ -10,6 +10,7 @@ pub mod fault;
 pub mod finding;
 pub mod format;
 pub mod gate;
+pub mod laws;
 pub mod range;
 pub mod store;
 
