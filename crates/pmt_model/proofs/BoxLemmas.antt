@@ -2,4 +2,4 @@
 use Rattle.pmt_model.specs.Boxes.{VectorsAreABox}
 
 pub vectors_are_a_box : VectorsAreABox
-vectors_are_a_box h v = ?
+vectors_are_a_box = ?
