@@ -4,5 +4,8 @@ pub mod CutLemmas
 pub mod FenceMarks
 pub mod Histories
 pub mod KeepLemmas
+pub mod Owing
+pub mod Partners
 pub mod Pigeonhole
+pub mod SameFronts
 pub mod Shortest

@@ -4,6 +4,7 @@ use Rattle.std.proofs.lemmas.Bool.{eqb-false}
 use Rattle.std.specs.Prelude.{◌==◌, if◌then◌else◌}
 use Rattle.pmt_model.specs.Selections.{IsRising, Has}
 use Rattle.pmt_model.specs.Keeping.{without}
+use Rattle.pmt_model.proofs.CutLemmas.{has-above}
 
 -- a member other than k stays in the list without k
 pub has-without : (S : List ℕ) (k s : ℕ) → s ≢ k → Has S s → Has (without S k) s
@@ -42,12 +43,6 @@ length-without_member (j ∷ js) k (inr h) = go (j == k) (length-without_member 
     go true less = omega arith
     go false less = omega arith
 
--- the members of a rising list are above its bound
-pub above-bound : (low : ℕ) (K : List ℕ) (n : ℕ) → IsRising low K → Has K n → low < n
-above-bound low [] n rising h = absurd h
-above-bound low (k ∷ ks) n rising (inl e) = omega (arith, rising.0)
-above-bound low (k ∷ ks) n rising (inr h) = omega (arith, rising.0, above-bound k ks n rising.1 h)
-
 -- a rising list whose members have partners in S, none of them the partner of two, is no longer than S
 pub pigeonhole : (IsPartner : ℕ → ℕ → Type 0) (low : ℕ) (K S : List ℕ) → IsRising low K →
     ((k : ℕ) → Has K k → (s : ℕ) × Has S s × IsPartner k s) → ((j k s : ℕ) → IsPartner j s → IsPartner k s → j ≡ k) → length K ≤ length S
@@ -60,5 +55,5 @@ pigeonhole IsPartner low (k ∷ ks) S rising partners own =
     other : (j : ℕ) → Has ks j → (s : ℕ) × Has S s × IsPartner j s → (s : ℕ) × Has (without S (partners k (inl refl)).0) s × IsPartner j s
     other j h p =
         let first : (s : ℕ) × Has S s × IsPartner k s = partners k (inl refl) in
-        let apart : p.0 ≢ first.0 = λ e. absurd (omega (arith, above-bound k ks j rising.1 h, own k j first.0 first.2 (subst (IsPartner j) e p.2))) in
+        let apart : p.0 ≢ first.0 = λ e. absurd (omega (arith, has-above k ks j rising.1 h, own k j first.0 first.2 (subst (IsPartner j) e p.2))) in
         (p.0, has-without S first.0 p.0 apart p.1, p.2)
