@@ -1,23 +1,10 @@
 -- Acts of a cut trace and the acts that they come from, in the same order.
-use Rattle.std.proofs.Common.{◌≡◌, ℕ, zero, suc, ◌<◌, ◌≤◌, Bool, true, false, List, [], ◌∷◌, refl, sym, ap, ◌∙◌, lt_of_not-le, arith, leb-true, leb-false}
-use Rattle.std.specs.Prelude.{nat_le, if◌then◌else◌}
+use Rattle.std.proofs.Common.{◌≡◌, ℕ, zero, suc, ◌<◌, ◌≤◌, List, sym, ap, ◌∙◌, lt_of_not-le, arith}
 use Rattle.pmt_model.specs.Machine.{Act}
 use Rattle.pmt_model.specs.Traces.{Recording, IsAct, count_at}
 use Rattle.pmt_model.specs.Selections.{Has, IsSelection, cut, matching_place}
-use Rattle.pmt_model.proofs.CutLemmas.{place-kept, cut-from, count-cut}
+use Rattle.pmt_model.proofs.CutLemmas.{place-kept, place-mono, cut-from, count-cut}
 use Rattle.pmt_model.proofs.Histories.{act-within}
-
--- matching places don't fall from place to place
-pub place-mono : (K : List ℕ) (m n : ℕ) → m ≤ n → matching_place K m ≤ matching_place K n
-place-mono [] m n h = omega arith
-place-mono (k ∷ ks) m n h = go (nat_le k m) (nat_le k n) refl refl (place-mono ks m n h)
-  where
-    go : (a b : Bool) → nat_le k m ≡ a → nat_le k n ≡ b → matching_place ks m ≤ matching_place ks n →
-        (if a then suc (matching_place ks m) else matching_place ks m) ≤ (if b then suc (matching_place ks n) else matching_place ks n)
-    go true true p q less = omega arith
-    go true false p q less = absurd (omega (arith, leb-true k m p, leb-false k n q))
-    go false true p q less = omega arith
-    go false false p q less = omega arith
 
 -- Act number i of the cut trace is act number `before` + 1 of the trace.
 pub record IsOrigin (T : Recording) (K : List ℕ) (i : ℕ) (a : Act) : Type 0 where

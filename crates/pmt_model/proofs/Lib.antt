@@ -1,9 +1,10 @@
 pub mod BoxLemmas
 pub mod CutActs
 pub mod CutLemmas
-pub mod FenceMarks
+pub mod FaithfulLemmas
 pub mod Histories
 pub mod KeepLemmas
+pub mod Moments
 pub mod Owing
 pub mod Partners
 pub mod Pigeonhole

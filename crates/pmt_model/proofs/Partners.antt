@@ -1,16 +1,16 @@
 -- Each kept event has a partner in a selection with the same counts of persisted stores, and no two have the same.
-use Rattle.std.proofs.Common.{◌≡◌, ◌≢◌, ℕ, zero, suc, ◌-◌, ◌<◌, ◌≤◌, ◌⊎◌, inl, inr, List, length, true, false, refl, sym, ap, subst, ◌∙◌, arith, true≢false, subst₂, le_antisymm, suc-le-suc, lt_of_not-le, le_of_suc-le-suc}
+use Rattle.std.proofs.Common.{◌≡◌, ◌≢◌, ℕ, zero, suc, ◌-◌, ◌<◌, ◌≤◌, ◌⊎◌, inl, inr, List, length, true, false, refl, sym, ap, subst, ◌∙◌, arith, true≢false, subst₂, le_antisymm, suc-le-suc, max, lt_of_not-le, le_of_suc-le-suc}
 use Rattle.pmt_model.specs.Machine.{Act, Stores, Flushes, FlushesNow, Fences, Asserts}
-use Rattle.pmt_model.specs.Traces.{Recording, IsAct, count_at}
-use Rattle.pmt_model.specs.Fronts.{front_at}
+use Rattle.pmt_model.specs.Traces.{Recording, IsAct, history, count_at}
+use Rattle.pmt_model.specs.Fronts.{front, mark, front_at}
 use Rattle.pmt_model.specs.Selections.{Has, IsSelection, always_stays, cut, matching_place}
 use Rattle.pmt_model.specs.Keeping.{IsKept, IsUsefulFlush}
 use Rattle.pmt_model.specs.Keeping.IsKept.{Stays, ByFence, ByFlush, ByClflush}
 use Rattle.pmt_model.specs.Shortest.{HasSameVectors}
-use Rattle.pmt_model.proofs.Histories.{act-unique, act-within, front-mono}
+use Rattle.pmt_model.proofs.Histories.{act-unique, act-within, history-act, front-mono}
 use Rattle.pmt_model.proofs.CutLemmas.{place-kept, cut-act}
 use Rattle.pmt_model.proofs.CutActs.{act-origin, earlier-origin, count-selected}
-use Rattle.pmt_model.proofs.FenceMarks.{IsFlushBy, fence-front, raising-flush}
+use Rattle.pmt_model.proofs.KeepLemmas.{front-at_fence, needed-flush}
 use Rattle.pmt_model.proofs.SameFronts.{fronts-selected, raising-selected}
 
 -- The flush by thread t of line l at i, whose next fence stands at j.
@@ -64,16 +64,20 @@ raising-partner T S t l m selection same fence raises =
     let front_before : front_at T l m ≡ front_at (cut T S) l place = fronts-selected T S l m same (omega arith) in
     let front_after : front_at T l (suc m) ≡ front_at (cut T S) l (suc place) =
         fronts-selected T S l (suc m) same within ∙ ap (front_at (cut T S) l) (place-kept S m selection.rising has) in
-    let raiser = raising-flush (cut T S) t l place (cut-act T S m (Fences t) selection has fence) (omega arith) in
-    let origin = act-origin T S raiser.flush (Flushes t l) selection raiser.is_flush in
-    let later : suc origin.before < suc m = suc-le-suc (earlier-origin S origin.before m (omega (arith, origin.place, raiser.by_now))) in
-    let marked : count_at T l (suc origin.before) ≡ front_at T l (suc m) =
-        sym (count-selected T S l origin.before selection origin.has) ∙ ap (count_at (cut T S) l) origin.place ∙ raiser.stores ∙ sym front_after in
+    let cut_fence : IsAct (cut T S) (suc place) (Fences t) = cut-act T S m (Fences t) selection has fence in
+    let at_fence : front_at (cut T S) l (suc place) ≡ max (front_at (cut T S) l place) (mark t l (history (cut T S) place)) =
+        ap (front l) (history-act (cut T S) place (Fences t) cut_fence) in
+    let raiser = needed-flush (cut T S) t l place cut_fence (omega arith) in
+    let origin = act-origin T S raiser.0 (Flushes t l) selection raiser.2.is_flush in
+    let later : suc origin.before < suc m = suc-le-suc (earlier-origin S origin.before m (omega (arith, origin.place, raiser.2.by_now))) in
+    let same_count : count_at (cut T S) l (suc (matching_place S origin.before)) ≡ count_at T l (suc origin.before) = count-selected T S l origin.before selection origin.has in
+    let same_place : count_at (cut T S) l (suc (matching_place S origin.before)) ≡ count_at (cut T S) l raiser.0 = ap (count_at (cut T S) l) origin.place in
+    let marked : count_at T l (suc origin.before) ≡ front_at T l (suc m) = omega (arith, raiser.2.stores) in
     (suc origin.before, origin.has, record {
       is_flush = origin.is_act;
       is_fence = fence;
       later = later;
-      next_fence = λ k after by other. absurd (omega (arith, fence-front T t l (suc origin.before) k origin.is_act other after, front-mono T l k m (le_of_suc-le-suc by)));
+      next_fence = λ k after by other. absurd (omega (arith, front-at_fence T t l (suc origin.before) k origin.is_act other after, front-mono T l k m (le_of_suc-le-suc by)));
     })
 
 -- a useful flush has a partner
@@ -83,7 +87,7 @@ flush-partner T S t l i zero selection same flush last needed = absurd (omega (a
 flush-partner T S t l i (suc m) selection same flush last needed =
     let before : suc m - 1 ≡ m = omega arith in
     let needs : front_at T l m < count_at T l i = rw before at needed in
-    let raises : front_at T l m < front_at T l (suc m) = omega (arith, fence-front T t l i (suc m) flush.is_flush flush.is_fence flush.later) in
+    let raises : front_at T l m < front_at T l (suc m) = omega (arith, front-at_fence T t l i (suc m) flush.is_flush flush.is_fence flush.later) in
     let partner = raising-partner T S t l m selection same flush.is_fence raises in
     (partner.0, partner.1, Flush t l (suc m) flush last partner.2)
 
