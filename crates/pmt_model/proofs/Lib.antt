@@ -5,8 +5,12 @@ pub mod FaithfulLemmas
 pub mod Histories
 pub mod KeepLemmas
 pub mod Moments
+pub mod NeededFlushes
+pub mod NewStores
+pub mod NoWaste
 pub mod Owing
 pub mod Partners
 pub mod Pigeonhole
 pub mod SameFronts
 pub mod Shortest
+pub mod TrimmedTwice
