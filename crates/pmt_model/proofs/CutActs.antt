@@ -31,3 +31,11 @@ earlier-selected T K m n selection has less = omega (arith, place-kept K m selec
 -- a selected act has as many stores to each line before it as it has in the cut trace
 pub count-selected : (T : Recording) (K : List ℕ) (l n : ℕ) → IsSelection T K → Has K (suc n) → count_at (cut T K) l (suc (matching_place K n)) ≡ count_at T l (suc n)
 count-selected T K l n selection has = ap (count_at (cut T K) l) (sym (place-kept K n selection.rising has)) ∙ count-cut T K l (suc n) selection
+
+-- an act of the cut trace has as many stores to each line before it as its origin
+pub count-origin : (T : Recording) (K : List ℕ) (l i : ℕ) (a : Act) → IsSelection T K → (o : IsOrigin T K i a) → count_at T l (suc o.before) ≡ count_at (cut T K) l i
+count-origin T K l i a selection o = sym (count-selected T K l o.before selection o.has) ∙ ap (count_at (cut T K) l) o.place
+
+-- an act of the cut trace before another has the earlier origin
+pub origin-earlier : (T : Recording) (K : List ℕ) (i j : ℕ) (a b : Act) → (o : IsOrigin T K i a) → (p : IsOrigin T K j b) → i < j → o.before < p.before
+origin-earlier T K i j a b o p less = earlier-origin K o.before p.before (omega (arith, o.place, p.place))

@@ -9,7 +9,7 @@ use Rattle.pmt_model.specs.Keeping.IsKept.{Stays, ByFence, ByFlush, ByClflush}
 use Rattle.pmt_model.specs.Shortest.{HasSameVectors}
 use Rattle.pmt_model.proofs.Histories.{act-unique, act-within, history-act, front-mono}
 use Rattle.pmt_model.proofs.CutLemmas.{place-kept, cut-act}
-use Rattle.pmt_model.proofs.CutActs.{act-origin, earlier-origin, count-selected}
+use Rattle.pmt_model.proofs.CutActs.{act-origin, earlier-origin, count-origin}
 use Rattle.pmt_model.proofs.KeepLemmas.{front-at_fence, needed-flush}
 use Rattle.pmt_model.proofs.SameFronts.{fronts-selected, raising-selected}
 
@@ -70,8 +70,7 @@ raising-partner T S t l m selection same fence raises =
     let raiser = needed-flush (cut T S) t l place cut_fence (omega arith) in
     let origin = act-origin T S raiser.0 (Flushes t l) selection raiser.2.is_flush in
     let later : suc origin.before < suc m = suc-le-suc (earlier-origin S origin.before m (omega (arith, origin.place, raiser.2.by_now))) in
-    let same_count : count_at (cut T S) l (suc (matching_place S origin.before)) ≡ count_at T l (suc origin.before) = count-selected T S l origin.before selection origin.has in
-    let same_place : count_at (cut T S) l (suc (matching_place S origin.before)) ≡ count_at (cut T S) l raiser.0 = ap (count_at (cut T S) l) origin.place in
+    let same_count : count_at T l (suc origin.before) ≡ count_at (cut T S) l raiser.0 = count-origin T S l raiser.0 (Flushes t l) selection origin in
     let marked : count_at T l (suc origin.before) ≡ front_at T l (suc m) = omega (arith, raiser.2.stores) in
     (suc origin.before, origin.has, record {
       is_flush = origin.is_act;
