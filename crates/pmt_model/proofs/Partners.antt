@@ -1,5 +1,5 @@
 -- Each kept event has a partner in a selection with the same counts of persisted stores, and no two have the same.
-use Rattle.std.proofs.Common.{◌≡◌, ◌≢◌, ℕ, zero, suc, ◌-◌, ◌<◌, ◌≤◌, ◌⊎◌, inl, inr, List, length, true, false, refl, sym, ap, subst, ◌∙◌, arith, true≢false, subst₂, le_antisymm, suc-le-suc, max, lt_of_not-le, le_of_suc-le-suc}
+use Rattle.std.proofs.Common.{◌≡◌, ◌≢◌, ℕ, zero, suc, ◌-◌, ◌<◌, ◌≤◌, ◌⊎◌, inl, inr, List, length, true, false, refl, sym, ap, subst, ◌∙◌, arith, true≢false, subst₂, le_antisymm, max, lt_of_not-le, le_of_suc-le-suc}
 use Rattle.pmt_model.specs.Machine.{Act, Stores, Flushes, FlushesNow, Fences, Asserts}
 use Rattle.pmt_model.specs.Traces.{Recording, IsAct, history, count_at}
 use Rattle.pmt_model.specs.Fronts.{front, mark, front_at}
@@ -69,13 +69,13 @@ raising-partner T S t l m selection same fence raises =
         ap (front l) (history-act (cut T S) place (Fences t) cut_fence) in
     let raiser = needed-flush (cut T S) t l place cut_fence (omega arith) in
     let origin = act-origin T S raiser.0 (Flushes t l) selection raiser.2.is_flush in
-    let later : suc origin.before < suc m = suc-le-suc (earlier-origin S origin.before m (omega (arith, origin.place, raiser.2.by_now))) in
+    let earlier : origin.before < m = earlier-origin S origin.before m (omega (arith, origin.place, raiser.2.by_now)) in
     let same_count : count_at T l (suc origin.before) ≡ count_at (cut T S) l raiser.0 = count-origin T S l raiser.0 (Flushes t l) selection origin in
     let marked : count_at T l (suc origin.before) ≡ front_at T l (suc m) = omega (arith, raiser.2.stores) in
     (suc origin.before, origin.has, record {
       is_flush = origin.is_act;
       is_fence = fence;
-      later = later;
+      later = omega (arith, earlier);
       next_fence = λ k after by other. absurd (omega (arith, front-at_fence T t l (suc origin.before) k origin.is_act other after, front-mono T l k m (le_of_suc-le-suc by)));
     })
 
