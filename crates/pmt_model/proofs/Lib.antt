@@ -12,5 +12,5 @@ pub mod Owing
 pub mod Partners
 pub mod Pigeonhole
 pub mod SameFronts
-pub mod Shortest
+pub mod ShortestLemmas
 pub mod TrimmedTwice
