@@ -1,9 +1,8 @@
 -- The counts of persisted stores that the runs of a history end with are those between the fronts and the counts of stores.
-use Rattle.std.proofs.Common.{◌≡◌, ℕ, suc, ◌<◌, ◌≤◌, min, max, ◌⊎◌, inl, inr, Bool, true, false, List, [], ◌∷◌, ◌&&◌, if◌then◌else◌, ◌==◌, refl, sym, ap, subst, ◌∙◌, cond, eq-eqb, eqb-true, ne_eqb, le_trans, arith}
-use Rattle.std.specs.List.{AllByRecursion}
+use Rattle.std.proofs.Common.{◌≡◌, ℕ, suc, ◌<◌, ◌≤◌, min, inl, inr, List, [], ◌∷◌, ◌==◌, refl, sym, ap, subst, subst₂, ◌↔◌, ◌∙◌, eq-eqb, eqb-true, ne_eqb, le_trans, arith}
 use Rattle.std.proofs.lemmas.Bool.{cond_both, cond-true, cond-false, cases_lt, cases_eq}
 use Rattle.pmt_model.specs.Values.{Written}
-use Rattle.pmt_model.specs.Machine.{Act, Stores, Flushes, FlushesNow, Fences, Asserts, Outstanding, State, Allows, Leads, Stays, Acts, Persists, Ends, Vectors, count, start, after, after_persist, outstanding_after}
+use Rattle.pmt_model.specs.Machine.{Act, Stores, Flushes, FlushesNow, Fences, Asserts, State, Allows, Leads, Stays, Acts, Persists, Ends, Vectors, count, start, after, after_persist, outstanding_after}
 use Rattle.pmt_model.specs.Fronts.{mark, front}
 use Rattle.pmt_model.specs.Boxes.{InBox, VectorsAreABox}
 use Rattle.pmt_model.proofs.Histories.{mark-le-count, count-grows, front-grows, front-le-count}
@@ -38,19 +37,22 @@ front-after s Asserts reached allowed l = (reached.box l).0
 
 -- a state that is reached stays so under an act
 pub reached-after : (s : State) (a : Act) → IsReached s → Allows s a → IsReached (after s a)
-reached-after s a reached allowed = record
-  { owes = owes-after s a reached.owes
-  ; box = λ l. (front-after s a reached allowed l, le_trans (reached.box l).1 (count-grows l a s.history)) }
+reached-after s a reached allowed = record {
+  owes = owes-after s a reached.owes;
+  box = λ l. (front-after s a reached allowed l, le_trans (reached.box l).1 (count-grows l a s.history));
+}
 
 -- and under a persist step
 pub reached-after_persist : (s : State) (l : ℕ) → IsReached s → s.persisted l < count l s.history → IsReached (after_persist s l)
-reached-after_persist s l reached room = record
-  { owes = reached.owes
-  ; box = λ k.
-        ( cond_both (k == l) (suc (s.persisted k)) (s.persisted k) (λ x. front k s.history ≤ x) (λ same. let b = (reached.box k).0 in omega arith) (λ other. (reached.box k).0)
-        , cond_both (k == l) (suc (s.persisted k)) (s.persisted k) (λ x. x ≤ count k s.history)
-          (λ same. subst (λ j. suc (s.persisted j) ≤ count j s.history) (sym (eqb-true k l same)) room)
-          (λ other. (reached.box k).1) ) }
+reached-after_persist s l reached room = record {
+  owes = reached.owes;
+  box = λ k. (
+    cond_both (k == l) (suc (s.persisted k)) (s.persisted k) (λ x. front k s.history ≤ x) (λ same. let b = (reached.box k).0 in omega arith) (λ other. (reached.box k).0),
+    cond_both (k == l) (suc (s.persisted k)) (s.persisted k) (λ x. x ≤ count k s.history)
+        (λ same. subst (λ j. suc (s.persisted j) ≤ count j s.history) (sym (eqb-true k l same)) room)
+        (λ other. (reached.box k).1),
+  );
+}
 
 -- what holds of each state that a run comes to
 pub leads-reached : (s : State) → Leads start s → IsReached s
@@ -94,71 +96,90 @@ pub record IsAsPlanned (v : ℕ → ℕ) (h : List Act) (s : State) : Type 0 whe
 
 -- a store past the plan stays pending
 planned-pending : (v : ℕ → ℕ) (k : ℕ) (w : Written) (h : List Act) (s : State) → v k ≤ count k h → IsAsPlanned v h s → IsAsPlanned v (Stores k w ∷ h) (after s (Stores k w))
-planned-pending v k w h s enough plan = record
-  { path = Acts (Stores k w) plan.path tt
-  ; is_history = ap (λ history. Stores k w ∷ history) plan.is_history
-  ; persisted = λ l. elim (cases_eq l k)
-        [ inl same ↦
-            let new = count-store l k w h same in
-            let reach = subst (λ j. v j ≤ count j h) (sym same) enough in
-            let old = plan.persisted l in
-            omega arith
-        | inr other ↦ let new = count-store_other l k w h other in let old = plan.persisted l in omega arith ] }
+planned-pending v k w h s enough plan = record {
+  path = Acts (Stores k w) plan.path tt;
+  is_history = ap (λ history. Stores k w ∷ history) plan.is_history;
+  persisted = λ l. elim (cases_eq l k) [
+    | inl same ↦
+        let new = count-store l k w h same in
+        let reach = subst (λ j. v j ≤ count j h) (sym same) enough in
+        let old = plan.persisted l in
+        omega arith
+    | inr other ↦ let new = count-store_other l k w h other in let old = plan.persisted l in omega arith
+  ];
+}
 
 -- a store within the plan persists at once
 planned-persist : (v : ℕ → ℕ) (k : ℕ) (w : Written) (h : List Act) (s : State) → count k h < v k → IsAsPlanned v h s → IsAsPlanned v (Stores k w ∷ h) (after_persist (after s (Stores k w)) k)
-planned-persist v k w h s more plan = record
-  { path = Persists k (Acts (Stores k w) plan.path tt)
-        (let old = plan.persisted k in
-        let new = count-store k k w s.history refl in
-        let stores : count k s.history ≡ count k h = ap (count k) plan.is_history in
-        subst (λ c. s.persisted k < c) (sym new) (omega arith))
-  ; is_history = ap (λ history. Stores k w ∷ history) plan.is_history
-  ; persisted = λ l. elim (cases_eq l k)
-        [ inl same ↦
-            let step = persisted-step (after s (Stores k w)) l k same in
-            let new = count-store l k w h same in
-            let reach = subst (λ j. count j h < v j) (sym same) more in
-            let old = plan.persisted l in
-            omega arith
-        | inr other ↦
-            let step = persisted-step_other (after s (Stores k w)) l k other in
-            let new = count-store_other l k w h other in
-            let old = plan.persisted l in
-            omega arith ] }
+planned-persist v k w h s more plan = record {
+  path = Persists k (Acts (Stores k w) plan.path tt)
+      (let old = plan.persisted k in
+      let new = count-store k k w s.history refl in
+      let stores : count k s.history ≡ count k h = ap (count k) plan.is_history in
+      subst (λ c. s.persisted k < c) (sym new) (omega arith));
+  is_history = ap (λ history. Stores k w ∷ history) plan.is_history;
+  persisted = λ l. elim (cases_eq l k) [
+    | inl same ↦
+        let step = persisted-step (after s (Stores k w)) l k same in
+        let new = count-store l k w h same in
+        let reach = subst (λ j. count j h < v j) (sym same) more in
+        let old = plan.persisted l in
+        omega arith
+    | inr other ↦
+        let step = persisted-step_other (after s (Stores k w)) l k other in
+        let new = count-store_other l k w h other in
+        let old = plan.persisted l in
+        omega arith
+  ];
+}
 
 -- one more act goes as planned
 planned-next : (v : ℕ → ℕ) (a : Act) (h : List Act) → ((l : ℕ) → front l (a ∷ h) ≤ v l) → (s : State) → IsAsPlanned v h s → (t : State) × IsAsPlanned v (a ∷ h) t
 planned-next v (Stores k w) h fronts s plan =
-    elim (cases_lt (count k h) (v k))
-    [ inl more ↦ (after_persist (after s (Stores k w)) k, planned-persist v k w h s more plan)
-    | inr enough ↦ (after s (Stores k w), planned-pending v k w h s enough plan) ]
-planned-next v (Flushes t k) h fronts s plan = (after s (Flushes t k), record
-  { path = Acts (Flushes t k) plan.path tt
-  ; is_history = ap (λ history. Flushes t k ∷ history) plan.is_history
-  ; persisted = plan.persisted })
+    elim (cases_lt (count k h) (v k)) [
+      | inl more ↦ (after_persist (after s (Stores k w)) k, planned-persist v k w h s more plan)
+      | inr enough ↦ (after s (Stores k w), planned-pending v k w h s enough plan)
+    ]
+planned-next v (Flushes t k) h fronts s plan = (
+  after s (Flushes t k),
+  record {
+    path = Acts (Flushes t k) plan.path tt;
+    is_history = ap (λ history. Flushes t k ∷ history) plan.is_history;
+    persisted = plan.persisted;
+  },
+)
 planned-next v (FlushesNow k) h fronts s plan =
     let reach = fronts k in
     let front = front-flush_now k h in
     let done = plan.persisted k in
-    let all : s.persisted k ≡ count k h = omega arith in
-    (after s (FlushesNow k), record
-      { path = Acts (FlushesNow k) plan.path (all ∙ ap (count k) (sym plan.is_history))
-      ; is_history = ap (λ history. FlushesNow k ∷ history) plan.is_history
-      ; persisted = plan.persisted })
+    let all : s.persisted k ≡ count k h = omega arith in (
+      after s (FlushesNow k),
+      record {
+        path = Acts (FlushesNow k) plan.path (all ∙ ap (count k) (sym plan.is_history));
+        is_history = ap (λ history. FlushesNow k ∷ history) plan.is_history;
+        persisted = plan.persisted;
+      },
+    )
 planned-next v (Fences t) h fronts s plan =
-    let owes = (leads-reached s plan.path).owes ∙ ap owing plan.is_history in
-    (after s (Fences t), record
-      { path = Acts (Fences t) plan.path (subst (OwesAtMost t s.persisted) (sym owes) (owed_from_marks t s.persisted h reached))
-      ; is_history = ap (λ history. Fences t ∷ history) plan.is_history
-      ; persisted = plan.persisted })
+    let owes = (leads-reached s plan.path).owes ∙ ap owing plan.is_history in (
+      after s (Fences t),
+      record {
+        path = Acts (Fences t) plan.path (subst (OwesAtMost t s.persisted) (sym owes) (owed_from_marks t s.persisted h reached));
+        is_history = ap (λ history. Fences t ∷ history) plan.is_history;
+        persisted = plan.persisted;
+      },
+    )
   where
     reached : (l : ℕ) → mark t l h ≤ s.persisted l
     reached l = let reach = fronts l in let done = plan.persisted l in let few = mark-le-count t l h in omega arith
-planned-next v Asserts h fronts s plan = (after s Asserts, record
-  { path = Acts Asserts plan.path tt
-  ; is_history = ap (λ history. Asserts ∷ history) plan.is_history
-  ; persisted = plan.persisted })
+planned-next v Asserts h fronts s plan = (
+  after s Asserts,
+  record {
+    path = Acts Asserts plan.path tt;
+    is_history = ap (λ history. Asserts ∷ history) plan.is_history;
+    persisted = plan.persisted;
+  },
+)
 
 -- every history with fronts within the plan has a run as planned
 pub planned : (v : ℕ → ℕ) (h : List Act) → ((l : ℕ) → front l h ≤ v l) → (s : State) × IsAsPlanned v h s
@@ -175,6 +196,34 @@ box-ends h v box =
 
 -- runs end with just the counts of the box
 pub vectors_are_a_box : VectorsAreABox
-vectors_are_a_box h v =
-    ( λ x l. subst (λ n. (front l h ≤ n) × (n ≤ count l h)) (x.2 l) (ends-box h x.0 x.1 l)
-    , λ box. box-ends h v box )
+vectors_are_a_box h v = (
+  λ x l. subst (λ n. (front l h ≤ n) × (n ≤ count l h)) (x.2 l) (ends-box h x.0 x.1 l),
+  λ box. box-ends h v box,
+)
+
+-- some run ends with nothing persisted but what has to be
+pub least-vector : (h : List Act) → Vectors h (λ l. front l h)
+least-vector h = box-ends h (λ l. front l h) (λ l. (omega arith, front-le-count l h))
+
+-- and some with all persisted
+pub greatest-vector : (h : List Act) → Vectors h (λ l. count l h)
+greatest-vector h = box-ends h (λ l. count l h) (λ l. (front-le-count l h, omega arith))
+
+-- no run ends with less than the front persisted
+pub vector-ge_front : (h : List Act) (v : ℕ → ℕ) → Vectors h v → (l : ℕ) → front l h ≤ v l
+vector-ge_front h v x l = ((vectors_are_a_box h v).0 x l).0
+
+-- where runs end with the same counts, the fronts are the same
+pub same_vectors-front : (h k : List Act) → ((v : ℕ → ℕ) → Vectors h v ↔ Vectors k v) → (l : ℕ) → front l h ≡ front l k
+same_vectors-front h k same l =
+    let one = vector-ge_front k (λ j. front j h) ((same (λ j. front j h)).0 (least-vector h)) l in
+    let other = vector-ge_front h (λ j. front j k) ((same (λ j. front j k)).1 (least-vector k)) l in
+    omega arith
+
+-- where fronts and counts are the same, runs end with the same counts
+pub same_fronts-vectors : (h k : List Act) → ((l : ℕ) → front l h ≡ front l k) → ((l : ℕ) → count l h ≡ count l k) → (v : ℕ → ℕ) → Vectors h v ↔ Vectors k v
+same_fronts-vectors h k fronts counts v = (over h k fronts counts, over k h (λ l. sym (fronts l)) (λ l. sym (counts l)))
+  where
+    over : (a b : List Act) → ((l : ℕ) → front l a ≡ front l b) → ((l : ℕ) → count l a ≡ count l b) → Vectors a v → Vectors b v
+    over a b lower upper x =
+        (vectors_are_a_box b v).1 (λ l. subst₂ (λ m n. (m ≤ v l) × (v l ≤ n)) (lower l) (upper l) ((vectors_are_a_box a v).0 x l))

@@ -1,9 +1,9 @@
 -- Places and events of a trace, and the matching ones of the trace cut to a selection.
-use Rattle.std.proofs.Common.{◌≡◌, ℕ, zero, suc, ◌<◌, ◌≤◌, ◌⊎◌, ◌==◌, nat_le, Bool, true, false, if◌then◌else◌, List, [], ◌∷◌, length, Option, Some, None, slice_get, filter_map, refl, sym, ◌∙◌, ap, subst, inl, inr, ⊎_elim, arith}
+use Rattle.std.proofs.Common.{◌≡◌, ℕ, zero, suc, ◌<◌, ◌≤◌, ◌⊎◌, ◌==◌, false, if◌then◌else◌, List, [], ◌∷◌, length, Some, slice_get, filter_map, refl, sym, ◌∙◌, ap, inl, inr, ⊎_elim, arith}
 use Rattle.std.proofs.lemmas.Bool.{le-leb, lt-leb, cases_eq, cases_lt, false_from_ne_true, true≢false}
 use Rattle.pmt_model.specs.declared.event.Event.{Event}
 use Rattle.pmt_model.specs.Machine.{Act, Stores, Flushes, FlushesNow, Fences, Asserts, count}
-use Rattle.pmt_model.specs.Traces.{Recording, event, act, IsAct, history, count_at}
+use Rattle.pmt_model.specs.Traces.{Recording, event, IsAct, history, count_at}
 use Rattle.pmt_model.specs.Selections.{IsRising, Has, always_stays, IsSelection, cut, matching_place}
 use Rattle.pmt_model.proofs.Histories.{event-some, history-act, history-step}
 
@@ -57,8 +57,8 @@ place-dropped (k ∷ ks) n h =
     ⊎_elim
     (λ (below : k < suc n). place-in k ks (suc n) (omega arith) ∙ ap suc (place-dropped ks n (λ has. h (inr has))) ∙ sym (place-in k ks n (omega arith)))
     (λ (above : suc n ≤ k).
-        let apart : suc n < k = omega (arith, λ (e : k ≡ suc n). h (inl e)) in
-        place-out k ks (suc n) apart ∙ place-dropped ks n (λ has. h (inr has)) ∙ sym (place-out k ks n (omega arith)))
+    let apart : suc n < k = omega (arith, λ (e : k ≡ suc n). h (inl e)) in
+    place-out k ks (suc n) apart ∙ place-dropped ks n (λ has. h (inr has)) ∙ sym (place-out k ks n (omega arith)))
     (cases_lt k (suc n))
 
 -- A later place has a later matching place.

@@ -1,11 +1,11 @@
 -- A selection with the fronts of the trace at a place is faithful there.
-use Rattle.std.proofs.Common.{◌≡◌, ℕ, zero, suc, ◌≤◌, ◌↔◌, nat_lt, ◌-◌, Bool, true, false, if◌then◌else◌, List, [], ◌∷◌, length, Option, Some, None, slice_get, refl, sym, ◌∙◌, ap, subst}
+use Rattle.std.proofs.Common.{◌≡◌, ℕ, zero, suc, ◌≤◌, nat_lt, ◌-◌, false, if◌then◌else◌, List, ◌∷◌, slice_get, refl, sym, ◌∙◌, ap, subst}
 use Rattle.std.proofs.lemmas.Bool.{true≢false}
-use Rattle.pmt_model.specs.Machine.{Act, Stores, Flushes, FlushesNow, Fences, Asserts, State, Ends, count, writes, image_of, Image, Crash, Vectors}
-use Rattle.pmt_model.specs.Traces.{Recording, IsAct, history, count_at, CrashAt, VectorsAt}
-use Rattle.pmt_model.specs.Fronts.{front, front_at}
+use Rattle.pmt_model.specs.Machine.{Act, Stores, Flushes, FlushesNow, Fences, Asserts, count, writes, image_of, Image, Crash, Vectors}
+use Rattle.pmt_model.specs.Traces.{Recording, history}
+use Rattle.pmt_model.specs.Fronts.{front}
 use Rattle.pmt_model.specs.Boxes.{InBox, VectorsAreABox}
-use Rattle.pmt_model.specs.Selections.{Has, always_stays, IsSelection, cut, matching_place, IsFaithful, FrontsDecide}
+use Rattle.pmt_model.specs.Selections.{always_stays, IsSelection, cut, matching_place, FrontsDecide}
 use Rattle.pmt_model.proofs.CutLemmas.{IsNext, Keeps, Drops, Ended, next-step, history-zero, count-cut}
 
 -- One more act brings equal bytes to equal bytes, where the counts of stores are equal.

@@ -1,14 +1,17 @@
 -- The list of the events that are kept: there is one, it is a selection, and it has the fronts of the trace at each place.
-use Rattle.std.proofs.Common.{◌≡◌, ◌≢◌, ℕ, zero, suc, ◌-◌, ◌<◌, ◌≤◌, ◌⊎◌, ◌==◌, ◌&&◌, max, Bool, true, false, if◌then◌else◌, List, [], ◌∷◌, length, refl, sym, ◌∙◌, ap, ap₂, subst, inl, inr, ⊎_elim, arith}
-use Rattle.std.proofs.lemmas.Bool.{true≢false, cases_eq, cases_lt, cases_Bool, eq-eqb, eqb-true, and_parts, cond-true, cond-false, ne_eqb, and_from}
+use Rattle.std.proofs.Common.{◌≡◌, ℕ, zero, suc, ◌-◌, ◌<◌, ◌≤◌, ◌⊎◌, ◌==◌, ◌&&◌, Bool, true, false, if◌then◌else◌, List, [], ◌∷◌, length, refl, sym, ◌∙◌, ap, ap₂, subst, inl, inr, ⊎_elim, arith}
+use Rattle.std.proofs.lemmas.Bool.{cases_eq, cases_lt, cond-false, ne_eqb}
 use Rattle.pmt_model.specs.Machine.{Act, Stores, Flushes, FlushesNow, Fences, Asserts, count}
 use Rattle.pmt_model.specs.Traces.{Recording, IsAct, history, count_at}
 use Rattle.pmt_model.specs.Fronts.{front, mark, front_at}
 use Rattle.pmt_model.specs.Boxes.{VectorsAreABox}
-use Rattle.pmt_model.specs.Selections.{IsRising, Has, always_stays, IsSelection, cut, matching_place}
-use Rattle.pmt_model.specs.Keeping.{IsUsefulFence, IsUsefulFlush, IsUsefulClflush, IsKept, Stays, ByFence, ByFlush, ByClflush, IsKeep, KeepIsUnique, KeepIsFaithful}
-use Rattle.pmt_model.proofs.Histories.{act-within, history-act, history-step, front-le-count, mark-le-count, front-grows, front-mono, mono-from_grows, act-unique}
+use Rattle.pmt_model.specs.Selections.{IsRising, Has, IsSelection, cut, matching_place}
+use Rattle.pmt_model.specs.Keeping.{IsUsefulFlush, IsKept, Stays, ByFence, ByFlush, ByClflush, IsKeep, KeepIsUnique, KeepIsFaithful}
+use Rattle.pmt_model.proofs.Histories.{act-within, history-act, front-grows, front-mono}
 use Rattle.pmt_model.proofs.CutLemmas.{IsNext, Keeps, Drops, Ended, next-step, has-above, place-kept, place-mono, cut-act, history-zero, count-cut}
+use Rattle.pmt_model.proofs.Owing.{mark-grows}
+use Rattle.pmt_model.proofs.FrontLemmas.{mark-greatest, completed-le_front}
+use Rattle.pmt_model.proofs.LastFlushes.{IsLastFlush, last-flush}
 use Rattle.pmt_model.proofs.FaithfulLemmas.{fronts_decide}
 
 -- Rising lists of the same numbers are equal.
@@ -22,17 +25,22 @@ rising-unique low (k ∷ ks) (j ∷ js) r q there back =
     at_most : (m : ℕ) (ms : List ℕ) (n : ℕ) → IsRising m ms → Has (m ∷ ms) n → m ≤ n
     at_most m ms n rises (inl same) = omega arith
     at_most m ms n rises (inr h) = let above : m < n = has-above m ms n rises h in omega arith
+
     e : k ≡ j
     e = let up : j ≤ k = at_most j js k q.1 (there k (inl refl)) in
         let down : k ≤ j = at_most k ks j r.1 (back j (inl refl)) in
         omega arith
+
     tail_rising : IsRising k js
     tail_rising = let P : ℕ → Type 0 = λ m. IsRising m js in subst P (sym e) q.1
+
     in_tail : (m : ℕ) (ms : List ℕ) (n : ℕ) → m < n → Has (m ∷ ms) n → Has ms n
     in_tail m ms n lt (inl same) = absurd (omega arith)
     in_tail m ms n lt (inr h) = h
+
     further : (n : ℕ) → Has ks n → Has js n
     further n h = let above : k < n = has-above k ks n r.1 h in in_tail j js n (omega (arith, e)) (there n (inr h))
+
     backward : (n : ℕ) → Has js n → Has ks n
     backward n h = let above : j < n = has-above j js n q.1 h in in_tail k ks n (omega (arith, e)) (back n (inr h))
 
@@ -71,18 +79,6 @@ mark-kept t l (Flushes u k) g h e le = mark-same t l u k (count l g) (count l h)
 mark-kept t l (FlushesNow k) g h e le = le
 mark-kept t l (Fences u) g h e le = le
 mark-kept t l Asserts g h e le = le
-
--- A mark never falls.
-pub mark-grows : (t l : ℕ) (a : Act) (h : List Act) → mark t l h ≤ mark t l (a ∷ h)
-mark-grows t l (Stores k w) h = omega arith
-mark-grows t l (Flushes u k) h = go ((u == t) && (k == l))
-  where
-    go : (b : Bool) → mark t l h ≤ (if b then count l h else mark t l h)
-    go true = mark-le-count t l h
-    go false = omega arith
-mark-grows t l (FlushesNow k) h = omega arith
-mark-grows t l (Fences u) h = omega arith
-mark-grows t l Asserts h = omega arith
 
 -- The marks of the cut are at most those of the trace.
 pub mark-cut-le : (T : Recording) (K : List ℕ) (t l n : ℕ) → IsSelection T K → mark t l (history (cut T K) (matching_place K n)) ≤ mark t l (history T n)
@@ -142,98 +138,10 @@ raising-is-kept T l n (Fences t) is changes = ByFence (record {
 })
 raising-is-kept T l n Asserts is changes = Stays Asserts is refl
 
--- The last flush of line l by thread t among the first n events.
-pub record IsLastFlush (T : Recording) (t l n i : ℕ) : Type 0 where
-  pub is_flush : IsAct T i (Flushes t l)
-  pub by_now : i ≤ n
-  pub none_later : (k : ℕ) → i < k → k ≤ n → ¬ IsAct T k (Flushes t l)
-  pub stores : count_at T l i ≡ mark t l (history T n)
-
--- An act is a flush of the line by the thread, or not.
-flush-dec : (t l : ℕ) (a : Act) → (a ≡ Flushes t l) ⊎ (a ≡ Flushes t l → ⊥)
-flush-dec t l (Stores k w) = inr (λ e. cc)
-flush-dec t l (Flushes u k) = go (cases_eq u t) (cases_eq k l)
-  where
-    go : (u ≡ t) ⊎ (u ≡ t → ⊥) → (k ≡ l) ⊎ (k ≡ l → ⊥) → (Flushes u k ≡ Flushes t l) ⊎ (Flushes u k ≡ Flushes t l → ⊥)
-    go (inl x) (inl y) = inl (cc)
-    go (inl x) (inr y) = inr (λ e. y (cc))
-    go (inr x) y = inr (λ e. x (cc))
-flush-dec t l (FlushesNow k) = inr (λ e. cc)
-flush-dec t l (Fences u) = inr (λ e. cc)
-flush-dec t l Asserts = inr (λ e. cc)
-
--- Any other act leaves the mark.
-mark-other : (t l : ℕ) (a : Act) (h : List Act) → (a ≡ Flushes t l → ⊥) → mark t l (a ∷ h) ≡ mark t l h
-mark-other t l (Stores k w) h apart = refl
-mark-other t l (Flushes u k) h apart = go (cases_Bool ((u == t) && (k == l)))
-  where
-    go : ((u == t) && (k == l)) ≡ true ⊎ ((u == t) && (k == l)) ≡ false → mark t l (Flushes u k ∷ h) ≡ mark t l h
-    go (inl e) = let both = and_parts (u == t) (k == l) e in absurd (apart (ap₂ Flushes (eqb-true u t both.0) (eqb-true k l both.1)))
-    go (inr e) = cond-false ((u == t) && (k == l)) (count l h) (mark t l h) e
-mark-other t l (FlushesNow k) h apart = refl
-mark-other t l (Fences u) h apart = refl
-mark-other t l Asserts h apart = refl
-
--- A flush marks the stores so far.
-pub mark-flush : (t l : ℕ) (h : List Act) → mark t l (Flushes t l ∷ h) ≡ count l h
-mark-flush t l h = cond-true ((t == t) && (l == l)) (count l h) (mark t l h) (and_from (t == t) (l == l) (eq-eqb t t refl) (eq-eqb l l refl))
-
--- The mark counts the stores before the last flush, if there is one.
-pub last-flush : (T : Recording) (t l n : ℕ) → (mark t l (history T n) ≡ 0) ⊎ ((i : ℕ) × IsLastFlush T t l n i)
-last-flush T t l zero = inl refl
-last-flush T t l (suc n) = go (history-step T n) (last-flush T t l n)
-  where
-    later : (mark t l (history T (suc n)) ≡ mark t l (history T n)) → (IsAct T (suc n) (Flushes t l) → ⊥) →
-        (mark t l (history T n) ≡ 0) ⊎ ((i : ℕ) × IsLastFlush T t l n i) → (mark t l (history T (suc n)) ≡ 0) ⊎ ((i : ℕ) × IsLastFlush T t l (suc n) i)
-    later same no_flush (inl e) = inl (same ∙ e)
-    later same no_flush (inr (i, last)) = inr (i, record {
-      is_flush = last.is_flush;
-      by_now = let before : i ≤ n = last.by_now in omega arith;
-      none_later = λ k after within is. ⊎_elim
-          (λ (early : k < suc n). last.none_later k after (omega arith) is)
-          (λ (late : suc n ≤ k). let e : k ≡ suc n = omega arith in let P : ℕ → Type 0 = λ j. IsAct T j (Flushes t l) in no_flush (subst P e is))
-          (cases_lt k (suc n));
-      stores = last.stores ∙ sym same;
-    })
-    by_act : (a : Act) → IsAct T (suc n) a → (a ≡ Flushes t l) ⊎ (a ≡ Flushes t l → ⊥) → (mark t l (history T n) ≡ 0) ⊎ ((i : ℕ) × IsLastFlush T t l n i) →
-        (mark t l (history T (suc n)) ≡ 0) ⊎ ((i : ℕ) × IsLastFlush T t l (suc n) i)
-    by_act a is (inl e) before =
-        let flush : IsAct T (suc n) (Flushes t l) = (is.0, is.1, is.2 ∙ e) in
-        let grown = history-act T n (Flushes t l) flush in
-        inr (suc n, record {
-          is_flush = flush;
-          by_now = omega arith;
-          none_later = λ k after within at. absurd (omega arith);
-          stores = ap (count l) grown ∙ sym (ap (mark t l) grown ∙ mark-flush t l (history T n));
-        })
-    by_act a is (inr apart) before =
-        later (ap (mark t l) (history-act T n a is) ∙ mark-other t l a (history T n) apart) (λ flush. apart (act-unique T (suc n) a (Flushes t l) is flush)) before
-    go : ((a : Act) × IsAct T (suc n) a) ⊎ ((length T.events ≤ n) × (history T (suc n) ≡ history T n)) → (mark t l (history T n) ≡ 0) ⊎ ((i : ℕ) × IsLastFlush T t l n i) →
-        (mark t l (history T (suc n)) ≡ 0) ⊎ ((i : ℕ) × IsLastFlush T t l (suc n) i)
-    go (inl x) before = by_act x.0 x.1 (flush-dec t l x.0) before
-    go (inr x) before =
-        later (ap (mark t l) x.1) (λ flush. let past : length T.events ≤ n = x.0 in let le : suc n ≤ length T.events = (act-within T (suc n) (Flushes t l) flush).1 in absurd (omega arith)) before
-
--- A mark never falls along a trace.
-pub mark-mono : (T : Recording) (t l m n : ℕ) → m ≤ n → mark t l (history T m) ≤ mark t l (history T n)
-mark-mono T t l m n h = mono-from_grows T (mark t l) (mark-grows t l) m n h
-
--- From a flush on, the mark is at least the number of stores before it.
-pub mark-from_flush : (T : Recording) (t l i n : ℕ) → IsAct T i (Flushes t l) → i ≤ n → count_at T l i ≤ mark t l (history T n)
-mark-from_flush T t l zero n is h = omega arith
-mark-from_flush T t l (suc m) n is h =
-    let grown = history-act T m (Flushes t l) is in
-    let here : mark t l (history T (suc m)) ≡ count_at T l (suc m) = ap (mark t l) grown ∙ mark-flush t l (history T m) ∙ sym (ap (count l) grown) in
-    let up : mark t l (history T (suc m)) ≤ mark t l (history T n) = mark-mono T t l (suc m) n h in
-    omega arith
-
 -- A fence persists what its thread's flushes before it mark.
 pub front-at_fence : (T : Recording) (t l i k : ℕ) → IsAct T i (Flushes t l) → IsAct T k (Fences t) → i < k → count_at T l i ≤ front_at T l k
-front-at_fence T t l i zero flush fence h = absurd (omega arith)
-front-at_fence T t l i (suc m) flush fence h =
-    let up : count_at T l i ≤ mark t l (history T m) = mark-from_flush T t l i m flush (omega arith) in
-    let grown : front_at T l (suc m) ≡ max (front l (history T m)) (mark t l (history T m)) = ap (front l) (history-act T m (Fences t) fence) in
-    omega arith
+front-at_fence T t l i k flush fence h =
+    completed-le_front T l k (count_at T l i) (inl (record { thread = t; flush = i; fence = k; is_flush = flush; is_fence = fence; later = h; by_now = omega arith; stores = refl }))
 
 -- A fence that raises a front does so through a useful flush.
 pub needed-flush : (T : Recording) (t l n : ℕ) → IsAct T (suc n) (Fences t) → front_at T l n < mark t l (history T n) →
@@ -242,20 +150,24 @@ needed-flush T t l n fence raises = go (last-flush T t l n)
   where
     go : (mark t l (history T n) ≡ 0) ⊎ ((i : ℕ) × IsLastFlush T t l n i) → (i : ℕ) × IsUsefulFlush T i × IsLastFlush T t l n i
     go (inl e) = absurd (omega arith)
-    go (inr (i, last)) = (i, record {
-      thread = t;
-      line = l;
-      fence = suc n;
-      is_flush = last.is_flush;
-      is_fence = fence;
-      later = let h : i ≤ n = last.by_now in omega arith;
-      next_fence = λ k after before is.
-          let up : count_at T l i ≤ front_at T l k = front-at_fence T t l i k last.is_flush is after in
-          let on : front_at T l k ≤ front_at T l n = front-mono T l k n (omega arith) in
-          omega (arith, last.stores);
-      last_flush = λ k after before is. last.none_later k after (omega arith) is;
-      needed = let e : suc n - 1 ≡ n = omega arith in rw e (omega (arith, last.stores));
-    }, last)
+    go (inr (i, last)) = (
+      i,
+      record {
+        thread = t;
+        line = l;
+        fence = suc n;
+        is_flush = last.is_flush;
+        is_fence = fence;
+        later = let h : i ≤ n = last.by_now in omega arith;
+        next_fence = λ k after before is.
+            let up : count_at T l i ≤ front_at T l k = front-at_fence T t l i k last.is_flush is after in
+            let on : front_at T l k ≤ front_at T l n = front-mono T l k n (omega arith) in
+            omega (arith, last.stores);
+        last_flush = λ k after before is. last.none_later k after (omega arith) is;
+        needed = let e : suc n - 1 ≡ n = omega arith in rw e (omega (arith, last.stores));
+      },
+      last,
+    )
 
 -- In a cut that has the flush, the mark is at least the number of stores before it.
 pub mark-from_kept : (T : Recording) (K : List ℕ) (t l i n : ℕ) → IsSelection T K → IsAct T i (Flushes t l) → Has K i → i ≤ n →
@@ -265,7 +177,7 @@ mark-from_kept T K t l (suc m) n s is has h =
     let place = place-kept K m s.rising has in
     let within : matching_place K (suc m) ≤ matching_place K n = place-mono K (suc m) n h in
     let up : count_at (cut T K) l (suc (matching_place K m)) ≤ mark t l (history (cut T K) (matching_place K n)) =
-            mark-from_flush (cut T K) t l (suc (matching_place K m)) (matching_place K n) (cut-act T K m (Flushes t l) s has is) (omega arith) in
+    mark-greatest (cut T K) t l (suc (matching_place K m)) (matching_place K n) (cut-act T K m (Flushes t l) s has is) (omega arith) in
     let same : count_at (cut T K) l (suc (matching_place K m)) ≡ count_at T l (suc m) = ap (count_at (cut T K) l) (sym place) ∙ count-cut T K l (suc m) s in
     omega arith
 
@@ -282,10 +194,10 @@ kept-front T K l n (FlushesNow k) keep is le = go (k == l)
 kept-front T K l n (Fences t) keep is le =
     ⊎_elim
     (λ (raises : front_at T l n < mark t l (history T n)).
-        let flush = needed-flush T t l n is raises in
-        let up : count_at T l flush.0 ≤ mark t l (history (cut T K) (matching_place K n)) =
-                mark-from_kept T K t l flush.0 n (keep_is_selection T K keep) flush.2.is_flush ((keep.just flush.0).1 (ByFlush flush.1)) flush.2.by_now in
-        omega (arith, flush.2.stores))
+    let flush = needed-flush T t l n is raises in
+    let up : count_at T l flush.0 ≤ mark t l (history (cut T K) (matching_place K n)) =
+    mark-from_kept T K t l flush.0 n (keep_is_selection T K keep) flush.2.is_flush ((keep.just flush.0).1 (ByFlush flush.1)) flush.2.by_now in
+    omega (arith, flush.2.stores))
     (λ (no_more : mark t l (history T n) ≤ front_at T l n). omega arith)
     (cases_lt (front_at T l n) (mark t l (history T n)))
 kept-front T K l n Asserts keep is le = le

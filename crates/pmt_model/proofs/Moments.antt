@@ -1,8 +1,8 @@
 -- The moments of the runs of a history: they are the states of the runs of the histories that it goes on from.
-use Rattle.std.proofs.Common.{◌≡◌, ℕ, zero, suc, ◌+◌, ◌-◌, ◌<◌, ◌≤◌, ◌==◌, List, [], ◌∷◌, ◌++◌, refl, sym, ap, subst, ◌∙◌, le_trans, append_assoc, arith}
+use Rattle.std.proofs.Common.{◌≡◌, ℕ, zero, suc, ◌+◌, ◌-◌, ◌<◌, ◌≤◌, ◌==◌, List, [], ◌∷◌, ◌++◌, refl, sym, ap, subst, ◌∙◌, le_trans, arith}
 use Rattle.std.specs.List.{AllByRecursion}
 use Rattle.std.proofs.lemmas.Bool.{cond_both}
-use Rattle.pmt_model.specs.Machine.{Act, Stores, Flushes, FlushesNow, Fences, Asserts, Outstanding, State, Allows, Leads, Stays, Acts, Persists, Ends, Passes, count, start, after, after_persist}
+use Rattle.pmt_model.specs.Machine.{Act, Stores, Flushes, FlushesNow, Fences, Asserts, Outstanding, State, Leads, Stays, Acts, Persists, Passes, count, start, after, after_persist}
 use Rattle.pmt_model.specs.Boxes.{InBox}
 use Rattle.pmt_model.proofs.Histories.{count-grows}
 use Rattle.pmt_model.proofs.Owing.{owing}
@@ -41,19 +41,21 @@ persisting_none s = record { path = Stays; is_history = refl; is_outstanding = r
 
 -- persist steps after persist steps
 persisting-trans : (a b c : State) → Persisting a b → Persisting b c → Persisting a c
-persisting-trans a b c first second = record
-  { path = leads-trans a b c first.path second.path
-  ; is_history = second.is_history ∙ first.is_history
-  ; is_outstanding = second.is_outstanding ∙ first.is_outstanding
-  ; grows = λ l. le_trans (first.grows l) (second.grows l) }
+persisting-trans a b c first second = record {
+  path = leads-trans a b c first.path second.path;
+  is_history = second.is_history ∙ first.is_history;
+  is_outstanding = second.is_outstanding ∙ first.is_outstanding;
+  grows = λ l. le_trans (first.grows l) (second.grows l);
+}
 
 -- one persist step
 persisting_step : (s : State) (l : ℕ) → s.persisted l < count l s.history → Persisting s (after_persist s l)
-persisting_step s l room = record
-  { path = Persists l Stays room
-  ; is_history = refl
-  ; is_outstanding = refl
-  ; grows = λ k. cond_both (k == l) (suc (s.persisted k)) (s.persisted k) (λ x. s.persisted k ≤ x) (λ same. omega arith) (λ other. omega arith) }
+persisting_step s l room = record {
+  path = Persists l Stays room;
+  is_history = refl;
+  is_outstanding = refl;
+  grows = λ k. cond_both (k == l) (suc (s.persisted k)) (s.persisted k) (λ x. s.persisted k ≤ x) (λ same. omega arith) (λ other. omega arith);
+}
 
 -- all pending stores of a line, so many, can persist
 persist_line : (n : ℕ) (s : State) (l : ℕ) → count l s.history ≡ n + s.persisted l → (t : State) × Persisting s t × (t.persisted l ≡ count l s.history)
@@ -96,17 +98,19 @@ act_possible s path (Stores l w) = (after s (Stores l w), Acts (Stores l w) Stay
 act_possible s path (Flushes t l) = (after s (Flushes t l), Acts (Flushes t l) Stays tt, refl)
 act_possible s path (FlushesNow l) =
     let few = (leads-box s path l).1 in
-    let line = persist_line (count l s.history - s.persisted l) s l (omega arith) in
-    ( after line.0 (FlushesNow l)
-    , Acts (FlushesNow l) line.1.path (line.2 ∙ ap (count l) (sym line.1.is_history))
-    , ap (λ h. FlushesNow l ∷ h) line.1.is_history )
+    let line = persist_line (count l s.history - s.persisted l) s l (omega arith) in (
+      after line.0 (FlushesNow l),
+      Acts (FlushesNow l) line.1.path (line.2 ∙ ap (count l) (sym line.1.is_history)),
+      ap (λ h. FlushesNow l ∷ h) line.1.is_history,
+    )
 act_possible s path (Fences t) =
     let owes = (leads-reached s path).owes in
     let within = subst (AllByRecursion (λ o. o.stores ≤ count o.line s.history)) (sym owes) (owing-le_count (λ l. count l s.history) s.history (λ l. omega arith)) in
-    let ready = persist_owed t s.outstanding s path within in
-    ( after ready.0 (Fences t)
-    , Acts (Fences t) ready.1.path (subst (AllByRecursion (λ o. o.thread ≡ t → o.stores ≤ ready.0.persisted o.line)) (sym ready.1.is_outstanding) ready.2)
-    , ap (λ h. Fences t ∷ h) ready.1.is_history )
+    let ready = persist_owed t s.outstanding s path within in (
+      after ready.0 (Fences t),
+      Acts (Fences t) ready.1.path (subst (AllByRecursion (λ o. o.thread ≡ t → o.stores ≤ ready.0.persisted o.line)) (sym ready.1.is_outstanding) ready.2),
+      ap (λ h. Fences t ∷ h) ready.1.is_history,
+    )
 act_possible s path Asserts = (after s Asserts, Acts Asserts Stays tt, refl)
 
 -- a run goes on with any acts

@@ -1,10 +1,10 @@
 -- What is outstanding after a history, against its marks and counts.
-use Rattle.std.proofs.Common.{◌≡◌, ℕ, ◌≤◌, Bool, true, false, List, [], ◌∷◌, ◌&&◌, if◌then◌else◌, ◌==◌, refl, sym, ap, subst, ◌∙◌, cond, eq-eqb, eqb-true, le_trans, arith}
+use Rattle.std.proofs.Common.{◌≡◌, ℕ, ◌≤◌, List, [], ◌∷◌, ◌&&◌, ◌==◌, refl, subst, eq-eqb, eqb-true, le_trans, arith}
 use Rattle.std.specs.List.{AllByRecursion}
 use Rattle.std.proofs.lemmas.Bool.{cond_both, and_parts, and_from, cond-true}
 use Rattle.pmt_model.specs.Machine.{Act, Stores, Flushes, FlushesNow, Fences, Asserts, Outstanding, count}
-use Rattle.pmt_model.specs.Fronts.{mark, front}
-use Rattle.pmt_model.proofs.Histories.{mark-le-count, count-grows, front-grows}
+use Rattle.pmt_model.specs.Fronts.{mark}
+use Rattle.pmt_model.proofs.Histories.{mark-le-count}
 
 -- every flush of a history, the newest first, with the stores that it marked
 abbrev pub owing : List Act → List Outstanding
@@ -30,8 +30,8 @@ mark-le_owed t l bound (Stores k w ∷ h) owed = mark-le_owed t l bound h owed
 mark-le_owed t l bound (Flushes u k ∷ h) owed =
     cond_both ((u == t) && (k == l)) (count l h) (mark t l h) (λ x. x ≤ bound l)
     (λ both.
-        let parts = and_parts (u == t) (k == l) both in
-        subst (λ j. count j h ≤ bound j) (eqb-true k l parts.1) (owed.0 (eqb-true u t parts.0)))
+    let parts = and_parts (u == t) (k == l) both in
+    subst (λ j. count j h ≤ bound j) (eqb-true k l parts.1) (owed.0 (eqb-true u t parts.0)))
     (λ other. mark-le_owed t l bound h owed.1)
 mark-le_owed t l bound (FlushesNow k ∷ h) owed = mark-le_owed t l bound h owed
 mark-le_owed t l bound (Fences u ∷ h) owed = mark-le_owed t l bound h owed
@@ -49,9 +49,10 @@ mark-grows t l Asserts h = omega arith
 pub owed_from_marks : (t : ℕ) (bound : ℕ → ℕ) (h : List Act) → ((l : ℕ) → mark t l h ≤ bound l) → OwesAtMost t bound (owing h)
 owed_from_marks t bound [] marked = tt
 owed_from_marks t bound (Stores k w ∷ h) marked = owed_from_marks t bound h marked
-owed_from_marks t bound (Flushes u k ∷ h) marked =
-    ( λ same. subst (λ x. x ≤ bound k) (mark-flush t k h) (subst (λ v. mark t k (Flushes v k ∷ h) ≤ bound k) same (marked k))
-    , owed_from_marks t bound h (λ l. le_trans (mark-grows t l (Flushes u k) h) (marked l)) )
+owed_from_marks t bound (Flushes u k ∷ h) marked = (
+  λ same. subst (λ x. x ≤ bound k) (mark-flush t k h) (subst (λ v. mark t k (Flushes v k ∷ h) ≤ bound k) same (marked k)),
+  owed_from_marks t bound h (λ l. le_trans (mark-grows t l (Flushes u k) h) (marked l)),
+)
 owed_from_marks t bound (FlushesNow k ∷ h) marked = owed_from_marks t bound h marked
 owed_from_marks t bound (Fences u ∷ h) marked = owed_from_marks t bound h marked
 owed_from_marks t bound (Asserts ∷ h) marked = owed_from_marks t bound h marked

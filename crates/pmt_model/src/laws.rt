@@ -1,3 +1,4 @@
-//! Theorems about the definitions of `specs/`: each function does nothing, and its contract is the theorem.
+//! Laws of the definitions in `specs/`: each function has an empty body, and its contract states a theorem.
 
+pub mod fronts;
 pub mod shortest;
