@@ -1,4 +1,5 @@
 //! Laws of the definitions in `specs/`: each function has an empty body, and its contract states a theorem.
 
 pub mod fronts;
+pub mod keeping;
 pub mod shortest;
