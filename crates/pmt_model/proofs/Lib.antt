@@ -19,3 +19,4 @@ pub mod NeededFlushes
 pub mod NewStores
 pub mod NoWaste
 pub mod TrimmedTwice
+pub mod WholeSelections

@@ -25,7 +25,7 @@ pub data IsPartner (T : Recording) (k s : ℕ) : Type 0 where
   Itself : ((t l : ℕ) → ¬ IsAct T k (Flushes t l)) → k ≡ s → IsPartner T k s
   Flush : (t l j : ℕ) → IsFlushFor T t l j k → ((m : ℕ) → k < m → m < j → ¬ IsAct T m (Flushes t l)) → IsFlushFor T t l j s → IsPartner T k s
 
-not_later : (m n : ℕ) → ¬ (m < n) → n ≤ m
+pub not_later : (m n : ℕ) → ¬ (m < n) → n ≤ m
 not_later m n none = le_of_suc-le-suc (lt_of_not-le none)
 
 -- a flush has one next fence
