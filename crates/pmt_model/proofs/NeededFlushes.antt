@@ -1,6 +1,6 @@
 -- A useful flush, by its thread and line, and the fence that needs it.
-use Rattle.std.proofs.Common.{◌≡◌, ◌≢◌, ℕ, zero, suc, ◌-◌, ◌<◌, ◌≤◌, List, true, false, sym, ap, subst, subst₂, ◌∙◌, true≢false, arith}
-use Rattle.pmt_model.specs.Machine.{Act, Flushes, FlushesNow, Fences}
+use Rattle.std.proofs.Common.{◌≡◌, ℕ, zero, suc, ◌-◌, ◌<◌, List, sym, ap, subst₂, ◌∙◌, true≢false, arith}
+use Rattle.pmt_model.specs.Machine.{Flushes, FlushesNow, Fences}
 use Rattle.pmt_model.specs.Traces.{Recording, IsAct, count_at}
 use Rattle.pmt_model.specs.Fronts.{front_at}
 use Rattle.pmt_model.specs.Selections.{Has, always_stays}
@@ -18,6 +18,7 @@ pub record IsNeededFlush (T : Recording) (t l i : ℕ) : Type 0 where
   pub last_flush : (k : ℕ) → i < k → k < suc before → ¬ IsAct T k (Flushes t l)
   pub needed : front_at T l before < count_at T l i
 
+-- a flush that a fence at j needs is needed
 needed-by : (T : Recording) (t l i j : ℕ) → IsAct T i (Flushes t l) → IsAct T j (Fences t) → i < j → ((k : ℕ) → i < k → k < j → ¬ IsAct T k (Fences t)) →
     ((k : ℕ) → i < k → k < j → ¬ IsAct T k (Flushes t l)) → front_at T l (j - 1) < count_at T l i → IsNeededFlush T t l i
 needed-by T t l i zero flush fence later next last needed = absurd (omega arith)

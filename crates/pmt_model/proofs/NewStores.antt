@@ -1,8 +1,8 @@
 -- Where the count of a line is above its front, the last store to it is not safe.
-use Rattle.std.proofs.Common.{◌≡◌, ℕ, zero, suc, ◌<◌, ◌≤◌, ◌⊎◌, inl, inr, Bool, true, false, List, ◌∷◌, length, refl, sym, ap, subst, ◌∙◌, arith, eqb-true}
+use Rattle.std.proofs.Common.{◌≡◌, ℕ, zero, suc, ◌<◌, ◌≤◌, ◌⊎◌, inl, inr, Bool, true, false, ◌∷◌, length, refl, sym, ap, subst, ◌∙◌, arith, eqb-true}
 use Rattle.std.specs.Prelude.{if◌then◌else◌, ◌==◌}
 use Rattle.pmt_model.specs.Values.{Written}
-use Rattle.pmt_model.specs.Machine.{Act, Stores, Flushes, FlushesNow, Fences, Asserts, State, Ends, count}
+use Rattle.pmt_model.specs.Machine.{Act, Stores, Flushes, FlushesNow, Fences, Asserts, count}
 use Rattle.pmt_model.specs.Traces.{Recording, IsAct, history, count_at}
 use Rattle.pmt_model.specs.Fronts.{front_at}
 use Rattle.pmt_model.specs.Findings.{IsSafe}
@@ -18,9 +18,11 @@ pub record IsLastStore (T : Recording) (l n c : ℕ) : Type 0 where
   pub by_now : number ≤ n
   pub stores : count_at T l number ≡ c
 
+-- the last store stays the last one where no other comes
 later-store : (T : Recording) (l n c : ℕ) → IsLastStore T l n c → IsLastStore T l (suc n) c
 later-store T l n c s = record { number = s.number; what = s.what; is_store = s.is_store; by_now = omega (arith, s.by_now); stores = s.stores }
 
+-- one more store is the last one if it is to the line
 store-or-earlier : (T : Recording) (l n k : ℕ) (w : Written) → IsAct T (suc n) (Stores k w) → (0 < count_at T l n → IsLastStore T l n (count_at T l n)) →
     (b : Bool) → (k == l) ≡ b → 0 < (if b then suc (count_at T l n) else count_at T l n) → IsLastStore T l (suc n) (if b then suc (count_at T l n) else count_at T l n)
 store-or-earlier T l n k w x earlier true same some =
@@ -29,6 +31,7 @@ store-or-earlier T l n k w x earlier true same some =
     record { number = suc n; what = w; is_store = store; by_now = omega arith; stores = ap (count l) (history-act T n (Stores l w) store) ∙ count-store l l w (history T n) refl }
 store-or-earlier T l n k w x earlier false same some = later-store T l n (count_at T l n) (earlier some)
 
+-- the last store after one more act
 store-by_act : (T : Recording) (l n : ℕ) (a : Act) → IsAct T (suc n) a → (0 < count_at T l n → IsLastStore T l n (count_at T l n)) →
     0 < count l (a ∷ history T n) → IsLastStore T l (suc n) (count l (a ∷ history T n))
 store-by_act T l n (Stores k w) x earlier some = store-or-earlier T l n k w x earlier (k == l) refl some

@@ -1,14 +1,14 @@
 -- A trimmed trace has no redundant flush and no fence without flush.
 use Rattle.std.proofs.Common.{◌≡◌, ◌≢◌, ℕ, zero, suc, ◌-◌, ◌<◌, ◌≤◌, max, ◌⊎◌, inl, inr, List, sym, ap, subst, ◌∙◌, arith, true≢false, ⊎_elim}
 use Rattle.std.proofs.lemmas.Bool.{cases_lt, cases_eq}
-use Rattle.pmt_model.specs.Machine.{Act, Flushes, FlushesNow, Fences, Stores, count}
+use Rattle.pmt_model.specs.Machine.{Flushes, FlushesNow, Fences, Stores, count}
 use Rattle.pmt_model.specs.Values.{Written}
 use Rattle.pmt_model.specs.Traces.{Recording, IsAct, history, count_at}
 use Rattle.pmt_model.specs.Fronts.{front, mark, front_at}
 use Rattle.pmt_model.specs.Selections.{Has, IsSelection, always_stays, cut, matching_place}
 use Rattle.pmt_model.specs.Keeping.{IsKept, Stays, ByFence, ByFlush, ByClflush, IsKeep}
 use Rattle.pmt_model.specs.Findings.{IsSafe, IsCovered, IsRedundantFlush, IsRedundantClflush, IsEmptyFence}
-use Rattle.pmt_model.specs.Shortest.{HasNoWaste, TrimmedHasNoWaste}
+use Rattle.pmt_model.specs.Shortest.{TrimmedHasNoWaste}
 use Rattle.pmt_model.proofs.Histories.{act-unique, history-act, front-le-count, front-mono}
 use Rattle.pmt_model.proofs.BoxLemmas.{front-flush_now}
 use Rattle.pmt_model.proofs.CutLemmas.{cut-act, count-cut}
@@ -54,14 +54,19 @@ flush-not_covered T K t l n j keep has flush covered = go (cases_lt f.before n) 
   where
     selection : IsSelection T K
     selection = keep_is_selection T K keep
+
     o : IsOrigin T K covered.flush (Flushes t l)
     o = act-origin T K covered.flush (Flushes t l) selection covered.is_flush
+
     earlier : o.before < n
     earlier = earlier-origin K o.before n (omega (arith, o.place, covered.before))
+
     f : IsNeededFlush T t l (suc o.before)
     f = kept-needed T t l (suc o.before) ((keep.just (suc o.before)).0 o.has) o.is_act
+
     fence_kept : Has K (suc f.before)
     fence_kept = needing-kept T K t l (suc o.before) keep f
+
     go : (f.before < n) ⊎ (n ≤ f.before) → (f.before ≡ n) ⊎ (f.before ≡ n → ⊥) → ⊥
     go (inl fenced) x =
         let after : matching_place K o.before < matching_place K f.before = earlier-selected T K o.before f.before selection o.has (omega (arith, f.later)) in
@@ -113,7 +118,7 @@ fence-not_empty T K i keep e =
     let o = act-origin T K i (Fences e.thread) selection e.is_fence in
     let raised = kept-fence T e.thread o.before ((keep.just (suc o.before)).0 o.has) o.is_act in
     let at_fence : front_at T raised.0 (suc o.before) ≡ max (front_at T raised.0 o.before) (mark e.thread raised.0 (history T o.before)) =
-        ap (front raised.0) (history-act T o.before (Fences e.thread) o.is_act) in
+    ap (front raised.0) (history-act T o.before (Fences e.thread) o.is_act) in
     let flush = needed-flush T e.thread raised.0 o.before o.is_act (omega (arith, raised.1)) in
     flushed-not_empty T K raised.0 i flush.0 selection e o ((keep.just flush.0).1 (ByFlush flush.1)) flush.2.is_flush flush.2.by_now (omega (arith, raised.1, flush.2.stores))
 
@@ -125,6 +130,7 @@ no_waste T K keep = record { flushes = no_flush; clflushes = no_clflush; fences 
     no_flush t l i r =
         let o = act-origin T K i (Flushes t l) (keep_is_selection T K keep) r.is_flush in
         flush-not_redundant T K t l o.before keep o.has o.is_act (subst (IsRedundantFlush (cut T K) t l) (sym o.place) r)
+
     no_clflush : (l i : ℕ) → ¬ IsRedundantClflush (cut T K) l i
     no_clflush l i r =
         let o = act-origin T K i (FlushesNow l) (keep_is_selection T K keep) r.is_clflush in

@@ -1,10 +1,10 @@
 -- Each kept event has a partner in a selection with the same counts of persisted stores, and no two have the same.
-use Rattle.std.proofs.Common.{◌≡◌, ◌≢◌, ℕ, zero, suc, ◌-◌, ◌<◌, ◌≤◌, ◌⊎◌, inl, inr, List, length, true, false, refl, sym, ap, subst, ◌∙◌, arith, true≢false, subst₂, le_antisymm, max, lt_of_not-le, le_of_suc-le-suc}
-use Rattle.pmt_model.specs.Machine.{Act, Stores, Flushes, FlushesNow, Fences, Asserts}
+use Rattle.std.proofs.Common.{◌≡◌, ◌≢◌, ℕ, zero, suc, ◌-◌, ◌<◌, ◌≤◌, List, length, true, refl, sym, ap, subst, ◌∙◌, arith, true≢false, subst₂, le_antisymm, max, lt_of_not-le, le_of_suc-le-suc}
+use Rattle.pmt_model.specs.Machine.{Act, Flushes, FlushesNow, Fences}
 use Rattle.pmt_model.specs.Traces.{Recording, IsAct, history, count_at}
 use Rattle.pmt_model.specs.Fronts.{front, mark, front_at}
 use Rattle.pmt_model.specs.Selections.{Has, IsSelection, always_stays, cut, matching_place}
-use Rattle.pmt_model.specs.Keeping.{IsKept, IsUsefulFlush}
+use Rattle.pmt_model.specs.Keeping.{IsKept}
 use Rattle.pmt_model.specs.Keeping.IsKept.{Stays, ByFence, ByFlush, ByClflush}
 use Rattle.pmt_model.specs.Shortest.{HasSameVectors}
 use Rattle.pmt_model.proofs.Histories.{act-unique, act-within, history-act, front-mono}
@@ -25,6 +25,7 @@ pub data IsPartner (T : Recording) (k s : ℕ) : Type 0 where
   Itself : ((t l : ℕ) → ¬ IsAct T k (Flushes t l)) → k ≡ s → IsPartner T k s
   Flush : (t l j : ℕ) → IsFlushFor T t l j k → ((m : ℕ) → k < m → m < j → ¬ IsAct T m (Flushes t l)) → IsFlushFor T t l j s → IsPartner T k s
 
+-- of two numbers the one that isn't later is at most the other
 pub not_later : (m n : ℕ) → ¬ (m < n) → n ≤ m
 not_later m n none = le_of_suc-le-suc (lt_of_not-le none)
 
@@ -63,21 +64,24 @@ raising-partner T S t l m selection same fence raises =
     let place : ℕ = matching_place S m in
     let front_before : front_at T l m ≡ front_at (cut T S) l place = fronts-selected T S l m same (omega arith) in
     let front_after : front_at T l (suc m) ≡ front_at (cut T S) l (suc place) =
-        fronts-selected T S l (suc m) same within ∙ ap (front_at (cut T S) l) (place-kept S m selection.rising has) in
+    fronts-selected T S l (suc m) same within ∙ ap (front_at (cut T S) l) (place-kept S m selection.rising has) in
     let cut_fence : IsAct (cut T S) (suc place) (Fences t) = cut-act T S m (Fences t) selection has fence in
     let at_fence : front_at (cut T S) l (suc place) ≡ max (front_at (cut T S) l place) (mark t l (history (cut T S) place)) =
-        ap (front l) (history-act (cut T S) place (Fences t) cut_fence) in
+    ap (front l) (history-act (cut T S) place (Fences t) cut_fence) in
     let raiser = needed-flush (cut T S) t l place cut_fence (omega arith) in
     let origin = act-origin T S raiser.0 (Flushes t l) selection raiser.2.is_flush in
     let earlier : origin.before < m = earlier-origin S origin.before m (omega (arith, origin.place, raiser.2.by_now)) in
     let same_count : count_at T l (suc origin.before) ≡ count_at (cut T S) l raiser.0 = count-origin T S l raiser.0 (Flushes t l) selection origin in
-    let marked : count_at T l (suc origin.before) ≡ front_at T l (suc m) = omega (arith, raiser.2.stores) in
-    (suc origin.before, origin.has, record {
-      is_flush = origin.is_act;
-      is_fence = fence;
-      later = omega (arith, earlier);
-      next_fence = λ k after by other. absurd (omega (arith, front-at_fence T t l (suc origin.before) k origin.is_act other after, front-mono T l k m (le_of_suc-le-suc by)));
-    })
+    let marked : count_at T l (suc origin.before) ≡ front_at T l (suc m) = omega (arith, raiser.2.stores) in (
+      suc origin.before,
+      origin.has,
+      record {
+        is_flush = origin.is_act;
+        is_fence = fence;
+        later = omega (arith, earlier);
+        next_fence = λ k after by other. absurd (omega (arith, front-at_fence T t l (suc origin.before) k origin.is_act other after, front-mono T l k m (le_of_suc-le-suc by)));
+      },
+    )
 
 -- a useful flush has a partner
 flush-partner : (T : Recording) (S : List ℕ) (t l i j : ℕ) → IsSelection T S → HasSameVectors T S → IsFlushFor T t l j i →
@@ -94,6 +98,7 @@ flush-partner T S t l i (suc m) selection same flush last needed =
 own-partner : (T : Recording) (S : List ℕ) (i : ℕ) (a : Act) → IsAct T i a → ((t l : ℕ) → a ≢ Flushes t l) → Has S i → (s : ℕ) × Has S s × IsPartner T i s
 own-partner T S i a x none has = (i, has, Itself (λ t l y. none t l (act-unique T i a (Flushes t l) x y)) refl)
 
+-- a store or an assertion is no flush
 stays-no_flush : (a : Act) → always_stays a ≡ true → (t l : ℕ) → a ≢ Flushes t l
 stays-no_flush a stays t l e = absurd (true≢false (sym stays ∙ ap always_stays e))
 

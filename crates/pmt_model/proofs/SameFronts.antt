@@ -1,9 +1,8 @@
 -- Equal counts of persisted stores make equal fronts, since the fronts are the least of them.
-use Rattle.std.proofs.Common.{◌≡◌, ◌≢◌, ℕ, zero, suc, ◌-◌, ◌<◌, ◌≤◌, ◌↔◌, ◌⊎◌, inl, inr, List, length, sym, ap, ◌∙◌, arith, le_antisymm}
+use Rattle.std.proofs.Common.{◌≡◌, ◌≢◌, ℕ, zero, suc, ◌-◌, ◌≤◌, ◌↔◌, ◌⊎◌, inl, inr, List, length, sym, ap, ◌∙◌, arith, le_antisymm}
 use Rattle.pmt_model.specs.Machine.{Act, Vectors}
 use Rattle.pmt_model.specs.Traces.{Recording, IsAct, history}
 use Rattle.pmt_model.specs.Fronts.{front, front_at}
-use Rattle.pmt_model.specs.Boxes.{InBox}
 use Rattle.pmt_model.specs.Selections.{Has, cut, matching_place}
 use Rattle.pmt_model.specs.Shortest.{HasSameVectors}
 use Rattle.pmt_model.proofs.Histories.{front-le-count, act-within}
@@ -14,6 +13,7 @@ use Rattle.pmt_model.proofs.CutLemmas.{has-dec, place-dropped}
 pub fronts-are-vectors : (h : List Act) → Vectors h (λ l. front l h)
 fronts-are-vectors h = (vectors_are_a_box h (λ l. front l h)).1 (λ l. (omega arith, front-le-count l h))
 
+-- where the fronts of one history are counts of another, the other's fronts are at most those
 least-front : (h g : List Act) (l : ℕ) → (Vectors g (λ k. front k g) → Vectors h (λ k. front k g)) → front l h ≤ front l g
 least-front h g l same = ((vectors_are_a_box h (λ k. front k g)).0 (same (fronts-are-vectors g)) l).0
 

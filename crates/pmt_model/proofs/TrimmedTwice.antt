@@ -1,14 +1,14 @@
 -- Each event of a trimmed trace would be kept again.
-use Rattle.std.proofs.Common.{◌≡◌, ◌≢◌, ℕ, zero, suc, ◌-◌, ◌<◌, ◌≤◌, List, length, refl, sym, ap, subst, ◌∙◌, arith}
+use Rattle.std.proofs.Common.{◌≡◌, ◌≢◌, ℕ, zero, suc, ◌-◌, ◌<◌, List, refl, sym, ap, subst, ◌∙◌, arith}
 use Rattle.pmt_model.specs.Machine.{Act, Flushes, FlushesNow, Fences}
-use Rattle.pmt_model.specs.Traces.{Recording, act, event, IsAct, count_at}
+use Rattle.pmt_model.specs.Traces.{Recording, act, IsAct, count_at}
 use Rattle.pmt_model.specs.Fronts.{front_at}
 use Rattle.pmt_model.specs.Selections.{Has, IsSelection, cut, matching_place}
 use Rattle.pmt_model.specs.Keeping.{IsKept, Stays, ByFence, ByFlush, ByClflush, IsKeep}
 use Rattle.pmt_model.specs.Shortest.{TrimmedAgain}
 use Rattle.pmt_model.proofs.Histories.{event-some}
 use Rattle.pmt_model.proofs.CutLemmas.{place-kept, cut-act}
-use Rattle.pmt_model.proofs.CutActs.{IsOrigin, act-origin, count-selected, earlier-origin, earlier-selected}
+use Rattle.pmt_model.proofs.CutActs.{act-origin, count-selected, earlier-origin, earlier-selected}
 use Rattle.pmt_model.proofs.KeepLemmas.{keep_is_selection, keep_fronts}
 use Rattle.pmt_model.proofs.NeededFlushes.{IsNeededFlush, useful-needed, needing-kept}
 
@@ -48,6 +48,7 @@ needed-again T K t l n keep has f = ByFlush (record {
   where
     selection : IsSelection T K
     selection = keep_is_selection T K keep
+
     needed : front_at (cut T K) l (suc (matching_place K f.before) - 1) < count_at (cut T K) l (suc (matching_place K n))
     needed =
         let before : suc (matching_place K f.before) - 1 ≡ matching_place K f.before = omega arith in

@@ -1,12 +1,11 @@
 -- A selection of all events cuts nothing.
-use Rattle.std.proofs.Common.{◌≡◌, ℕ, zero, suc, ◌<◌, ◌≤◌, ◌⊎◌, inl, inr, List, [], ◌∷◌, length, Option, Some, drop, drop-cons, drop_of_length-le, refl, sym, ap, subst, ◌∙◌, arith}
+use Rattle.std.proofs.Common.{◌≡◌, ℕ, suc, ◌<◌, ◌≤◌, ◌⊎◌, inl, inr, List, [], ◌∷◌, length, Some, drop, drop-cons, drop_of_length-le, refl, sym, ap, subst, ◌∙◌, arith}
 use Rattle.std.specs.Prelude.{slice_get}
 use Rattle.std.specs.List.{filter_map, cons_option}
 use Rattle.std.proofs.lemmas.Option.{slice_get_within, get_or_from_slice_get}
 use Rattle.pmt_model.specs.declared.event.Event.{Event}
 use Rattle.pmt_model.specs.Traces.{Recording, event}
 use Rattle.pmt_model.specs.Selections.{IsRising, Has, cut}
-use Rattle.pmt_model.specs.Keeping.{IsKeep}
 use Rattle.pmt_model.specs.Shortest.{TrimmedStays}
 use Rattle.pmt_model.proofs.Histories.{event-some}
 use Rattle.pmt_model.proofs.CutLemmas.{has-above}
@@ -41,8 +40,8 @@ select-rest T low (k ∷ ks) rising within whole =
     let some = event-some T low (omega (arith, within k (inl refl))) in
     let here : event T k ≡ Some some.0 = ap (event T) next ∙ some.1 in
     let rest : filter_map (event T) ks ≡ drop (suc low) T.events =
-        select-rest T (suc low) ks (subst (λ m. IsRising m ks) next rising.1) (λ i has. within i (inr has))
-            (λ i above by. in-rest k i ks (omega arith) (whole i (omega arith) by)) in
+    select-rest T (suc low) ks (subst (λ m. IsRising m ks) next rising.1) (λ i has. within i (inr has))
+    (λ i above by. in-rest k i ks (omega arith) (whole i (omega arith) by)) in
     ap (λ o. cons_option o (filter_map (event T) ks)) here ∙ ap (λ events. some.0 ∷ events) rest ∙ sym (drop-from T.events low some.0 some.1)
 
 -- a selection of all events cuts nothing

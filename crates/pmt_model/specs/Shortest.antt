@@ -5,7 +5,7 @@ use Rattle.pmt_model.specs.Selections.{IsSelection, cut, matching_place}
 use Rattle.pmt_model.specs.Keeping.{IsKept, IsKeep}
 use Rattle.pmt_model.specs.Findings.{IsRedundantFlush, IsRedundantClflush, IsEmptyFence}
 
--- After each number of events of the trace, a crash may leave the same counts of persisted stores as after the selected ones.
+-- At every place of the trace, a crash may leave the same counts of persisted stores as after the selected events so far.
 abbrev pub HasSameVectors : Recording → List ℕ → Type 0
 HasSameVectors T S = (n : ℕ) → n ≤ length T.events → (v : ℕ → ℕ) → VectorsAt T n v ↔ VectorsAt (cut T S) (matching_place S n) v
 
