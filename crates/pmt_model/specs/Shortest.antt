@@ -27,6 +27,6 @@ TrimmedHasNoWaste = (T : Recording) (K : List ℕ) → IsKeep T K → HasNoWaste
 abbrev pub TrimmedAgain : Type 0
 TrimmedAgain = (T : Recording) (K : List ℕ) (i : ℕ) → IsKeep T K → 1 ≤ i → i ≤ length (cut T K).events → IsKept (cut T K) i
 
--- A trimmed trace, trimmed again, is the same.
+-- A trimmed trace, trimmed again, stays the same.
 abbrev pub TrimmedStays : Type 0
 TrimmedStays = (T : Recording) (K J : List ℕ) → IsKeep T K → IsKeep (cut T K) J → cut (cut T K) J ≡ cut T K
