@@ -20,3 +20,6 @@ pub mod NewStores
 pub mod NoWaste
 pub mod TrimmedTwice
 pub mod WholeSelections
+pub mod AssertLemmas
+pub mod NeverLemmas
+pub mod StayLemmas
