@@ -1,9 +1,9 @@
 -- The history of a trace, event by event, and what it can do to counts, marks and fronts.
-use Rattle.std.proofs.Common.{◌≡◌, ℕ, zero, suc, ◌<◌, ◌≤◌, ◌⊎◌, inl, inr, Bool, true, false, List, [], ◌∷◌, ◌++◌, length, Option, Some, None, take, map, reverse, refl, sym, ap, subst, ◌∙◌, arith}
-use Rattle.std.specs.Prelude.{slice_get, if◌then◌else◌, ◌==◌, ◌&&◌, get_or, max}
+use Rattle.std.proofs.Common.{◌≡◌, ℕ, zero, suc, ◌<◌, ◌≤◌, ◌⊎◌, inl, inr, Bool, true, false, List, [], ◌∷◌, ◌++◌, length, Option, Some, None, take, map, reverse, refl, sym, ap, ◌∙◌, arith}
+use Rattle.std.specs.Prelude.{slice_get, if◌then◌else◌, ◌==◌, ◌&&◌}
 use Rattle.std.proofs.Math.Seq.{take-suc}
 use Rattle.std.proofs.lemmas.List.{reverse-append, map-append, length-reverse, length-map, length-take, take_all}
-use Rattle.std.proofs.lemmas.Option.{slice_get_within, slice_get-get_or, slice_get_past, get_or_from_slice_get, none-some, same_Some}
+use Rattle.std.proofs.lemmas.Option.{slice_get_within, slice_get_past, get_or_from_slice_get, none-some, same_Some}
 use Rattle.pmt_model.specs.declared.event.Event.{Event}
 use Rattle.pmt_model.specs.Machine.{Act, Stores, Flushes, FlushesNow, Fences, Asserts, count}
 use Rattle.pmt_model.specs.Traces.{Recording, act, event, IsAct, history, count_at}
@@ -37,6 +37,7 @@ event-none T n past = slice_get_past T.events n past
 pub event-within : (T : Recording) (n : ℕ) (e : Event) → event T (suc n) ≡ Some e → n < length T.events
 event-within T n e is = slice_get_within T.events n e is
 
+-- a list that has nothing at a place ends there or before
 none-past : (xs : List Event) (i : ℕ) → slice_get xs i ≡ None → length xs ≤ i
 none-past [] i h = omega arith
 none-past (x ∷ xs) zero h = absurd (none-some x (sym h))
@@ -123,22 +124,26 @@ front-grows l (FlushesNow k) h = least_choice (k == l) (count l h) (front l h) (
 front-grows l (Fences t) h = omega arith
 front-grows l Asserts h = omega arith
 
+-- at most the next number is that number or at most this one
 equal_or_less : (m n : ℕ) → m ≤ suc n → (m ≡ suc n) ⊎ (m ≤ n)
 equal_or_less m n h = grind arith
 
+-- a number that no act lowers doesn't fall from one place to the next
 grown-from_grows : (T : Recording) (f : List Act → ℕ) → ((a : Act) (h : List Act) → f h ≤ f (a ∷ h)) → (n : ℕ) → f (history T n) ≤ f (history T (suc n))
 grown-from_grows T f grows n =
-    elim (history-step T n)
-    [ inl x ↦ rw (history-act T n x.0 x.1) (grows x.0 (history T n))
-    | inr x ↦ rw x.1 (omega arith) ]
+    elim (history-step T n) [
+      | inl x ↦ rw (history-act T n x.0 x.1) (grows x.0 (history T n))
+      | inr x ↦ rw x.1 (omega arith)
+    ]
 
 -- a number read off a history that no act lowers doesn't fall from place to place
 pub mono-from_grows : (T : Recording) (f : List Act → ℕ) → ((a : Act) (h : List Act) → f h ≤ f (a ∷ h)) → (m n : ℕ) → m ≤ n → f (history T m) ≤ f (history T n)
 mono-from_grows T f grows m zero h = let e : m ≡ zero = omega arith in rw e (omega arith)
 mono-from_grows T f grows m (suc n) h =
-    elim (equal_or_less m n h)
-    [ inl e ↦ rw e (omega arith)
-    | inr less ↦ omega (arith, mono-from_grows T f grows m n less, grown-from_grows T f grows n) ]
+    elim (equal_or_less m n h) [
+      | inl e ↦ rw e (omega arith)
+      | inr less ↦ omega (arith, mono-from_grows T f grows m n less, grown-from_grows T f grows n)
+    ]
 
 -- counts don't fall from place to place
 pub count-mono : (T : Recording) (l m n : ℕ) → m ≤ n → count_at T l m ≤ count_at T l n
