@@ -10,6 +10,7 @@ pub mod CutLemmas
 pub mod FaithfulLemmas
 pub mod LastFlushes
 pub mod KeepLemmas
+pub mod KeptTest
 pub mod AssertLemmas
 pub mod NeverLemmas
 pub mod StayLemmas

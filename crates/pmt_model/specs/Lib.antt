@@ -16,3 +16,4 @@ pub mod Assertions
 pub mod Findings
 pub mod Analyses
 pub mod Interleavings
+pub mod Worked
