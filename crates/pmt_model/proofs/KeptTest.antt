@@ -2,7 +2,7 @@
 use Rattle.std.proofs.Common.{◌≡◌, ◌≢◌, ℕ, zero, suc, ◌+◌, ◌-◌, ◌<◌, ◌≤◌, ◌⊎◌, ◌==◌, ◌&&◌, ◌||◌, Bool, true, false, not, if◌then◌else◌, List, [], ◌∷◌, length, Option, Some, None, refl, sym, ◌∙◌, ap, subst, inl, inr, arith}
 use Rattle.std.specs.Prelude.{nat_lt}
 use Rattle.std.specs.Bool.{Decides}
-use Rattle.std.proofs.lemmas.Bool.{cases_eq, and_parts, and_from, or_cases, or_left, or_right, ltb-true, lt-ltb, eqb-true, eq-eqb, ne_eqb, cond-false, false_from_ne_true}
+use Rattle.std.proofs.lemmas.Bool.{cases_eq, both_ways, and_parts, and_from, or_cases, or_left, or_right, ltb-true, lt-ltb, eqb-true, eq-eqb, ne_eqb, cond-false, false_from_ne_true}
 use Rattle.std.proofs.lemmas.Bool.Decides.{not_from_Decides, Decides-not, Decides-eqb}
 use Rattle.std.proofs.lemmas.Option.{none-some, same_Some}
 use Rattle.pmt_model.specs.declared.event.Event.{Event}
@@ -341,3 +341,57 @@ kept_among T n (suc m) = if is_kept T (suc n) then suc n ∷ kept_among T (suc n
 -- The numbers of the events that are kept.
 abbrev pub kept_numbers : Recording → List ℕ
 kept_numbers T = kept_among T 0 (length T.events)
+
+-- Rising numbers also rise from further below.
+rising-below : (low high : ℕ) (K : List ℕ) → low ≤ high → IsRising high K → IsRising low K
+rising-below low high [] le r = tt
+rising-below low high (k ∷ ks) le r = let above : high < k = r.0 in (omega arith, r.1)
+
+-- The numbers that pass the test rise.
+among-rising : (T : Recording) (n m : ℕ) → IsRising n (kept_among T n m)
+among-rising T n zero = tt
+among-rising T n (suc m) = go (is_kept T (suc n)) (among-rising T (suc n) m)
+  where
+    go : (b : Bool) → IsRising (suc n) (kept_among T (suc n) m) → IsRising n (if b then suc n ∷ kept_among T (suc n) m else kept_among T (suc n) m)
+    go true r = (omega arith, r)
+    go false r = rising-below n (suc n) (kept_among T (suc n) m) (omega arith) r
+
+-- Each of the numbers passes the test.
+among-kept : (T : Recording) (n m i : ℕ) → Has (kept_among T n m) i → is_kept T i ≡ true
+among-kept T n zero i h = absurd h
+among-kept T n (suc m) i h = go (is_kept T (suc n)) refl (among-kept T (suc n) m i) h
+  where
+    go : (b : Bool) → is_kept T (suc n) ≡ b → (Has (kept_among T (suc n) m) i → is_kept T i ≡ true) →
+        Has (if b then suc n ∷ kept_among T (suc n) m else kept_among T (suc n) m) i → is_kept T i ≡ true
+    go true e rest (inl same) = let P : ℕ → Type 0 = λ j. is_kept T j ≡ true in subst P same e
+    go true e rest (inr later) = rest later
+    go false e rest later = rest later
+
+-- What passes the test among the m events after event n is one of the numbers.
+kept-among : (T : Recording) (n m i : ℕ) → n < i → i ≤ n + m → is_kept T i ≡ true → Has (kept_among T n m) i
+kept-among T n zero i after within e = absurd (omega arith)
+kept-among T n (suc m) i after within e = go (is_kept T (suc n)) refl (λ more. kept-among T (suc n) m i more (omega arith) e) (cases_eq (suc n) i)
+  where
+    go : (b : Bool) → is_kept T (suc n) ≡ b → (suc n < i → Has (kept_among T (suc n) m) i) → (suc n ≡ i) ⊎ (suc n ≡ i → ⊥) →
+        Has (if b then suc n ∷ kept_among T (suc n) m else kept_among T (suc n) m) i
+    go true is rest (inl same) = inl same
+    go true is rest (inr apart) = inr (rest (omega arith))
+    go false is rest (inl same) = let P : ℕ → Type 0 = λ j. is_kept T j ≡ true in absurd (both_ways (is_kept T (suc n)) is (subst P (sym same) e))
+    go false is rest (inr apart) = rest (omega arith)
+
+-- What is kept is an event.
+kept-event : (T : Recording) (i : ℕ) → IsKept T i → (1 ≤ i) × (i ≤ length T.events)
+kept-event T i (Stays a is stays) = act-within T i a is
+kept-event T i (ByFence u) = act-within T i (Fences u.thread) u.is_fence
+kept-event T i (ByFlush u) = act-within T i (Flushes u.thread u.line) u.is_flush
+kept-event T i (ByClflush u) = act-within T i (FlushesNow u.line) u.is_clflush
+
+-- The numbers that pass the test are the list of the events that are kept.
+pub keep-kept_numbers : (T : Recording) → IsKeep T (kept_numbers T)
+keep-kept_numbers T = record {
+  rising = among-rising T 0 (length T.events);
+  just = λ i. (
+    λ has. (Decides-kept T i).0 (among-kept T 0 (length T.events) i has),
+    λ kept. let within = kept-event T i kept in kept-among T 0 (length T.events) i (omega arith) (omega arith) (tells-is_kept T i kept),
+  );
+}

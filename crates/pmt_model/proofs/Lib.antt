@@ -14,3 +14,4 @@ pub mod KeptTest
 pub mod AssertLemmas
 pub mod NeverLemmas
 pub mod StayLemmas
+pub mod WorkedLemmas
