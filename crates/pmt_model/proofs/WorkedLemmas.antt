@@ -1,9 +1,19 @@
 -- What the definitions say of the worked traces.
-use Rattle.std.proofs.Common.{◌≡◌, ℕ, ◌≤◌, List, [], ◌∷◌, refl, sym, subst, arith}
-use Rattle.pmt_model.specs.Traces.{Recording}
+use Rattle.std.proofs.Common.{◌≡◌, ℕ, zero, suc, ◌+◌, ◌<◌, ◌≤◌, ◌⊎◌, ◌↔◌, true, false, IsTrue, List, [], ◌∷◌, length, Some, IfSome, inl, inr, refl, sym, ap, subst, lit<, lit≤, arith}
+use Rattle.std.proofs.lemmas.Bool.{false≢true}
+use Rattle.pmt_model.specs.declared.finding.Finding.TheVariants.{NeverPersisted, FenceWithoutFlush}
+use Rattle.pmt_model.specs.Machine.{Act, Stores, Flushes, FlushesNow, Fences, Asserts}
+use Rattle.pmt_model.specs.Traces.{Recording, IsAct, history, count_at}
+use Rattle.pmt_model.specs.Fronts.{front, front_at}
 use Rattle.pmt_model.specs.Keeping.{IsKeep}
-use Rattle.pmt_model.specs.Worked.{KeepsJust, fence_of_another_thread, FenceOfAnotherThread, flushed_by_two_threads, FlushedByTwoThreads, two_rounds, TwoRounds}
+use Rattle.pmt_model.specs.Assertions.{last_store, InSpan, PersistPasses, OrderedPasses, up_to_last, NoLater}
+use Rattle.pmt_model.specs.Findings.{ByFlush, ByClflush, IsFlushedAfter, IsFlushOf, IsEmptyFence}
+use Rattle.pmt_model.specs.Analyses.{IsFinding}
+use Rattle.pmt_model.specs.Worked.{store, clwb, sfence, byte_at, KeepsJust, fence_of_another_thread, FenceOfAnotherThread, flushed_by_two_threads, FlushedByTwoThreads, two_rounds, TwoRounds, store_after_flush, StoreAfterFlush, ordered_by_fence, OrderedByFence, ordered_fence_too_late, OrderedFenceTooLate, same_byte_twice, SameByteTwice, clflush_beats_clwb, ClflushBeatsClwb}
+use Rattle.pmt_model.proofs.Histories.{act-within, act-unique}
 use Rattle.pmt_model.proofs.KeepLemmas.{keep_is_unique}
+use Rattle.pmt_model.proofs.AssertLemmas.{persist_by_fronts, ordered_by_fronts}
+use Rattle.pmt_model.proofs.NeverLemmas.{never_persisted_by_fronts}
 use Rattle.pmt_model.proofs.KeptTest.{kept_numbers, keep-kept_numbers}
 
 -- What is kept are the numbers that are computed.
@@ -12,18 +22,136 @@ keeps T numbers e =
     let keep : IsKeep T numbers = subst (IsKeep T) e (keep-kept_numbers T) in
     record { keep = keep; only = λ K other. keep_is_unique T K numbers other keep }
 
-pub flushed : FlushedByTwoThreads
-flushed = record {
+-- A byte's range has its address alone.
+in_byte : (a b : ℕ) → InSpan (byte_at a) b → a ≡ b
+in_byte a b within = let low : a ≤ b = within.0 in let high : b < a + 1 = within.1 in omega arith
+
+-- The byte lies in its range.
+byte_in : (a : ℕ) → InSpan (byte_at a) a
+byte_in a = (omega arith, omega arith)
+
+-- The fence of thread 1 has no flush of thread 1 before it.
+no_flush_of_thread_1 : IsEmptyFence fence_of_another_thread 3
+no_flush_of_thread_1 = record {
+  thread = 1;
+  is_fence = (sfence 1, refl, refl);
+  nothing = λ j l before is. absurd (go j l before is);
+}
+  where
+    go : (j l : ℕ) → j < 3 → IsAct fence_of_another_thread j (Flushes 1 l) → ⊥
+    go zero l before is = let within : 1 ≤ 0 = (act-within fence_of_another_thread 0 (Flushes 1 l) is).0 in omega arith
+    go (suc zero) l before is =
+        let e : Flushes 1 l ≡ Stores 64 (record { addr = 0x1000; bytes = 1 ∷ [] }) =
+            act-unique fence_of_another_thread 1 (Flushes 1 l) (Stores 64 (record { addr = 0x1000; bytes = 1 ∷ [] })) is (store 0 0x1000 1, refl, refl) in
+        cc
+    go (suc (suc zero)) l before is =
+        let e : Flushes 1 l ≡ Flushes 0 64 = act-unique fence_of_another_thread 2 (Flushes 1 l) (Flushes 0 64) is (clwb 0 0x1000, refl, refl) in cc
+    go (suc (suc (suc j))) l before is = omega arith
+
+pub fence_of_another_thread_says : FenceOfAnotherThread
+fence_of_another_thread_says = record {
+  fenced = (refl, refl);
+  last = refl;
+  fails = λ passes.
+    let above : 1 ≤ 0 = (persist_by_fronts (history fence_of_another_thread 4) (byte_at 0x1000)).0 passes 0x1000 (byte_in 0x1000) in omega arith;
+  pending = (
+    64,
+    (never_persisted_by_fronts fence_of_another_thread 64 1 (record { addr = 0x1000; bytes = 1 ∷ [] }) (store 0 0x1000 1, refl, refl)).1 (lit< tt),
+    (λ _. (2, lit< tt, ByFlush 0 (clwb 0 0x1000, refl, refl)), λ _. refl),
+  );
+  empty = no_flush_of_thread_1;
+  kept = keeps fence_of_another_thread (1 ∷ 4 ∷ []) refl;
+}
+
+pub flushed_by_two_threads_says : FlushedByTwoThreads
+flushed_by_two_threads_says = record {
   flushed = (refl, refl);
   fenced = (refl, refl);
   fenced_again = (refl, refl);
   kept = keeps flushed_by_two_threads (1 ∷ 3 ∷ 4 ∷ []) refl;
 }
 
-pub rounds : TwoRounds
-rounds = record {
+pub two_rounds_says : TwoRounds
+two_rounds_says = record {
   first_round = (refl, refl);
   second_store = (refl, refl);
   second_round = (refl, refl);
   kept = keeps two_rounds (1 ∷ 2 ∷ 3 ∷ 4 ∷ 5 ∷ 6 ∷ []) refl;
+}
+
+-- After the second store comes a fence alone.
+fence_alone : (l : ℕ) → IsFlushedAfter store_after_flush l 3 → ⊥
+fence_alone l (j, after, flush) = by_kind flush
+  where
+    at_fence : (a : Act) → IsAct store_after_flush j a → Fences 0 ≡ a
+    at_fence a is =
+        let within : j ≤ 4 = (act-within store_after_flush j a is).1 in
+        let e : j ≡ 4 = omega arith in
+        let P : ℕ → Type 0 = λ k. IsAct store_after_flush k a in
+        act-unique store_after_flush 4 (Fences 0) a (sfence 0, refl, refl) (subst P e is)
+
+    by_kind : IsFlushOf store_after_flush l j → ⊥
+    by_kind (ByFlush t is) = let e : Fences 0 ≡ Flushes t l = at_fence (Flushes t l) is in cc
+    by_kind (ByClflush is) = let e : Fences 0 ≡ FlushesNow l = at_fence (FlushesNow l) is in cc
+
+pub store_after_flush_says : StoreAfterFlush
+store_after_flush_says = record {
+  fenced = (refl, refl);
+  last = refl;
+  pending = (
+    64,
+    (never_persisted_by_fronts store_after_flush 64 3 (record { addr = 0x1000; bytes = 2 ∷ [] }) (store 0 0x1000 2, refl, refl)).1 (lit< tt),
+    (λ none. absurd (false≢true none), λ flushed. absurd (fence_alone 64 flushed)),
+  );
+  kept = keeps store_after_flush (1 ∷ 2 ∷ 3 ∷ 4 ∷ []) refl;
+}
+
+pub ordered_by_fence_says : OrderedByFence
+ordered_by_fence_says = record {
+  fenced = (refl, refl);
+  last_of_first = refl;
+  last_of_second = refl;
+  passes = (ordered_by_fronts (history ordered_by_fence 5) (byte_at 0x1000) (byte_at 0x1040)).1 (λ b later.
+    let P : ℕ → Type 0 = λ c. IfSome (last_store c (history ordered_by_fence 5)) (λ y.
+      (a : ℕ) → InSpan (byte_at 0x1000) a → IfSome (last_store a (history ordered_by_fence 5)) (λ x. NoLater (up_to_last c (history ordered_by_fence 5)) x y)) in
+    subst P (in_byte 0x1040 b later) first);
+  kept = keeps ordered_by_fence (1 ∷ 2 ∷ 3 ∷ 4 ∷ 5 ∷ []) refl;
+}
+  where
+    first : (a : ℕ) → InSpan (byte_at 0x1000) a → IfSome (last_store a (history ordered_by_fence 5)) (λ x. NoLater (up_to_last 0x1040 (history ordered_by_fence 5)) x (record { line = 65; rank = 1 }))
+    first a within =
+        let P : ℕ → Type 0 = λ c. IfSome (last_store c (history ordered_by_fence 5)) (λ x. NoLater (up_to_last 0x1040 (history ordered_by_fence 5)) x (record { line = 65; rank = 1 })) in
+        subst P (in_byte 0x1000 a within) (inr (lit≤ tt))
+
+-- The first store to one line may persist after the first one to the other.
+pub ordered_fence_too_late_says : OrderedFenceTooLate
+ordered_fence_too_late_says = record {
+  second_store = (refl, refl);
+  fenced = (refl, refl);
+  fails = λ passes.
+    go ((ordered_by_fronts (history ordered_fence_too_late 5) (byte_at 0x1000) (byte_at 0x1040)).0 passes 0x1040 (byte_in 0x1040) 0x1000 (byte_in 0x1000));
+  kept = keeps ordered_fence_too_late (1 ∷ 2 ∷ 3 ∷ 4 ∷ 5 ∷ []) refl;
+}
+  where
+    go : (◌≡◌ {A = ℕ} 64 65 × (1 ≤ 1)) ⊎ (1 ≤ 0) → ⊥
+    go (inl same) = omega (arith, same.0)
+    go (inr above) = omega arith
+
+pub same_byte_twice_says : SameByteTwice
+same_byte_twice_says = record {
+  first_fence = (refl, refl);
+  second_fence = (refl, refl);
+  last = refl;
+  passes = (persist_by_fronts (history same_byte_twice 7) (byte_at 0x1000)).1 (λ a within.
+    let P : ℕ → Type 0 = λ c. IfSome (last_store c (history same_byte_twice 7)) (λ x. x.rank ≤ front x.line (history same_byte_twice 7)) in
+    subst P (in_byte 0x1000 a within) (lit≤ tt));
+  kept = keeps same_byte_twice (1 ∷ 2 ∷ 3 ∷ 4 ∷ 5 ∷ 6 ∷ 7 ∷ []) refl;
+}
+
+pub clflush_beats_clwb_says : ClflushBeatsClwb
+clflush_beats_clwb_says = record {
+  flushed = (refl, refl);
+  flushed_now = (refl, refl);
+  fenced = (refl, refl);
+  kept = keeps clflush_beats_clwb (1 ∷ 3 ∷ []) refl;
 }

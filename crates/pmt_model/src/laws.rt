@@ -3,3 +3,4 @@
 pub mod fronts;
 pub mod keeping;
 pub mod verdicts;
+pub mod worked;
