@@ -11,8 +11,8 @@ use Rattle.pmt_model.specs.Machine.{Act, Stores, Flushes, FlushesNow, Fences, As
 use Rattle.pmt_model.specs.Traces.{Recording, act, event, IsAct, history, count_at}
 use Rattle.pmt_model.specs.Fronts.{front_at}
 use Rattle.pmt_model.specs.Selections.{IsRising, Has, always_stays}
-use Rattle.pmt_model.specs.Keeping.{IsUsefulFence, IsUsefulFlush, IsUsefulClflush, IsKept, Stays, ByFence, ByFlush, ByClflush, IsKeep}
-use Rattle.pmt_model.proofs.Histories.{act-within, act-unique, front-le-count, front-mono}
+use Rattle.pmt_model.specs.Keeping.{IsKept, Stays, ByFence, ByFlush, ByClflush, IsKeep}
+use Rattle.pmt_model.proofs.Histories.{act-within, front-le-count, front-mono}
 
 -- The act of an event, if there is one.
 abbrev act_of_event : Layout → Option Event → Option Act
@@ -67,11 +67,10 @@ Decides-fence T t i = (λ e. act-there T i (Fences t) (go (act_at T i) e), λ is
 
 -- The test finds the flushes of a line by a thread.
 Decides-flush : (T : Recording) (t l i : ℕ) → Decides (is_flush_of t l (act_at T i)) (IsAct T i (Flushes t l))
-Decides-flush T t l i =
-    (
-      λ e. act-there T i (Flushes t l) (go (act_at T i) e),
-      λ is. ap (is_flush_of t l) (there-act T i (Flushes t l) is) ∙ and_from (t == t) (l == l) (eq-eqb t t refl) (eq-eqb l l refl),
-    )
+Decides-flush T t l i = (
+  λ e. act-there T i (Flushes t l) (go (act_at T i) e),
+  λ is. ap (is_flush_of t l) (there-act T i (Flushes t l) is) ∙ and_from (t == t) (l == l) (eq-eqb t t refl) (eq-eqb l l refl),
+)
   where
     go : (o : Option Act) → is_flush_of t l o ≡ true → o ≡ Some (Flushes t l)
     go None e = cc

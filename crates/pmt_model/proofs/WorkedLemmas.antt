@@ -1,14 +1,12 @@
 -- What the definitions say of the worked traces.
-use Rattle.std.proofs.Common.{◌≡◌, ℕ, zero, suc, ◌+◌, ◌<◌, ◌≤◌, ◌⊎◌, ◌↔◌, true, false, IsTrue, List, [], ◌∷◌, length, Some, IfSome, inl, inr, refl, sym, ap, subst, lit<, lit≤, arith}
+use Rattle.std.proofs.Common.{◌≡◌, ℕ, zero, suc, ◌+◌, ◌<◌, ◌≤◌, ◌⊎◌, List, [], ◌∷◌, IfSome, inl, inr, refl, subst, lit<, lit≤, arith}
 use Rattle.std.proofs.lemmas.Bool.{false≢true}
-use Rattle.pmt_model.specs.declared.finding.Finding.TheVariants.{NeverPersisted, FenceWithoutFlush}
-use Rattle.pmt_model.specs.Machine.{Act, Stores, Flushes, FlushesNow, Fences, Asserts}
-use Rattle.pmt_model.specs.Traces.{Recording, IsAct, history, count_at}
-use Rattle.pmt_model.specs.Fronts.{front, front_at}
+use Rattle.pmt_model.specs.Machine.{Act, Stores, Flushes, FlushesNow, Fences}
+use Rattle.pmt_model.specs.Traces.{Recording, IsAct, history}
+use Rattle.pmt_model.specs.Fronts.{front}
 use Rattle.pmt_model.specs.Keeping.{IsKeep}
-use Rattle.pmt_model.specs.Assertions.{last_store, InSpan, PersistPasses, OrderedPasses, up_to_last, NoLater}
+use Rattle.pmt_model.specs.Assertions.{last_store, InSpan, up_to_last, NoLater}
 use Rattle.pmt_model.specs.Findings.{ByFlush, ByClflush, IsFlushedAfter, IsFlushOf, IsEmptyFence}
-use Rattle.pmt_model.specs.Analyses.{IsFinding}
 use Rattle.pmt_model.specs.Worked.{store, clwb, sfence, byte_at, KeepsJust, fence_of_another_thread, FenceOfAnotherThread, flushed_by_two_threads, FlushedByTwoThreads, two_rounds, TwoRounds, store_after_flush, StoreAfterFlush, ordered_by_fence, OrderedByFence, ordered_fence_too_late, OrderedFenceTooLate, same_byte_twice, SameByteTwice, clflush_beats_clwb, ClflushBeatsClwb}
 use Rattle.pmt_model.proofs.Histories.{act-within, act-unique}
 use Rattle.pmt_model.proofs.KeepLemmas.{keep_is_unique}
@@ -42,7 +40,7 @@ no_flush_of_thread_1 = record {
     go zero l before is = let within : 1 ≤ 0 = (act-within fence_of_another_thread 0 (Flushes 1 l) is).0 in omega arith
     go (suc zero) l before is =
         let e : Flushes 1 l ≡ Stores 64 (record { addr = 0x1000; bytes = 1 ∷ [] }) =
-            act-unique fence_of_another_thread 1 (Flushes 1 l) (Stores 64 (record { addr = 0x1000; bytes = 1 ∷ [] })) is (store 0 0x1000 1, refl, refl) in
+        act-unique fence_of_another_thread 1 (Flushes 1 l) (Stores 64 (record { addr = 0x1000; bytes = 1 ∷ [] })) is (store 0 0x1000 1, refl, refl) in
         cc
     go (suc (suc zero)) l before is =
         let e : Flushes 1 l ≡ Flushes 0 64 = act-unique fence_of_another_thread 2 (Flushes 1 l) (Flushes 0 64) is (clwb 0 0x1000, refl, refl) in cc
@@ -53,7 +51,7 @@ fence_of_another_thread_says = record {
   fenced = (refl, refl);
   last = refl;
   fails = λ passes.
-    let above : 1 ≤ 0 = (persist_by_fronts (history fence_of_another_thread 4) (byte_at 0x1000)).0 passes 0x1000 (byte_in 0x1000) in omega arith;
+      let above : 1 ≤ 0 = (persist_by_fronts (history fence_of_another_thread 4) (byte_at 0x1000)).0 passes 0x1000 (byte_in 0x1000) in omega arith;
   pending = (
     64,
     (never_persisted_by_fronts fence_of_another_thread 64 1 (record { addr = 0x1000; bytes = 1 ∷ [] }) (store 0 0x1000 1, refl, refl)).1 (lit< tt),
@@ -112,9 +110,9 @@ ordered_by_fence_says = record {
   last_of_first = refl;
   last_of_second = refl;
   passes = (ordered_by_fronts (history ordered_by_fence 5) (byte_at 0x1000) (byte_at 0x1040)).1 (λ b later.
-    let P : ℕ → Type 0 = λ c. IfSome (last_store c (history ordered_by_fence 5)) (λ y.
+      let P : ℕ → Type 0 = λ c. IfSome (last_store c (history ordered_by_fence 5)) (λ y.
       (a : ℕ) → InSpan (byte_at 0x1000) a → IfSome (last_store a (history ordered_by_fence 5)) (λ x. NoLater (up_to_last c (history ordered_by_fence 5)) x y)) in
-    subst P (in_byte 0x1040 b later) first);
+      subst P (in_byte 0x1040 b later) first);
   kept = keeps ordered_by_fence (1 ∷ 2 ∷ 3 ∷ 4 ∷ 5 ∷ []) refl;
 }
   where
@@ -129,7 +127,7 @@ ordered_fence_too_late_says = record {
   second_store = (refl, refl);
   fenced = (refl, refl);
   fails = λ passes.
-    go ((ordered_by_fronts (history ordered_fence_too_late 5) (byte_at 0x1000) (byte_at 0x1040)).0 passes 0x1040 (byte_in 0x1040) 0x1000 (byte_in 0x1000));
+      go ((ordered_by_fronts (history ordered_fence_too_late 5) (byte_at 0x1000) (byte_at 0x1040)).0 passes 0x1040 (byte_in 0x1040) 0x1000 (byte_in 0x1000));
   kept = keeps ordered_fence_too_late (1 ∷ 2 ∷ 3 ∷ 4 ∷ 5 ∷ []) refl;
 }
   where
@@ -143,8 +141,8 @@ same_byte_twice_says = record {
   second_fence = (refl, refl);
   last = refl;
   passes = (persist_by_fronts (history same_byte_twice 7) (byte_at 0x1000)).1 (λ a within.
-    let P : ℕ → Type 0 = λ c. IfSome (last_store c (history same_byte_twice 7)) (λ x. x.rank ≤ front x.line (history same_byte_twice 7)) in
-    subst P (in_byte 0x1000 a within) (lit≤ tt));
+      let P : ℕ → Type 0 = λ c. IfSome (last_store c (history same_byte_twice 7)) (λ x. x.rank ≤ front x.line (history same_byte_twice 7)) in
+      subst P (in_byte 0x1000 a within) (lit≤ tt));
   kept = keeps same_byte_twice (1 ∷ 2 ∷ 3 ∷ 4 ∷ 5 ∷ 6 ∷ 7 ∷ []) refl;
 }
 

@@ -1,9 +1,9 @@
 -- Small traces, with what the definitions say of them: a reader may take them for examples.
-use Rattle.std.specs.Prelude.{◌≡◌, ℕ, List, [], ◌∷◌, true, false, length, Some}
+use Rattle.std.specs.Prelude.{◌≡◌, ℕ, List, [], ◌∷◌, true, false, Some}
 use Rattle.pmt_model.specs.declared.event.Event.{Event}
 use Rattle.pmt_model.specs.declared.event.Op.TheVariants.{Store, Clwb, Clflush, Sfence, IsPersist, IsOrderedBefore}
 use Rattle.pmt_model.specs.declared.finding.Finding.TheVariants.{NeverPersisted, FenceWithoutFlush}
-use Rattle.pmt_model.specs.Values.{Layout, Span}
+use Rattle.pmt_model.specs.Values.{Span}
 use Rattle.pmt_model.specs.Formats.{first_version}
 use Rattle.pmt_model.specs.Traces.{Recording, history, count_at}
 use Rattle.pmt_model.specs.Fronts.{front_at}
