@@ -11,16 +11,16 @@ use Rattle.pmt_model.specs.Machine.{Act, Stores, Flushes, FlushesNow, Fences, As
 use Rattle.pmt_model.specs.Traces.{Recording, act, event, IsAct, history, count_at}
 use Rattle.pmt_model.specs.Fronts.{front_at}
 use Rattle.pmt_model.specs.Selections.{IsRising, Has, always_stays}
-use Rattle.pmt_model.specs.Keeping.{IsKept, Stays, ByFence, ByFlush, ByClflush, IsKeep}
+use Rattle.pmt_model.specs.Keeping.{IsKept, Stays, ByFence, ByFlush, ByClflush, IsKeep, KeepExists}
 use Rattle.pmt_model.proofs.Histories.{act-within, front-le-count, front-mono}
 
 -- The act of an event, if there is one.
-abbrev act_of_event : Layout → Option Event → Option Act
+abbrev pub act_of_event : Layout → Option Event → Option Act
 act_of_event f None = None
 act_of_event f (Some e) = Some (act f e)
 
 -- The act with this number, if there is one.
-abbrev act_at : Recording → ℕ → Option Act
+abbrev pub act_at : Recording → ℕ → Option Act
 act_at T i = act_of_event T.format (event T i)
 
 -- What the act with this number is.
@@ -32,7 +32,7 @@ act-there T i a is = go (event T i) refl is
     go (Some x) e h = (x, e, same_Some (act T.format x) a h)
 
 -- The act with this number is the one that is read off.
-there-act : (T : Recording) (i : ℕ) (a : Act) → IsAct T i a → act_at T i ≡ Some a
+pub there-act : (T : Recording) (i : ℕ) (a : Act) → IsAct T i a → act_at T i ≡ Some a
 there-act T i a is = ap (act_of_event T.format) is.1 ∙ ap (λ (b : Act). Some b) is.2
 
 -- The act is a fence by the thread.
@@ -394,3 +394,7 @@ keep-kept_numbers T = record {
     λ kept. let within = kept-event T i kept in kept-among T 0 (length T.events) i (omega arith) (omega arith) (tells-is_kept T i kept),
   );
 }
+
+-- Each trace has a list of the events that are kept.
+pub keep_exists : KeepExists
+keep_exists T = (kept_numbers T, keep-kept_numbers T)

@@ -14,4 +14,5 @@ pub mod KeptTest
 pub mod AssertLemmas
 pub mod NeverLemmas
 pub mod StayLemmas
+pub mod SelectionTest
 pub mod WorkedLemmas

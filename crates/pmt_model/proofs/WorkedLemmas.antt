@@ -1,18 +1,23 @@
 -- What the definitions say of the worked traces.
-use Rattle.std.proofs.Common.{◌≡◌, ℕ, zero, suc, ◌+◌, ◌<◌, ◌≤◌, ◌⊎◌, List, [], ◌∷◌, IfSome, inl, inr, refl, subst, lit<, lit≤, arith}
-use Rattle.std.proofs.lemmas.Bool.{false≢true}
-use Rattle.pmt_model.specs.Machine.{Act, Stores, Flushes, FlushesNow, Fences}
-use Rattle.pmt_model.specs.Traces.{Recording, IsAct, history}
-use Rattle.pmt_model.specs.Fronts.{front}
+use Rattle.std.proofs.Common.{◌≡◌, ℕ, zero, suc, ◌+◌, ◌-◌, ◌<◌, ◌≤◌, ◌⊎◌, ◌↔◌, Bool, true, false, List, [], ◌∷◌, Option, None, IfSome, inl, inr, refl, sym, ◌∙◌, ap, subst, lit<, lit≤, arith}
+use Rattle.std.specs.Prelude.{nat_lt, slice_get, if◌then◌else◌}
+use Rattle.std.proofs.lemmas.Bool.{false≢true, cases_eq, ne_eqb, lt-ltb}
+use Rattle.pmt_model.specs.Machine.{Act, Stores, Flushes, FlushesNow, Fences, State, Ends, Image, writes, write, image_of, Crash}
+use Rattle.pmt_model.specs.Traces.{Recording, IsAct, history, CrashAt, VectorsAt}
+use Rattle.pmt_model.specs.Fronts.{front, front_at}
+use Rattle.pmt_model.specs.Selections.{cut}
 use Rattle.pmt_model.specs.Keeping.{IsKeep}
 use Rattle.pmt_model.specs.Assertions.{last_store, InSpan, up_to_last, NoLater}
 use Rattle.pmt_model.specs.Findings.{ByFlush, ByClflush, IsFlushedAfter, IsFlushOf, IsEmptyFence}
 use Rattle.pmt_model.specs.Worked.{store, clwb, sfence, byte_at, KeepsJust, fence_of_another_thread, FenceOfAnotherThread, flushed_by_two_threads, FlushedByTwoThreads, two_rounds, TwoRounds, store_after_flush, StoreAfterFlush, ordered_by_fence, OrderedByFence, ordered_fence_too_late, OrderedFenceTooLate, same_byte_twice, SameByteTwice, clflush_beats_clwb, ClflushBeatsClwb}
-use Rattle.pmt_model.proofs.Histories.{act-within, act-unique}
+use Rattle.pmt_model.proofs.Histories.{act-within, act-unique, front-le-count}
+use Rattle.pmt_model.proofs.BoxLemmas.{vectors_are_a_box}
+use Rattle.pmt_model.proofs.FaithfulLemmas.{fronts_decide}
 use Rattle.pmt_model.proofs.KeepLemmas.{keep_is_unique}
-use Rattle.pmt_model.proofs.AssertLemmas.{persist_by_fronts, ordered_by_fronts}
+use Rattle.pmt_model.proofs.AssertLemmas.{persist_by_fronts, ordered_by_fronts, front-le-persisted, least_end}
 use Rattle.pmt_model.proofs.NeverLemmas.{never_persisted_by_fronts}
 use Rattle.pmt_model.proofs.KeptTest.{kept_numbers, keep-kept_numbers}
+use Rattle.pmt_model.proofs.SelectionTest.{selection-is_selection}
 
 -- What is kept are the numbers that are computed.
 keeps : (T : Recording) (numbers : List ℕ) → kept_numbers T ≡ numbers → KeepsJust T numbers
@@ -69,12 +74,35 @@ flushed_by_two_threads_says = record {
   kept = keeps flushed_by_two_threads (1 ∷ 3 ∷ 4 ∷ []) refl;
 }
 
+-- Two rounds without the first one's flush and fence.
+abbrev second_round : List ℕ
+second_round = 1 ∷ 4 ∷ 5 ∷ 6 ∷ []
+
+-- In the end the first round's flush and fence have raised no front by themselves.
+same_fronts : (l : ℕ) → front_at two_rounds l 6 ≡ front_at (cut two_rounds second_round) l 4
+same_fronts l = go (cases_eq 64 l)
+  where
+    go : (64 ≡ l) ⊎ (64 ≡ l → ⊥) → front_at two_rounds l 6 ≡ front_at (cut two_rounds second_round) l 4
+    go (inl same) = let P : ℕ → Type 0 = λ k. front_at two_rounds k 6 ≡ front_at (cut two_rounds second_round) k 4 in subst P same refl
+    go (inr apart) = rw (ne_eqb 64 l apart) refl
+
+-- Without them nothing need be persisted after event 3.
+first_round_lost : ((v : ℕ → ℕ) → VectorsAt two_rounds 3 v ↔ VectorsAt (cut two_rounds second_round) 1 v) → ⊥
+first_round_lost same =
+    let nothing : ℕ → ℕ = λ l. 0 in
+    let after = (vectors_are_a_box (history (cut two_rounds second_round) 1) nothing).1 (λ l. (omega arith, omega arith)) in
+    let least : 1 ≤ 0 = ((vectors_are_a_box (history two_rounds 3) nothing).0 ((same nothing).1 after) 64).0 in
+    omega arith
+
 pub two_rounds_says : TwoRounds
 two_rounds_says = record {
   first_round = (refl, refl);
   second_store = (refl, refl);
   second_round = (refl, refl);
   kept = keeps two_rounds (1 ∷ 2 ∷ 3 ∷ 4 ∷ 5 ∷ 6 ∷ []) refl;
+  shorter = selection-is_selection two_rounds second_round refl;
+  same_at_the_end = fronts_decide vectors_are_a_box two_rounds second_round 6 (selection-is_selection two_rounds second_round refl) same_fronts;
+  not_between = λ faithful. first_round_lost faithful.vectors;
 }
 
 -- After the second store comes a fence alone.
@@ -135,6 +163,65 @@ ordered_fence_too_late_says = record {
     go (inl same) = omega (arith, same.0)
     go (inr above) = omega arith
 
+-- The same byte twice without the second flush and fence.
+abbrev first_fence_alone : List ℕ
+first_fence_alone = 1 ∷ 2 ∷ 3 ∷ 4 ∷ 7 ∷ []
+
+-- Memory that holds the byte alone.
+abbrev byte_alone : Image
+byte_alone = write (record { addr = 0x1000; bytes = 7 ∷ [] }) (λ a. None)
+
+-- A choice between two stores of the byte and one, where there is one.
+once_or_twice : (two one here : Bool) (byte : Option ℕ) → one ≡ true →
+    (if two then (if here then byte else (if one then (if here then byte else None) else None)) else (if one then (if here then byte else None) else None))
+    ≡ (if here then byte else None)
+once_or_twice two false here byte e = cc
+once_or_twice true true true byte e = refl
+once_or_twice true true false byte e = refl
+once_or_twice false true here byte e = refl
+
+-- With a store of the byte persisted memory holds the byte.
+holds_byte : (persisted : ℕ → ℕ) (a : ℕ) → 1 ≤ persisted 64 →
+    (image_of persisted (history same_byte_twice 7) a ≡ byte_alone a) × (image_of persisted (history (cut same_byte_twice first_fence_alone) 5) a ≡ byte_alone a)
+holds_byte persisted a le = (both, both)
+  where
+    both : image_of persisted (history same_byte_twice 7) a ≡ byte_alone a
+    both =
+        once_or_twice (nat_lt 1 (persisted 64)) (nat_lt 0 (persisted 64)) (writes (record { addr = 0x1000; bytes = 7 ∷ [] }) a) (slice_get (7 ∷ []) (a - 0x1000))
+        (lt-ltb 0 (persisted 64) le)
+
+-- Where each run ends with one of these stores persisted, memory holds the byte.
+leaves_byte : (h : List Act) (image : Image) → 1 ≤ front 64 h → ((persisted : ℕ → ℕ) (a : ℕ) → 1 ≤ persisted 64 → image_of persisted h a ≡ byte_alone a) →
+    Crash h image ↔ ((a : ℕ) → byte_alone a ≡ image a)
+leaves_byte h image le holds = (there, back)
+  where
+    held : (s : State) → Ends h s → (a : ℕ) → image_of s.persisted s.history a ≡ byte_alone a
+    held s ends a =
+        let some = front-le-persisted h s ends 64 in
+        ap (λ (g : List Act). image_of s.persisted g a) ends.1 ∙ holds s.persisted a (omega (arith, some))
+
+    there : Crash h image → (a : ℕ) → byte_alone a ≡ image a
+    there (s, ends, left) a = sym (held s ends a) ∙ left a
+
+    back : ((a : ℕ) → byte_alone a ≡ image a) → Crash h image
+    back same = let e = least_end h in (e.0, e.1, λ a. held e.0 e.1 a ∙ same a)
+
+-- The two leave the same images.
+leave_same : (image : Image) → CrashAt same_byte_twice 7 image ↔ CrashAt (cut same_byte_twice first_fence_alone) 5 image
+leave_same image =
+    let whole = leaves_byte (history same_byte_twice 7) image (lit≤ tt) (λ persisted a le. (holds_byte persisted a le).0) in
+    let short = leaves_byte (history (cut same_byte_twice first_fence_alone) 5) image (lit≤ tt) (λ persisted a le. (holds_byte persisted a le).1) in
+    (λ crash. short.1 (whole.0 crash), λ crash. whole.1 (short.0 crash))
+
+-- Without the second flush and fence the second store need not be persisted.
+second_store_lost : ((v : ℕ → ℕ) → VectorsAt same_byte_twice 7 v ↔ VectorsAt (cut same_byte_twice first_fence_alone) 5 v) → ⊥
+second_store_lost same =
+    let h = history (cut same_byte_twice first_fence_alone) 5 in
+    let fewest : ℕ → ℕ = λ l. front l h in
+    let after = (vectors_are_a_box h fewest).1 (λ l. (omega arith, front-le-count l h)) in
+    let least : 2 ≤ 1 = ((vectors_are_a_box (history same_byte_twice 7) fewest).0 ((same fewest).1 after) 64).0 in
+    omega arith
+
 pub same_byte_twice_says : SameByteTwice
 same_byte_twice_says = record {
   first_fence = (refl, refl);
@@ -144,6 +231,9 @@ same_byte_twice_says = record {
       let P : ℕ → Type 0 = λ c. IfSome (last_store c (history same_byte_twice 7)) (λ x. x.rank ≤ front x.line (history same_byte_twice 7)) in
       subst P (in_byte 0x1000 a within) (lit≤ tt));
   kept = keeps same_byte_twice (1 ∷ 2 ∷ 3 ∷ 4 ∷ 5 ∷ 6 ∷ 7 ∷ []) refl;
+  shorter = selection-is_selection same_byte_twice first_fence_alone refl;
+  same_images = leave_same;
+  other_counts = λ faithful. second_store_lost faithful.vectors;
 }
 
 pub clflush_beats_clwb_says : ClflushBeatsClwb

@@ -1,12 +1,14 @@
 -- Small traces, with what the definitions say of them: a reader may take them for examples.
-use Rattle.std.specs.Prelude.{◌≡◌, ℕ, List, [], ◌∷◌, true, false, Some}
+use Rattle.std.specs.Prelude.{◌≡◌, ◌↔◌, ℕ, List, [], ◌∷◌, true, false, Some}
 use Rattle.pmt_model.specs.declared.event.Event.{Event}
 use Rattle.pmt_model.specs.declared.event.Op.TheVariants.{Store, Clwb, Clflush, Sfence, IsPersist, IsOrderedBefore}
 use Rattle.pmt_model.specs.declared.finding.Finding.TheVariants.{NeverPersisted, FenceWithoutFlush}
 use Rattle.pmt_model.specs.Values.{Span}
 use Rattle.pmt_model.specs.Formats.{first_version}
-use Rattle.pmt_model.specs.Traces.{Recording, history, count_at}
+use Rattle.pmt_model.specs.Machine.{Image}
+use Rattle.pmt_model.specs.Traces.{Recording, history, count_at, CrashAt}
 use Rattle.pmt_model.specs.Fronts.{front_at}
+use Rattle.pmt_model.specs.Selections.{IsSelection, IsFaithful, cut}
 use Rattle.pmt_model.specs.Keeping.{IsKeep}
 use Rattle.pmt_model.specs.Assertions.{last_store, PersistPasses, OrderedPasses}
 use Rattle.pmt_model.specs.Analyses.{IsFinding}
@@ -84,12 +86,16 @@ pub record FlushedByTwoThreads : Type 0 where
 abbrev pub two_rounds : Recording
 two_rounds = trace_of (store 0 0x1000 1 ∷ clwb 0 0x1000 ∷ sfence 0 ∷ store 0 0x1000 2 ∷ clwb 0 0x1000 ∷ sfence 0 ∷ [])
 
--- The second round persists both stores, and yet the first one is kept: a crash between them may not lose the first store.
+-- The second round persists both stores, and yet the first one is kept: without it a crash in the end leaves the same, but one
+-- after event 3 may lose the first store.
 pub record TwoRounds : Type 0 where
   pub first_round : HasFront two_rounds 64 3 1 1
   pub second_store : HasFront two_rounds 64 4 1 2
   pub second_round : HasFront two_rounds 64 6 2 2
   pub kept : KeepsJust two_rounds (1 ∷ 2 ∷ 3 ∷ 4 ∷ 5 ∷ 6 ∷ [])
+  pub shorter : IsSelection two_rounds (1 ∷ 4 ∷ 5 ∷ 6 ∷ [])
+  pub same_at_the_end : IsFaithful two_rounds (1 ∷ 4 ∷ 5 ∷ 6 ∷ []) 6
+  pub not_between : ¬ IsFaithful two_rounds (1 ∷ 4 ∷ 5 ∷ 6 ∷ []) 3
 
 -- A store between a flush and its fence.
 abbrev pub store_after_flush : Recording
@@ -131,13 +137,17 @@ same_byte_twice =
     trace_of
     (store 0 0x1000 7 ∷ clwb 0 0x1000 ∷ sfence 0 ∷ store 0 0x1000 7 ∷ clwb 0 0x1000 ∷ sfence 0 ∷ is_persist 0x1000 ∷ [])
 
--- The second store changes no image, and yet its flush and fence are kept: which stores are persisted counts too.
+-- The second store changes no image, and yet its flush and fence are kept: without them a crash in the end leaves the same
+-- images, and other counts of persisted stores.
 pub record SameByteTwice : Type 0 where
   pub first_fence : HasFront same_byte_twice 64 3 1 1
   pub second_fence : HasFront same_byte_twice 64 6 2 2
   pub last : HasLastStore same_byte_twice 7 0x1000 64 2
   pub passes : PersistPasses (history same_byte_twice 7) (byte_at 0x1000)
   pub kept : KeepsJust same_byte_twice (1 ∷ 2 ∷ 3 ∷ 4 ∷ 5 ∷ 6 ∷ 7 ∷ [])
+  pub shorter : IsSelection same_byte_twice (1 ∷ 2 ∷ 3 ∷ 4 ∷ 7 ∷ [])
+  pub same_images : (image : Image) → CrashAt same_byte_twice 7 image ↔ CrashAt (cut same_byte_twice (1 ∷ 2 ∷ 3 ∷ 4 ∷ 7 ∷ [])) 5 image
+  pub other_counts : ¬ IsFaithful same_byte_twice (1 ∷ 2 ∷ 3 ∷ 4 ∷ 7 ∷ []) 7
 
 -- A clflush by another thread between a flush and its fence, in version 2 with lines of 64 bytes.
 abbrev pub clflush_beats_clwb : Recording
