@@ -15,5 +15,6 @@ pub mod Keeping
 pub mod Assertions
 pub mod Findings
 pub mod Analyses
+pub mod Shortest
 pub mod Interleavings
 pub mod Worked
