@@ -1,17 +1,19 @@
 -- What the definitions say of the worked traces.
-use Rattle.std.proofs.Common.{◌≡◌, ℕ, zero, suc, ◌+◌, ◌-◌, ◌<◌, ◌≤◌, ◌⊎◌, ◌↔◌, Bool, true, false, List, [], ◌∷◌, Option, None, IfSome, inl, inr, refl, sym, ◌∙◌, ap, subst, lit<, lit≤, arith}
-use Rattle.std.specs.Prelude.{nat_lt, slice_get, if◌then◌else◌}
-use Rattle.std.proofs.lemmas.Bool.{false≢true, cases_eq, ne_eqb, lt-ltb}
-use Rattle.pmt_model.specs.Machine.{Act, Stores, Flushes, FlushesNow, Fences, State, Ends, Image, writes, write, image_of, Crash}
+use Rattle.std.proofs.Common.{◌≡◌, ℕ, zero, suc, ◌+◌, ◌-◌, ◌<◌, ◌≤◌, ◌⊎◌, ◌↔◌, Bool, true, false, List, [], ◌∷◌, Option, Some, None, IfSome, inl, inr, refl, sym, ◌∙◌, ap, subst, lit<, lit≤, arith}
+use Rattle.std.specs.Prelude.{nat_lt, nat_le, slice_get, ◌==◌, ◌&&◌, if◌then◌else◌}
+use Rattle.std.proofs.lemmas.Bool.{false≢true, cases_eq, eq-eqb, ne_eqb, le-leb, leb-true, lt-ltb, ltb-true, and_from, and_parts, cond-true, cond-false, false_from_ne_true}
+use Rattle.pmt_model.specs.Machine.{Act, Stores, Flushes, FlushesNow, Fences, State, Ends, Image, writes, write, image_of, Crash, count}
 use Rattle.pmt_model.specs.Traces.{Recording, IsAct, history, CrashAt, VectorsAt}
 use Rattle.pmt_model.specs.Fronts.{front, front_at}
+use Rattle.pmt_model.specs.Boxes.{InBox}
+use Rattle.pmt_model.specs.Values.{Written}
 use Rattle.pmt_model.specs.Selections.{cut}
 use Rattle.pmt_model.specs.Keeping.{IsKeep}
 use Rattle.pmt_model.specs.Assertions.{last_store, InSpan, up_to_last, NoLater}
 use Rattle.pmt_model.specs.Findings.{ByFlush, ByClflush, IsFlushedAfter, IsFlushOf, IsEmptyFence}
-use Rattle.pmt_model.specs.Worked.{store, clwb, sfence, byte_at, KeepsJust, fence_of_another_thread, FenceOfAnotherThread, flushed_by_two_threads, FlushedByTwoThreads, two_rounds, TwoRounds, store_after_flush, StoreAfterFlush, ordered_by_fence, OrderedByFence, ordered_fence_too_late, OrderedFenceTooLate, same_byte_twice, SameByteTwice, clflush_beats_clwb, ClflushBeatsClwb}
+use Rattle.pmt_model.specs.Worked.{nothing, byte_alone, IsSame, store, clwb, sfence, byte_at, KeepsJust, fence_of_another_thread, FenceOfAnotherThread, flushed_by_two_threads, FlushedByTwoThreads, two_rounds, TwoRounds, store_after_flush, StoreAfterFlush, ordered_by_fence, OrderedByFence, ordered_fence_too_late, OrderedFenceTooLate, same_byte_twice, SameByteTwice, clflush_beats_clwb, ClflushBeatsClwb}
 use Rattle.pmt_model.proofs.Histories.{act-within, act-unique, front-le-count}
-use Rattle.pmt_model.proofs.BoxLemmas.{vectors_are_a_box}
+use Rattle.pmt_model.proofs.BoxLemmas.{box-ends, vectors_are_a_box}
 use Rattle.pmt_model.proofs.FaithfulLemmas.{fronts_decide}
 use Rattle.pmt_model.proofs.KeepLemmas.{keep_is_unique}
 use Rattle.pmt_model.proofs.AssertLemmas.{persist_by_fronts, ordered_by_fronts, front-le-persisted, least_end}
@@ -51,9 +53,65 @@ no_flush_of_thread_1 = record {
         let e : Flushes 1 l ≡ Flushes 0 64 = act-unique fence_of_another_thread 2 (Flushes 1 l) (Flushes 0 64) is (clwb 0 0x1000, refl, refl) in cc
     go (suc (suc (suc j))) l before is = omega arith
 
+-- A store of one byte to memory in which nothing was written.
+store_alone : (a byte b : ℕ) → write (record { addr = a; bytes = byte ∷ [] }) nothing b ≡ byte_alone a byte b
+store_alone a byte b = go (cases_eq b a)
+  where
+    go : (b ≡ a) ⊎ (b ≡ a → ⊥) → write (record { addr = a; bytes = byte ∷ [] }) nothing b ≡ byte_alone a byte b
+    go (inl e) =
+        let here : (nat_le a b && nat_lt (b - a) 1) ≡ true = and_from (nat_le a b) (nat_lt (b - a) 1) (le-leb a b (omega arith)) (lt-ltb (b - a) 1 (omega arith)) in
+        let first : b - a ≡ 0 = omega arith in
+        cond-true (nat_le a b && nat_lt (b - a) 1) (slice_get (byte ∷ []) (b - a)) None here ∙ ap (slice_get (byte ∷ [])) first
+        ∙ sym (cond-true (b == a) (Some byte) None (eq-eqb b a e))
+    go (inr apart) =
+        let away : (nat_le a b && nat_lt (b - a) 1) ≡ false =
+            false_from_ne_true (nat_le a b && nat_lt (b - a) 1)
+            (λ h.
+              let parts = and_parts (nat_le a b) (nat_lt (b - a) 1) h in
+              let low : a ≤ b = leb-true a b parts.0 in
+              let high : b - a < 1 = ltb-true (b - a) 1 parts.1 in
+              apart (omega arith)) in
+        cond-false (nat_le a b && nat_lt (b - a) 1) (slice_get (byte ∷ []) (b - a)) None away ∙ sym (cond-false (b == a) (Some byte) None (ne_eqb b a apart))
+
+-- After the fence of the other thread the store is persisted or not.
+one_or_none : (persisted : ℕ → ℕ) (a : ℕ) →
+    image_of persisted (history fence_of_another_thread 3) a ≡ (if nat_lt 0 (persisted 64) then byte_alone 0x1000 1 a else None)
+one_or_none persisted a =
+    ap (λ (o : Option ℕ). if nat_lt 0 (persisted 64) then o else None) (store_alone 0x1000 1 a)
+
+-- What a crash after the fence of the other thread leaves.
+leaves_byte_or_nothing : (image : Image) → CrashAt fence_of_another_thread 3 image ↔ IsSame nothing image ⊎ IsSame (byte_alone 0x1000 1) image
+leaves_byte_or_nothing image = (there, back)
+  where
+    by_test : (t : Bool) → ((a : ℕ) → (if t then byte_alone 0x1000 1 a else None) ≡ image a) → IsSame nothing image ⊎ IsSame (byte_alone 0x1000 1) image
+    by_test true same = inr same
+    by_test false same = inl same
+
+    there : CrashAt fence_of_another_thread 3 image → IsSame nothing image ⊎ IsSame (byte_alone 0x1000 1) image
+    there (s, ends, left) =
+        by_test (nat_lt 0 (s.persisted 64))
+        (λ a. sym (one_or_none s.persisted a) ∙ sym (ap (λ (h : List Act). image_of s.persisted h a) ends.1) ∙ left a)
+
+    from_counts : (v : ℕ → ℕ) → InBox (history fence_of_another_thread 3) v → ((a : ℕ) → (if nat_lt 0 (v 64) then byte_alone 0x1000 1 a else None) ≡ image a) →
+        CrashAt fence_of_another_thread 3 image
+    from_counts v within same =
+        let e = box-ends (history fence_of_another_thread 3) v within in
+        (
+          e.0,
+          e.1,
+          λ a. ap (λ (h : List Act). image_of e.0.persisted h a) e.1.1 ∙ one_or_none e.0.persisted a
+            ∙ ap (λ (n : ℕ). if nat_lt 0 n then byte_alone 0x1000 1 a else None) (e.2 64) ∙ same a,
+        )
+
+    back : IsSame nothing image ⊎ IsSame (byte_alone 0x1000 1) image → CrashAt fence_of_another_thread 3 image
+    back (inl same) = from_counts (λ l. 0) (λ l. (lit≤ tt, omega arith)) same
+    back (inr same) =
+        from_counts (λ l. count l (history fence_of_another_thread 3)) (λ l. (front-le-count l (history fence_of_another_thread 3), omega arith)) same
+
 pub fence_of_another_thread_says : FenceOfAnotherThread
 fence_of_another_thread_says = record {
   fenced = (refl, refl);
+  leaves = leaves_byte_or_nothing;
   last = refl;
   fails = λ passes.
       let above : 1 ≤ 0 = (persist_by_fronts (history fence_of_another_thread 4) (byte_at 0x1000)).0 passes 0x1000 (byte_in 0x1000) in omega arith;
@@ -167,9 +225,9 @@ ordered_fence_too_late_says = record {
 abbrev first_fence_alone : List ℕ
 first_fence_alone = 1 ∷ 2 ∷ 3 ∷ 4 ∷ 7 ∷ []
 
--- Memory that holds the byte alone.
-abbrev byte_alone : Image
-byte_alone = write (record { addr = 0x1000; bytes = 7 ∷ [] }) (λ a. None)
+-- Memory in which the byte was written.
+abbrev byte_written : Image
+byte_written = write (record { addr = 0x1000; bytes = 7 ∷ [] }) (λ a. None)
 
 -- A choice between two stores of the byte and one, where there is one.
 once_or_twice : (two one here : Bool) (byte : Option ℕ) → one ≡ true →
@@ -182,28 +240,28 @@ once_or_twice false true here byte e = refl
 
 -- With a store of the byte persisted memory holds the byte.
 holds_byte : (persisted : ℕ → ℕ) (a : ℕ) → 1 ≤ persisted 64 →
-    (image_of persisted (history same_byte_twice 7) a ≡ byte_alone a) × (image_of persisted (history (cut same_byte_twice first_fence_alone) 5) a ≡ byte_alone a)
+    (image_of persisted (history same_byte_twice 7) a ≡ byte_written a) × (image_of persisted (history (cut same_byte_twice first_fence_alone) 5) a ≡ byte_written a)
 holds_byte persisted a le = (both, both)
   where
-    both : image_of persisted (history same_byte_twice 7) a ≡ byte_alone a
+    both : image_of persisted (history same_byte_twice 7) a ≡ byte_written a
     both =
         once_or_twice (nat_lt 1 (persisted 64)) (nat_lt 0 (persisted 64)) (writes (record { addr = 0x1000; bytes = 7 ∷ [] }) a) (slice_get (7 ∷ []) (a - 0x1000))
         (lt-ltb 0 (persisted 64) le)
 
 -- Where each run ends with one of these stores persisted, memory holds the byte.
-leaves_byte : (h : List Act) (image : Image) → 1 ≤ front 64 h → ((persisted : ℕ → ℕ) (a : ℕ) → 1 ≤ persisted 64 → image_of persisted h a ≡ byte_alone a) →
-    Crash h image ↔ ((a : ℕ) → byte_alone a ≡ image a)
+leaves_byte : (h : List Act) (image : Image) → 1 ≤ front 64 h → ((persisted : ℕ → ℕ) (a : ℕ) → 1 ≤ persisted 64 → image_of persisted h a ≡ byte_written a) →
+    Crash h image ↔ ((a : ℕ) → byte_written a ≡ image a)
 leaves_byte h image le holds = (there, back)
   where
-    held : (s : State) → Ends h s → (a : ℕ) → image_of s.persisted s.history a ≡ byte_alone a
+    held : (s : State) → Ends h s → (a : ℕ) → image_of s.persisted s.history a ≡ byte_written a
     held s ends a =
         let some = front-le-persisted h s ends 64 in
         ap (λ (g : List Act). image_of s.persisted g a) ends.1 ∙ holds s.persisted a (omega (arith, some))
 
-    there : Crash h image → (a : ℕ) → byte_alone a ≡ image a
+    there : Crash h image → (a : ℕ) → byte_written a ≡ image a
     there (s, ends, left) a = sym (held s ends a) ∙ left a
 
-    back : ((a : ℕ) → byte_alone a ≡ image a) → Crash h image
+    back : ((a : ℕ) → byte_written a ≡ image a) → Crash h image
     back same = let e = least_end h in (e.0, e.1, λ a. held e.0 e.1 a ∙ same a)
 
 -- The two leave the same images.

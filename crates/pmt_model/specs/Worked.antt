@@ -1,5 +1,5 @@
 -- Small traces, with what the definitions say of them: a reader may take them for examples.
-use Rattle.std.specs.Prelude.{◌≡◌, ◌↔◌, ℕ, List, [], ◌∷◌, true, false, Some}
+use Rattle.std.specs.Prelude.{◌≡◌, ◌↔◌, ◌⊎◌, ℕ, ◌==◌, if◌then◌else◌, List, [], ◌∷◌, true, false, Some, None}
 use Rattle.pmt_model.specs.declared.event.Event.{Event}
 use Rattle.pmt_model.specs.declared.event.Op.TheVariants.{Store, Clwb, Clflush, Sfence, IsPersist, IsOrderedBefore}
 use Rattle.pmt_model.specs.declared.finding.Finding.TheVariants.{NeverPersisted, FenceWithoutFlush}
@@ -58,13 +58,26 @@ pub record KeepsJust (T : Recording) (numbers : List ℕ) : Type 0 where
   pub keep : IsKeep T numbers
   pub only : (K : List ℕ) → IsKeep T K → K ≡ numbers
 
+-- Memory in which nothing was written.
+abbrev pub nothing : Image
+nothing a = None
+
+-- Memory in which the byte was written at the address, and nothing else.
+abbrev pub byte_alone : ℕ → ℕ → Image
+byte_alone a byte b = if b == a then Some byte else None
+
+abbrev pub IsSame : Image → Image → Type 0
+IsSame image other = (a : ℕ) → image a ≡ other a
+
 -- A fence completes the flushes of its own thread alone.
 abbrev pub fence_of_another_thread : Recording
 fence_of_another_thread = trace_of (store 0 0x1000 1 ∷ clwb 0 0x1000 ∷ sfence 1 ∷ is_persist 0x1000 ∷ [])
 
--- The store stays pending after the fence, so the assertion fails, and only the store and the assertion are kept.
+-- The store stays pending after the fence: a crash leaves nothing, or the byte. So the assertion fails, and only the store and
+-- the assertion are kept.
 pub record FenceOfAnotherThread : Type 0 where
   pub fenced : HasFront fence_of_another_thread 64 3 0 1
+  pub leaves : (image : Image) → CrashAt fence_of_another_thread 3 image ↔ IsSame nothing image ⊎ IsSame (byte_alone 0x1000 1) image
   pub last : HasLastStore fence_of_another_thread 4 0x1000 64 1
   pub fails : ¬ PersistPasses (history fence_of_another_thread 4) (byte_at 0x1000)
   pub pending : IsFinding fence_of_another_thread (NeverPersisted 1 true)
