@@ -29,3 +29,4 @@ pub mod NoneCanGoLemmas
 pub mod KeptTest
 pub mod SelectionTest
 pub mod WorkedLemmas
+pub mod WorkedTraces

@@ -6,7 +6,7 @@ use Rattle.pmt_model.specs.declared.finding.Finding.TheVariants.{NeverPersisted,
 use Rattle.pmt_model.specs.Values.{Span}
 use Rattle.pmt_model.specs.Formats.{first_version}
 use Rattle.pmt_model.specs.Machine.{Image}
-use Rattle.pmt_model.specs.Traces.{Recording, history, count_at, CrashAt}
+use Rattle.pmt_model.specs.Traces.{Recording, IsTrace, history, count_at, CrashAt}
 use Rattle.pmt_model.specs.Fronts.{front_at}
 use Rattle.pmt_model.specs.Selections.{IsSelection, IsFaithful, cut}
 use Rattle.pmt_model.specs.Keeping.{IsKeep}
@@ -175,3 +175,9 @@ pub record ClflushBeatsClwb : Type 0 where
   pub flushed_now : HasFront clflush_beats_clwb 64 3 1 1
   pub fenced : HasFront clflush_beats_clwb 64 4 1 1
   pub kept : KeepsJust clflush_beats_clwb (1 ∷ 3 ∷ [])
+
+-- Each of these is within the limits of a trace.
+abbrev pub WorkedAreTraces : Type 0
+WorkedAreTraces =
+    IsTrace fence_of_another_thread × IsTrace flushed_by_two_threads × IsTrace two_rounds × IsTrace store_after_flush × IsTrace ordered_by_fence
+    × IsTrace ordered_fence_too_late × IsTrace same_byte_twice × IsTrace clflush_beats_clwb

@@ -1,6 +1,6 @@
 //! Small traces, with what the definitions say of them.
 
-ghost use Rattle.pmt_model.specs.Worked.{FenceOfAnotherThread, FlushedByTwoThreads, TwoRounds, StoreAfterFlush, OrderedByFence, OrderedFenceTooLate, SameByteTwice, ClflushBeatsClwb};
+ghost use Rattle.pmt_model.specs.Worked.{FenceOfAnotherThread, FlushedByTwoThreads, TwoRounds, StoreAfterFlush, OrderedByFence, OrderedFenceTooLate, SameByteTwice, ClflushBeatsClwb, WorkedAreTraces};
 
 /// A fence completes the flushes of its own thread alone, so the store stays pending and the fence of the other thread goes.
 pub fn fence_of_another_thread()
@@ -40,4 +40,9 @@ pub fn same_byte_twice()
 /// A clflush persists the store by itself, so the flush before it and the fence after it go.
 pub fn clflush_beats_clwb()
     ensures { ClflushBeatsClwb }
+{}
+
+/// Each of the worked traces is within the limits of a trace.
+pub fn worked_are_traces()
+    ensures { WorkedAreTraces }
 {}

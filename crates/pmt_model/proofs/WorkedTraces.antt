@@ -1,0 +1,53 @@
+-- The worked traces are within the limits of a trace.
+use Rattle.std.proofs.Common.{ℕ, ◌<◌, ◌^◌, refl, lit<, lit≤, arith}
+use Rattle.pmt_model.specs.Values.{Layout}
+use Rattle.pmt_model.specs.Traces.{IsEventIn}
+use Rattle.pmt_model.specs.Worked.{store, clwb, sfence, is_persist, is_ordered_before, WorkedAreTraces}
+
+-- A store of one byte is an event of each format.
+store-event : (f : Layout) (t a byte : ℕ) → t < 256 → a < 2 ^ 48 → byte < 256 → IsEventIn f (store t a byte)
+store-event f t a byte thread address value = record {
+  event = record {
+    thread = thread;
+    op = record { address = address; some = lit≤ tt; inside = omega arith; each = (value, tt) };
+  };
+  known = refl;
+}
+
+-- So is a flush.
+clwb-event : (f : Layout) (t a : ℕ) → t < 256 → a < 2 ^ 48 → IsEventIn f (clwb t a)
+clwb-event f t a thread address = record { event = record { thread = thread; op = address }; known = refl }
+
+-- So is a fence.
+sfence-event : (f : Layout) (t : ℕ) → t < 256 → IsEventIn f (sfence t)
+sfence-event f t thread = record { event = record { thread = thread; op = tt }; known = refl }
+
+-- So is an assertion on one byte.
+persist-event : (f : Layout) (a : ℕ) → a < 2 ^ 48 → IsEventIn f (is_persist a)
+persist-event f a address = record {
+  event = record { thread = lit< tt; op = record { some = lit≤ tt; few = lit≤ tt; within = omega arith } };
+  known = refl;
+}
+
+-- So is an assertion on two bytes.
+ordered-event : (f : Layout) (a b : ℕ) → a < 2 ^ 48 → b < 2 ^ 48 → IsEventIn f (is_ordered_before a b)
+ordered-event f a b first second = record {
+  event = record {
+    thread = lit< tt;
+    op = (record { some = lit≤ tt; few = lit≤ tt; within = omega arith }, record { some = lit≤ tt; few = lit≤ tt; within = omega arith });
+  };
+  known = refl;
+}
+
+-- Each worked trace is within the limits.
+pub worked_are_traces : WorkedAreTraces
+worked_are_traces = (
+  record { format = refl; few = lit≤ tt; each = (store-event _ 0 0x1000 1 (lit< tt) (lit< tt) (lit< tt), (clwb-event _ 0 0x1000 (lit< tt) (lit< tt), (sfence-event _ 1 (lit< tt), (persist-event _ 0x1000 (lit< tt), tt)))) },
+  record { format = refl; few = lit≤ tt; each = (store-event _ 0 0x1000 1 (lit< tt) (lit< tt) (lit< tt), (clwb-event _ 0 0x1000 (lit< tt) (lit< tt), (clwb-event _ 1 0x1000 (lit< tt) (lit< tt), (sfence-event _ 1 (lit< tt), (sfence-event _ 0 (lit< tt), tt))))) },
+  record { format = refl; few = lit≤ tt; each = (store-event _ 0 0x1000 1 (lit< tt) (lit< tt) (lit< tt), (clwb-event _ 0 0x1000 (lit< tt) (lit< tt), (sfence-event _ 0 (lit< tt), (store-event _ 0 0x1000 2 (lit< tt) (lit< tt) (lit< tt), (clwb-event _ 0 0x1000 (lit< tt) (lit< tt), (sfence-event _ 0 (lit< tt), tt)))))) },
+  record { format = refl; few = lit≤ tt; each = (store-event _ 0 0x1000 1 (lit< tt) (lit< tt) (lit< tt), (clwb-event _ 0 0x1000 (lit< tt) (lit< tt), (store-event _ 0 0x1000 2 (lit< tt) (lit< tt) (lit< tt), (sfence-event _ 0 (lit< tt), tt)))) },
+  record { format = refl; few = lit≤ tt; each = (store-event _ 0 0x1000 1 (lit< tt) (lit< tt) (lit< tt), (clwb-event _ 0 0x1000 (lit< tt) (lit< tt), (sfence-event _ 0 (lit< tt), (store-event _ 0 0x1040 2 (lit< tt) (lit< tt) (lit< tt), (ordered-event _ 0x1000 0x1040 (lit< tt) (lit< tt), tt))))) },
+  record { format = refl; few = lit≤ tt; each = (store-event _ 0 0x1000 1 (lit< tt) (lit< tt) (lit< tt), (clwb-event _ 0 0x1000 (lit< tt) (lit< tt), (store-event _ 0 0x1040 2 (lit< tt) (lit< tt) (lit< tt), (sfence-event _ 0 (lit< tt), (ordered-event _ 0x1000 0x1040 (lit< tt) (lit< tt), tt))))) },
+  record { format = refl; few = lit≤ tt; each = (store-event _ 0 0x1000 7 (lit< tt) (lit< tt) (lit< tt), (clwb-event _ 0 0x1000 (lit< tt) (lit< tt), (sfence-event _ 0 (lit< tt), (store-event _ 0 0x1000 7 (lit< tt) (lit< tt) (lit< tt), (clwb-event _ 0 0x1000 (lit< tt) (lit< tt), (sfence-event _ 0 (lit< tt), (persist-event _ 0x1000 (lit< tt), tt))))))) },
+  record { format = refl; few = lit≤ tt; each = (store-event _ 0 0x1000 1 (lit< tt) (lit< tt) (lit< tt), (clwb-event _ 0 0x1000 (lit< tt) (lit< tt), (record { event = record { thread = lit< tt; op = lit< tt }; known = refl }, (sfence-event _ 0 (lit< tt), tt)))) },
+)
