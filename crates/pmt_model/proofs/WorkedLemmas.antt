@@ -65,12 +65,12 @@ store_alone a byte b = go (cases_eq b a)
         ∙ sym (cond-true (b == a) (Some byte) None (eq-eqb b a e))
     go (inr apart) =
         let away : (nat_le a b && nat_lt (b - a) 1) ≡ false =
-            false_from_ne_true (nat_le a b && nat_lt (b - a) 1)
-            (λ h.
-              let parts = and_parts (nat_le a b) (nat_lt (b - a) 1) h in
-              let low : a ≤ b = leb-true a b parts.0 in
-              let high : b - a < 1 = ltb-true (b - a) 1 parts.1 in
-              apart (omega arith)) in
+        false_from_ne_true (nat_le a b && nat_lt (b - a) 1)
+        (λ h.
+        let parts = and_parts (nat_le a b) (nat_lt (b - a) 1) h in
+        let low : a ≤ b = leb-true a b parts.0 in
+        let high : b - a < 1 = ltb-true (b - a) 1 parts.1 in
+        apart (omega arith)) in
         cond-false (nat_le a b && nat_lt (b - a) 1) (slice_get (byte ∷ []) (b - a)) None away ∙ sym (cond-false (b == a) (Some byte) None (ne_eqb b a apart))
 
 -- After the fence of the other thread the store is persisted or not.
@@ -95,12 +95,11 @@ leaves_byte_or_nothing image = (there, back)
     from_counts : (v : ℕ → ℕ) → InBox (history fence_of_another_thread 3) v → ((a : ℕ) → (if nat_lt 0 (v 64) then byte_alone 0x1000 1 a else None) ≡ image a) →
         CrashAt fence_of_another_thread 3 image
     from_counts v within same =
-        let e = box-ends (history fence_of_another_thread 3) v within in
-        (
+        let e = box-ends (history fence_of_another_thread 3) v within in (
           e.0,
           e.1,
           λ a. ap (λ (h : List Act). image_of e.0.persisted h a) e.1.1 ∙ one_or_none e.0.persisted a
-            ∙ ap (λ (n : ℕ). if nat_lt 0 n then byte_alone 0x1000 1 a else None) (e.2 64) ∙ same a,
+              ∙ ap (λ (n : ℕ). if nat_lt 0 n then byte_alone 0x1000 1 a else None) (e.2 64) ∙ same a,
         )
 
     back : IsSame nothing image ⊎ IsSame (byte_alone 0x1000 1) image → CrashAt fence_of_another_thread 3 image

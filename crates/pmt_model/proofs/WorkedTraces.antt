@@ -39,15 +39,46 @@ ordered-event f a b first second = record {
   known = refl;
 }
 
+-- The events of the worked traces.
+one : (f : Layout) → IsEventIn f (store 0 0x1000 1)
+one f = store-event f 0 0x1000 1 (lit< tt) (lit< tt) (lit< tt)
+
+two : (f : Layout) → IsEventIn f (store 0 0x1000 2)
+two f = store-event f 0 0x1000 2 (lit< tt) (lit< tt) (lit< tt)
+
+seven : (f : Layout) → IsEventIn f (store 0 0x1000 7)
+seven f = store-event f 0 0x1000 7 (lit< tt) (lit< tt) (lit< tt)
+
+other_line : (f : Layout) → IsEventIn f (store 0 0x1040 2)
+other_line f = store-event f 0 0x1040 2 (lit< tt) (lit< tt) (lit< tt)
+
+flush : (f : Layout) → IsEventIn f (clwb 0 0x1000)
+flush f = clwb-event f 0 0x1000 (lit< tt) (lit< tt)
+
+other_flush : (f : Layout) → IsEventIn f (clwb 1 0x1000)
+other_flush f = clwb-event f 1 0x1000 (lit< tt) (lit< tt)
+
+fence : (f : Layout) → IsEventIn f (sfence 0)
+fence f = sfence-event f 0 (lit< tt)
+
+other_fence : (f : Layout) → IsEventIn f (sfence 1)
+other_fence f = sfence-event f 1 (lit< tt)
+
+persist : (f : Layout) → IsEventIn f (is_persist 0x1000)
+persist f = persist-event f 0x1000 (lit< tt)
+
+ordered : (f : Layout) → IsEventIn f (is_ordered_before 0x1000 0x1040)
+ordered f = ordered-event f 0x1000 0x1040 (lit< tt) (lit< tt)
+
 -- Each worked trace is within the limits.
 pub worked_are_traces : WorkedAreTraces
 worked_are_traces = (
-  record { format = refl; few = lit≤ tt; each = (store-event _ 0 0x1000 1 (lit< tt) (lit< tt) (lit< tt), (clwb-event _ 0 0x1000 (lit< tt) (lit< tt), (sfence-event _ 1 (lit< tt), (persist-event _ 0x1000 (lit< tt), tt)))) },
-  record { format = refl; few = lit≤ tt; each = (store-event _ 0 0x1000 1 (lit< tt) (lit< tt) (lit< tt), (clwb-event _ 0 0x1000 (lit< tt) (lit< tt), (clwb-event _ 1 0x1000 (lit< tt) (lit< tt), (sfence-event _ 1 (lit< tt), (sfence-event _ 0 (lit< tt), tt))))) },
-  record { format = refl; few = lit≤ tt; each = (store-event _ 0 0x1000 1 (lit< tt) (lit< tt) (lit< tt), (clwb-event _ 0 0x1000 (lit< tt) (lit< tt), (sfence-event _ 0 (lit< tt), (store-event _ 0 0x1000 2 (lit< tt) (lit< tt) (lit< tt), (clwb-event _ 0 0x1000 (lit< tt) (lit< tt), (sfence-event _ 0 (lit< tt), tt)))))) },
-  record { format = refl; few = lit≤ tt; each = (store-event _ 0 0x1000 1 (lit< tt) (lit< tt) (lit< tt), (clwb-event _ 0 0x1000 (lit< tt) (lit< tt), (store-event _ 0 0x1000 2 (lit< tt) (lit< tt) (lit< tt), (sfence-event _ 0 (lit< tt), tt)))) },
-  record { format = refl; few = lit≤ tt; each = (store-event _ 0 0x1000 1 (lit< tt) (lit< tt) (lit< tt), (clwb-event _ 0 0x1000 (lit< tt) (lit< tt), (sfence-event _ 0 (lit< tt), (store-event _ 0 0x1040 2 (lit< tt) (lit< tt) (lit< tt), (ordered-event _ 0x1000 0x1040 (lit< tt) (lit< tt), tt))))) },
-  record { format = refl; few = lit≤ tt; each = (store-event _ 0 0x1000 1 (lit< tt) (lit< tt) (lit< tt), (clwb-event _ 0 0x1000 (lit< tt) (lit< tt), (store-event _ 0 0x1040 2 (lit< tt) (lit< tt) (lit< tt), (sfence-event _ 0 (lit< tt), (ordered-event _ 0x1000 0x1040 (lit< tt) (lit< tt), tt))))) },
-  record { format = refl; few = lit≤ tt; each = (store-event _ 0 0x1000 7 (lit< tt) (lit< tt) (lit< tt), (clwb-event _ 0 0x1000 (lit< tt) (lit< tt), (sfence-event _ 0 (lit< tt), (store-event _ 0 0x1000 7 (lit< tt) (lit< tt) (lit< tt), (clwb-event _ 0 0x1000 (lit< tt) (lit< tt), (sfence-event _ 0 (lit< tt), (persist-event _ 0x1000 (lit< tt), tt))))))) },
-  record { format = refl; few = lit≤ tt; each = (store-event _ 0 0x1000 1 (lit< tt) (lit< tt) (lit< tt), (clwb-event _ 0 0x1000 (lit< tt) (lit< tt), (record { event = record { thread = lit< tt; op = lit< tt }; known = refl }, (sfence-event _ 0 (lit< tt), tt)))) },
+  record { format = refl; few = lit≤ tt; each = (one _, (flush _, (other_fence _, (persist _, tt)))) },
+  record { format = refl; few = lit≤ tt; each = (one _, (flush _, (other_flush _, (other_fence _, (fence _, tt))))) },
+  record { format = refl; few = lit≤ tt; each = (one _, (flush _, (fence _, (two _, (flush _, (fence _, tt)))))) },
+  record { format = refl; few = lit≤ tt; each = (one _, (flush _, (two _, (fence _, tt)))) },
+  record { format = refl; few = lit≤ tt; each = (one _, (flush _, (fence _, (other_line _, (ordered _, tt))))) },
+  record { format = refl; few = lit≤ tt; each = (one _, (flush _, (other_line _, (fence _, (ordered _, tt))))) },
+  record { format = refl; few = lit≤ tt; each = (seven _, (flush _, (fence _, (seven _, (flush _, (fence _, (persist _, tt))))))) },
+  record { format = refl; few = lit≤ tt; each = (one _, (flush _, (record { event = record { thread = lit< tt; op = lit< tt }; known = refl }, (fence _, tt)))) },
 )
