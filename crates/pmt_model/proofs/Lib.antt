@@ -28,5 +28,6 @@ pub mod RedundantLemmas
 pub mod NoneCanGoLemmas
 pub mod KeptTest
 pub mod SelectionTest
+pub mod ByteAssertions
 pub mod WorkedLemmas
 pub mod WorkedTraces

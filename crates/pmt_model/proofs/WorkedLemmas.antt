@@ -1,39 +1,21 @@
 -- What the definitions say of the worked traces.
-use Rattle.std.proofs.Common.{◌≡◌, ℕ, zero, suc, ◌+◌, ◌-◌, ◌<◌, ◌≤◌, ◌⊎◌, ◌↔◌, Bool, true, false, List, [], ◌∷◌, Option, Some, None, IfSome, inl, inr, refl, sym, ◌∙◌, ap, subst, lit<, lit≤, arith}
+use Rattle.std.proofs.Common.{◌≡◌, ℕ, zero, suc, ◌-◌, ◌<◌, ◌≤◌, ◌⊎◌, ◌↔◌, Bool, true, false, List, [], ◌∷◌, Option, Some, None, inl, inr, refl, sym, ◌∙◌, ap, subst, lit<, lit≤, arith}
 use Rattle.std.specs.Prelude.{nat_lt, nat_le, slice_get, ◌==◌, ◌&&◌, if◌then◌else◌}
 use Rattle.std.proofs.lemmas.Bool.{false≢true, cases_eq, eq-eqb, ne_eqb, le-leb, leb-true, lt-ltb, ltb-true, and_from, and_parts, cond-true, cond-false, false_from_ne_true}
 use Rattle.pmt_model.specs.Machine.{Act, Stores, Flushes, FlushesNow, Fences, State, Ends, Image, writes, write, image_of, Crash, count}
-use Rattle.pmt_model.specs.Traces.{Recording, IsAct, history, CrashAt, VectorsAt}
+use Rattle.pmt_model.specs.Traces.{IsAct, history, CrashAt, VectorsAt}
 use Rattle.pmt_model.specs.Fronts.{front, front_at}
 use Rattle.pmt_model.specs.Boxes.{InBox}
-use Rattle.pmt_model.specs.Values.{Written}
 use Rattle.pmt_model.specs.Selections.{cut}
-use Rattle.pmt_model.specs.Keeping.{IsKeep}
-use Rattle.pmt_model.specs.Assertions.{last_store, InSpan, up_to_last, NoLater}
 use Rattle.pmt_model.specs.Findings.{ByFlush, ByClflush, IsFlushedAfter, IsFlushOf, IsEmptyFence}
-use Rattle.pmt_model.specs.Worked.{nothing, byte_alone, IsSame, store, clwb, sfence, byte_at, KeepsJust, fence_of_another_thread, FenceOfAnotherThread, flushed_by_two_threads, FlushedByTwoThreads, two_rounds, TwoRounds, store_after_flush, StoreAfterFlush, ordered_by_fence, OrderedByFence, ordered_fence_too_late, OrderedFenceTooLate, same_byte_twice, SameByteTwice, clflush_beats_clwb, ClflushBeatsClwb}
+use Rattle.pmt_model.specs.Worked.{nothing, byte_alone, IsSame, store, clwb, sfence, fence_of_another_thread, FenceOfAnotherThread, flushed_by_two_threads, FlushedByTwoThreads, two_rounds, TwoRounds, store_after_flush, StoreAfterFlush, ordered_by_fence, OrderedByFence, ordered_fence_too_late, OrderedFenceTooLate, same_byte_twice, SameByteTwice, clflush_beats_clwb, ClflushBeatsClwb}
 use Rattle.pmt_model.proofs.Histories.{act-within, act-unique, front-le-count}
 use Rattle.pmt_model.proofs.BoxLemmas.{box-ends, vectors_are_a_box}
 use Rattle.pmt_model.proofs.FaithfulLemmas.{fronts_decide}
-use Rattle.pmt_model.proofs.KeepLemmas.{keep_is_unique}
-use Rattle.pmt_model.proofs.AssertLemmas.{persist_by_fronts, ordered_by_fronts, front-le-persisted, least_end}
+use Rattle.pmt_model.proofs.AssertLemmas.{front-le-persisted, least_end}
 use Rattle.pmt_model.proofs.NeverLemmas.{never_persisted_by_fronts}
-use Rattle.pmt_model.proofs.KeptTest.{kept_numbers, keep-kept_numbers}
+use Rattle.pmt_model.proofs.ByteAssertions.{keeps, covered-passes, passes-covered, no_later-passes, passes-no_later}
 use Rattle.pmt_model.proofs.SelectionTest.{selection-is_selection}
-
--- What is kept are the numbers that are computed.
-keeps : (T : Recording) (numbers : List ℕ) → kept_numbers T ≡ numbers → KeepsJust T numbers
-keeps T numbers e =
-    let keep : IsKeep T numbers = subst (IsKeep T) e (keep-kept_numbers T) in
-    record { keep = keep; only = λ K other. keep_is_unique T K numbers other keep }
-
--- A byte's range has its address alone.
-in_byte : (a b : ℕ) → InSpan (byte_at a) b → a ≡ b
-in_byte a b within = let low : a ≤ b = within.0 in let high : b < a + 1 = within.1 in omega arith
-
--- The byte lies in its range.
-byte_in : (a : ℕ) → InSpan (byte_at a) a
-byte_in a = (omega arith, omega arith)
 
 -- The fence of thread 1 has no flush of thread 1 before it.
 no_flush_of_thread_1 : IsEmptyFence fence_of_another_thread 3
@@ -112,8 +94,7 @@ fence_of_another_thread_says = record {
   fenced = (refl, refl);
   leaves = leaves_byte_or_nothing;
   last = refl;
-  fails = λ passes.
-      let above : 1 ≤ 0 = (persist_by_fronts (history fence_of_another_thread 4) (byte_at 0x1000)).0 passes 0x1000 (byte_in 0x1000) in omega arith;
+  fails = λ passes. let above : 1 ≤ 0 = passes-covered (history fence_of_another_thread 4) 0x1000 passes in omega arith;
   pending = (
     64,
     (never_persisted_by_fronts fence_of_another_thread 64 1 (record { addr = 0x1000; bytes = 1 ∷ [] }) (store 0 0x1000 1, refl, refl)).1 (lit< tt),
@@ -194,25 +175,16 @@ ordered_by_fence_says = record {
   fenced = (refl, refl);
   last_of_first = refl;
   last_of_second = refl;
-  passes = (ordered_by_fronts (history ordered_by_fence 5) (byte_at 0x1000) (byte_at 0x1040)).1 (λ b later.
-      let P : ℕ → Type 0 = λ c. IfSome (last_store c (history ordered_by_fence 5)) (λ y.
-      (a : ℕ) → InSpan (byte_at 0x1000) a → IfSome (last_store a (history ordered_by_fence 5)) (λ x. NoLater (up_to_last c (history ordered_by_fence 5)) x y)) in
-      subst P (in_byte 0x1040 b later) first);
+  passes = no_later-passes (history ordered_by_fence 5) 0x1000 0x1040 (inr (lit≤ tt));
   kept = keeps ordered_by_fence (1 ∷ 2 ∷ 3 ∷ 4 ∷ 5 ∷ []) refl;
 }
-  where
-    first : (a : ℕ) → InSpan (byte_at 0x1000) a → IfSome (last_store a (history ordered_by_fence 5)) (λ x. NoLater (up_to_last 0x1040 (history ordered_by_fence 5)) x (record { line = 65; rank = 1 }))
-    first a within =
-        let P : ℕ → Type 0 = λ c. IfSome (last_store c (history ordered_by_fence 5)) (λ x. NoLater (up_to_last 0x1040 (history ordered_by_fence 5)) x (record { line = 65; rank = 1 })) in
-        subst P (in_byte 0x1000 a within) (inr (lit≤ tt))
 
 -- The first store to one line may persist after the first one to the other.
 pub ordered_fence_too_late_says : OrderedFenceTooLate
 ordered_fence_too_late_says = record {
   second_store = (refl, refl);
   fenced = (refl, refl);
-  fails = λ passes.
-      go ((ordered_by_fronts (history ordered_fence_too_late 5) (byte_at 0x1000) (byte_at 0x1040)).0 passes 0x1040 (byte_in 0x1040) 0x1000 (byte_in 0x1000));
+  fails = λ passes. go (passes-no_later (history ordered_fence_too_late 5) 0x1000 0x1040 passes);
   kept = keeps ordered_fence_too_late (1 ∷ 2 ∷ 3 ∷ 4 ∷ 5 ∷ []) refl;
 }
   where
@@ -284,9 +256,7 @@ same_byte_twice_says = record {
   first_fence = (refl, refl);
   second_fence = (refl, refl);
   last = refl;
-  passes = (persist_by_fronts (history same_byte_twice 7) (byte_at 0x1000)).1 (λ a within.
-      let P : ℕ → Type 0 = λ c. IfSome (last_store c (history same_byte_twice 7)) (λ x. x.rank ≤ front x.line (history same_byte_twice 7)) in
-      subst P (in_byte 0x1000 a within) (lit≤ tt));
+  passes = covered-passes (history same_byte_twice 7) 0x1000 (lit≤ tt);
   kept = keeps same_byte_twice (1 ∷ 2 ∷ 3 ∷ 4 ∷ 5 ∷ 6 ∷ 7 ∷ []) refl;
   shorter = selection-is_selection same_byte_twice first_fence_alone refl;
   same_images = leave_same;
