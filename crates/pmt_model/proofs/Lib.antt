@@ -31,3 +31,4 @@ pub mod SelectionTest
 pub mod ByteAssertions
 pub mod WorkedLemmas
 pub mod WorkedTraces
+pub mod WorkedFindingLemmas

@@ -18,3 +18,4 @@ pub mod Analyses
 pub mod Shortest
 pub mod Interleavings
 pub mod Worked
+pub mod WorkedFindings

@@ -1,5 +1,6 @@
 //! Small traces, with what the definitions say of them.
 
+ghost use Rattle.pmt_model.specs.WorkedFindings.{DoubleFlush, OverwrittenBeforeFlush, OrderWithinALine, WideLine, NarrowLine};
 ghost use Rattle.pmt_model.specs.Worked.{FenceOfAnotherThread, FlushedByTwoThreads, TwoRounds, StoreAfterFlush, OrderedByFence, OrderedFenceTooLate, SameByteTwice, ClflushBeatsClwb, WorkedAreTraces};
 
 /// A fence completes the flushes of its own thread alone, so the store stays pending and the fence of the other thread goes.
@@ -40,6 +41,31 @@ pub fn same_byte_twice()
 /// A clflush persists the store by itself, so the flush before it and the fence after it go.
 pub fn clflush_beats_clwb()
     ensures { ClflushBeatsClwb }
+{}
+
+/// Of two flushes before a fence the second is redundant, since the first has marked the store, and yet the second is kept.
+pub fn double_flush()
+    ensures { DoubleFlush }
+{}
+
+/// A store is overwritten where a byte of it is stored again before a flush, and not where the byte beside it is.
+pub fn overwritten_before_flush()
+    ensures { OverwrittenBeforeFlush }
+{}
+
+/// The stores of a line persist in their order, with no fence between them.
+pub fn order_within_a_line()
+    ensures { OrderWithinALine }
+{}
+
+/// With lines of 128 bytes, a flush 64 bytes further on is of the line of the byte.
+pub fn wide_line()
+    ensures { WideLine }
+{}
+
+/// With lines of 64 bytes, a flush 64 bytes further on is of another line.
+pub fn narrow_line()
+    ensures { NarrowLine }
 {}
 
 /// Each of the worked traces is within the limits of a trace.
