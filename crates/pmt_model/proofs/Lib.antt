@@ -26,3 +26,9 @@ pub mod StayLemmas
 pub mod OverwrittenLemmas
 pub mod RedundantLemmas
 pub mod NoneCanGoLemmas
+pub mod KeptTest
+pub mod SelectionTest
+pub mod ByteAssertions
+pub mod WorkedLemmas
+pub mod WorkedTraces
+pub mod WorkedFindingLemmas

@@ -3,6 +3,7 @@
 pub mod findings;
 pub mod fronts;
 pub mod keeping;
+pub mod needed;
 pub mod shortest;
 pub mod verdicts;
-pub mod needed;
+pub mod worked;
