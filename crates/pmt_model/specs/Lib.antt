@@ -17,5 +17,3 @@ pub mod Findings
 pub mod Analyses
 pub mod Shortest
 pub mod Interleavings
-pub mod Worked
-pub mod WorkedFindings

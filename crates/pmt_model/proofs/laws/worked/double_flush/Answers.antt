@@ -1,5 +1,0 @@
-use Rattle.pmt_model.proofs.WorkedFindingLemmas.{double_flush_says}
-use Rattle.pmt_model.proofs.laws.worked.double_flush.Goals as goal
-
-pub returns : goal.returns
-returns c = double_flush_says

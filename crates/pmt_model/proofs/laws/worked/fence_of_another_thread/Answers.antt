@@ -1,5 +1,0 @@
-use Rattle.pmt_model.proofs.WorkedLemmas.{fence_of_another_thread_says}
-use Rattle.pmt_model.proofs.laws.worked.fence_of_another_thread.Goals as goal
-
-pub returns : goal.returns
-returns c = fence_of_another_thread_says

@@ -1,5 +1,0 @@
-use Rattle.pmt_model.proofs.WorkedFindingLemmas.{order_within_a_line_says}
-use Rattle.pmt_model.proofs.laws.worked.order_within_a_line.Goals as goal
-
-pub returns : goal.returns
-returns c = order_within_a_line_says

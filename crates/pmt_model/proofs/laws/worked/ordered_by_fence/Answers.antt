@@ -1,5 +1,0 @@
-use Rattle.pmt_model.proofs.WorkedLemmas.{ordered_by_fence_says}
-use Rattle.pmt_model.proofs.laws.worked.ordered_by_fence.Goals as goal
-
-pub returns : goal.returns
-returns c = ordered_by_fence_says

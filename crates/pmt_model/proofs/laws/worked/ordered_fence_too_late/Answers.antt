@@ -1,5 +1,0 @@
-use Rattle.pmt_model.proofs.WorkedLemmas.{ordered_fence_too_late_says}
-use Rattle.pmt_model.proofs.laws.worked.ordered_fence_too_late.Goals as goal
-
-pub returns : goal.returns
-returns c = ordered_fence_too_late_says
