@@ -52,9 +52,9 @@ not_beside o =
     let beside : Written = record { addr = 0x1001; bytes = 2 ∷ [] } in
     let again : Written = record { addr = 0x1000; bytes = 3 ∷ [] } in
     let second : Stores o.line o.earlier ≡ Stores 64 beside =
-        act-unique overwritten_before_flush 2 (Stores o.line o.earlier) (Stores 64 beside) o.is_earlier (store 0 0x1001 2, refl, refl) in
+    act-unique overwritten_before_flush 2 (Stores o.line o.earlier) (Stores 64 beside) o.is_earlier (store 0 0x1001 2, refl, refl) in
     let third : Stores o.line o.later ≡ Stores 64 again =
-        act-unique overwritten_before_flush 3 (Stores o.line o.later) (Stores 64 again) o.is_later (store 1 0x1000 3, refl, refl) in
+    act-unique overwritten_before_flush 3 (Stores o.line o.later) (Stores 64 again) o.is_later (store 1 0x1000 3, refl, refl) in
     let P : Written → Type 0 = λ w. writes w o.byte ≡ true in
     let earlier : o.earlier ≡ beside = cc in
     let later : o.later ≡ again = cc in
@@ -65,8 +65,7 @@ not_beside o =
 pub overwritten_before_flush_says : OverwrittenBeforeFlush
 overwritten_before_flush_says = record {
   same_byte =
-      (overwritten_by_numbers overwritten_before_flush 1 3).1
-      (
+      (overwritten_by_numbers overwritten_before_flush 1 3).1 (
         64,
         record { addr = 0x1000; bytes = 1 ∷ [] },
         record { addr = 0x1000; bytes = 3 ∷ [] },
