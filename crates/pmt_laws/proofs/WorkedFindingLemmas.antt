@@ -31,6 +31,7 @@ first_is_needed (inl (t, l, redundant)) =
 first_is_needed (inr (l, redundant)) =
     let e : FlushesNow l ≡ Flushes 0 64 = act-unique double_flush 2 (FlushesNow l) (Flushes 0 64) redundant.is_clflush (clwb 0 0x1000, refl, refl) in cc
 
+-- The first flush marks the store, and the second one alone is kept.
 pub double_flush_says : DoubleFlush
 double_flush_says = record {
   second_is_redundant = inl (0, 64, (redundant_flush_by_fronts double_flush 0 64 3 (clwb 0 0x1000, refl, refl)).1 (lit≤ tt));
@@ -52,9 +53,9 @@ not_beside o =
     let beside : Written = record { addr = 0x1001; bytes = 2 ∷ [] } in
     let again : Written = record { addr = 0x1000; bytes = 3 ∷ [] } in
     let second : Stores o.line o.earlier ≡ Stores 64 beside =
-        act-unique overwritten_before_flush 2 (Stores o.line o.earlier) (Stores 64 beside) o.is_earlier (store 0 0x1001 2, refl, refl) in
+    act-unique overwritten_before_flush 2 (Stores o.line o.earlier) (Stores 64 beside) o.is_earlier (store 0 0x1001 2, refl, refl) in
     let third : Stores o.line o.later ≡ Stores 64 again =
-        act-unique overwritten_before_flush 3 (Stores o.line o.later) (Stores 64 again) o.is_later (store 1 0x1000 3, refl, refl) in
+    act-unique overwritten_before_flush 3 (Stores o.line o.later) (Stores 64 again) o.is_later (store 1 0x1000 3, refl, refl) in
     let P : Written → Type 0 = λ w. writes w o.byte ≡ true in
     let earlier : o.earlier ≡ beside = cc in
     let later : o.later ≡ again = cc in
@@ -62,11 +63,11 @@ not_beside o =
     let low : o.byte ≡ 0x1000 = writes-one 0x1000 3 o.byte (subst P later o.writes_later) in
     omega arith
 
+-- The last store overwrites the first one, and not the one beside it.
 pub overwritten_before_flush_says : OverwrittenBeforeFlush
 overwritten_before_flush_says = record {
   same_byte =
-      (overwritten_by_numbers overwritten_before_flush 1 3).1
-      (
+      (overwritten_by_numbers overwritten_before_flush 1 3).1 (
         64,
         record { addr = 0x1000; bytes = 1 ∷ [] },
         record { addr = 0x1000; bytes = 3 ∷ [] },
@@ -83,6 +84,7 @@ overwritten_before_flush_says = record {
   kept = keeps overwritten_before_flush (1 ∷ 2 ∷ 3 ∷ []) refl;
 }
 
+-- The earlier store of the line has the smaller rank.
 pub order_within_a_line_says : OrderWithinALine
 order_within_a_line_says = record {
   passes = no_later-passes (history order_within_a_line 3) 0x1000 0x1008 (inl (refl, lit≤ tt));
@@ -94,6 +96,7 @@ order_within_a_line_says = record {
     go (inl same) = omega (arith, same.1)
     go (inr above) = omega arith
 
+-- The flush is of the line of the store.
 pub wide_line_says : WideLine
 wide_line_says = record {
   fenced = (refl, refl);
@@ -101,6 +104,7 @@ wide_line_says = record {
   kept = keeps (flushed_further_on 128) (1 ∷ 2 ∷ 3 ∷ 4 ∷ []) refl;
 }
 
+-- The flush is of a line without stores.
 pub narrow_line_says : NarrowLine
 narrow_line_says = record {
   fenced = (refl, refl);

@@ -89,6 +89,7 @@ leaves_byte_or_nothing image = (there, back)
     back (inr same) =
         from_counts (λ l. count l (history fence_of_another_thread 3)) (λ l. (front-le-count l (history fence_of_another_thread 3), omega arith)) same
 
+-- The fence of thread 1 leaves the store of thread 0 pending.
 pub fence_of_another_thread_says : FenceOfAnotherThread
 fence_of_another_thread_says = record {
   fenced = (refl, refl);
@@ -104,6 +105,7 @@ fence_of_another_thread_says = record {
   kept = keeps fence_of_another_thread (1 ∷ 4 ∷ []) refl;
 }
 
+-- The fence of thread 1 persists the store, and thread 0 adds nothing.
 pub flushed_by_two_threads_says : FlushedByTwoThreads
 flushed_by_two_threads_says = record {
   flushed = (refl, refl);
@@ -132,6 +134,7 @@ first_round_lost same =
     let least : 1 ≤ 0 = ((vectors_are_a_box (history two_rounds 3) nothing).0 ((same nothing).1 after) 64).0 in
     omega arith
 
+-- Both rounds are kept.
 pub two_rounds_says : TwoRounds
 two_rounds_says = record {
   first_round = (refl, refl);
@@ -158,6 +161,7 @@ fence_alone l (j, after, flush) = by_kind flush
     by_kind (ByFlush t is) = let e : Fences 0 ≡ Flushes t l = at_fence (Flushes t l) is in cc
     by_kind (ByClflush is) = let e : Fences 0 ≡ FlushesNow l = at_fence (FlushesNow l) is in cc
 
+-- The store after the flush stays pending.
 pub store_after_flush_says : StoreAfterFlush
 store_after_flush_says = record {
   fenced = (refl, refl);
@@ -170,6 +174,7 @@ store_after_flush_says = record {
   kept = keeps store_after_flush (1 ∷ 2 ∷ 3 ∷ 4 ∷ []) refl;
 }
 
+-- The first store is covered by the front when the second one comes.
 pub ordered_by_fence_says : OrderedByFence
 ordered_by_fence_says = record {
   fenced = (refl, refl);
@@ -179,7 +184,7 @@ ordered_by_fence_says = record {
   kept = keeps ordered_by_fence (1 ∷ 2 ∷ 3 ∷ 4 ∷ 5 ∷ []) refl;
 }
 
--- The first store to one line may persist after the first one to the other.
+-- Before the fence nothing orders the stores to the two lines.
 pub ordered_fence_too_late_says : OrderedFenceTooLate
 ordered_fence_too_late_says = record {
   second_store = (refl, refl);
@@ -251,6 +256,7 @@ second_store_lost same =
     let least : 2 ≤ 1 = ((vectors_are_a_box (history same_byte_twice 7) fewest).0 ((same fewest).1 after) 64).0 in
     omega arith
 
+-- Both stores of the same byte are persisted in turn.
 pub same_byte_twice_says : SameByteTwice
 same_byte_twice_says = record {
   first_fence = (refl, refl);
@@ -263,6 +269,7 @@ same_byte_twice_says = record {
   other_counts = λ faithful. second_store_lost faithful.vectors;
 }
 
+-- The clflush alone raises the front.
 pub clflush_beats_clwb_says : ClflushBeatsClwb
 clflush_beats_clwb_says = record {
   flushed = (refl, refl);

@@ -2,7 +2,8 @@
 use Rattle.std.proofs.Common.{ℕ, ◌<◌, ◌^◌, refl, lit<, lit≤, arith}
 use Rattle.pmt_model.specs.Values.{Layout}
 use Rattle.pmt_model.specs.Traces.{IsEventIn}
-use Rattle.pmt_laws.specs.Worked.{store, clwb, sfence, is_persist, is_ordered_before, WorkedAreTraces}
+use Rattle.pmt_laws.specs.Worked.{store, clwb, sfence, is_persist, is_ordered_before}
+use Rattle.pmt_laws.specs.WorkedFindings.{WorkedAreTraces}
 
 -- A store of one byte is an event of each format.
 store-event : (f : Layout) (t a byte : ℕ) → t < 256 → a < 2 ^ 48 → byte < 256 → IsEventIn f (store t a byte)
@@ -70,6 +71,24 @@ persist f = persist-event f 0x1000 (lit< tt)
 ordered : (f : Layout) → IsEventIn f (is_ordered_before 0x1000 0x1040)
 ordered f = ordered-event f 0x1000 0x1040 (lit< tt) (lit< tt)
 
+byte_beside : (f : Layout) → IsEventIn f (store 0 0x1001 2)
+byte_beside f = store-event f 0 0x1001 2 (lit< tt) (lit< tt) (lit< tt)
+
+again : (f : Layout) → IsEventIn f (store 1 0x1000 3)
+again f = store-event f 1 0x1000 3 (lit< tt) (lit< tt) (lit< tt)
+
+same_line : (f : Layout) → IsEventIn f (store 0 0x1008 2)
+same_line f = store-event f 0 0x1008 2 (lit< tt) (lit< tt) (lit< tt)
+
+rising : (f : Layout) → IsEventIn f (is_ordered_before 0x1000 0x1008)
+rising f = ordered-event f 0x1000 0x1008 (lit< tt) (lit< tt)
+
+falling : (f : Layout) → IsEventIn f (is_ordered_before 0x1008 0x1000)
+falling f = ordered-event f 0x1008 0x1000 (lit< tt) (lit< tt)
+
+flush_further_on : (f : Layout) → IsEventIn f (clwb 0 0x1040)
+flush_further_on f = clwb-event f 0 0x1040 (lit< tt) (lit< tt)
+
 -- Each worked trace is within the limits.
 pub worked_are_traces : WorkedAreTraces
 worked_are_traces = (
@@ -81,4 +100,9 @@ worked_are_traces = (
   record { format = refl; few = lit≤ tt; each = (one _, (flush _, (other_line _, (fence _, (ordered _, tt))))) },
   record { format = refl; few = lit≤ tt; each = (seven _, (flush _, (fence _, (seven _, (flush _, (fence _, (persist _, tt))))))) },
   record { format = refl; few = lit≤ tt; each = (one _, (flush _, (record { event = record { thread = lit< tt; op = lit< tt }; known = refl }, (fence _, tt)))) },
+  record { format = refl; few = lit≤ tt; each = (one _, (flush _, (flush _, (fence _, tt)))) },
+  record { format = refl; few = lit≤ tt; each = (one _, (byte_beside _, (again _, tt))) },
+  record { format = refl; few = lit≤ tt; each = (one _, (same_line _, (rising _, (falling _, tt)))) },
+  record { format = refl; few = lit≤ tt; each = (one _, (flush_further_on _, (fence _, (persist _, tt)))) },
+  record { format = refl; few = lit≤ tt; each = (one _, (flush_further_on _, (fence _, (persist _, tt)))) },
 )

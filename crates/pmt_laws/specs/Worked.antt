@@ -6,7 +6,7 @@ use Rattle.pmt_model.specs.declared.finding.Finding.TheVariants.{NeverPersisted,
 use Rattle.pmt_model.specs.Values.{Span}
 use Rattle.pmt_model.specs.Formats.{first_version}
 use Rattle.pmt_model.specs.Machine.{Image}
-use Rattle.pmt_model.specs.Traces.{Recording, IsTrace, history, count_at, CrashAt}
+use Rattle.pmt_model.specs.Traces.{Recording, history, count_at, CrashAt}
 use Rattle.pmt_model.specs.Fronts.{front_at}
 use Rattle.pmt_model.specs.Selections.{IsSelection, IsFaithful, cut}
 use Rattle.pmt_model.specs.Keeping.{IsKeep}
@@ -77,7 +77,7 @@ fence_of_another_thread = trace_of (store 0 0x1000 1 ∷ clwb 0 0x1000 ∷ sfenc
 -- the assertion are kept.
 pub record FenceOfAnotherThread : Type 0 where
   pub fenced : HasFront fence_of_another_thread 64 3 0 1
-  pub leaves : (image : Image) → CrashAt fence_of_another_thread 3 image ↔ IsSame nothing image ⊎ IsSame (byte_alone 0x1000 1) image
+  pub leaves : (image : Image) → CrashAt fence_of_another_thread 3 image ↔ (IsSame nothing image ⊎ IsSame (byte_alone 0x1000 1) image)
   pub last : HasLastStore fence_of_another_thread 4 0x1000 64 1
   pub fails : ¬ PersistPasses (history fence_of_another_thread 4) (byte_at 0x1000)
   pub pending : IsFinding fence_of_another_thread (NeverPersisted 1 true)
@@ -175,9 +175,3 @@ pub record ClflushBeatsClwb : Type 0 where
   pub flushed_now : HasFront clflush_beats_clwb 64 3 1 1
   pub fenced : HasFront clflush_beats_clwb 64 4 1 1
   pub kept : KeepsJust clflush_beats_clwb (1 ∷ 3 ∷ [])
-
--- Each of these is within the limits of a trace.
-abbrev pub WorkedAreTraces : Type 0
-WorkedAreTraces =
-    IsTrace fence_of_another_thread × IsTrace flushed_by_two_threads × IsTrace two_rounds × IsTrace store_after_flush × IsTrace ordered_by_fence
-    × IsTrace ordered_fence_too_late × IsTrace same_byte_twice × IsTrace clflush_beats_clwb

@@ -1,10 +1,10 @@
 -- More small traces: what is found in them, the order within a line, and lines of other sizes.
 use Rattle.std.specs.Prelude.{ℕ, [], ◌∷◌}
 use Rattle.pmt_model.specs.declared.finding.Finding.TheVariants.{Overwritten, RedundantFlush}
-use Rattle.pmt_model.specs.Traces.{Recording, history}
+use Rattle.pmt_model.specs.Traces.{Recording, IsTrace, history}
 use Rattle.pmt_model.specs.Assertions.{PersistPasses, OrderedPasses}
 use Rattle.pmt_model.specs.Analyses.{IsFinding}
-use Rattle.pmt_laws.specs.Worked.{store, clwb, sfence, byte_at, is_persist, is_ordered_before, trace_of, HasFront, KeepsJust}
+use Rattle.pmt_laws.specs.Worked.{store, clwb, sfence, byte_at, is_persist, is_ordered_before, trace_of, HasFront, KeepsJust, fence_of_another_thread, flushed_by_two_threads, two_rounds, store_after_flush, ordered_by_fence, ordered_fence_too_late, same_byte_twice, clflush_beats_clwb}
 
 -- The same line is flushed twice before the fence.
 abbrev pub double_flush : Recording
@@ -57,3 +57,10 @@ pub record NarrowLine : Type 0 where
   pub fails : ¬ PersistPasses (history (flushed_further_on 64) 4) (byte_at 0x1000)
   pub redundant : IsFinding (flushed_further_on 64) (RedundantFlush 2)
   pub kept : KeepsJust (flushed_further_on 64) (1 ∷ 4 ∷ [])
+
+-- Each worked trace is within the limits of a trace.
+abbrev pub WorkedAreTraces : Type 0
+WorkedAreTraces =
+    IsTrace fence_of_another_thread × IsTrace flushed_by_two_threads × IsTrace two_rounds × IsTrace store_after_flush × IsTrace ordered_by_fence
+    × IsTrace ordered_fence_too_late × IsTrace same_byte_twice × IsTrace clflush_beats_clwb × IsTrace double_flush × IsTrace overwritten_before_flush
+    × IsTrace order_within_a_line × IsTrace (flushed_further_on 128) × IsTrace (flushed_further_on 64)
