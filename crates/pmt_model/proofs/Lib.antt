@@ -1,0 +1,3 @@
+pub mod Falls
+pub mod Pieces
+pub mod SelectLemmas
