@@ -1,0 +1,10 @@
+//! The texts of traces and of scripts: reading and writing.
+//!
+//! The definitions stand in `specs/`: the one spelling of each trace and script, and what any bytes are. The functions of `laws`
+//! have an empty body: each is a theorem about the definitions, which its contract states.
+#![tactic(auto)]
+
+pub mod kind;
+pub mod word;
+
+pub use crate::kind::{ReadError, SourceError, TextError, TextKind};
