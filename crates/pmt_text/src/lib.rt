@@ -7,11 +7,13 @@
 pub mod counted;
 pub mod devices;
 pub mod kind;
+pub mod list_source;
 pub mod source;
 pub mod word;
 pub mod write_all;
 
 pub use crate::counted::Counted;
 pub use crate::kind::{ReadError, SourceError, TextError, TextKind};
+pub use crate::list_source::ListSource;
 pub use crate::source::{EventSource, SourceState};
 pub use crate::write_all::{WriteFault, write_all_counted};
