@@ -1,3 +1,5 @@
+pub mod AheadLemmas
 pub mod ListLemmas
+pub mod PieceLemmas
 pub mod SourceLemmas
 pub mod WriteLemmas

@@ -7,7 +7,9 @@
 pub mod counted;
 pub mod devices;
 pub mod kind;
+pub(crate) mod line_reader;
 pub mod list_source;
+pub(crate) mod piece;
 pub mod source;
 pub mod word;
 pub mod write_all;
