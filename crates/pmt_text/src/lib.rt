@@ -5,6 +5,7 @@
 #![tactic(auto)]
 
 pub mod kind;
+pub mod number;
 pub mod word;
 
 pub use crate::kind::{ReadError, SourceError, TextError, TextKind};

@@ -1,0 +1,4 @@
+pub mod NumeralLemmas
+pub mod NumberReading
+pub mod FieldLemmas
+pub mod LineLemmas
