@@ -2,3 +2,4 @@ pub mod NumeralLemmas
 pub mod NumberReading
 pub mod FieldLemmas
 pub mod LineLemmas
+pub mod WordLemmas

@@ -4,6 +4,8 @@
 //! have an empty body: each is a theorem about the definitions, which its contract states.
 #![tactic(auto)]
 
+pub mod fields;
+pub mod header;
 pub mod kind;
 pub mod number;
 pub mod word;
