@@ -1,3 +1,8 @@
+pub mod NumeralLemmas
+pub mod NumberReading
+pub mod FieldLemmas
+pub mod LineLemmas
+pub mod WordLemmas
 pub mod AheadLemmas
 pub mod ListLemmas
 pub mod PieceLemmas

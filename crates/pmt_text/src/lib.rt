@@ -6,11 +6,13 @@
 
 pub mod counted;
 pub mod devices;
-pub mod kind;
+pub mod fields;
 pub mod header;
+pub mod kind;
 pub mod line;
 pub(crate) mod line_reader;
 pub mod list_source;
+pub mod number;
 pub(crate) mod piece;
 pub mod source;
 pub(crate) mod text_events;
