@@ -7,4 +7,6 @@ pub mod AheadLemmas
 pub mod ListLemmas
 pub mod PieceLemmas
 pub mod SourceLemmas
+pub mod TextLemmas
+pub mod EventLemmas
 pub mod WriteLemmas

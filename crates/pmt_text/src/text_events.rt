@@ -37,16 +37,17 @@ pub(crate) fn next_event<R: Read>(
     ensures open { IfErr result (λ e. e ≢ SourceError.Failed) }
     ensures failures { failure_count lines.new.input ≡ failure_count lines.old.input + read_faults result }
 {
-    match lines.find_line()? {
-        Found::Line(len) => take_event(lines, len, format, given),
-        Found::End => {
+    match lines.find_line() {
+        Ok(Found::Line(len)) => take_event(lines, len, format, given),
+        Ok(Found::End) => {
             if lines.is_empty() {
                 Ok(None)
             } else {
-                Err(fault(given + 2, TextKind::Truncated))
+                Err(fault(2 + given, TextKind::Truncated))
             }
         }
-        Found::More => unreachable!(),
+        Ok(Found::More) => unreachable!(),
+        Err(e) => Err(e),
     }
 }
 
@@ -71,11 +72,11 @@ fn take_event<R: Read>(
     match judged {
         Ok(event) => {
             if given == EVENT_LIMIT {
-                return Err(fault(given + 2, TextKind::TooManyEvents));
+                return Err(fault(2 + given, TextKind::TooManyEvents));
             }
             Ok(Some(event))
         }
-        Err(kind) => Err(fault(given + 2, kind)),
+        Err(kind) => Err(fault(2 + given, kind)),
     }
 }
 
@@ -87,10 +88,11 @@ pub(crate) fn read_header<R: Read>(lines: &mut LineReader<R>) -> Result<Format, 
     ensures open { IfErr result (λ e. e ≢ SourceError.Failed) }
     ensures failures { failure_count lines.new.input ≡ failure_count lines.old.input + read_faults result }
 {
-    match lines.find_line()? {
-        Found::Line(len) => take_header(lines, len),
-        Found::End => Err(fault(1, TextKind::Truncated)),
-        Found::More => unreachable!(),
+    match lines.find_line() {
+        Ok(Found::Line(len)) => take_header(lines, len),
+        Ok(Found::End) => Err(fault(1, TextKind::Truncated)),
+        Ok(Found::More) => unreachable!(),
+        Err(e) => Err(e),
     }
 }
 
