@@ -3,3 +3,5 @@ pub mod NumberReading
 pub mod FieldLemmas
 pub mod LineLemmas
 pub mod WordLemmas
+pub mod OpLemmas
+pub mod AssertLemmas

@@ -7,6 +7,7 @@
 pub mod fields;
 pub mod header;
 pub mod kind;
+pub mod line;
 pub mod number;
 pub mod word;
 
