@@ -213,12 +213,12 @@ thread_fails t op false w e = rw e refl
 
 thread_joins : (t : ℕ) (op : Op) → with_thread (capped t) (op_checked op) ≡ event_checked (made t op)
 thread_joins t op = elim (cases_lt t 256) [
-      inl l ↦ (let same : capped t ≡ t = omega arith in
-        ap (λ (x : ℕ). with_thread x (op_checked op)) same ∙ thread_passes t op (is_in_range op) (is_in_word op) (lt-ltb t 256 l))
-    | inr l ↦ (let high : 256 ≤ capped t = omega arith in
-        thread_fails (capped t) op (is_in_range op) (is_in_word op) (le-ltb (capped t) 256 high)
-        ∙ sym (cond-false (is_thread t && is_in_range op) (checked CrossesWord (is_in_word op) (Ok (made t op))) (Err OutOfRange) (and_left (is_thread t) (is_in_range op) (le-ltb t 256 l))))
-    ]
+  | inl l ↦ (let same : capped t ≡ t = omega arith in
+      ap (λ (x : ℕ). with_thread x (op_checked op)) same ∙ thread_passes t op (is_in_range op) (is_in_word op) (lt-ltb t 256 l))
+  | inr l ↦ (let high : 256 ≤ capped t = omega arith in
+      thread_fails (capped t) op (is_in_range op) (is_in_word op) (le-ltb (capped t) 256 high)
+      ∙ sym (cond-false (is_thread t && is_in_range op) (checked CrossesWord (is_in_word op) (Ok (made t op))) (Err OutOfRange) (and_left (is_thread t) (is_in_range op) (le-ltb t 256 l))))
+]
 
 pub event-some : (word : Word) (fields left : List (List ℕ)) (t : ℕ) → Some (t, left) ≡ first_number fields → with_thread t (op_of_fields word left) ≡ required BadField (event_in word fields) event_checked
 unfolding event_in op_of_fields

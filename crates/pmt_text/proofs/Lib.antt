@@ -5,3 +5,4 @@ pub mod LineLemmas
 pub mod WordLemmas
 pub mod OpLemmas
 pub mod AssertLemmas
+pub mod JudgeLemmas

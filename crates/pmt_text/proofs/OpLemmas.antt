@@ -17,7 +17,7 @@ use Rattle.pmt_text.specs.declared.word.Word.{Word}
 use Rattle.pmt_text.specs.declared.word.Word.TheVariants as words
 use Rattle.pmt_text.specs.Fields.{◌>>=◌, number_in, address_in, bytes_in, span_in, store_in, flushed_in, persist_in, ordered_in, op_in, event_in}
 use Rattle.pmt_text.specs.Judging.{fields_of, required, checked, is_thread, is_address, is_span, is_in_range, is_in_word, op_checked, event_checked}
-use Rattle.pmt_text.specs.Reading.{capped, fields_left, first_number, first_address, first_span, op_of_fields, flushed_of_fields, span_checked, with_thread}
+use Rattle.pmt_text.specs.Reading.{capped, fields_left, first_number, first_address, first_span, op_of_fields, flushed_of_fields, kind_of, span_checked, with_thread}
 
 -- ---- What is left
 
@@ -27,6 +27,7 @@ fields_of-nonempty (b ∷ bytes) e = go (nat_eq_space b) (fields_of bytes) e
   where
     nat_eq_space : ℕ → Bool
     nat_eq_space x = x == 32
+
     go : (t : Bool) (parts : List (List ℕ)) → cond t ([] ∷ parts) (onto_first b parts) ≡ [] → ⊥
     go true parts e = cc
     go false [] e = cc
@@ -44,9 +45,9 @@ left-none (Some r) t = cc
 
 flushed-capped : (a : ℕ) → ◌≡◌ {A = Result ℕ TextKind} (checked OutOfRange (is_address a) (Ok a)) (checked OutOfRange (is_address (capped a)) (Ok (capped a)))
 flushed-capped a = elim (cases_lt a (2 ^ 48)) [
-      inl l ↦ (let same : capped a ≡ a = omega arith in ap (λ (x : ℕ). checked OutOfRange (is_address x) (Ok x)) (sym same))
-    | inr l ↦ (let high : 2 ^ 48 ≤ capped a = omega arith in
-    cond-false (is_address a) (Ok a) (Err OutOfRange) (le-ltb a (2 ^ 48) l) ∙ sym (cond-false (is_address (capped a)) (Ok (capped a)) (Err OutOfRange) (le-ltb (capped a) (2 ^ 48) high)))
+  | inl l ↦ (let same : capped a ≡ a = omega arith in ap (λ (x : ℕ). checked OutOfRange (is_address x) (Ok x)) (sym same))
+  | inr l ↦ (let high : 2 ^ 48 ≤ capped a = omega arith in
+      cond-false (is_address a) (Ok a) (Err OutOfRange) (le-ltb a (2 ^ 48) l) ∙ sym (cond-false (is_address (capped a)) (Ok (capped a)) (Err OutOfRange) (le-ltb (capped a) (2 ^ 48) high)))
 ]
 
 abbrev stored : ℕ → List ℕ → Op
@@ -57,10 +58,10 @@ in_word_then a bytes = checked CrossesWord (is_in_word (stored a bytes)) (Ok (st
 
 store-capped : (a : ℕ) (bytes : List ℕ) → op_checked (stored a bytes) ≡ op_checked (stored (capped a) bytes)
 store-capped a bytes = elim (cases_lt a (2 ^ 48)) [
-      inl l ↦ (let same : capped a ≡ a = omega arith in ap (λ (x : ℕ). op_checked (stored x bytes)) (sym same))
-    | inr l ↦ (let high : 2 ^ 48 ≤ capped a = omega arith in
-    cond-false (is_in_range (stored a bytes)) (in_word_then a bytes) (Err OutOfRange) (and_left (is_address a) (nat_le (length bytes) 8) (le-ltb a (2 ^ 48) l))
-    ∙ sym (cond-false (is_in_range (stored (capped a) bytes)) (in_word_then (capped a) bytes) (Err OutOfRange) (and_left (is_address (capped a)) (nat_le (length bytes) 8) (le-ltb (capped a) (2 ^ 48) high))))
+  | inl l ↦ (let same : capped a ≡ a = omega arith in ap (λ (x : ℕ). op_checked (stored x bytes)) (sym same))
+  | inr l ↦ (let high : 2 ^ 48 ≤ capped a = omega arith in
+      cond-false (is_in_range (stored a bytes)) (in_word_then a bytes) (Err OutOfRange) (and_left (is_address a) (nat_le (length bytes) 8) (le-ltb a (2 ^ 48) l))
+      ∙ sym (cond-false (is_in_range (stored (capped a) bytes)) (in_word_then (capped a) bytes) (Err OutOfRange) (and_left (is_address (capped a)) (nat_le (length bytes) 8) (le-ltb (capped a) (2 ^ 48) high))))
 ]
 
 abbrev spanning : ℕ → ℕ → Span
@@ -211,15 +212,13 @@ store-last (field ∷ given ∷ next ∷ rest) left a bytes after e l last = go 
         let both : ◌≡◌ {A = List (List ℕ)} (bytes ∷ after) (given ∷ next ∷ rest) = sym l ∙ ap (λ p. p.1) same in
         let never : ◌≡◌ {A = List (List ℕ)} [] (next ∷ rest) = cc in cc
 
--- the kind of a refusal of the constructor
-abbrev pub kind_of : Result Op OpError → Result Op TextKind
-kind_of (Ok op) = Ok op
-kind_of (Err faults.CrossesWord) = Err CrossesWord
-kind_of (Err faults.OutOfRange) = Err OutOfRange
-kind_of (Err faults.BadLength) = Err OutOfRange
+-- what the constructor answers, with the kind of its refusal
+abbrev pub in_text : Result Op OpError → Result Op TextKind
+in_text (Ok op) = Ok op
+in_text (Err error) = Err (kind_of error)
 
 -- the constructor of stores makes the checks of the text
-pub store_of-checked : (a : ℕ) (bytes : List ℕ) → 1 ≤ length bytes → length bytes ≤ 8 → kind_of (store_of a bytes) ≡ op_checked (stored a bytes)
+pub store_of-checked : (a : ℕ) (bytes : List ℕ) → 1 ≤ length bytes → length bytes ≤ 8 → in_text (store_of a bytes) ≡ op_checked (stored a bytes)
 store_of-checked a bytes some few = grind (arith, nat_tests)
 
 -- more than 8 bytes are out of range

@@ -4,9 +4,11 @@ use Rattle.std.specs.Option.{option_map}
 use Rattle.std.specs.Borrow.{Bor}
 use Rattle.pmt_model.specs.declared.event.Op.{Op}
 use Rattle.pmt_model.specs.declared.event.Event.{Event}
+use Rattle.pmt_model.specs.declared.fault.OpError.{OpError}
+use Rattle.pmt_model.specs.declared.fault.OpError.TheVariants as faults
 use Rattle.pmt_model.specs.Values.{Span}
 use Rattle.pmt_text.specs.declared.kind.TextKind.{TextKind}
-use Rattle.pmt_text.specs.declared.kind.TextKind.TheVariants.{BadField, OutOfRange}
+use Rattle.pmt_text.specs.declared.kind.TextKind.TheVariants.{BadField, OutOfRange, CrossesWord}
 use Rattle.pmt_text.specs.declared.word.Word.{Word}
 use Rattle.pmt_text.specs.Fields.{number_in, address_in, span_in, flushed_in, none_in, op_in}
 use Rattle.pmt_text.specs.Judging.{fields_of, required, checked, is_thread, is_address, is_span, op_checked}
@@ -64,6 +66,12 @@ fence_of_fields op fields = required BadField (none_in op fields) (λ o. Ok o)
 
 abbrev pub span_checked : ℕ → ℕ → Result Span TextKind
 span_checked a n = checked OutOfRange (is_span (record { addr = a; len = n })) (Ok (record { addr = a; len = n }))
+
+-- What a refusal of a constructor is in a text.
+abbrev pub kind_of : OpError → TextKind
+kind_of faults.BadLength = OutOfRange
+kind_of faults.OutOfRange = OutOfRange
+kind_of faults.CrossesWord = CrossesWord
 
 -- The event of the thread, where its number and the op pass the checks.
 abbrev pub with_thread : ℕ → Result Op TextKind → Result Event TextKind

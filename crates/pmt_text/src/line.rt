@@ -1,6 +1,6 @@
 ghost use Rattle.std.specs.Prelude.{◌≡◌};
 ghost use Rattle.pmt_text.specs.Judging.{line_judged, script_line_judged};
-ghost use Rattle.pmt_text.specs.Reading.{fence_of_fields, fields_left, flushed_of_fields, op_of_fields, span_checked, with_thread};
+ghost use Rattle.pmt_text.specs.Reading.{fence_of_fields, fields_left, flushed_of_fields, kind_of as kind_in_text, op_of_fields, span_checked, with_thread};
 
 use crate::fields::{next_address, next_number, next_span, split_field};
 use crate::kind::TextKind;
@@ -34,6 +34,17 @@ fn range_of(addr: u64, len: u64) -> Result<Range, TextKind>
     }
 }
 
+/// What a refusal of a constructor is in a text.
+fn kind_of(error: OpError) -> TextKind
+    ensures { result ≡ kind_in_text error }
+{
+    match error {
+        OpError::CrossesWord => TextKind::CrossesWord,
+        OpError::BadLength | OpError::OutOfRange => TextKind::OutOfRange,
+    }
+}
+
+/// The store of the fields that are left.
 fn store_of(rest: Option<&[u8]>) -> Result<Op, TextKind>
     ensures { result ≡ op_of_fields Word.Store (fields_left rest.entry) }
 {
@@ -56,11 +67,11 @@ fn store_of(rest: Option<&[u8]>) -> Result<Op, TextKind>
     }
     match Op::store(addr, &bytes[..len]) {
         Ok(op) => Ok(op),
-        Err(OpError::CrossesWord) => Err(TextKind::CrossesWord),
-        Err(_) => Err(TextKind::OutOfRange),
+        Err(error) => Err(kind_of(error)),
     }
 }
 
+/// The fence, where no fields are left.
 fn fence_of(op: Op, rest: Option<&[u8]>) -> Result<Op, TextKind>
     ensures { result ≡ fence_of_fields op (fields_left rest.entry) }
 {
@@ -70,6 +81,7 @@ fn fence_of(op: Op, rest: Option<&[u8]>) -> Result<Op, TextKind>
     Ok(op)
 }
 
+/// The assertion on the one span of the fields that are left.
 fn persist_of(rest: Option<&[u8]>) -> Result<Op, TextKind>
     ensures { result ≡ op_of_fields Word.IsPersist (fields_left rest.entry) }
 {
@@ -83,6 +95,7 @@ fn persist_of(rest: Option<&[u8]>) -> Result<Op, TextKind>
     Ok(Op::IsPersist(range))
 }
 
+/// The assertion on the two spans of the fields that are left.
 fn ordered_of(rest: Option<&[u8]>) -> Result<Op, TextKind>
     ensures { result ≡ op_of_fields Word.IsOrderedBefore (fields_left rest.entry) }
 {
