@@ -1,10 +1,10 @@
 -- The two assertions (own profile; their names are PMTest's).
-use Rattle.std.specs.Prelude.{◌≡◌, ℕ, suc, ◌+◌, ◌<◌, ◌≤◌, Bool, true, false, if◌then◌else◌, List, [], ◌∷◌, Option, Some, None, IfSome, IsSomeAnd, ◌↔◌, ◌⊎◌, IsTrue}
+use Rattle.std.specs.Prelude.{◌≡◌, ℕ, suc, ◌+◌, ◌<◌, ◌≤◌, if◌then◌else◌, List, [], ◌∷◌, Option, Some, None, IfSome, IsSomeAnd, ◌↔◌, ◌⊎◌}
 use Rattle.pmt_model.specs.Values.{Span}
 use Rattle.pmt_model.specs.Machine.{Act, Stores, Flushes, FlushesNow, Fences, Asserts, count, writes, State, Ends, Passes}
 use Rattle.pmt_model.specs.Fronts.{front}
-use Rattle.pmt_model.specs.Traces.{Recording, history, event}
-use Rattle.pmt_model.specs.Selections.{IsRising, Has, cut, matching_place}
+use Rattle.pmt_model.specs.Traces.{Recording, history}
+use Rattle.pmt_model.specs.Selections.{cut, matching_place}
 use Rattle.pmt_model.specs.Keeping.{IsKeep}
 
 -- A store, by its line and its number among the stores to the line.

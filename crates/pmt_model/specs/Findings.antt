@@ -1,5 +1,5 @@
 -- What is found in a trace besides its verdicts (own profile).
-use Rattle.std.specs.Prelude.{◌≡◌, ◌≢◌, ℕ, ◌-◌, ◌<◌, ◌≤◌, ◌⊎◌, ◌↔◌, Bool, true, false, IsTrue, max, length, List, [], ◌∷◌, ◌==◌, suc, if◌then◌else◌, Option, Some, None, unwrap_or}
+use Rattle.std.specs.Prelude.{◌≡◌, ◌≢◌, ℕ, ◌-◌, ◌<◌, ◌≤◌, ◌⊎◌, ◌↔◌, true, max, length, List, [], ◌∷◌, ◌==◌, suc, if◌then◌else◌, Option, Some, None, unwrap_or}
 use Rattle.pmt_model.specs.Values.{Written}
 use Rattle.pmt_model.specs.Machine.{Act, Asserts, Stores, Flushes, FlushesNow, Fences, writes, State, Ends}
 use Rattle.pmt_model.specs.Traces.{Recording, IsAct, history, count_at}

@@ -1,5 +1,5 @@
 -- The formats of traces.
-use Rattle.std.specs.Prelude.{◌≡◌, ℕ, Bool, ◌||◌, ◌&&◌, ◌==◌, if◌then◌else◌, IsTrue, Result, Ok, Err}
+use Rattle.std.specs.Prelude.{ℕ, Bool, ◌||◌, ◌&&◌, ◌==◌, if◌then◌else◌, IsTrue, Result, Ok, Err}
 use Rattle.pmt_model.specs.Values.{Layout}
 use Rattle.pmt_model.specs.declared.fault.FormatError.{FormatError}
 use Rattle.pmt_model.specs.declared.fault.FormatError.TheVariants.{BadLineSize}

@@ -3,13 +3,17 @@ pub mod Formats
 pub mod Stored
 pub mod Constructing
 pub mod Ops
+pub mod Splitting
 pub mod Machine
 pub mod Traces
+pub mod Pushing
 pub mod Fronts
 pub mod Boxes
 pub mod Selections
+pub mod Selecting
 pub mod Keeping
 pub mod Assertions
 pub mod Findings
 pub mod Analyses
+pub mod Shortest
 pub mod Interleavings

@@ -1,8 +1,9 @@
 -- How a payload lies in memory.
-use Rattle.std.specs.Prelude.{◌≡◌, ℕ, ◌+◌, ◌-◌, ◌≤◌, List, ◌++◌, length, take, drop}
+use Rattle.std.specs.Prelude.{◌≡◌, ℕ, ◌-◌, ◌≤◌, List, ◌++◌, length, take, drop}
 use lib.ListN.{replicate}
 use Rattle.std.proofs.Common.{sym, ◌∙◌, ap, arith}
 use Rattle.std.proofs.lemmas.List.{take-append-drop, length-take}
+use Rattle.pmt_model.specs.Values.{AreBytes}
 use Rattle.pmt_model.specs.declared.store.Payload.TheInside.{Inside}
 
 -- the unused bytes are zero
@@ -10,6 +11,7 @@ pub record IsStored (p : Inside) : Type 0 where
   pub some : 1 ≤ p.len
   pub within : p.len ≤ 8
   pub eight : length p.held ≡ 8
+  pub each : AreBytes (take p.len p.held)
   pub rest : drop p.len p.held ≡ replicate (8 - p.len) 0
 
 abbrev pub stored_of : List ℕ → Inside

@@ -1,8 +1,10 @@
 ghost use Rattle.std.specs.Prelude.{◌≡◌};
+ghost use Rattle.pmt_model.specs.Traces.{IsEvent, in_format};
 ghost use Rattle.pmt_model.specs.Ops.{store_of, clwb_of, clflushopt_of, clflush_of};
 
 use crate::addr::Addr;
 use crate::fault::OpError;
+use crate::format::Format;
 use crate::range::Range;
 use crate::store::{Payload, WordStore};
 
@@ -79,4 +81,40 @@ pub struct Event {
     pub thread: u8,
     /// What it does.
     pub op: Op,
+}
+
+impl Event {
+    /// Whether the event is in the format: clflush and mfence are in version 2 alone.
+    pub fn is_in(&self, format: Format) -> bool
+        ensures known { result ≡ in_format format self.now.op }
+        ensures limits { IsEvent self.now }
+    {
+        let op = self.op;
+        let _thread = self.thread;
+        match op {
+            Op::Store(store) => {
+                let _ = store.addr();
+                true
+            }
+            Op::Clwb(addr) | Op::ClflushOpt(addr) => {
+                let _ = addr.get();
+                true
+            }
+            Op::Clflush(addr) => {
+                let _ = addr.get();
+                format.version() == 2
+            }
+            Op::Sfence => true,
+            Op::Mfence => format.version() == 2,
+            Op::IsPersist(range) => {
+                let _ = range.len();
+                true
+            }
+            Op::IsOrderedBefore(first, second) => {
+                let _ = first.len();
+                let _ = second.len();
+                true
+            }
+        }
+    }
 }
