@@ -10,6 +10,7 @@ pub mod fault;
 pub mod finding;
 pub mod format;
 pub mod gate;
+pub mod laws;
 pub mod range;
 pub mod selection;
 pub mod split;
@@ -29,3 +30,6 @@ pub use crate::selection::Selection;
 pub use crate::split::split_store;
 pub use crate::store::{Payload, WordStore};
 pub use crate::trace::Trace;
+
+#[cfg(test)]
+mod tests;

@@ -206,8 +206,10 @@ pairs_are_digits field n l even odd = AreDigits-from field at
       where
         P : ℕ → Type 0
         P i = digit_of (get_or field i 0) < 16
+
         at_even : k % 2 ≡ 0 → P k
         at_even e = let same : 2 * (k / 2) ≡ k = omega arith in subst (λ (i : ℕ). digit_of (get_or field i 0) < 16) same (even (k / 2) (omega arith))
+
         at_odd : (k % 2 ≡ 0 → ⊥) → P k
         at_odd o = let same : 2 * (k / 2) + 1 ≡ k = omega arith in subst (λ (i : ℕ). digit_of (get_or field i 0) < 16) same (odd (k / 2) (omega arith))
 
@@ -239,5 +241,6 @@ written_more out new bytes i b l room before e n k h short = elim (cases_eq k i)
   where
     at : k ≡ i → get_or new k 0 ≡ get_or bytes k 0
     at same = ap₂ (λ (xs : List ℕ) (j : ℕ). get_or xs j 0) n same ∙ get_or-set_same out i b 0 (omega arith) ∙ e ∙ ap (λ (j : ℕ). get_or bytes j 0) (sym same)
+
     below : (k ≡ i → ⊥) → get_or new k 0 ≡ get_or bytes k 0
     below other = ap (λ (xs : List ℕ). get_or xs k 0) n ∙ get_or-set_other out i k b 0 other ∙ before k (omega arith) short

@@ -3,6 +3,9 @@ pub mod NumberReading
 pub mod FieldLemmas
 pub mod LineLemmas
 pub mod WordLemmas
+pub mod OpLemmas
+pub mod AssertLemmas
+pub mod JudgeLemmas
 pub mod AheadLemmas
 pub mod ListLemmas
 pub mod PieceLemmas

@@ -141,9 +141,9 @@ numeral-digits_value base c cs b h other =
     let first : 0 < digit_of c = digit_of-pos c high other in
     let ds : List ℕ = map digit_of cs in
     let value : digits_value base (c ∷ cs) ≡ number_from_digits base (digit_of c ∷ ds) =
-        digits_value_is base (c ∷ cs) ∙ ap (number_from_digits base) (values_are_digits base (c ∷ cs) (base-high base b) h) in
+    digits_value_is base (c ∷ cs) ∙ ap (number_from_digits base) (values_are_digits base (c ∷ cs) (base-high base b) h) in
     let above : 0 < number_from_digits base (digit_of c ∷ ds) =
-        omega (arith, first, zero-mul base, number_after_ge base (0 * base + digit_of c) ds (omega (arith, base-low base b))) in
+    omega (arith, first, zero-mul base, number_after_ge base (0 * base + digit_of c) ds (omega (arith, base-low base b))) in
     ap (numeral base) value
     ∙ numeral-above base (number_from_digits base (digit_of c ∷ ds)) above
     ∙ ap (map glyph) (digits_back base (digit_of c) ds (base-low base b) first (digits_below base (c ∷ cs) h))
@@ -223,6 +223,7 @@ numeral-number_in base field n e = go (bytes_eq (numeral base m) field) refl e
   where
     m : ℕ
     m = digits_value base field
+
     go : (b : Bool) → bytes_eq (numeral base (digits_value base field)) field ≡ b → cond b (Some (digits_value base field)) None ≡ Some n → numeral base n ≡ field
     go true same some =
         let value : digits_value base field ≡ n = cc in

@@ -1,7 +1,7 @@
 ghost use Rattle.std.specs.Prelude.{◌≡◌, ◌∷◌};
 ghost use Rattle.std.specs.Option.{option_map};
 ghost use Rattle.pmt_text.specs.Judging.{fields_of};
-ghost use Rattle.pmt_text.specs.Reading.{fields_left, first_address, first_number, with_fields};
+ghost use Rattle.pmt_text.specs.Reading.{fields_left, first_address, first_number, first_span, with_fields};
 
 use crate::number::{read_address, read_number};
 
@@ -39,4 +39,14 @@ pub fn next_address(rest: Option<&[u8]>) -> Option<(u64, Option<&[u8]>)>
     let (field, rest) = split_field(rest?);
     let addr = read_address(field)?;
     Some((addr, rest))
+}
+
+/// The address and the length in the next two fields, and what is left after them.
+#[inline]
+pub fn next_span(rest: Option<&[u8]>) -> Option<((u64, u64), Option<&[u8]>)>
+    ensures { option_map with_fields result ≡ first_span (fields_left rest.entry) }
+{
+    let (addr, rest) = next_address(rest)?;
+    let (len, rest) = next_number(rest)?;
+    Some(((addr, len), rest))
 }

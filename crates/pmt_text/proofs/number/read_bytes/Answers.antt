@@ -11,16 +11,16 @@ pub returns-then-is_empty-clause-given : goal.returns-then-is_empty-clause-given
 returns-then-is_empty-clause-given c =
     gives-none c.args.field.now c.args.out.now
     (elim c.then-is_empty.branch [
-      then-is_empty-via-then-is_empty w ↦ bytes_in-empty c.args.field.now (eqb-true _ _ (sym c.is_empty.ensures ∙ w.if-is_empty.true))
-    | then-is_empty-via-else-is_empty+then-field-eq1 w ↦ bytes_in-odd c.args.field.now w.if-field-eq1.true
+      | then-is_empty-via-then-is_empty w ↦ bytes_in-empty c.args.field.now (eqb-true _ _ (sym c.is_empty.ensures ∙ w.if-is_empty.true))
+      | then-is_empty-via-else-is_empty+then-field-eq1 w ↦ bytes_in-odd c.args.field.now w.if-field-eq1.true
     ])
 
 pub returns-then-high-eq16-clause-given : goal.returns-then-high-eq16-clause-given
 returns-then-high-eq16-clause-given c =
     gives-none c.args.field.now c.loop-i.out
     (elim c.then-high-eq16.branch [
-      then-high-eq16-via-then-high-eq16 w ↦ bytes_in-no_digit c.args.field.now (2 * c.loop-i.i) (omega arith) (omega arith)
-    | then-high-eq16-via-else-high-eq16+then-low-eq16 w ↦ bytes_in-no_digit c.args.field.now (2 * c.loop-i.i + 1) (omega arith) (omega arith)
+      | then-high-eq16-via-then-high-eq16 w ↦ bytes_in-no_digit c.args.field.now (2 * c.loop-i.i) (omega arith) (omega arith)
+      | then-high-eq16-via-else-high-eq16+then-low-eq16 w ↦ bytes_in-no_digit c.args.field.now (2 * c.loop-i.i + 1) (omega arith) (omega arith)
     ])
 
 pub loop-i-preserved : goal.loop-i-preserved
@@ -33,8 +33,8 @@ loop-i-preserved c =
       below_more (λ (k : ℕ). digit_of (get_or field (2 * k) 0) < 16) i c.loop-i.invariant.1 high,
       below_more (λ (k : ℕ). digit_of (get_or field (2 * k + 1) 0) < 16) i c.loop-i.invariant.2 low,
       elim c.if-i-lt8.branch [
-        then-i-lt8 w ↦ written_more c.loop-i.out c.if-i-lt8.out (paired field) i _ c.loop-i.invariant.0 w.if-i-lt8.true c.loop-i.invariant.3 (ap₂ (λ (x y : ℕ). 16 * x + y) c.digit-high.ensures c.digit-low.ensures ∙ get_or-paired_digits field i (omega arith) high low) w.out-is
-      | else-i-lt8 w ↦ λ k h s. ap (λ (xs : List ℕ). get_or xs k 0) w.out-is ∙ c.loop-i.invariant.3 k (omega arith) s
+        | then-i-lt8 w ↦ written_more c.loop-i.out c.if-i-lt8.out (paired field) i _ c.loop-i.invariant.0 w.if-i-lt8.true c.loop-i.invariant.3 (ap₂ (λ (x y : ℕ). 16 * x + y) c.digit-high.ensures c.digit-low.ensures ∙ get_or-paired_digits field i (omega arith) high low) w.out-is
+        | else-i-lt8 w ↦ λ k h s. ap (λ (xs : List ℕ). get_or xs k 0) w.out-is ∙ c.loop-i.invariant.3 k (omega arith) s
       ],
     )
 

@@ -22,9 +22,9 @@ pub loop-byte-preserved : goal.loop-byte-preserved
 loop-byte-preserved c =
     let low : digit_of (get_or c.args.field.now c.loop-byte.byte-index 0) < c.args.base = subst (λ (d : ℕ). d < c.args.base) c.digit-digit.ensures c.if-digit-base.false in (
       c.saturating_add-number.ensures
-      ∙ ap (λ (m : ℕ). capped (m + c.digit-digit.result)) (c.saturating_mul.ensures ∙ ap (λ (n : ℕ). capped (n * c.args.base)) c.loop-byte.invariant.0)
-      ∙ ap (λ (d : ℕ). capped (capped (capped (digits_value c.args.base (take c.loop-byte.byte-index c.args.field.now)) * c.args.base) + d)) c.digit-digit.ensures
-      ∙ capped-more c.args.base c.args.field.now c.loop-byte.byte-index c.requires (omega arith) low,
+          ∙ ap (λ (m : ℕ). capped (m + c.digit-digit.result)) (c.saturating_mul.ensures ∙ ap (λ (n : ℕ). capped (n * c.args.base)) c.loop-byte.invariant.0)
+          ∙ ap (λ (d : ℕ). capped (capped (capped (digits_value c.args.base (take c.loop-byte.byte-index c.args.field.now)) * c.args.base) + d)) c.digit-digit.ensures
+          ∙ capped-more c.args.base c.args.field.now c.loop-byte.byte-index c.requires (omega arith) low,
       below_more (λ (k : ℕ). digit_of (get_or c.args.field.now k 0) < c.args.base) c.loop-byte.byte-index c.loop-byte.invariant.1 low,
     )
 

@@ -36,6 +36,7 @@ returns-then-version-ne2 c = word_in-other c.args.format c.args.field.now each
   where
     first : (c.args.format.version == 2) ≡ false
     first = ne_eqb _ _ (λ e. c.if-version-ne2.true (c.version.ensures.value ∙ e))
+
     each : (w : Word) → is_known c.args.format w ≡ true → c.args.field.now ≢ word_text w
     each words.Store known = no_text c.args.field.now c.as_slice.result.now (word_text words.Store) c.eq.result c.eq.ensures c.as_slice.ensures c.if-eq.false
     each words.Clwb known = no_text c.args.field.now c.as_slice-2.result.now (word_text words.Clwb) c.eq-2.result c.eq-2.ensures c.as_slice-2.ensures c.if-eq-2.false
