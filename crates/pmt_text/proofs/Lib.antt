@@ -6,3 +6,4 @@ pub mod WordLemmas
 pub mod OpLemmas
 pub mod AssertLemmas
 pub mod JudgeLemmas
+pub mod JudgedLemmas
