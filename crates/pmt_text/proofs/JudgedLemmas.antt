@@ -1,5 +1,5 @@
 -- A line that is judged an event is the event's spelling, and the event is within its limits and in the format.
-use Rattle.std.proofs.Common.{◌≡◌, ℕ, ◌+◌, ◌*◌, ◌%◌, ◌^◌, ◌<◌, ◌≤◌, Bool, true, false, cond, ◌&&◌, nat_lt, nat_le, List, [], ◌∷◌, length, Option, Some, None, option_map, Result, Ok, Err, refl, sym, ◌∙◌, ap, ap₂, subst, arith, ltb-true, leb-true}
+use Rattle.std.proofs.Common.{◌≡◌, ℕ, ◌+◌, ◌*◌, ◌%◌, ◌^◌, ◌<◌, ◌≤◌, Bool, true, false, cond, ◌&&◌, nat_lt, nat_le, List, [], ◌∷◌, length, Option, Some, None, option_map, Result, Ok, Err, IfOk, refl, sym, ◌∙◌, ap, ap₂, subst, arith, ltb-true, leb-true}
 use Rattle.std.specs.List.{AllByRecursion, join_with_byte}
 use Rattle.std.specs.Char.{digit_value}
 use Rattle.std.specs.Str.{bytes_eq}
@@ -246,6 +246,10 @@ event_judged-ok f line (word ∷ thread ∷ rest) e fs j =
 pub line_judged-ok : (f : Layout) (line : List ℕ) (e : Event) → line_judged f line ≡ Ok e → IsLineOf f line e
 unfolding line_judged
 line_judged-ok f line e j = event_judged-ok f line (fields_of line) e refl j
+
+pub allowed_line : (f : Layout) (line : List ℕ) (r : Result Event TextKind) → r ≡ line_judged f line → IfOk r (IsEventIn f)
+allowed_line f line (Err kind) e = tt
+allowed_line f line (Ok event) e = (line_judged-ok f line event (sym e)).allowed
 
 -- the same of a script
 pub record IsScriptLineOf (line : List ℕ) (op : Op) : Type 0 where
