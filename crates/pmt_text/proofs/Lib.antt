@@ -7,3 +7,5 @@ pub mod OpLemmas
 pub mod AssertLemmas
 pub mod JudgeLemmas
 pub mod JudgedLemmas
+pub mod ComingLemmas
+pub mod ReaderLemmas

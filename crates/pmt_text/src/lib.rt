@@ -9,6 +9,8 @@ pub mod header;
 pub mod kind;
 pub mod line;
 pub mod number;
+pub mod text;
 pub mod word;
 
+pub use crate::text::{read_script, read_trace};
 pub use crate::kind::{ReadError, SourceError, TextError, TextKind};
