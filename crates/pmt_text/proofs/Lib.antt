@@ -9,3 +9,5 @@ pub mod JudgeLemmas
 pub mod JudgedLemmas
 pub mod ComingLemmas
 pub mod ReaderLemmas
+pub mod NumberWriting
+pub mod LineWriting

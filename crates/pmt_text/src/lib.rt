@@ -11,6 +11,8 @@ pub mod line;
 pub mod number;
 pub mod text;
 pub mod word;
+pub mod write;
 
 pub use crate::text::{read_script, read_trace};
+pub use crate::write::{write_event, write_trace};
 pub use crate::kind::{ReadError, SourceError, TextError, TextKind};
