@@ -11,3 +11,5 @@ pub mod ComingLemmas
 pub mod ReaderLemmas
 pub mod NumberWriting
 pub mod LineWriting
+pub mod SpelledLemmas
+pub mod WholeLemmas

@@ -7,12 +7,13 @@
 pub mod fields;
 pub mod header;
 pub mod kind;
+pub mod laws;
 pub mod line;
 pub mod number;
 pub mod text;
 pub mod word;
 pub mod write;
 
+pub use crate::kind::{ReadError, SourceError, TextError, TextKind};
 pub use crate::text::{read_script, read_trace};
 pub use crate::write::{write_event, write_trace};
-pub use crate::kind::{ReadError, SourceError, TextError, TextKind};
