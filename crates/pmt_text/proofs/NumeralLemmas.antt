@@ -1,15 +1,15 @@
 -- Digits and numerals: a numeral has the digits of its number, no other field has, and it is read as its number.
-use Rattle.std.proofs.Common.{◌≡◌, ◌≢◌, ℕ, zero, suc, ◌+◌, ◌-◌, ◌*◌, ◌/◌, ◌%◌, ◌^◌, ◌<◌, ◌≤◌, ◌⊎◌, inl, inr, Bool, true, false, cond, ◌&&◌, ◌==◌, nat_le, nat_lt, List, [], ◌∷◌, ◌++◌, map, length, get_or, Option, Some, None, refl, sym, ◌∙◌, ap, subst, arith, append_assoc, append-nil, div-lt_iff_lt-mul, eqb-true, ne_eqb, eq-eqb, zero-mul, zero-add, suc-mul, mul-pos}
+use Rattle.std.proofs.Common.{◌≡◌, ◌≢◌, ℕ, zero, suc, ◌+◌, ◌*◌, ◌/◌, ◌%◌, ◌<◌, ◌≤◌, inl, inr, Bool, true, false, cond, ◌==◌, List, [], ◌∷◌, ◌++◌, map, length, get_or, Some, None, refl, sym, ◌∙◌, ap, subst, arith, append_assoc, append-nil, eqb-true, ne_eqb, zero-mul, mul-pos}
 use Rattle.std.specs.List.{AllByRecursion}
 use Rattle.std.specs.Char.{digit_value}
 use Rattle.std.specs.Str.{bytes_eq}
-use Rattle.std.specs.Str.Parse.{digits_value, digits_value_after}
+use Rattle.std.specs.Str.Parse.{digits_value}
 use Rattle.std.specs.Int.Digits.{digits_of, number_from_digits, number_from_digits_after, AllBelowBase}
-use Rattle.std.proofs.lemmas.Bool.{agree_below_at, false_from_ne_true, cond-true, cond-false, cases_eq}
+use Rattle.std.proofs.lemmas.Bool.{agree_below_at, false_from_ne_true, cond-true, cond-false}
 use Rattle.std.proofs.Math.Arith.{digits_div, digits_mod}
 use Rattle.std.proofs.lemmas.Bool.Decides.{nat_tests}
 use Rattle.std.proofs.lemmas.Slice.Eq.{bytes_eq-Decides}
-use Rattle.std.proofs.lemmas.Int.Digits.{digits_value_is, digits_of_step, all_below_base_digits_of, first_digits_of, number_digits_of, length-digits_of_step, number_after_ge}
+use Rattle.std.proofs.lemmas.Int.Digits.{digits_value_is, digits_of_step, all_below_base_digits_of, first_digits_of, number_digits_of, number_after_ge}
 use Rattle.pmt_text.specs.Spelling.{glyph, numeral}
 use Rattle.pmt_text.specs.Fields.{number_in}
 use Rattle.pmt_text.specs.Reading.{digit_of, IsBase}
@@ -53,11 +53,11 @@ base-high b (inr e) = omega arith
 
 -- ---- Numerals
 
-numeral-zero : (base : ℕ) → numeral base 0 ≡ 48 ∷ []
+pub numeral-zero : (base : ℕ) → numeral base 0 ≡ 48 ∷ []
 unfolding numeral
 numeral-zero base = refl
 
-numeral-above : (base n : ℕ) → 0 < n → numeral base n ≡ map glyph (digits_of base n)
+pub numeral-above : (base n : ℕ) → 0 < n → numeral base n ≡ map glyph (digits_of base n)
 unfolding numeral
 numeral-above base n h = cond-false (n == 0) (48 ∷ []) (map glyph (digits_of base n)) (ne_eqb n 0 (λ e. omega arith))
 
@@ -101,7 +101,7 @@ digits_after b n (d ∷ ds) low pos h =
     ∙ append_assoc (digits_of b n) (d ∷ []) ds
 
 -- a number below the base is its own digit
-digits_of-digit : (b d : ℕ) → 2 ≤ b → 0 < d → d < b → digits_of b d ≡ d ∷ []
+pub digits_of-digit : (b d : ℕ) → 2 ≤ b → 0 < d → d < b → digits_of b d ≡ d ∷ []
 digits_of-digit b d low pos h =
     let zero_times : 0 * b + d ≡ d = omega (arith, zero-mul b) in
     let quotient : d / b ≡ 0 = ap (λ (x : ℕ). x / b) (sym zero_times) ∙ digits_div 0 h in
