@@ -1,6 +1,6 @@
 -- A source over a text keeps the laws of sources.
 use Rattle.std.specs.Prelude.{◌≡◌, ℕ, ◌+◌, ◌-◌, ◌≤◌, Bool, true, false, nat_lt, if◌then◌else◌, List, [], ◌∷◌, length, Option, Some, None, IfSome, is_some, option_map, Result, Ok, Err, refl}
-use Rattle.std.proofs.Common.{arith, ap, cond}
+use Rattle.std.proofs.Common.{arith}
 use Rattle.std.proofs.lemmas.Bool.{ltb-true}
 use Rattle.pmt_model.specs.declared.event.Event.{Event}
 use Rattle.pmt_model.specs.Values.{Layout}
@@ -13,7 +13,7 @@ use Rattle.pmt_text.specs.declared.text_source.TextSource.{TextSource}
 use Rattle.pmt_text.specs.Judging.{line_judged}
 use Rattle.pmt_text.specs.Coming.{Coming, Items, lines_of, lines_coming, item_then, ends_with, fault_at, trace_coming, lines_of_trace, header_then, format_in}
 use Rattle.pmt_text.specs.Lines.{Ahead, ahead}
-use Rattle.pmt_text.specs.TextSources.{coming_of, coming_in, coming_from, end_of, text_coming, text_room, text_format}
+use Rattle.pmt_text.specs.TextSources.{coming_of, coming_in, end_of, text_coming, text_room, text_format}
 
 -- a line gives at most one event, and none where a million stand before it
 few_then : (line given : ℕ) (r : Result Event TextKind) (later : Items Event) → length later.items ≤ event_limit - (given + 1) → length (item_then line given r later).items ≤ event_limit - given

@@ -2,8 +2,6 @@ use Rattle.std.proofs.Common.{◌≡◌, ◌<◌, ◌≤◌, ◌++◌, ◌∙◌
 use Rattle.pmt_model.specs.Traces.{event_limit}
 use Rattle.pmt_text.specs.Judging.{line_judged}
 use Rattle.pmt_text.specs.Lines.{unread}
-use Rattle.pmt_text.specs.Sources.{Faults}
-use Rattle.pmt_text.specs.TextSources.{coming_from}
 use Rattle.pmt_text.proofs.EventLemmas.{found-taken, found-late, found-refused}
 use Rattle.pmt_text.proofs.text_events.take_event.Goals as goal
 
