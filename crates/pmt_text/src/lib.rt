@@ -4,12 +4,12 @@
 //! have an empty body: each is a theorem about the definitions, which its contract states.
 #![tactic(auto)]
 
-pub mod fields;
-pub mod header;
+mod fields;
+mod header;
 pub mod kind;
 pub mod laws;
-pub mod line;
-pub mod number;
+mod line;
+mod number;
 pub mod text;
 pub mod word;
 pub mod write;
