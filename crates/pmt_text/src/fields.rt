@@ -5,9 +5,6 @@ ghost use Rattle.pmt_text.specs.Reading.{fields_left, first_address, first_numbe
 
 use crate::number::{read_address, read_number};
 
-/// What is left to read of a line: what stands after a space, or nothing.
-pub type Rest<'a> = Option<&'a [u8]>;
-
 /// The first field, and what stands after the space behind it, if there is one.
 #[inline]
 pub fn split_field(line: &[u8]) -> (&[u8], Option<&[u8]>)
