@@ -1,13 +1,16 @@
-// A library with one function.
+//! Recording a trace from running threads: each thread appends to a tape of its own, and the events of all stand in one book.
+//!
+//! The definitions stand in `specs/`; those of traces and interleavings are pmt_model's.
 #![tactic(auto)]
 
-ghost use Rattle.std.specs.Prelude.{◌≡◌};
-ghost use Rattle.pmt_recorder.specs.Echo.{echo_of};
+pub mod fault;
+pub mod roll;
+pub mod session;
+pub mod shelf;
+pub mod tape;
 
-// The `ensures` clause is the contract: what `echo` returns is `echo_of` of its argument, a definition
-// in `specs/Echo.antt`, which a caller's clause can cite too.
-pub fn echo(x: usize) -> usize
-    ensures { result ≡ echo_of x }
-{
-    x
-}
+pub use crate::fault::{AppendError, SealKind, SnapshotError, StartError};
+pub use crate::roll::Roll;
+pub use crate::session::{SealFault, Session};
+pub use crate::shelf::{Shelf, Snapshot};
+pub use crate::tape::Tape;

@@ -1,0 +1,2 @@
+pub struct Session {}
+pub struct SealFault {}
