@@ -1,5 +1,6 @@
 -- What contracts see of a tape, and when the tapes are the parts of a list of events.
-use Rattle.std.specs.Prelude.{◌≡◌, ℕ, zero, suc, ◌+◌, ◌<◌, ◌==◌, ◌||◌, Bool, false, true, if◌then◌else◌, List, [], ◌∷◌, ◌++◌, length, map}
+use Rattle.std.specs.Prelude.{◌≡◌, ℕ, zero, suc, ◌+◌, ◌<◌, ◌==◌, Bool, true, if◌then◌else◌, List, [], ◌∷◌, ◌++◌, length, map}
+use Rattle.std.specs.List.{list_any}
 use Rattle.pmt_model.specs.declared.event.Event.{Event}
 use Rattle.pmt_model.specs.declared.event.Op.{Op}
 use Rattle.pmt_model.specs.Interleavings.{part}
@@ -34,9 +35,9 @@ abbrev pub total_length : List Strip → ℕ
 total_length [] = 0
 total_length (s ∷ strips) = length s.entries + total_length strips
 
+-- Some tape is of thread t.
 abbrev pub has_thread : ℕ → List Strip → Bool
-has_thread t [] = false
-has_thread t (s ∷ strips) = (s.thread == t) || has_thread t strips
+has_thread t strips = list_any (λ (s : Strip). s.thread == t) strips
 
 -- There are n tapes, one of each thread below n.
 pub record IsOneOfEach (n : ℕ) (strips : List Strip) : Type 0 where

@@ -4,7 +4,9 @@
 #![tactic(auto)]
 
 pub mod fault;
+mod parts;
 pub mod roll;
+mod seal;
 pub mod session;
 pub mod shelf;
 pub mod tape;

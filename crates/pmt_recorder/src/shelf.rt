@@ -1,7 +1,11 @@
-ghost use Rattle.std.specs.Prelude.{◌≡◌, ◌≤◌, length};
+ghost use Rattle.std.specs.Prelude.{◌≡◌, ℕ, ◌<◌, [], length};
+ghost use Rattle.std.specs.List.{AllByRecursion};
+ghost use Rattle.pmt_model.specs.declared.event.Event.{Event};
 ghost use Rattle.pmt_recorder.specs.Shelving.{Appends, Shows};
+ghost use Rattle.pmt_recorder.specs.Strips.{total_length};
 
 use crate::fault::{AppendError, SnapshotError};
+use crate::parts::{Rest, Whole, audit};
 use crate::roll::Roll;
 use crate::tape::Tape;
 use pmt_book::Book;
@@ -28,6 +32,44 @@ impl<L: Roll> Model for Shelf<L> {
 }
 
 impl<L: Roll> Shelf<L> {
+    // A shelf without events.
+    pub(crate) fn new(book: Book, count: ledger::Book<L>) -> Self
+        requires format { book.format ≡ L.format }
+        requires none { book.events ≡ [] }
+        requires count { count.total ≡ 0 }
+        ensures { result ≡ book }
+    {
+        Shelf { book, count }
+    }
+
+    // Its events, all of the session's tapes.
+    pub(crate) fn events(&self) -> &[Event]
+        ensures value { result.now ≡ self.now.events }
+        ensures whose { AllByRecursion (λ (e : Event). e.thread < L.tapes) self.now.events }
+        ensures format { self.now.format ≡ L.format }
+    {
+        let _ = &self.count;
+        self.book.events()
+    }
+
+    // The tapes, one of each number, have as many entries as the book has events.
+    pub(crate) fn audit(&mut self, whole: &Whole<L>, rest: &mut Rest<L>, tapes: &mut [Tape<L>])
+        requires { length tapes.old ≡ L.tapes }
+        ensures total { total_length tapes.old ≡ length self.old.events }
+        ensures same { self.new ≡ self.old }
+        ensures tapes { tapes.new ≡ tapes.old }
+    {
+        audit(&mut self.count, whole, rest, tapes);
+    }
+
+    // Its book, once no thread holds the lock.
+    pub(crate) fn into_book(self) -> Book
+        ensures { result ≡ self }
+    {
+        let Shelf { book, .. } = self;
+        book
+    }
+
     /// Adds the op, as an event of the tape's thread, at the end of the book and of the tape, and answers the event's number.
     ///
     /// # Errors
