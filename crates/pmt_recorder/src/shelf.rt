@@ -76,7 +76,8 @@ impl<L: Roll> Shelf<L> {
     /// `NotInFormat` where the op is a clflush or an mfence and the session is of version 1, then `Full` where the book has
     /// 1,000,000 events, and `OutOfMemory`. Book and tape are unchanged then.
     pub fn append(&mut self, tape: &mut Tape<L>, op: Op) -> Result<u64, AppendError>
-        ensures { Appends self.old tape.old op result self.new tape.new }
+        ensures appends { Appends self.old tape.old op result self.new tape.new }
+        ensures format { self.old.format ≡ L.format }
     {
         let entry = op;
         let event = Event {
