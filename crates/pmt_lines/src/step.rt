@@ -1,0 +1,23 @@
+/// What an event does to a line.
+#[derive(Clone, Copy, Debug, PartialEq, Eq)]
+pub enum StepKind {
+    /// A store of `len` bytes at `addr`.
+    Store { addr: u64, len: u64 },
+    /// A clwb or a clflushopt.
+    Flush,
+    /// A clflush.
+    Clflush,
+    /// An sfence or an mfence.
+    Fence,
+}
+
+/// One event of a job.
+#[derive(Clone, Copy, Debug, PartialEq, Eq)]
+pub struct Step {
+    /// The event's number in the trace, from 1.
+    pub number: u64,
+    /// The thread that makes it.
+    pub thread: u8,
+    /// What it does.
+    pub kind: StepKind,
+}
