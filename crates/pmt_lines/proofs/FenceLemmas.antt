@@ -24,24 +24,24 @@ has_flushed t (Fences u ∷ h) = if u == t then false else has_flushed t h
 has_flushed t (Asserts ∷ h) = has_flushed t h
 
 -- what an act of another kind or thread leaves
-abbrev LeavesFlushed : ℕ → Act → Type 0
+abbrev pub LeavesFlushed : ℕ → Act → Type 0
 LeavesFlushed t (Stores l w) = Unit {0}
 LeavesFlushed t (Flushes u l) = u ≢ t
 LeavesFlushed t (FlushesNow l) = Unit {0}
 LeavesFlushed t (Fences u) = u ≢ t
 LeavesFlushed t Asserts = Unit {0}
 
-has_flushed-left : (t : ℕ) (a : Act) (h : List Act) → LeavesFlushed t a → has_flushed t (a ∷ h) ≡ has_flushed t h
+pub has_flushed-left : (t : ℕ) (a : Act) (h : List Act) → LeavesFlushed t a → has_flushed t (a ∷ h) ≡ has_flushed t h
 has_flushed-left t (Stores l w) h other = refl
 has_flushed-left t (Flushes u l) h other = rw (ne_eqb u t other) refl
 has_flushed-left t (FlushesNow l) h other = refl
 has_flushed-left t (Fences u) h other = rw (ne_eqb u t other) refl
 has_flushed-left t Asserts h other = refl
 
-has_flushed-flush : (t l : ℕ) (h : List Act) → has_flushed t (Flushes t l ∷ h) ≡ true
+pub has_flushed-flush : (t l : ℕ) (h : List Act) → has_flushed t (Flushes t l ∷ h) ≡ true
 has_flushed-flush t l h = rw (eq-eqb t t refl) refl
 
-has_flushed-fence : (t : ℕ) (h : List Act) → has_flushed t (Fences t ∷ h) ≡ false
+pub has_flushed-fence : (t : ℕ) (h : List Act) → has_flushed t (Fences t ∷ h) ≡ false
 has_flushed-fence t h = rw (eq-eqb t t refl) refl
 
 -- a flush by the thread at or before n, with no fence by it from there to n

@@ -1,5 +1,5 @@
 -- Lists of steps by rising numbers.
-use Rattle.std.specs.Prelude.{ℕ, ◌+◌, ◌%◌, ◌^◌, ◌<◌, ◌≤◌, List, [], ◌∷◌, ◌++◌}
+use Rattle.std.specs.Prelude.{Bool, true, false, ℕ, ◌+◌, ◌%◌, ◌^◌, ◌<◌, ◌≤◌, List, [], ◌∷◌, ◌++◌}
 use Rattle.pmt_model.specs.Traces.{event_limit}
 use Rattle.pmt_lines.specs.declared.step.StepKind.{StepKind}
 use Rattle.pmt_lines.specs.declared.step.StepKind.TheVariants.{Store, Flush, Clflush, Fence}
@@ -29,3 +29,15 @@ last_number low (s ∷ steps) = last_number s.number steps
 
 abbrev pub with_step : LineWork → Step → LineWork
 with_step job s = record { line = job.line; steps = job.steps ++ s ∷ [] }
+
+abbrev pub is_flush : StepKind → Bool
+is_flush (Store addr len) = false
+is_flush Flush = true
+is_flush Clflush = false
+is_flush Fence = false
+
+abbrev pub is_fence : StepKind → Bool
+is_fence (Store addr len) = false
+is_fence Flush = false
+is_fence Clflush = false
+is_fence Fence = true

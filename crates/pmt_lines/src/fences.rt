@@ -2,8 +2,9 @@ ghost use Rattle.std.specs.Prelude.{◌≡◌, IfOk};
 ghost use Rattle.pmt_lines.specs.Fences.{IsThreadResult};
 
 use crate::job::ThreadJob;
-use crate::step::StepKind;
+use crate::step::Step;
 use pmt_model::OutOfMemory;
+use std::alloc::Global;
 use std::marker::Model;
 
 /// What the job of the fences gives.
@@ -39,4 +40,27 @@ impl ThreadResult {
     {
         self.empty.as_slice()
     }
+}
+
+/// Runs the job of the fences.
+///
+/// # Errors
+/// Where memory was refused.
+pub fn run_fences(alloc: Global, job: ThreadJob) -> Result<ThreadResult, OutOfMemory>
+    ensures job { IfOk result (λ found. found.steps ≡ job) }
+    ensures right { IfOk result IsThreadResult }
+{
+    // of each thread, whether it has flushed since its last fence
+    let mut flushed = [false; 256];
+    let mut empty = Vec::new(alloc);
+    let steps = job.steps();
+    for step in steps {
+        let Step { number, thread, kind } = *step;
+        let has_flushed = flushed[thread as usize];
+        flushed[thread as usize] = kind.is_flush();
+        if kind.is_fence() && !has_flushed {
+            empty.push(number)?;
+        }
+    }
+    Ok(ThreadResult { job, empty })
 }

@@ -8,7 +8,7 @@ pub mod job;
 pub mod raises;
 pub mod step;
 
-pub use crate::fences::ThreadResult;
+pub use crate::fences::{ThreadResult, run_fences};
 pub use crate::job::{LineJob, ThreadJob};
-pub use crate::raises::{LineResult, Raise};
+pub use crate::raises::{LineResult, Raise, run_line};
 pub use crate::step::{Step, StepKind};

@@ -1,3 +1,5 @@
+ghost use Rattle.std.specs.Prelude.{◌≡◌};
+
 /// What an event does to a line.
 #[derive(Clone, Copy, Debug, PartialEq, Eq)]
 pub enum StepKind {
@@ -9,6 +11,24 @@ pub enum StepKind {
     Clflush,
     /// An sfence or an mfence.
     Fence,
+}
+
+impl StepKind {
+    ghost use Rattle.pmt_lines.specs.Steps.{is_flush, is_fence};
+
+    /// Whether it is a clwb or a clflushopt.
+    pub fn is_flush(self) -> bool
+        ensures { result ≡ is_flush self }
+    {
+        matches!(self, StepKind::Flush)
+    }
+
+    /// Whether it is a fence.
+    pub fn is_fence(self) -> bool
+        ensures { result ≡ is_fence self }
+    {
+        matches!(self, StepKind::Fence)
+    }
 }
 
 /// One event of a job.
