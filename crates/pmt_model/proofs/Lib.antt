@@ -13,3 +13,6 @@ pub mod KeepLemmas
 pub mod AssertLemmas
 pub mod NeverLemmas
 pub mod StayLemmas
+pub mod OverwrittenLemmas
+pub mod RedundantLemmas
+pub mod NoneCanGoLemmas
