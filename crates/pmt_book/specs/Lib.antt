@@ -1,1 +1,3 @@
 pub mod Adding
+pub mod Ends
+pub mod Live

@@ -5,6 +5,8 @@
 
 pub mod book;
 pub mod fault;
+mod lines;
+mod pending;
 
 pub use crate::book::Book;
 pub use crate::fault::BookError;
