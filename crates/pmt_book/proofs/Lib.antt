@@ -1,2 +1,4 @@
 pub mod AddLemmas
 pub mod LiveLemmas
+pub mod HistoryLemmas
+pub mod BookLemmas

@@ -1,6 +1,6 @@
 //! The states of the lines, by the number of the line.
 
-ghost use Rattle.std.specs.Prelude.{◌≡◌, ◌≢◌, ℕ, ◌<◌, List, ◌∷◌, IfOk, OnOk, IsSome, None, nat_eq};
+ghost use Rattle.std.specs.Prelude.{◌≡◌, ◌≢◌, ℕ, ◌<◌, List, ◌∷◌, IfOk, OnOk, IsSome, None, is_some, nat_eq};
 ghost use Rattle.indexmap.specs.IndexMap.{get};
 ghost use Rattle.pmt_model.specs.Machine.{Act, Stores, Flushes, FlushesNow, Fences};
 ghost use Rattle.pmt_model.specs.Traces.{event_limit};
@@ -33,6 +33,16 @@ pub(crate) fn count_at(lines: &Lines, line: u64) -> u64
     match lines.get(&line) {
         Some(state) => state.count(),
         None => 0,
+    }
+}
+
+// Whether the thread has flushed the line since its last fence.
+pub(crate) fn is_marked(lines: &Lines, line: u64, thread: u8) -> bool
+    ensures { result ≡ is_some (mark_in thread (line_at lines.now line).marks) }
+{
+    match lines.get(&line) {
+        Some(state) => state.mark(thread).is_some(),
+        None => false,
     }
 }
 

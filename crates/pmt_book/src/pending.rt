@@ -1,8 +1,8 @@
 ghost use Rattle.std.specs.Prelude.{◌≡◌, ◌≢◌, ℕ, ◌<◌, true, [], length, OnOk};
 ghost use Rattle.pmt_model.specs.Traces.{has_line};
-ghost use Rattle.pmt_book.specs.Live.{list_at, KeepsLists, TellsFence};
+ghost use Rattle.pmt_book.specs.Live.{list_at, KeepsLists, IsOnList, TellsFence};
 
-use crate::lines::{Lines, fence_lines};
+use crate::lines::{Lines, fence_lines, is_marked};
 use pmt_model::OutOfMemory;
 use std::alloc::Global;
 use std::marker::Model;
@@ -53,6 +53,17 @@ impl Pending {
         let list = &mut self.lists[thread as usize];
         list.push(line)?;
         Ok(())
+    }
+
+    // Sees to it that the line is on the list of the thread, where it is not already, as its state tells.
+    pub(crate) fn note_once(&mut self, lines: &Lines, thread: u8, line: u64) -> Result<(), OutOfMemory>
+        ensures kept { KeepsLists self.old self.new }
+        ensures noted { OnOk result (IsOnList thread line lines.now self.new) }
+    {
+        if is_marked(lines, line, thread) {
+            return Ok(());
+        }
+        self.note(thread, line)
     }
 
     // Tells the lines on the list of the thread of a fence, and empties the list. It takes no more time than there are.

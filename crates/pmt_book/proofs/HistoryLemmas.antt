@@ -1,0 +1,37 @@
+-- The history of a book with one more event.
+use Rattle.std.proofs.Common.{◌≡◌, ℕ, ◌<◌, ◌≤◌, suc, List, [], ◌∷◌, ◌++◌, length, map, reverse, take, refl, sym, ap, ◌∙◌, arith}
+use Rattle.std.specs.Prelude.{◌==◌, if◌then◌else◌, Bool, true, false}
+use Rattle.std.proofs.lemmas.List.{take_all, map-append, reverse-append}
+use Rattle.pmt_model.specs.declared.event.Event.{Event}
+use Rattle.pmt_model.specs.Machine.{Act, Stores, Flushes, FlushesNow, Fences, Asserts, count}
+use Rattle.pmt_model.specs.Traces.{Recording, act}
+use Rattle.pmt_model.specs.Pushing.{with_event}
+use Rattle.pmt_model.proofs.Histories.{length-history}
+use Rattle.pmt_book.specs.Ends.{whole_history}
+
+-- the new act is its newest
+pub whole_history-with_event : (T : Recording) (e : Event) → whole_history (with_event T e) ≡ act T.format e ∷ whole_history T
+whole_history-with_event T e =
+    let f : Event → Act = act T.format in
+    let es : List Event = T.events in
+    let more : take (length (es ++ e ∷ [])) (es ++ e ∷ []) ≡ es ++ e ∷ [] = take_all (length (es ++ e ∷ [])) (es ++ e ∷ []) (omega arith) in
+    let all : take (length es) es ≡ es = take_all (length es) es (omega arith) in
+    ap (λ (l : List Event). reverse (map f l)) more ∙ ap reverse (map-append f es (e ∷ [])) ∙ reverse-append (map f es) (f e ∷ [])
+    ∙ ap (λ (l : List Event). f e ∷ reverse (map f l)) (sym all)
+
+-- a line has no more stores than there are acts
+pub count-le-length : (l : ℕ) (h : List Act) → count l h ≤ length h
+count-le-length l [] = omega arith
+count-le-length l (Stores k w ∷ h) = go (k == l) (count-le-length l h)
+  where
+    go : (b : Bool) → count l h ≤ length h → (if b then suc (count l h) else count l h) ≤ suc (length h)
+    go true e = omega arith
+    go false e = omega arith
+count-le-length l (Flushes t k ∷ h) = omega (arith, count-le-length l h)
+count-le-length l (FlushesNow k ∷ h) = omega (arith, count-le-length l h)
+count-le-length l (Fences t ∷ h) = omega (arith, count-le-length l h)
+count-le-length l (Asserts ∷ h) = omega (arith, count-le-length l h)
+
+-- nor than the book has events
+pub count-le-events : (l : ℕ) (T : Recording) → count l (whole_history T) ≤ length T.events
+count-le-events l T = omega (arith, count-le-length l (whole_history T), length-history T (length T.events) (omega arith))
