@@ -3,21 +3,25 @@ use Rattle.std.proofs.Common.{◌≡◌, ℕ, ◌<◌, ◌≤◌, suc, List, [],
 use Rattle.std.specs.Prelude.{◌==◌, if◌then◌else◌, Bool, true, false}
 use Rattle.std.proofs.lemmas.List.{take_all, map-append, reverse-append}
 use Rattle.pmt_model.specs.declared.event.Event.{Event}
+use Rattle.pmt_model.specs.Values.{Layout}
 use Rattle.pmt_model.specs.Machine.{Act, Stores, Flushes, FlushesNow, Fences, Asserts, count}
 use Rattle.pmt_model.specs.Traces.{Recording, act}
 use Rattle.pmt_model.specs.Pushing.{with_event}
 use Rattle.pmt_model.proofs.Histories.{length-history}
 use Rattle.pmt_book.specs.Ends.{whole_history}
 
+-- the acts of events, the newest first, with one more event
+pub acts-append : (f : Layout) (es : List Event) (e : Event) → reverse (map (act f) (es ++ e ∷ [])) ≡ act f e ∷ reverse (map (act f) es)
+acts-append f es e = ap reverse (map-append (act f) es (e ∷ [])) ∙ reverse-append (map (act f) es) (act f e ∷ [])
+
+-- the history of a book has the acts of all its events
+pub whole_history-acts : (T : Recording) → whole_history T ≡ reverse (map (act T.format) T.events)
+whole_history-acts T = ap (λ (l : List Event). reverse (map (act T.format) l)) (take_all (length T.events) T.events (omega arith))
+
 -- the new act is its newest
 pub whole_history-with_event : (T : Recording) (e : Event) → whole_history (with_event T e) ≡ act T.format e ∷ whole_history T
 whole_history-with_event T e =
-    let f : Event → Act = act T.format in
-    let es : List Event = T.events in
-    let more : take (length (es ++ e ∷ [])) (es ++ e ∷ []) ≡ es ++ e ∷ [] = take_all (length (es ++ e ∷ [])) (es ++ e ∷ []) (omega arith) in
-    let all : take (length es) es ≡ es = take_all (length es) es (omega arith) in
-    ap (λ (l : List Event). reverse (map f l)) more ∙ ap reverse (map-append f es (e ∷ [])) ∙ reverse-append (map f es) (f e ∷ [])
-    ∙ ap (λ (l : List Event). f e ∷ reverse (map f l)) (sym all)
+    whole_history-acts (with_event T e) ∙ acts-append T.format T.events e ∙ ap (λ (h : List Act). act T.format e ∷ h) (sym (whole_history-acts T))
 
 -- a line has no more stores than there are acts
 pub count-le-length : (l : ℕ) (h : List Act) → count l h ≤ length h

@@ -5,13 +5,14 @@ ghost use Rattle.pmt_model.specs.Pushing.{empty, with_event};
 ghost use Rattle.pmt_model.specs.Traces.{event as event_at, act, event_limit, IsTrace};
 ghost use Rattle.pmt_model.specs.Values.{line_of as line_in};
 ghost use Rattle.pmt_book.specs.Adding.{AddsEvent, event_by};
-ghost use Rattle.pmt_book.specs.Ends.{last_front, last_count};
+ghost use Rattle.pmt_book.specs.Ends.{last_front, last_count, PassesNow};
 
 use crate::fault::BookError;
 use crate::lines::{Lines, clflush_at, count_at, flushed, front_at, put, reach, store_at};
 use crate::pending::Pending;
+use crate::sparing::spares;
 use indexmap::IndexMap;
-use pmt_model::{Addr, Event, Format, Op, OutOfMemory, Trace, WordStore, line_of};
+use pmt_model::{Addr, Event, Format, Op, OutOfMemory, Range, Trace, WordStore, line_of};
 use std::alloc::{AllocError, Global};
 use std::marker::Model;
 
@@ -121,6 +122,23 @@ impl Book {
         ensures { result ≡ last_count self.now line }
     {
         count_at(&self.lines, line)
+    }
+
+    /// The verdict of an isPersist of the range after all its events. It goes back, for each line of the range, to the line's oldest
+    /// store that a crash may still lose.
+    pub fn persisted(&self, range: Range) -> bool
+        ensures { IsTrue result ↔ PassesNow self.now range }
+    {
+        let format = self.trace.format();
+        let first = line_of(format, range.addr());
+        let last = (range.addr().get() + (range.len() - 1)) / format.line_size();
+        for line in first..last + 1 {
+            let count = count_at(&self.lines, line).saturating_sub(front_at(&self.lines, line));
+            if !spares(self.trace.events(), format, count, line, range) {
+                return false;
+            }
+        }
+        true
     }
 
     /// Adds the event at the end, and answers its number.

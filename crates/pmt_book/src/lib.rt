@@ -7,6 +7,8 @@ pub mod book;
 pub mod fault;
 mod lines;
 mod pending;
+mod sparing;
+pub mod laws;
 
 pub use crate::book::Book;
 pub use crate::fault::BookError;
