@@ -7,11 +7,12 @@ pub mod fault;
 mod parts;
 pub mod roll;
 mod seal;
+pub mod scripts;
 pub mod session;
 pub mod shelf;
 pub mod tape;
 
-pub use crate::fault::{AppendError, SealKind, SnapshotError, StartError};
+pub use crate::fault::{AppendError, RecordError, SealKind, SnapshotError, StartError};
 pub use crate::roll::Roll;
 pub use crate::session::{SealFault, Session};
 pub use crate::shelf::{Shelf, Snapshot};
