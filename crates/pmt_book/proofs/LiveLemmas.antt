@@ -74,11 +74,13 @@ fenced-next t h k list popped old new tells unmarked e fenced l = go (cases_eq l
         let P : ℕ → Type 0 = λ j. Follows j (Fences t ∷ h) (line_at new j) in
         let Q : ℕ → Type 0 = λ j. Follows j h (line_at old j) in
         inl (subst P (sym same) (tells.follows h (subst Q same m.1)))
+
     at_other : (l ≢ k) → IsFenced t h list old l → IsFenced t h popped new l
     at_other other (inl f) = let P : Line → Type 0 = λ s. Follows l (Fences t ∷ h) s in inl (subst P (sym (tells.others l other)) f)
     at_other other (inr m) =
         let P : Line → Type 0 = λ s. Follows l h s in
         inr (has_line-before l k popped other (ap (has_line l) (sym e) ∙ m.0), subst P (sym (tells.others l other)) m.1)
+
     go : (l ≡ k) ⊎ (l ≡ k → ⊥) → IsFenced t h list old l → IsFenced t h popped new l
     go (inl same) f = at_k same f
     go (inr other) f = at_other other f

@@ -64,15 +64,18 @@ last_store-placed f (Stores k w ∷ h) a size p = go (writes w a) refl (last_sto
   where
     own : count k (Stores k w ∷ h) ≡ suc (count k h)
     own = rw (eq-eqb k k refl) refl
+
     grows : (l : ℕ) → count l h ≤ count l (Stores k w ∷ h)
     grows l = more (k == l)
       where
         more : (b : Bool) → count l h ≤ (if b then suc (count l h) else count l h)
         more true = omega arith
         more false = omega arith
+
     older : (o : Option Placed) → IfSome o (λ x. (line_of f a ≡ x.line) × (x.rank ≤ count x.line h)) → IfSome o (λ x. (line_of f a ≡ x.line) × (x.rank ≤ count x.line (Stores k w ∷ h)))
     older None q = tt
     older (Some x) q = (q.0, le_trans q.1 (grows x.line))
+
     go : (b : Bool) → writes w a ≡ b → IfSome (last_store a h) (λ x. (line_of f a ≡ x.line) × (x.rank ≤ count x.line h)) →
         IfSome (if b then Some (record { line = k; rank = suc (count k h) }) else last_store a h) (λ x. (line_of f a ≡ x.line) × (x.rank ≤ count x.line (Stores k w ∷ h)))
     go true e q = (byte-line f k a w size p.0 e, omega (arith, own))
@@ -171,12 +174,14 @@ covered-from_spares f l m A (Stores k w ∷ h) size p e = go (cases_eq k l) (cas
     split : (x y : Bool) → (not x && y) ≡ true → (x ≡ false) × (y ≡ true)
     split true y q = absurd (true≢false (sym q))
     split false y q = (refl, q)
+
     newest : (a : ℕ) → InSpan A a → touches w A ≡ false → writes w a ≡ false
     newest a i t = by (writes w a) refl
       where
         by : (b : Bool) → writes w a ≡ b → b ≡ false
         by true q = absurd (true≢false (sym (touches-from_byte w A a q i) ∙ t))
         by false q = refl
+
     go : (k ≡ l) ⊎ (k ≡ l → ⊥) → (count l h < m) ⊎ (m ≤ count l h) → (spares (count l h - m) l A h ≡ true → IsCovered f l m A h) → IsCovered f l m A (Stores k w ∷ h)
     go (inl same) (inl few) older = covered-few f l m A (Stores k w ∷ h) size p (omega (arith, count-own l k w h same, few))
     go (inl same) (inr more) older = λ a i at.
@@ -202,6 +207,7 @@ spares-from_covered f l m A (Stores k w ∷ h) size p wide c = go (cases_eq k l)
   where
     above : (n : ℕ) (o : Option Placed) (x : Placed) → o ≡ Some x → IfSome o (λ y. y.rank ≤ n) → x.rank ≤ n
     above n o x q r = let P : Option Placed → Type 0 = λ s. IfSome s (λ y. y.rank ≤ n) in subst P q r
+
     untouched : k ≡ l → m ≤ count l h → touches w A ≡ false
     untouched same more = by (touches w A) refl
       where
@@ -209,21 +215,25 @@ spares-from_covered f l m A (Stores k w ∷ h) size p wide c = go (cases_eq k l)
         by true q =
             let byte = byte-from_touches w A p.0.store.some wide q in
             let low : suc (count k h) ≤ m =
-                above m (last_store byte.0 (Stores k w ∷ h)) (record { line = k; rank = suc (count k h) }) (newest_store k byte.0 w h byte.2)
-                (c byte.0 byte.1 (byte-line f k byte.0 w size p.0 byte.2 ∙ same)) in
+            above m (last_store byte.0 (Stores k w ∷ h)) (record { line = k; rank = suc (count k h) }) (newest_store k byte.0 w h byte.2)
+            (c byte.0 byte.1 (byte-line f k byte.0 w size p.0 byte.2 ∙ same)) in
             let counts : count k h ≡ count l h = ap (λ (j : ℕ). count j h) same in
             absurd (omega (arith, low, counts, more))
         by false q = refl
+
     older : (a : ℕ) → InSpan A a → line_of f a ≡ l → writes w a ≡ false → IfSome (last_store a h) (λ x. x.rank ≤ m)
     older a i at q = along m (last_store a h) (last_store a (Stores k w ∷ h)) (sym (older_store k a w h q)) (c a i at)
+
     unwritten : (a : ℕ) → InSpan A a → touches w A ≡ false → writes w a ≡ false
     unwritten a i t = by (writes w a) refl
       where
         by : (b : Bool) → writes w a ≡ b → b ≡ false
         by true q = absurd (true≢false (sym (touches-from_byte w A a q i) ∙ t))
         by false q = refl
+
     both : (x y : Bool) → x ≡ false → y ≡ true → (not x && y) ≡ true
     both x y q r = rw (q, r) refl
+
     go : (k ≡ l) ⊎ (k ≡ l → ⊥) → (count l h < m) ⊎ (m ≤ count l h) → (IsCovered f l m A h → spares (count l h - m) l A h ≡ true) →
         spares (count l (Stores k w ∷ h) - m) l A (Stores k w ∷ h) ≡ true
     go (inl same) (inl few) next = spares-few (count l (Stores k w ∷ h) - m) l A (Stores k w ∷ h) (omega (arith, count-own l k w h same, few))
@@ -261,14 +271,14 @@ pub passes-from_spared :
     ((l : ℕ) → first ≤ l → l < last + 1 → IsSpared T A l) → PassesNow T A
 passes-from_spared T A first last is range from to spared =
     (persist_by_fronts (whole_history T) A).1 (λ a i.
-        let size = size-of_format T.format is.format in
-        let placed = placed-trace T is in
-        let l = line_of T.format a in
-        let low = line-le T.format A.addr a size i.0 in
-        let high = line-le T.format a (A.addr + (A.len - 1)) size (omega (arith, i.1, range.some)) in
-        here a (last_store a (whole_history T)) (last_store-placed T.format (whole_history T) a size placed)
-        (covered-from_spares T.format l (front l (whole_history T)) A (whole_history T) size placed
-            (spared l (omega (arith, low, from)) (omega (arith, high, to))) a i refl))
+    let size = size-of_format T.format is.format in
+    let placed = placed-trace T is in
+    let l = line_of T.format a in
+    let low = line-le T.format A.addr a size i.0 in
+    let high = line-le T.format a (A.addr + (A.len - 1)) size (omega (arith, i.1, range.some)) in
+    here a (last_store a (whole_history T)) (last_store-placed T.format (whole_history T) a size placed)
+    (covered-from_spares T.format l (front l (whole_history T)) A (whole_history T) size placed
+    (spared l (omega (arith, low, from)) (omega (arith, high, to))) a i refl))
   where
     here : (a : ℕ) (o : Option Placed) → IfSome o (λ x. (line_of T.format a ≡ x.line) × (x.rank ≤ count x.line (whole_history T))) →
         IfSome o (λ x. x.rank ≤ front (line_of T.format a) (whole_history T)) → IfSome o (λ x. x.rank ≤ front x.line (whole_history T))

@@ -8,5 +8,4 @@ use crate::book::Book;
 /// its `count`.
 pub fn ends_are_between(_book: &Book)
     ensures { EndsAreBetween _book.now }
-{
-}
+{}

@@ -5,10 +5,13 @@
 
 pub mod book;
 pub mod fault;
+pub mod laws;
 mod lines;
 mod pending;
 mod sparing;
-pub mod laws;
 
 pub use crate::book::Book;
 pub use crate::fault::BookError;
+
+#[cfg(test)]
+mod tests;

@@ -56,7 +56,12 @@ impl Pending {
     }
 
     // Sees to it that the line is on the list of the thread, where it is not already, as its state tells.
-    pub(crate) fn note_once(&mut self, lines: &Lines, thread: u8, line: u64) -> Result<(), OutOfMemory>
+    pub(crate) fn note_once(
+        &mut self,
+        lines: &Lines,
+        thread: u8,
+        line: u64,
+    ) -> Result<(), OutOfMemory>
         ensures kept { KeepsLists self.old self.new }
         ensures noted { OnOk result (IsOnList thread line lines.now self.new) }
     {

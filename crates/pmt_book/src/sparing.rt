@@ -33,13 +33,7 @@ fn store_to(event: &Event, format: Format, line: u64) -> Option<WordStore>
 }
 
 // Whether none of the newest `count` stores to the line writes a byte of the range. It goes back to the oldest of them.
-pub(crate) fn spares(
-    events: &[Event],
-    format: Format,
-    count: u64,
-    line: u64,
-    range: Range,
-) -> bool
+pub(crate) fn spares(events: &[Event], format: Format, count: u64, line: u64, range: Range) -> bool
     ensures { result ≡ spares_range count line range (reverse (map (act format) events.now)) }
 {
     let mut left = count;

@@ -1,2 +1,3 @@
 pub mod AppendLemmas
 pub mod SealLemmas
+pub mod RecordLemmas

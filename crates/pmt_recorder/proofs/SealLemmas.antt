@@ -81,10 +81,11 @@ written_back xs ys ws n e same len =
 
 -- the tape that was found is the lowest that is not its part
 pub torn_at :
-    (n : ℕ) (strips after : List Strip) (T : Recording) (es : List Event) (t : ℕ) → IsOneOfEach n strips → after ≡ strips → es ≡ T.events →
+    (n : ℕ) (strips after : List Strip) (T : Recording) (es : List Event) (t : ℕ) → t < length after → IsOneOfEach n strips → after ≡ strips → es ≡ T.events →
     total_length strips ≡ length T.events → (part t es ≡ entries_of t after → ⊥) → ((u : ℕ) → u < t → part u es ≡ entries_of u after) →
     SealFails n strips (Torn t) T
-torn_at n strips after T es t each a e total torn lowest = (
+torn_at n strips after T es t within each a e total torn lowest = (
+  omega (arith, ap length a, within, each.count),
   each,
   total,
   λ is_part. torn (ap (part t) e ∙ is_part ∙ ap (entries_of t) (sym a)),

@@ -1,5 +1,5 @@
 -- What recording scripts gives.
-use Rattle.std.specs.Prelude.{◌≡◌, ℕ, suc, ◌<◌, ◌⊎◌, true, not, List, [], ◌∷◌, length, Some, slice_get, Option, None, Result, Ok, Err, OnOk, IfErr}
+use Rattle.std.specs.Prelude.{◌≡◌, ℕ, suc, ◌<◌, ◌⊎◌, true, not, List, [], ◌∷◌, length, Some, slice_get, slice_index_or, Option, None, Result, Ok, Err, OnOk, IfErr}
 use Rattle.std.specs.List.{AllByRecursion, list_any}
 use Rattle.pmt_model.specs.declared.event.Event.{Event}
 use Rattle.pmt_model.specs.declared.event.Op.{Op}
@@ -45,6 +45,20 @@ first_fault n ((s, Err OutOfMemory) ∷ rest) = Some NoMemory
 -- Some script has this number, and this holds of it.
 abbrev pub AtScript : List (List Op) → ℕ → (List Op → Type 0) → Type 0
 AtScript scripts t P = (script : List Op) × (slice_get scripts t ≡ Some script) × P script
+
+-- Recorder t has played script t, each at its place.
+abbrev pub PlaysEach : Layout → List (List Op) → List (Strip × Result (Unit {0}) BookError) → Type 0
+PlaysEach f scripts played =
+    (t : ℕ) (d : Strip × Result (Unit {0}) BookError) → t < length scripts →
+    AtScript scripts t (λ script. Plays f script t (slice_index_or played t d).0 (slice_index_or played t d).1)
+
+-- Some tape of a number below n is not its part.
+abbrev pub IsTornBelow : ℕ → RecordError → Type 0
+IsTornBelow n BadCount = ⊥
+IsTornBelow n (StrangeOp t) = ⊥
+IsTornBelow n (FullAt t events) = ⊥
+IsTornBelow n NoMemory = ⊥
+IsTornBelow n (Torn t) = t < n
 
 -- Why no trace was given.
 abbrev pub RecordFails : Layout → List (List Op) → RecordError → Type 0

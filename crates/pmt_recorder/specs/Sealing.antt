@@ -17,5 +17,5 @@ pub record IsSealed (n : ℕ) (layout : Layout) (strips : List Strip) (T : Recor
 abbrev pub SealFails : ℕ → List Strip → SealKind → Recording → Type 0
 SealFails n strips WrongTapes book = ¬ IsOneOfEach n strips
 SealFails n strips (Torn t) book =
-    IsOneOfEach n strips × (total_length strips ≡ length book.events) × ¬ (part t book.events ≡ entries_of t strips)
+    (t < n) × IsOneOfEach n strips × (total_length strips ≡ length book.events) × ¬ (part t book.events ≡ entries_of t strips)
     × ((u : ℕ) → u < t → part u book.events ≡ entries_of u strips)

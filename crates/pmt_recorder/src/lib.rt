@@ -14,6 +14,7 @@ pub mod tape;
 
 pub use crate::fault::{AppendError, RecordError, SealKind, SnapshotError, StartError};
 pub use crate::roll::Roll;
+pub use crate::scripts::record_scripts;
 pub use crate::session::{SealFault, Session};
 pub use crate::shelf::{Shelf, Snapshot};
 pub use crate::tape::Tape;

@@ -47,6 +47,7 @@ fn has_part<L: Roll>(events: &[Event], tapes: &[Tape<L>], thread: u8) -> bool
 pub(crate) fn lowest_torn<L: Roll>(events: &[Event], tapes: &[Tape<L>]) -> Option<u8>
     requires each { IsOneOfEach (length tapes.now) tapes.now }
     requires few { length tapes.now ≤ 256 }
+    ensures within { IfSome result (λ t. t < length tapes.now) }
     ensures torn { IfSome result (λ t. ¬ (part t events.now ≡ entries_of t tapes.now)) }
     ensures lowest { IfSome result (λ t. (u : ℕ) → u < t → part u events.now ≡ entries_of u tapes.now) }
     ensures none { IfNone result ((u : ℕ) → u < length tapes.now → part u events.now ≡ entries_of u tapes.now) }

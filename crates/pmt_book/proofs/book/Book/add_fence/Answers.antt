@@ -12,4 +12,4 @@ invariant_of-self-2 c =
     live-with_event T event (Fences event.thread) c.push.new.trace c.fence.new.lines c.fence.new.self c.in_ok-push.ensures.ok
     (ap (λ (R : Recording). act R.format event) c.self.view_is ∙ c.requires)
     (live-fence event.thread (whole_history T) c.self.inside.lines c.fence.new.lines c.self.inside.pending c.fence.new.self c.fence.ensures.tells c.fence.ensures.others
-        c.self.invariant)
+    c.self.invariant)

@@ -15,13 +15,13 @@ invariant_of-self-2 c =
     let line = c.line_of-line.result in
     let at : line ≡ line_of T.format c.args.addr = c.line_of-line.ensures ∙ ap (λ (f : Layout). line_of f c.args.addr) c.format.ensures.value in
     let is_act = ap (λ (R : Recording). act R.format event) c.self.view_is ∙ c.requires
-        ∙ ap (λ (R : Recording). Flushes event.thread (line_of R.format c.args.addr)) (sym c.self.view_is) ∙ ap (Flushes event.thread) (sym at) in
+    ∙ ap (λ (R : Recording). Flushes event.thread (line_of R.format c.args.addr)) (sym c.self.view_is) ∙ ap (Flushes event.thread) (sym at) in
     let reached : IsLive h c.reach.new.lines c.self.inside.pending =
-        live-same h c.self.inside.lines c.reach.new.lines c.self.inside.pending c.self.inside.pending c.in_ok-reach.ensures.same (lists-same c.self.inside.pending) c.self.invariant in
+    live-same h c.self.inside.lines c.reach.new.lines c.self.inside.pending c.self.inside.pending c.in_ok-reach.ensures.same (lists-same c.self.inside.pending) c.self.invariant in
     let noted : IsLive h c.reach.new.lines c.note_once.new.self =
-        live-same h c.self.inside.lines c.reach.new.lines c.self.inside.pending c.note_once.new.self c.in_ok-reach.ensures.same c.in_ok-note_once.ensures.kept c.self.invariant in
+    live-same h c.self.inside.lines c.reach.new.lines c.self.inside.pending c.note_once.new.self c.in_ok-reach.ensures.same c.in_ok-note_once.ensures.kept c.self.invariant in
     live-with_event T event (Flushes event.thread line) c.push.new.trace c.put.new.lines c.note_once.new.self c.in_ok-push.ensures.ok is_act
     (live-flush event.thread line h c.reach.new.lines c.put.new.lines c.note_once.new.self
-        (tells-put line (Flushes event.thread line) c.reach.new.lines c.put.new.lines c.in_ok-state.state c.in_ok-state.ensures c.put.ensures.state c.put.ensures.others)
-        (on_list-from_mark event.thread line h c.reach.new.lines c.self.inside.pending c.note_once.new.self reached c.in_ok-note_once.ensures.kept c.in_ok-note_once.ensures.noted)
-        noted)
+    (tells-put line (Flushes event.thread line) c.reach.new.lines c.put.new.lines c.in_ok-state.state c.in_ok-state.ensures c.put.ensures.state c.put.ensures.others)
+    (on_list-from_mark event.thread line h c.reach.new.lines c.self.inside.pending c.note_once.new.self reached c.in_ok-note_once.ensures.kept c.in_ok-note_once.ensures.noted)
+    noted)

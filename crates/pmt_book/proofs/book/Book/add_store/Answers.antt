@@ -18,9 +18,9 @@ invariant_of-self-2 c =
     let line = c.line_of-line.result in
     let store = c.args.store in
     let at : line ≡ line_of T.format store.addr =
-        c.line_of-line.ensures ∙ ap (λ (f : Layout). line_of f c.addr.result) c.format.ensures.value ∙ ap (line_of T.format) c.addr.ensures.value in
+    c.line_of-line.ensures ∙ ap (λ (f : Layout). line_of f c.addr.result) c.format.ensures.value ∙ ap (line_of T.format) c.addr.ensures.value in
     live-with_event T (event_by c.args.thread (Store store)) (Stores line store) c.push.new.trace c.store_at.new.lines c.self.inside.pending c.in_ok-push.ensures.ok
     (ap (λ (l : ℕ). Stores l store) (sym at))
     (live-store line store (whole_history T) c.reach.new.lines c.store_at.new.lines c.self.inside.pending (c.store_at.ensures store)
-        (live-same (whole_history T) c.self.inside.lines c.reach.new.lines c.self.inside.pending c.self.inside.pending c.in_ok-reach.ensures.same
-            (lists-same c.self.inside.pending) c.self.invariant))
+    (live-same (whole_history T) c.self.inside.lines c.reach.new.lines c.self.inside.pending c.self.inside.pending c.in_ok-reach.ensures.same
+    (lists-same c.self.inside.pending) c.self.invariant))

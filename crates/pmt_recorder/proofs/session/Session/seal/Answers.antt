@@ -33,6 +33,6 @@ returns-in-Some-clause-err g c =
         each_after n c.args.self.tapes strips c.as_slice.result.now c.args.self.count c.as_slice.ensures.value (c.if-not-is_one_of_each.ensures.0 refl) in
     let P : Recording → Type 0 = λ R. SealFails n strips (Torn c.in-Some.recorder) R in
     subst P (sym c.into_book-in-Some.ensures)
-    (torn_at n strips c.as_slice-2.result.now T c.events.result.now c.in-Some.recorder given back c.events.ensures.value
+    (torn_at n strips c.as_slice-2.result.now T c.events.result.now c.in-Some.recorder c.in-Some.ensures.within given back c.events.ensures.value
         (ap total_length (sym c.as_mut_slice.ensures.value) ∙ c.audit.ensures.total ∙ ap (λ (R : Recording). length R.events) (sym c.audit.ensures.same))
         c.in-Some.ensures.torn c.in-Some.ensures.lowest)
