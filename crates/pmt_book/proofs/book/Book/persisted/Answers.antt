@@ -1,0 +1,38 @@
+use Rattle.std.proofs.Common.{◌≡◌, ◌+◌, ◌-◌, ◌/◌, ℕ, le_trans, refl, sym, ◌∙◌, ap, subst}
+use Rattle.std.proofs.lemmas.Bool.{true≢false}
+use Rattle.std.specs.Prelude.{IsTrue}
+use Rattle.pmt_model.specs.Values.{Layout, line_of}
+use Rattle.pmt_model.specs.Traces.{Recording}
+use Rattle.pmt_book.specs.Ends.{PassesNow}
+use Rattle.pmt_book.proofs.PersistLemmas.{IsSpared, spared-from_passes, passes-from_spared, counted-spares}
+use Rattle.pmt_book.proofs.book.Book.persisted.Goals as goal
+
+pub returns-then-not-spares : goal.returns-then-not-spares
+returns-then-not-spares c =
+    let T = c.self.inside.trace in
+    let A = c.args.range in
+    let line = c.loop-line.line in
+    let same = counted-spares T c.self.inside.lines c.self.inside.pending line A c.format-format.result c.events.result.now c.saturating_sub-count.result c.count_at.result
+    c.front_at.result c.self.invariant c.format-format.ensures.value c.events.ensures.value c.saturating_sub-count.ensures c.count_at.ensures c.front_at.ensures in (
+      λ h. absurd (true≢false (sym h)),
+      λ passes.
+          let P : Recording → Type 0 = λ R. PassesNow R A in
+          c.if-not-spares.ensures ∙ same ∙ spared-from_passes T A line c.format-format.ensures.is_trace c.len.ensures.is_range (subst P (sym c.self.view_is) passes),
+    )
+
+pub returns : goal.returns
+returns c =
+    let T = c.self.inside.trace in
+    let A = c.args.range in
+    let first = c.line_of-first.result in
+    let last = (c.get.result + (c.len.result - 1)) / c.line_size.result in
+    let from : first ≡ line_of T.format A.addr =
+    c.line_of-first.ensures ∙ ap (λ (f : Layout). line_of f c.addr.result) c.format-format.ensures.value ∙ ap (line_of T.format) c.addr.ensures in
+    let to : last ≡ line_of T.format (A.addr + (A.len - 1)) =
+    ap (λ (n : ℕ). (n + (c.len.result - 1)) / c.line_size.result) (c.get.ensures.value ∙ c.addr-2.ensures)
+    ∙ ap (λ (n : ℕ). (A.addr + (n - 1)) / c.line_size.result) c.len.ensures.value
+    ∙ ap (λ (n : ℕ). (A.addr + (A.len - 1)) / n) (c.line_size.ensures.value ∙ ap (λ (f : Layout). f.line_size) c.format-format.ensures.value) in
+    let P : Recording → Type 0 = λ R. PassesNow R A in
+    let now = subst P c.self.view_is (passes-from_spared T A first last c.format-format.ensures.is_trace c.len.ensures.is_range from to
+    (λ l low high. c.loop-line.invariant l low (le_trans high c.loop-line-test.false))) in
+    (λ h. now, λ passes. refl)

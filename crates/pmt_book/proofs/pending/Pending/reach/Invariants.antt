@@ -1,0 +1,10 @@
+use Rattle.std.proofs.Common.{◌≡◌, ℕ, ◌-◌, ◌+◌, vec_len, map, List}
+use Rattle.pmt_book.specs.Live.{list_at}
+use Rattle.pmt_book.proofs.pending.Pending.reach.Given as goal
+
+abbrev pub invariant-loop-self : goal.invariant-loop-self
+invariant-loop-self l =
+    (t : ℕ) → list_at (map (λ list. list.items) l.self-inside.lists.items) t ≡ list_at (map (λ list. list.items) l.initial.self-inside.lists.items) t
+
+abbrev pub decreases-loop-self : goal.decreases-loop-self
+decreases-loop-self l = l.thread + 1 - vec_len l.self-inside.lists

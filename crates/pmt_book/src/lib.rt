@@ -1,0 +1,17 @@
+//! A trace under way, with the fronts of its lines kept live.
+//!
+//! The definitions stand in `specs/`; those of traces, fronts and assertions are pmt_model's.
+#![tactic(auto)]
+
+pub mod book;
+pub mod fault;
+pub mod laws;
+mod lines;
+mod pending;
+mod sparing;
+
+pub use crate::book::Book;
+pub use crate::fault::BookError;
+
+#[cfg(test)]
+mod tests;

@@ -1,0 +1,4 @@
+pub mod Strips
+pub mod Shelving
+pub mod Sealing
+pub mod Scripts

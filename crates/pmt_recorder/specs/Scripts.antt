@@ -1,0 +1,69 @@
+-- What recording scripts gives.
+use Rattle.std.specs.Prelude.{◌≡◌, ℕ, suc, ◌<◌, ◌⊎◌, true, not, List, [], ◌∷◌, length, Some, slice_get, slice_index_or, Option, None, Result, Ok, Err, OnOk, IfErr}
+use Rattle.std.specs.List.{AllByRecursion, list_any}
+use Rattle.pmt_model.specs.declared.event.Event.{Event}
+use Rattle.pmt_model.specs.declared.event.Op.{Op}
+use Rattle.pmt_model.specs.Values.{Layout}
+use Rattle.pmt_model.specs.Traces.{Recording, in_format, event_limit}
+use Rattle.pmt_model.specs.Interleavings.{part}
+use Rattle.pmt_book.specs.declared.fault.BookError.{BookError}
+use Rattle.pmt_book.specs.declared.fault.BookError.TheVariants.{NotInFormat, Full, OutOfMemory}
+use Rattle.pmt_recorder.specs.Strips.{Strip, ops_of}
+use Rattle.pmt_recorder.specs.declared.fault.RecordError.{RecordError}
+use Rattle.pmt_recorder.specs.declared.fault.RecordError.TheVariants.{BadCount, NotInFormat as StrangeOp, Full as FullAt, OutOfMemory as NoMemory, Torn}
+
+-- The events are an interleaving of the scripts: part k has the ops of script k, in order.
+pub record IsRecorded (layout : Layout) (scripts : List (List Op)) (T : Recording) : Type 0 where
+  pub format : T.format ≡ layout
+  pub whose : AllByRecursion (λ (e : Event). e.thread < length scripts) T.events
+  pub parts : (t : ℕ) → t < length scripts → slice_get scripts t ≡ Some (ops_of (part t T.events))
+
+-- Some op of the script is not in the format.
+abbrev pub HasStranger : Layout → List Op → Type 0
+HasStranger f script = list_any (λ op. not (in_format f op)) script ≡ true
+
+-- What stopped the recorder of the script.
+abbrev pub Stops : Layout → List Op → BookError → Type 0
+Stops f script NotInFormat = HasStranger f script
+Stops f script (Full events) = events ≡ event_limit
+Stops f script OutOfMemory = Unit {0}
+
+-- What a recorder hands back: its tape, which has the ops of the script where it came to the end.
+pub record Plays (layout : Layout) (script : List Op) (t : ℕ) (tape : Strip) (end : Result (Unit {0}) BookError) : Type 0 where
+  pub thread : tape.thread ≡ t
+  pub whole : OnOk end (ops_of tape.entries ≡ script)
+  pub stopped : IfErr end (Stops layout script)
+
+-- The fault of the lowest number, the first recorder having the number n.
+abbrev pub first_fault : ℕ → List (Strip × Result (Unit {0}) BookError) → Option RecordError
+first_fault n [] = None
+first_fault n ((s, Ok u) ∷ rest) = first_fault (suc n) rest
+first_fault n ((s, Err NotInFormat) ∷ rest) = Some (StrangeOp n)
+first_fault n ((s, Err (Full events)) ∷ rest) = Some (FullAt n events)
+first_fault n ((s, Err OutOfMemory) ∷ rest) = Some NoMemory
+
+-- Some script has this number, and this holds of it.
+abbrev pub AtScript : List (List Op) → ℕ → (List Op → Type 0) → Type 0
+AtScript scripts t P = (script : List Op) × (slice_get scripts t ≡ Some script) × P script
+
+-- Recorder t has played script t, each at its place.
+abbrev pub PlaysEach : Layout → List (List Op) → List (Strip × Result (Unit {0}) BookError) → Type 0
+PlaysEach f scripts played =
+    (t : ℕ) (d : Strip × Result (Unit {0}) BookError) → t < length scripts →
+    AtScript scripts t (λ script. Plays f script t (slice_index_or played t d).0 (slice_index_or played t d).1)
+
+-- Some tape of a number below n is not its part.
+abbrev pub IsTornBelow : ℕ → RecordError → Type 0
+IsTornBelow n BadCount = ⊥
+IsTornBelow n (StrangeOp t) = ⊥
+IsTornBelow n (FullAt t events) = ⊥
+IsTornBelow n NoMemory = ⊥
+IsTornBelow n (Torn t) = t < n
+
+-- Why no trace was given.
+abbrev pub RecordFails : Layout → List (List Op) → RecordError → Type 0
+RecordFails f scripts BadCount = (length scripts ≡ 0) ⊎ (256 < length scripts)
+RecordFails f scripts (StrangeOp t) = AtScript scripts t (HasStranger f)
+RecordFails f scripts (FullAt t events) = (t < length scripts) × (events ≡ event_limit)
+RecordFails f scripts NoMemory = Unit {0}
+RecordFails f scripts (Torn t) = t < length scripts
