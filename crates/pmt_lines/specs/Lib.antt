@@ -3,3 +3,5 @@ pub mod Jobs
 pub mod Running
 pub mod Raises
 pub mod Fences
+pub mod LineFindings
+pub mod Scans

@@ -5,6 +5,8 @@
 
 pub mod fences;
 pub mod job;
+mod last_stores;
+pub mod line_findings;
 pub mod raises;
 pub mod step;
 

@@ -78,7 +78,7 @@ pub fn run_line(alloc: Global, job: LineJob) -> Result<LineResult, OutOfMemory>
 }
 
 // What the step does to the line's state: true where the front rose.
-fn take_step(state: &mut LineState, step: Step) -> Result<bool, OutOfMemory>
+pub(crate) fn take_step(state: &mut LineState, step: Step) -> Result<bool, OutOfMemory>
     requires { state.old.count < event_limit }
     ensures takes { OnOk result (TakesStep step state.old state.new) }
     ensures rose { IfOk result (λ rose. IsTrue rose ↔ (state.old.front < state.new.front)) }
