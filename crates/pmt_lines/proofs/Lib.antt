@@ -6,3 +6,6 @@ pub mod RisingLemmas
 pub mod EndLemmas
 pub mod TraceLemmas
 pub mod ScanLemmas
+pub mod FindingLists
+pub mod ReportLemmas
+pub mod StoreLemmas
