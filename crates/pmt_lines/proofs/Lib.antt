@@ -9,3 +9,4 @@ pub mod ScanLemmas
 pub mod FindingLists
 pub mod ReportLemmas
 pub mod StoreLemmas
+pub mod FoundLemmas

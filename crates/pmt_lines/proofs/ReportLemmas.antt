@@ -1,16 +1,16 @@
 -- What is reported at a step is what is found of the line there.
-use Rattle.std.proofs.Common.{◌≡◌, ◌≢◌, ℕ, zero, suc, ◌+◌, ◌-◌, ◌/◌, ◌%◌, ◌<◌, ◌≤◌, ◌⊎◌, inl, inr, Bool, true, false, List, [], ◌∷◌, ◌++◌, length, get_or, Option, Some, None, refl, sym, ap, subst, ◌∙◌, arith}
-use Rattle.std.specs.Prelude.{◌↔◌, IsTrue, nat_le, nat_lt, max, unwrap_or}
-use Rattle.std.proofs.lemmas.Bool.{leb-true, ltb-true}
+use Rattle.std.proofs.Common.{◌≡◌, ℕ, suc, ◌-◌, ◌≤◌, inl, inr, Bool, true, List, [], refl, sym, ap, subst, ◌∙◌, arith}
+use Rattle.std.specs.Prelude.{◌↔◌, nat_le, max, unwrap_or}
+use Rattle.std.proofs.lemmas.Bool.{leb-true}
 use Rattle.pmt_model.specs.declared.finding.Finding.{Finding}
 use Rattle.pmt_model.specs.declared.finding.Finding.TheVariants.{Overwritten, NeverPersisted, RedundantFlush, FenceWithoutFlush}
-use Rattle.pmt_model.specs.Values.{Written, line_of}
-use Rattle.pmt_model.specs.Machine.{Act, Stores, Flushes, FlushesNow, Fences, count}
-use Rattle.pmt_model.specs.Traces.{Recording, IsTrace, IsAct, history, count_at}
+use Rattle.pmt_model.specs.Values.{Written}
+use Rattle.pmt_model.specs.Machine.{Stores, Flushes, FlushesNow, Fences, count}
+use Rattle.pmt_model.specs.Traces.{Recording, IsAct, history, count_at}
 use Rattle.pmt_model.specs.Fronts.{front_at, open_mark}
-use Rattle.pmt_model.specs.Findings.{IsNeverPersisted, IsFlushOf, ByFlush, ByClflush, IsFlushedAfter, IsRedundantFlush, IsRedundantClflush, IsOverwritten, last_number, last_flush}
-use Rattle.pmt_model.specs.Analyses.{reported_at, IsReportedBefore, InReportOrder, HasFinding}
-use Rattle.pmt_model.proofs.Histories.{act-unique, act-within, history-act}
+use Rattle.pmt_model.specs.Findings.{IsRedundantFlush, IsRedundantClflush}
+use Rattle.pmt_model.specs.Analyses.{reported_at, InReportOrder, HasFinding}
+use Rattle.pmt_model.proofs.Histories.{act-unique, history-act}
 use Rattle.pmt_model.proofs.RedundantLemmas.{redundant_flush_by_fronts, redundant_clflush_by_fronts}
 use Rattle.pmt_marks.specs.Lines.{mark_in}
 use Rattle.pmt_lines.specs.declared.line_findings.Scan.{Scan}

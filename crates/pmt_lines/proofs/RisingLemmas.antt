@@ -1,12 +1,12 @@
 -- Rising numbers, and the findings made of them.
-use Rattle.std.proofs.Common.{◌≡◌, ℕ, zero, suc, ◌<◌, ◌≤◌, ◌⊎◌, inl, inr, List, [], ◌∷◌, ◌++◌, length, get_or, refl, sym, ap, subst, ◌∙◌, append_assoc, arith}
-use Rattle.std.specs.Prelude.{◌↔◌, map}
+use Rattle.std.proofs.Common.{◌≡◌, ℕ, ◌<◌, ◌≤◌, ◌⊎◌, inl, inr, List, [], ◌∷◌, ◌++◌, get_or, refl, sym, ap, subst, ◌∙◌, append_assoc, arith}
+use Rattle.std.specs.Prelude.{◌↔◌}
 use Rattle.std.proofs.lemmas.Bool.{cases_lt}
 use Rattle.std.proofs.lemmas.List.{map-append}
 use Rattle.pmt_model.specs.declared.finding.Finding.{Finding}
 use Rattle.pmt_model.specs.declared.finding.Finding.TheVariants.{Overwritten}
 use Rattle.pmt_model.specs.Selections.{IsRising, Has}
-use Rattle.pmt_lines.specs.Scans.{IsAmong, IsNoneAbove, IsNextAbove, AreAbove, PushesOverwritten, overwritten_by}
+use Rattle.pmt_lines.specs.Scans.{IsAmong, IsNoneAbove, IsNextAbove, PushesOverwritten, overwritten_by}
 
 -- a greater number at the end keeps the order
 pub rising-push : (low : ℕ) (xs : List ℕ) (y : ℕ) → IsRising low xs → low < y → ((j : ℕ) → Has xs j → j < y) → IsRising low (xs ++ y ∷ [])

@@ -1,22 +1,21 @@
 -- What is kept of a line while its findings are gathered stays right, event by event.
-use Rattle.std.proofs.Common.{◌≡◌, ◌≢◌, ℕ, zero, suc, ◌+◌, ◌-◌, ◌/◌, ◌%◌, ◌<◌, ◌≤◌, ◌⊎◌, inl, inr, ◌==◌, Bool, true, false, List, [], ◌∷◌, length, get_or, Option, Some, None, refl, sym, ap, subst, ◌∙◌, arith, eqb-true}
-use Rattle.std.specs.Prelude.{if◌then◌else◌, unwrap_or, replicate}
-use Rattle.std.proofs.lemmas.Bool.{cases_lt, cases_eq, eq-eqb, true≢false}
+use Rattle.std.proofs.Common.{◌≡◌, ℕ, zero, suc, ◌+◌, ◌/◌, ◌%◌, ◌<◌, ◌≤◌, ◌⊎◌, inl, inr, ◌==◌, Bool, true, false, List, ◌∷◌, length, get_or, Some, refl, sym, ap, subst, ◌∙◌, arith, eqb-true}
+use Rattle.std.specs.Prelude.{if◌then◌else◌, unwrap_or}
+use Rattle.std.proofs.lemmas.Bool.{cases_lt, eq-eqb, true≢false}
 use Rattle.pmt_model.specs.Values.{Written, line_of}
 use Rattle.pmt_model.specs.Machine.{Act, Stores, Flushes, FlushesNow, Fences, Asserts, writes}
 use Rattle.pmt_model.specs.Traces.{Recording, IsTrace, IsAct, history}
 use Rattle.pmt_model.specs.Findings.{last_number, last_flush}
 use Rattle.pmt_model.proofs.Histories.{history-act, history-step, act-within, length-history}
-use Rattle.pmt_marks.specs.Lines.{Line, Follows}
+use Rattle.pmt_marks.specs.Lines.{Follows}
 use Rattle.pmt_lines.specs.declared.step.StepKind.{StepKind}
 use Rattle.pmt_lines.specs.declared.step.StepKind.TheVariants.{Store, Flush, Clflush, Fence}
-use Rattle.pmt_lines.specs.declared.step.Step.{Step}
 use Rattle.pmt_lines.specs.declared.line_findings.Scan.{Scan}
-use Rattle.pmt_lines.specs.Jobs.{IsKind, IsStepOf, Touches, ByStore, ByFlush, ByClflush}
-use Rattle.pmt_lines.specs.Running.{TakesKind, TakesStep}
+use Rattle.pmt_lines.specs.Jobs.{IsKind, Touches, ByStore, ByFlush, ByClflush}
+use Rattle.pmt_lines.specs.Running.{TakesKind}
 use Rattle.pmt_lines.specs.Scans.{StoresBytes, TakesBytes, flush_after}
 use Rattle.pmt_lines.proofs.RunLemmas.{follows-over, follows-kind, kind-within}
-use Rattle.pmt_lines.proofs.TraceLemmas.{IsSize, size-of_format, IsStoreOf, store-of_trace, byte-line, same-block, byte-from_writes, writes-from_byte}
+use Rattle.pmt_lines.proofs.TraceLemmas.{size-of_format, IsStoreOf, store-of_trace, byte-line, same-block, byte-from_writes, writes-from_byte}
 
 -- The event changes nothing that f tells of the history.
 abbrev LeavesAlone : {A : Type 0} → Recording → ℕ → (List Act → A) → ℕ → Type 0

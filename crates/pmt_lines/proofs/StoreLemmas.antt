@@ -1,16 +1,16 @@
 -- What is reported at a store is what is found of the line there.
-use Rattle.std.proofs.Common.{◌≡◌, ◌≢◌, ℕ, zero, suc, ◌+◌, ◌-◌, ◌/◌, ◌%◌, ◌<◌, ◌≤◌, ◌⊎◌, inl, inr, Bool, true, false, List, [], ◌∷◌, ◌++◌, length, get_or, Option, Some, None, refl, sym, ap, subst, ◌∙◌, arith}
-use Rattle.std.specs.Prelude.{◌↔◌, IsTrue, nat_le, nat_lt, max, unwrap_or, ◌==◌}
-use Rattle.std.proofs.lemmas.Bool.{leb-true, ltb-true, eq-eqb}
+use Rattle.std.proofs.Common.{◌≡◌, ℕ, suc, ◌+◌, ◌-◌, ◌%◌, ◌<◌, ◌≤◌, ◌⊎◌, inl, inr, Bool, true, false, List, ◌++◌, length, get_or, Option, Some, None, refl, sym, ap, subst, ◌∙◌, arith}
+use Rattle.std.specs.Prelude.{◌↔◌, IsTrue, nat_lt, unwrap_or, ◌==◌}
+use Rattle.std.proofs.lemmas.Bool.{ltb-true, eq-eqb}
 use Rattle.pmt_model.specs.declared.finding.Finding.{Finding}
 use Rattle.pmt_model.specs.declared.finding.Finding.TheVariants.{Overwritten, NeverPersisted, RedundantFlush, FenceWithoutFlush}
-use Rattle.pmt_model.specs.Values.{Written, line_of}
-use Rattle.pmt_model.specs.Machine.{Act, Stores, Flushes, FlushesNow, Fences, count, writes}
+use Rattle.pmt_model.specs.Values.{Written}
+use Rattle.pmt_model.specs.Machine.{Stores, Flushes, FlushesNow, count, writes}
 use Rattle.pmt_model.specs.Traces.{Recording, IsTrace, IsAct, history, count_at}
 use Rattle.pmt_model.specs.Fronts.{front_at}
-use Rattle.pmt_model.specs.Findings.{IsNeverPersisted, IsFlushOf, ByFlush, ByClflush, IsFlushedAfter, IsRedundantFlush, IsRedundantClflush, IsOverwritten, OverwritesBefore, last_number, last_flush}
-use Rattle.pmt_model.specs.Selections.{IsRising, Has}
-use Rattle.pmt_model.specs.Analyses.{reported_at, ComesFirst, IsReportedBefore, InReportOrder, HasFinding}
+use Rattle.pmt_model.specs.Findings.{IsNeverPersisted, IsFlushOf, ByFlush, ByClflush, IsFlushedAfter, IsOverwritten, OverwritesBefore, last_number, last_flush}
+use Rattle.pmt_model.specs.Selections.{Has}
+use Rattle.pmt_model.specs.Analyses.{reported_at, IsReportedBefore, HasFinding}
 use Rattle.pmt_model.proofs.Histories.{act-unique, act-within, history-act}
 use Rattle.pmt_model.proofs.NeverLemmas.{never_persisted_by_fronts}
 use Rattle.pmt_model.proofs.OverwrittenLemmas.{overwritten_by_numbers, last_number-is, IsLastWriter, IsLastFlush, last_flush-tells}
@@ -18,7 +18,7 @@ use Rattle.pmt_lines.specs.declared.line_findings.Scan.{Scan}
 use Rattle.pmt_lines.specs.declared.line_findings.Ending.{Ending}
 use Rattle.pmt_lines.specs.LineFindings.{IsLineFinding}
 use Rattle.pmt_lines.specs.Scans.{IsAmong, AreAbove, AreStoresAt, found_if, overwritten_by, never_persisted_of}
-use Rattle.pmt_lines.proofs.TraceLemmas.{IsSize, size-of_format, IsStoreOf, store-of_trace, byte-line, byte-from_writes, writes-from_byte}
+use Rattle.pmt_lines.proofs.TraceLemmas.{IsSize, size-of_format, store-of_trace, byte-line, byte-from_writes, writes-from_byte}
 use Rattle.pmt_lines.proofs.ScanLemmas.{IsScan, IsTable}
 use Rattle.pmt_lines.proofs.FindingLists.{has-append, has-left, has-right, ordered-append, has-overwritten, overwritten-has, overwritten-ordered, has-if, if-has, if-ordered}
 use Rattle.pmt_lines.proofs.ReportLemmas.{AreFoundAt}
@@ -39,13 +39,19 @@ slot-of T l n w table numbers is_trace is right at k within =
 -- a store among the last ones to the bytes of a later store, after the last flush, is overwritten
 overwritten-to : (T : Recording) (l n j : ℕ) (w : Written) (table numbers : List ℕ) → IsTrace T → IsAct T (suc n) (Stores l w) → IsTable T l n table → AreStoresAt table w.addr (length w.bytes) numbers → last_flush l (history T n) < j → IsAmong numbers j → IsOverwritten T j (suc n)
 overwritten-to T l n j w table numbers is_trace is right at unflushed among =
-    (overwritten_by_numbers T j (suc n)).1 (l, writer.what, w, byte, record {
-      is_earlier = subst (λ k. IsAct T j (Stores k writer.what)) line writer.is_store;
-      is_later = is;
-      writes_later = written;
-      last = ap (λ k. last_number byte (history T k)) before ∙ last;
-      unflushed = rw before unflushed;
-    })
+    (overwritten_by_numbers T j (suc n)).1 (
+      l,
+      writer.what,
+      w,
+      byte,
+      record {
+        is_earlier = subst (λ k. IsAct T j (Stores k writer.what)) line writer.is_store;
+        is_later = is;
+        writes_later = written;
+        last = ap (λ k. last_number byte (history T k)) before ∙ last;
+        unflushed = rw before unflushed;
+      },
+    )
   where
     before : suc n - 1 ≡ n
     before = omega arith

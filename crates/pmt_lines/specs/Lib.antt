@@ -1,7 +1,7 @@
 pub mod Steps
 pub mod Jobs
 pub mod Running
+pub mod LineFindings
 pub mod Raises
 pub mod Fences
-pub mod LineFindings
 pub mod Scans

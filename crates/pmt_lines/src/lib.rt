@@ -6,7 +6,7 @@
 pub mod fences;
 pub mod job;
 mod last_stores;
-pub mod line_findings;
+mod line_findings;
 pub mod raises;
 pub mod step;
 

@@ -1,11 +1,12 @@
-ghost use Rattle.std.specs.Prelude.{◌≡◌, ℕ, ◌+◌, ◌%◌, ◌<◌, ◌≤◌, [], ◌++◌, replicate, OnOk, MatchOption};
+ghost use Rattle.std.specs.Prelude.{◌≡◌, ℕ, ◌+◌, ◌%◌, ◌<◌, ◌≤◌, [], ◌++◌, replicate, IfOk, OnOk, MatchOption};
 ghost use Rattle.pmt_model.specs.Traces.{event_limit};
 ghost use Rattle.pmt_lines.specs.Steps.{IsStepKind};
 ghost use Rattle.pmt_lines.specs.Running.{TakesStep};
+ghost use Rattle.pmt_lines.specs.Raises.{FindsLine};
 ghost use Rattle.pmt_lines.specs.Scans.{found_if, last_front_of, last_flush_of, flush_after, is_marked, IsNextAbove, IsNoneAbove, PushesOverwritten, Reports, ReportsStore, TakesBytes};
 
-use crate::last_stores::LastStores;
 use crate::job::LineJob;
+use crate::last_stores::LastStores;
 use crate::raises::{Raise, take_step};
 use crate::step::{Step, StepKind};
 use pmt_marks::LineState;
@@ -76,7 +77,12 @@ fn push_if(found: &mut Vec<Finding>, is_one: bool, finding: Finding) -> Result<(
 }
 
 // Adds that the later store overwrites each of the earlier ones that come after the last flush.
-fn push_overwritten(found: &mut Vec<Finding>, earlier: &[u32], flush: u32, later: u64) -> Result<(), OutOfMemory>
+fn push_overwritten(
+    found: &mut Vec<Finding>,
+    earlier: &[u32],
+    flush: u32,
+    later: u64,
+) -> Result<(), OutOfMemory>
     ensures { OnOk result (PushesOverwritten found.old.items found.new.items earlier.now flush later) }
 {
     let mut low = flush;
@@ -113,7 +119,12 @@ impl Scan {
     }
 
     // Adds what is found at the step, before it is taken.
-    fn report(&self, found: &mut Vec<Finding>, ending: Ending, step: Step) -> Result<(), OutOfMemory>
+    fn report(
+        &self,
+        found: &mut Vec<Finding>,
+        ending: Ending,
+        step: Step,
+    ) -> Result<(), OutOfMemory>
         requires { IsStepKind step.kind }
         ensures { OnOk result (Reports self.now ending step found.old.items found.new.items) }
     {
@@ -187,4 +198,43 @@ impl Scan {
         }
         Ok(())
     }
+}
+
+// The findings of the job's line, in report order.
+pub(crate) fn line_findings(
+    alloc: Global,
+    job: &LineJob,
+    raises: &[Raise],
+) -> Result<Vec<Finding>, OutOfMemory>
+    ensures { IfOk result (λ found. FindsLine job.now raises.now found.items) }
+{
+    let steps = job.steps();
+    let ending = Ending {
+        front: last_front(raises),
+        flush: last_flush(steps),
+    };
+    let mut scan = Scan::new(alloc);
+    let mut found = Vec::new(alloc);
+    for step in steps {
+        let Step {
+            number,
+            thread,
+            kind,
+        } = *step;
+        scan.report(
+            &mut found,
+            ending,
+            Step {
+                number,
+                thread,
+                kind,
+            },
+        )?;
+        scan.take(Step {
+            number,
+            thread,
+            kind,
+        })?;
+    }
+    Ok(found)
 }

@@ -1,4 +1,4 @@
-use Rattle.std.proofs.Common.{ℕ, ◌-◌, ◌^◌}
+use Rattle.std.proofs.Common.{◌-◌, ◌^◌}
 use Rattle.pmt_lines.proofs.RisingLemmas.{PushesUpTo}
 use Rattle.pmt_lines.proofs.line_findings.push_overwritten.Given as goal
 

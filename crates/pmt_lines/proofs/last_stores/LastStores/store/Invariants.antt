@@ -1,4 +1,4 @@
-use Rattle.std.proofs.Common.{◌≡◌, ℕ, ◌<◌, ◌≤◌, ◌⊎◌, ◌%◌, get_or}
+use Rattle.std.proofs.Common.{◌≡◌, ℕ, ◌<◌, ◌≤◌, ◌⊎◌, get_or}
 use Rattle.pmt_lines.proofs.last_stores.LastStores.store.Given as goal
 
 abbrev pub invariant-loop-place : goal.invariant-loop-place
