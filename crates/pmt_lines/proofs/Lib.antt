@@ -3,3 +3,4 @@ pub mod RunLemmas
 pub mod FenceLemmas
 pub mod FenceRunLemmas
 pub mod PlaceLemmas
+pub mod GrowLemmas

@@ -2,6 +2,7 @@
 use Rattle.std.specs.Prelude.{◌≡◌, ◌≢◌, ℕ, ◌<◌, ◌↔◌, true, if◌then◌else◌, List, [], ◌∷◌, ◌++◌, length, map, None, All, slice_index_or, slice_set}
 use Rattle.std.specs.List.{AllByRecursion}
 use Rattle.pmt_model.specs.Traces.{Recording, history, lines_of, has_line, with_line}
+use Rattle.pmt_model.specs.Machine.{Act}
 use Rattle.pmt_model.specs.Fronts.{open_mark}
 use Rattle.pmt_lines.specs.declared.step.Step.{Step}
 use Rattle.pmt_lines.specs.Steps.{LineWork, last_number, with_step}
@@ -28,15 +29,23 @@ places_of t open_places = slice_index_or open_places t []
 abbrev pub with_place : ℕ → ℕ → List (List ℕ) → List (List ℕ)
 with_place t place open_places = slice_set open_places t (places_of t open_places ++ place ∷ [])
 
+-- A place stands in a thread's list where the thread has a mark on the line of the job there, after the history.
+abbrev pub OpenEach : List Act → List LineWork → List (List ℕ) → Type 0
+OpenEach h lines open_places =
+    (t place : ℕ) (d : LineWork) → place < length lines →
+    (has_line place (places_of t open_places) ≡ true) ↔ (open_mark t (slice_index_or lines place d).line h ≢ None)
+
+abbrev pub ArePlaces : List LineWork → List (List ℕ) → Type 0
+ArePlaces lines open_places = (t : ℕ) → All (λ place. place < length lines) (places_of t open_places)
+
 -- What is kept while events come, T being those so far.
 pub record IsSplitting (T : Recording) (keys : List ℕ) (lines : List LineWork) (open_places : List (List ℕ)) (fences : List Step) : Type 0 where
   pub known : keys ≡ lines_of (history T (length T.events))
   pub line_each : map line_in lines ≡ keys
   pub job_each : All (IsLeanJob T) lines
   pub threads : length open_places ≡ 256
-  pub open_each : (t place : ℕ) (d : LineWork) → place < length lines →
-      (has_line place (places_of t open_places) ≡ true) ↔ (open_mark t (slice_index_or lines place d).line (history T (length T.events)) ≢ None)
-  pub placed : (t : ℕ) → All (λ place. place < length lines) (places_of t open_places)
+  pub open_each : OpenEach (history T (length T.events)) lines open_places
+  pub placed : ArePlaces lines open_places
   pub thread_job : IsThreadJobOf T fences
 
 -- The jobs, with an empty one for the line if it has none yet.
