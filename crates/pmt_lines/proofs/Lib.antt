@@ -4,3 +4,5 @@ pub mod FenceLemmas
 pub mod FenceRunLemmas
 pub mod PlaceLemmas
 pub mod GrowLemmas
+pub mod LineActLemmas
+pub mod SplitLemmas
