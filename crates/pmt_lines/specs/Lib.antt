@@ -5,3 +5,4 @@ pub mod LineFindings
 pub mod Raises
 pub mod Fences
 pub mod Scans
+pub mod Splitting

@@ -55,11 +55,7 @@ pub fn run_fences(alloc: Global, job: ThreadJob) -> Result<ThreadResult, OutOfMe
     let mut empty = Vec::new(alloc);
     let steps = job.steps();
     for step in steps {
-        let Step {
-            number,
-            thread,
-            kind,
-        } = *step;
+        let Step { number, thread, kind } = *step;
         let has_flushed = flushed[thread as usize];
         flushed[thread as usize] = kind.is_flush();
         if kind.is_fence() && !has_flushed {
