@@ -35,7 +35,7 @@ pub record AreFoundTo (T : Recording) (l n : ℕ) (found : List Finding) : Type 
   pub just : (f : Finding) → HasFinding found f ↔ (IsLineFinding T l f × (reported_at f ≤ n))
 
 -- a finding of the line is at an event that matters to it
-finding-touches : (T : Recording) (l : ℕ) (f : Finding) → IsLineFinding T l f → Touches T l (reported_at f)
+pub finding-touches : (T : Recording) (l : ℕ) (f : Finding) → IsLineFinding T l f → Touches T l (reported_at f)
 finding-touches T l f h = go (finding-act T l f h)
   where
     go : HasAct T l (reported_at f) → Touches T l (reported_at f)
