@@ -9,7 +9,7 @@ use Rattle.pmt_model.specs.Traces.{Recording, IsTrace, history}
 use Rattle.pmt_model.specs.Fronts.{front_at}
 use Rattle.pmt_model.specs.Findings.{last_flush}
 use Rattle.pmt_model.specs.Analyses.{reported_at, InReportOrder, HasFinding}
-use Rattle.pmt_model.proofs.Histories.{act-within}
+use Rattle.pmt_laws.proofs.Histories.{act-within}
 use Rattle.pmt_marks.proofs.FollowLemmas.{follows-start}
 use Rattle.pmt_lines.specs.declared.raises.Raise.{Raise}
 use Rattle.pmt_lines.specs.declared.step.StepKind.{StepKind}

@@ -10,8 +10,8 @@ use Rattle.pmt_model.specs.Traces.{Recording, IsAct, history, count_at}
 use Rattle.pmt_model.specs.Fronts.{front_at, open_mark}
 use Rattle.pmt_model.specs.Findings.{IsRedundantFlush, IsRedundantClflush}
 use Rattle.pmt_model.specs.Analyses.{reported_at, InReportOrder, HasFinding}
-use Rattle.pmt_model.proofs.Histories.{act-unique, history-act}
-use Rattle.pmt_model.proofs.RedundantLemmas.{redundant_flush_by_fronts, redundant_clflush_by_fronts}
+use Rattle.pmt_laws.proofs.Histories.{act-unique, history-act}
+use Rattle.pmt_laws.proofs.RedundantLemmas.{redundant_flush_by_fronts, redundant_clflush_by_fronts}
 use Rattle.pmt_marks.specs.Lines.{mark_in}
 use Rattle.pmt_lines.specs.declared.line_findings.Scan.{Scan}
 use Rattle.pmt_lines.specs.LineFindings.{IsLineFinding}

@@ -6,7 +6,7 @@ use Rattle.pmt_model.specs.Values.{Written, line_of}
 use Rattle.pmt_model.specs.Machine.{Act, Stores, Flushes, FlushesNow, Fences, Asserts, writes}
 use Rattle.pmt_model.specs.Traces.{Recording, IsTrace, IsAct, history}
 use Rattle.pmt_model.specs.Findings.{last_number, last_flush}
-use Rattle.pmt_model.proofs.Histories.{history-act, history-step, act-within, length-history}
+use Rattle.pmt_laws.proofs.Histories.{history-act, history-step, act-within, length-history}
 use Rattle.pmt_marks.specs.Lines.{Follows}
 use Rattle.pmt_lines.specs.declared.step.StepKind.{StepKind}
 use Rattle.pmt_lines.specs.declared.step.StepKind.TheVariants.{Store, Flush, Clflush, Fence}

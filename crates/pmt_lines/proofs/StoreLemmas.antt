@@ -11,9 +11,9 @@ use Rattle.pmt_model.specs.Fronts.{front_at}
 use Rattle.pmt_model.specs.Findings.{IsNeverPersisted, IsFlushOf, ByFlush, ByClflush, IsFlushedAfter, IsOverwritten, OverwritesBefore, last_number, last_flush}
 use Rattle.pmt_model.specs.Selections.{Has}
 use Rattle.pmt_model.specs.Analyses.{reported_at, IsReportedBefore, HasFinding}
-use Rattle.pmt_model.proofs.Histories.{act-unique, act-within, history-act}
-use Rattle.pmt_model.proofs.NeverLemmas.{never_persisted_by_fronts}
-use Rattle.pmt_model.proofs.OverwrittenLemmas.{overwritten_by_numbers, last_number-is, IsLastWriter, IsLastFlush, last_flush-tells}
+use Rattle.pmt_laws.proofs.Histories.{act-unique, act-within, history-act}
+use Rattle.pmt_laws.proofs.NeverLemmas.{never_persisted_by_fronts}
+use Rattle.pmt_laws.proofs.OverwrittenLemmas.{overwritten_by_numbers, last_number-is, IsLastWriter, IsLastFlush, last_flush-tells}
 use Rattle.pmt_lines.specs.declared.line_findings.Scan.{Scan}
 use Rattle.pmt_lines.specs.declared.line_findings.Ending.{Ending}
 use Rattle.pmt_lines.specs.LineFindings.{IsLineFinding}
