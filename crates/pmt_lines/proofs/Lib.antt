@@ -6,3 +6,4 @@ pub mod PlaceLemmas
 pub mod GrowLemmas
 pub mod LineActLemmas
 pub mod SplitLemmas
+pub mod FenceActLemmas
