@@ -7,3 +7,4 @@ pub mod GrowLemmas
 pub mod LineActLemmas
 pub mod SplitLemmas
 pub mod FenceActLemmas
+pub mod TakeLemmas
