@@ -10,6 +10,16 @@ pub mod CutLemmas
 pub mod FaithfulLemmas
 pub mod LastFlushes
 pub mod KeepLemmas
+pub mod CutActs
+pub mod Pigeonhole
+pub mod SameFronts
+pub mod Partners
+pub mod ShortestLemmas
+pub mod NeededFlushes
+pub mod NewStores
+pub mod NoWaste
+pub mod TrimmedTwice
+pub mod WholeSelections
 pub mod AssertLemmas
 pub mod NeverLemmas
 pub mod StayLemmas

@@ -3,5 +3,6 @@
 pub mod findings;
 pub mod fronts;
 pub mod keeping;
+pub mod shortest;
 pub mod verdicts;
 pub mod needed;
