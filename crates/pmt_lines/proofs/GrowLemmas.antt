@@ -44,6 +44,19 @@ pub walk-last : (A : Step → Type 0) (M : ℕ → Type 0) (low n : ℕ) (steps 
 walk-last A M low n [] within h w = h
 walk-last A M low n (s ∷ steps) within h w = walk-last A M s.number n steps within (within s w.1) w.3
 
+thread_kind-within : (T : Recording) (n t : ℕ) (kind : StepKind) → IsThreadKind T n t kind → n ≤ length T.events
+thread_kind-within T n t (Store addr len) is = absurd is
+thread_kind-within T n t Flush is = (act-within T n (Flushes t is.0) is.1).1
+thread_kind-within T n t Clflush is = absurd is
+thread_kind-within T n t Fence is = (act-within T n (Fences t) is).1
+
+-- all steps are among the events
+pub last-lean : (T : Recording) (job : LineWork) → IsLeanJob T job → last_number 0 job.steps ≤ length T.events
+last-lean T job lean = walk-last (IsStepOf T job.line) (Touches T job.line) 0 (length T.events) job.steps (λ s is. (kind-within T job.line s.number s.thread s.kind is.kind).1) (omega arith) lean.0
+
+pub last-thread : (T : Recording) (steps : List Step) → IsThreadJobOf T steps → last_number 0 steps ≤ length T.events
+last-thread T steps job = walk-last (IsThreadStep T) (IsFlushOrFence T) 0 (length T.events) steps (λ s is. thread_kind-within T s.number s.thread s.kind is) (omega arith) job
+
 module _ (T : Recording) (e : Event) where
   pub length-grown : length (with_event T e).events ≡ suc (length T.events)
   length-grown = length-append T.events (e ∷ []) ∙ omega arith
@@ -137,12 +150,6 @@ module _ (T : Recording) (e : Event) where
         (omega arith) is lean.0,
       each-push job.line job.steps s (each-to job.line job.steps lean.1) touches)
 
-  thread_kind-within : (n t : ℕ) (kind : StepKind) → IsThreadKind T n t kind → n ≤ length T.events
-  thread_kind-within n t (Store addr len) is = absurd is
-  thread_kind-within n t Flush is = (act-within T n (Flushes t is.0) is.1).1
-  thread_kind-within n t Clflush is = absurd is
-  thread_kind-within n t Fence is = (act-within T n (Fences t) is).1
-
   thread_kind-to : (n t : ℕ) (kind : StepKind) → IsThreadKind T n t kind → IsThreadKind (with_event T e) n t kind
   thread_kind-to n t (Store addr len) is = is
   thread_kind-to n t Flush is = (is.0, act-to n (Flushes t is.0) is.1)
@@ -177,14 +184,7 @@ module _ (T : Recording) (e : Event) where
   pub thread_job-takes : (steps : List Step) (s : Step) → s.number ≡ suc (length T.events) → IsThreadStep (with_event T e) s → IsThreadJobOf T steps → IsThreadJobOf (with_event T e) (steps ++ s ∷ [])
   thread_job-takes steps s last is job =
       walk-takes (IsThreadStep T) (IsThreadStep (with_event T e)) (IsFlushOrFence T) (IsFlushOrFence (with_event T e)) 0 steps s
-      (λ x one. (thread_kind-to x.number x.thread x.kind one, omega (arith, thread_kind-within x.number x.thread x.kind one)))
+      (λ x one. (thread_kind-to x.number x.thread x.kind one, omega (arith, thread_kind-within T x.number x.thread x.kind one)))
       (λ k h. flush_or_fence-from k (omega arith))
       (λ k h. flush_or_fence-past k (omega arith))
       (omega arith) is job
-
-  -- all steps come before the new event
-  pub last-lean : (job : LineWork) → IsLeanJob T job → last_number 0 job.steps ≤ length T.events
-  last-lean job lean = walk-last (IsStepOf T job.line) (Touches T job.line) 0 (length T.events) job.steps (λ s is. (kind-within T job.line s.number s.thread s.kind is.kind).1) (omega arith) lean.0
-
-  pub last-thread : (steps : List Step) → IsThreadJobOf T steps → last_number 0 steps ≤ length T.events
-  last-thread steps job = walk-last (IsThreadStep T) (IsFlushOrFence T) 0 (length T.events) steps (λ s is. thread_kind-within s.number s.thread s.kind is) (omega arith) job

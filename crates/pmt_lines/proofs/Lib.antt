@@ -14,3 +14,5 @@ pub mod PlaceLemmas
 pub mod GrowLemmas
 pub mod LineActLemmas
 pub mod SplitLemmas
+pub mod FenceActLemmas
+pub mod TakeLemmas

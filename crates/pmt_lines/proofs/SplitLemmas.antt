@@ -13,7 +13,7 @@ use Rattle.pmt_lines.specs.declared.step.Step.{Step}
 use Rattle.pmt_lines.specs.Steps.{LineWork, last_number, with_step}
 use Rattle.pmt_lines.specs.Jobs.{IsStepOf, Touches, ByFence, IsThreadJobOf}
 use Rattle.pmt_lines.specs.Splitting.{IsLeanJob, line_in, places_of, with_place, OpenEach, ArePlaces, IsSplitting, IsSplit, with_job, TakesOnLine, EndBefore, EndsAt}
-use Rattle.pmt_lines.proofs.GrowLemmas.{length-grown, history-old, history-new, act-new, job-stays, job-takes, last-lean}
+use Rattle.pmt_lines.proofs.GrowLemmas.{length-grown, history-old, history-new, act-new, job-stays, job-takes}
 use Rattle.pmt_lines.proofs.PlaceLemmas.{has_line-push_same, has_line-push_other, lines-with_job}
 use Rattle.pmt_lines.proofs.LineActLemmas.{IsOnLine, touches-own_line, untouched-other_line, untouched-assert, untouched-fence, lines_of-on_line, open_mark-absent, empty_job}
 

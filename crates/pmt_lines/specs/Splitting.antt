@@ -2,8 +2,11 @@
 use Rattle.std.specs.Prelude.{◌≡◌, ◌≢◌, ℕ, ◌<◌, ◌↔◌, true, if◌then◌else◌, List, [], ◌∷◌, ◌++◌, length, map, None, All, slice_index_or, slice_set}
 use Rattle.std.specs.List.{AllByRecursion}
 use Rattle.pmt_model.specs.Traces.{Recording, history, lines_of, has_line, with_line}
-use Rattle.pmt_model.specs.Machine.{Act}
+use Rattle.pmt_model.specs.Values.{Written}
+use Rattle.pmt_model.specs.Machine.{Act, Stores, FlushesNow}
 use Rattle.pmt_model.specs.Fronts.{open_mark}
+use Rattle.pmt_lines.specs.declared.step.StepKind.{StepKind}
+use Rattle.pmt_lines.specs.declared.step.StepKind.TheVariants.{Store, Flush, Clflush, Fence}
 use Rattle.pmt_lines.specs.declared.step.Step.{Step}
 use Rattle.pmt_lines.specs.Steps.{LineWork, last_number, with_step}
 use Rattle.pmt_lines.specs.Jobs.{IsJobOf, EachTouches, IsThreadJobOf}
@@ -69,3 +72,10 @@ pub record EndsAt (places : List ℕ) (s : Step) (old new : List LineWork) : Typ
   pub same_length : length new ≡ length old
   pub each : (k : ℕ) (d : LineWork) → k < length old →
       slice_index_or new k d ≡ (if has_line k places then with_step (slice_index_or old k d) s else slice_index_or old k d)
+
+-- The act is the store to line l, or the clflush of it, that the kind of step tells.
+abbrev pub IsAccess : ℕ → StepKind → Act → Type 0
+IsAccess l (Store addr len) a = (w : Written) × (a ≡ Stores l w) × (w.addr ≡ addr) × (length w.bytes ≡ len)
+IsAccess l Flush a = ⊥
+IsAccess l Clflush a = a ≡ FlushesNow l
+IsAccess l Fence a = ⊥

@@ -42,9 +42,9 @@ push-requires-2-clause-later c =
     let before = end_before-with_job c.args.step.number c.args.line c.args.lines.now.keys c.args.jobs.now.items c.requires.numbered c.requires.later in
     omega (arith, before c.in_ok-place.place c.index_mut.result.now (taken c).within, ap (λ (j : LineWork). last_number 0 j.steps) (read_then c))
 
-pub returns-clause-taken : goal.returns-clause-taken
-returns-clause-taken c =
-    let a = (goal.at.returns-clause-taken c).After-index_mut in
+pub returns : goal.returns
+returns c =
+    let a = (goal.at.returns c).After-index_mut in
     let l = c.args.line in
     let keys = c.args.lines.now.keys in
     let jobs = c.args.jobs.now.items in
