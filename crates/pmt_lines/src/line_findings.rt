@@ -238,3 +238,62 @@ pub(crate) fn line_findings(
     }
     Ok(found)
 }
+
+#[cfg(test)]
+mod tests {
+    use super::*;
+    use crate::raises::run_line;
+    use std::test::Fail;
+
+    fn store(number: u64, addr: u64, len: u64) -> Step
+        ensures { result ≡ record { number = number; thread = 0; kind = StepKind.Store addr len } }
+    {
+        Step {
+            number,
+            thread: 0,
+            kind: StepKind::Store { addr, len },
+        }
+    }
+
+    fn step(number: u64, kind: StepKind) -> Step
+        ensures { result ≡ record { number = number; thread = 0; kind = kind } }
+    {
+        Step {
+            number,
+            thread: 0,
+            kind,
+        }
+    }
+
+    // Two bytes stored one by one, and then both at once.
+    #[test]
+    fn overwritten(rt: HostRuntime) -> Result<(), Fail> {
+        let mut job = LineJob::new(rt.alloc(), 64);
+        job.push(store(1, 0x1000, 1))?;
+        job.push(store(2, 0x1001, 1))?;
+        job.push(store(3, 0x1000, 2))?;
+        let never = |event| Finding::NeverPersisted {
+            event,
+            flushed: false,
+        };
+        let over = |earlier| Finding::Overwritten { earlier, later: 3 };
+        let found = run_line(rt.alloc(), job)?;
+        assert_eq!(rt; found.findings(), [never(1), never(2), over(1), over(2), never(3)].as_slice());
+        Ok(())
+    }
+
+    // The second flush has no store that the first one has not marked, and the third comes after the fence.
+    #[test]
+    fn redundant(rt: HostRuntime) -> Result<(), Fail> {
+        let mut job = LineJob::new(rt.alloc(), 64);
+        job.push(store(1, 0x1000, 1))?;
+        job.push(step(2, StepKind::Flush))?;
+        job.push(step(3, StepKind::Flush))?;
+        job.push(step(4, StepKind::Fence))?;
+        job.push(step(5, StepKind::Flush))?;
+        let flush = |event| Finding::RedundantFlush { event };
+        let found = run_line(rt.alloc(), job)?;
+        assert_eq!(rt; found.findings(), [flush(3), flush(5)].as_slice());
+        Ok(())
+    }
+}
