@@ -2,3 +2,17 @@ pub mod StepLemmas
 pub mod RunLemmas
 pub mod FenceLemmas
 pub mod FenceRunLemmas
+pub mod RisingLemmas
+pub mod EndLemmas
+pub mod TraceLemmas
+pub mod ScanLemmas
+pub mod FindingLists
+pub mod ReportLemmas
+pub mod StoreLemmas
+pub mod FoundLemmas
+pub mod PlaceLemmas
+pub mod GrowLemmas
+pub mod LineActLemmas
+pub mod SplitLemmas
+pub mod FenceActLemmas
+pub mod TakeLemmas

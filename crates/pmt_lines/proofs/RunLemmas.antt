@@ -5,7 +5,7 @@ use Rattle.std.proofs.lemmas.List.{drop_more, drop_all}
 use Rattle.pmt_model.specs.Machine.{Act, Stores, Flushes, FlushesNow, Fences, Asserts}
 use Rattle.pmt_model.specs.Traces.{Recording, IsAct, history, event_limit}
 use Rattle.pmt_model.specs.Fronts.{open_mark, front_at}
-use Rattle.pmt_model.proofs.Histories.{history-act, history-step, act-within, front-mono}
+use Rattle.pmt_laws.proofs.Histories.{history-act, history-step, act-within, front-mono}
 use Rattle.pmt_marks.specs.Lines.{Line, Follows}
 use Rattle.pmt_marks.specs.Others.{LeavesBe}
 use Rattle.pmt_marks.proofs.FollowLemmas.{follows-start, others_leave}
@@ -19,7 +19,7 @@ use Rattle.pmt_lines.specs.Running.{TakesKind, TakesStep}
 use Rattle.pmt_lines.specs.Raises.{RaisesBetween, IsRaises, IsLineResult}
 
 -- an event that doesn't matter to the line concerns other lines alone
-leaves-be : (T : Recording) (l n : ℕ) (a : Act) → IsAct T (suc n) a → ¬ Touches T l (suc n) → LeavesBe l (history T n) a
+pub leaves-be : (T : Recording) (l n : ℕ) (a : Act) → IsAct T (suc n) a → ¬ Touches T l (suc n) → LeavesBe l (history T n) a
 leaves-be T l n (Stores k w) is untouched = λ same. untouched (ByStore w (subst (λ j. IsAct T (suc n) (Stores j w)) same is))
 leaves-be T l n (Flushes t k) is untouched = λ same. untouched (ByFlush t (subst (λ j. IsAct T (suc n) (Flushes t j)) same is))
 leaves-be T l n (FlushesNow k) is untouched = λ same. untouched (ByClflush (subst (λ j. IsAct T (suc n) (FlushesNow j)) same is))
@@ -40,7 +40,7 @@ follows-next T l n line untouched f =
     | inr x ↦ rw x.1 f ]
 
 -- and after several such events
-follows-over : (T : Recording) (l low n : ℕ) (line : Line) → low ≤ n → ((k : ℕ) → low < k → k ≤ n → ¬ Touches T l k) → Follows l (history T low) line → Follows l (history T n) line
+pub follows-over : (T : Recording) (l low n : ℕ) (line : Line) → low ≤ n → ((k : ℕ) → low < k → k ≤ n → ¬ Touches T l k) → Follows l (history T low) line → Follows l (history T n) line
 follows-over T l low zero line h untouched f = let e : low ≡ 0 = omega arith in subst (λ k. Follows l (history T k) line) e f
 follows-over T l low (suc n) line h untouched f =
     elim (cases_lt n low)
@@ -95,14 +95,14 @@ running-start l steps rising =
     }
 
 -- a step's number is that of an event
-kind-within : (T : Recording) (l n t : ℕ) (kind : StepKind) → IsKind T l n t kind → (1 ≤ n) × (n ≤ length T.events)
+pub kind-within : (T : Recording) (l n t : ℕ) (kind : StepKind) → IsKind T l n t kind → (1 ≤ n) × (n ≤ length T.events)
 kind-within T l n t (Store addr len) is = act-within T n (Stores l is.0) is.1
 kind-within T l n t Flush is = act-within T n (Flushes t l) is
 kind-within T l n t Clflush is = act-within T n (FlushesNow l) is
 kind-within T l n t Fence is = act-within T n (Fences t) is
 
 -- the state after a step follows the line
-follows-kind : (T : Recording) (l n t : ℕ) (kind : StepKind) (old new : Line) → IsKind T l (suc n) t kind → TakesKind l t kind old new → Follows l (history T n) old → Follows l (history T (suc n)) new
+pub follows-kind : (T : Recording) (l n t : ℕ) (kind : StepKind) (old new : Line) → IsKind T l (suc n) t kind → TakesKind l t kind old new → Follows l (history T n) old → Follows l (history T (suc n)) new
 follows-kind T l n t (Store addr len) old new is takes f = rw (history-act T n (Stores l is.0) is.1) (takes (history T n) is.0 f)
 follows-kind T l n t Flush old new is takes f = rw (history-act T n (Flushes t l) is) (takes (history T n) f)
 follows-kind T l n t Clflush old new is takes f = rw (history-act T n (FlushesNow l) is) (takes (history T n) f)

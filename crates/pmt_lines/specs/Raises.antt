@@ -1,10 +1,12 @@
--- Where the front of a line rises.
+-- Where the front of a line rises, and what is found of it.
 use Rattle.std.specs.Prelude.{◌≡◌, ℕ, ◌<◌, ◌≤◌, List, [], ◌∷◌, length}
-use Rattle.pmt_model.specs.Traces.{Recording}
+use Rattle.pmt_model.specs.declared.finding.Finding.{Finding}
+use Rattle.pmt_model.specs.Traces.{Recording, IsTrace}
 use Rattle.pmt_model.specs.Fronts.{front_at}
 use Rattle.pmt_lines.specs.declared.raises.Raise.{Raise}
 use Rattle.pmt_lines.specs.Steps.{LineWork}
 use Rattle.pmt_lines.specs.Jobs.{IsJobOf}
+use Rattle.pmt_lines.specs.LineFindings.{AreLineFindings}
 
 -- From place low to place high the front of the line rises at these places, to these numbers, and nowhere else.
 abbrev pub RaisesBetween : Recording → ℕ → ℕ → ℕ → List Raise → Type 0
@@ -17,11 +19,19 @@ RaisesBetween T l low high (r ∷ raises) =
 abbrev pub IsRaises : Recording → ℕ → List Raise → Type 0
 IsRaises T l raises = RaisesBetween T l 0 (length T.events) raises
 
+-- In whatever trace the job and the raises are of the line, these are its findings.
+abbrev pub FindsLine : LineWork → List Raise → List Finding → Type 0
+FindsLine job raises findings =
+    (T : Recording) → IsTrace T → IsJobOf T job.line job.steps → IsRaises T job.line raises → AreLineFindings T job.line findings
+
 -- What contracts see of the result of a line's job.
 pub record LineFound : Type 0 where
   pub job : LineWork
   pub raises : List Raise
+  pub findings : List Finding
 
--- What every value of type LineResult keeps: the raises are those of its job's line, in whatever trace the job is of.
+-- What every value of type LineResult keeps: the raises and the findings are those of its job's line, in whatever trace the job
+-- is of.
 pub record IsLineResult (r : LineFound) : Type 0 where
   pub raises : (T : Recording) → IsJobOf T r.job.line r.job.steps → IsRaises T r.job.line r.raises
+  pub findings : (T : Recording) → IsTrace T → IsJobOf T r.job.line r.job.steps → AreLineFindings T r.job.line r.findings

@@ -5,7 +5,11 @@
 
 pub mod fences;
 pub mod job;
+mod last_stores;
+mod line_findings;
+mod open;
 pub mod raises;
+mod splitter;
 pub mod step;
 
 pub use crate::fences::{ThreadResult, run_fences};

@@ -4,9 +4,10 @@ ghost use Rattle.pmt_lines.specs.Running.{TakesStep};
 ghost use Rattle.pmt_lines.specs.Raises.{IsLineResult};
 
 use crate::job::LineJob;
+use crate::line_findings::line_findings;
 use crate::step::{Step, StepKind};
 use pmt_marks::LineState;
-use pmt_model::OutOfMemory;
+use pmt_model::{Finding, OutOfMemory};
 use std::alloc::Global;
 use std::marker::Model;
 
@@ -24,6 +25,7 @@ pub struct Raise {
 pub struct LineResult {
     job: LineJob,
     raises: Vec<Raise>,
+    findings: Vec<Finding>,
 }
 
 impl Model for LineResult {
@@ -31,9 +33,9 @@ impl Model for LineResult {
 
     ghost Value = { LineFound };
 
-    ghost view = { λ r. record { job = r.job; raises = r.raises.items } };
+    ghost view = { λ r. record { job = r.job; raises = r.raises.items; findings = r.findings.items } };
 
-    ghost invariant = { λ r. IsLineResult (record { job = r.job; raises = r.raises.items }) };
+    ghost invariant = { λ r. IsLineResult (record { job = r.job; raises = r.raises.items; findings = r.findings.items }) };
 }
 
 impl LineResult {
@@ -52,6 +54,14 @@ impl LineResult {
     {
         self.raises.as_slice()
     }
+
+    /// The findings of the line, in report order: overwritten stores, stores never persisted, redundant flushes.
+    pub fn findings(&self) -> &[Finding]
+        ensures value { result.now ≡ self.now.findings }
+        ensures right { IsLineResult self.now }
+    {
+        self.findings.as_slice()
+    }
 }
 
 /// Runs the job of a line.
@@ -66,19 +76,35 @@ pub fn run_line(alloc: Global, job: LineJob) -> Result<LineResult, OutOfMemory>
     let mut raises = Vec::new(alloc);
     let steps = job.steps();
     for step in steps {
-        let Step { number, thread, kind } = *step;
-        if take_step(&mut state, Step { number, thread, kind })? {
+        let Step {
+            number,
+            thread,
+            kind,
+        } = *step;
+        if take_step(
+            &mut state,
+            Step {
+                number,
+                thread,
+                kind,
+            },
+        )? {
             raises.push(Raise {
                 place: number,
                 front: state.front(),
             })?;
         }
     }
-    Ok(LineResult { job, raises })
+    let findings = line_findings(alloc, &job, raises.as_slice())?;
+    Ok(LineResult {
+        job,
+        raises,
+        findings,
+    })
 }
 
 // What the step does to the line's state: true where the front rose.
-fn take_step(state: &mut LineState, step: Step) -> Result<bool, OutOfMemory>
+pub(crate) fn take_step(state: &mut LineState, step: Step) -> Result<bool, OutOfMemory>
     requires { state.old.count < event_limit }
     ensures takes { OnOk result (TakesStep step state.old state.new) }
     ensures rose { IfOk result (λ rose. IsTrue rose ↔ (state.old.front < state.new.front)) }

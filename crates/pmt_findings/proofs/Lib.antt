@@ -1,0 +1,3 @@
+pub mod SortLemmas
+pub mod GatherLemmas
+pub mod WholeLemmas

@@ -1,0 +1,299 @@
+ghost use Rattle.std.specs.Prelude.{◌≡◌, ℕ, ◌+◌, ◌%◌, ◌<◌, ◌≤◌, [], ◌++◌, replicate, IfOk, OnOk, MatchOption};
+ghost use Rattle.pmt_model.specs.Traces.{event_limit};
+ghost use Rattle.pmt_lines.specs.Steps.{IsStepKind};
+ghost use Rattle.pmt_lines.specs.Running.{TakesStep};
+ghost use Rattle.pmt_lines.specs.Raises.{FindsLine};
+ghost use Rattle.pmt_lines.specs.Scans.{found_if, last_front_of, last_flush_of, flush_after, is_marked, IsNextAbove, IsNoneAbove, PushesOverwritten, Reports, ReportsStore, TakesBytes};
+
+use crate::job::LineJob;
+use crate::last_stores::LastStores;
+use crate::raises::{Raise, take_step};
+use crate::step::{Step, StepKind};
+use pmt_marks::LineState;
+use pmt_model::{Finding, OutOfMemory};
+use std::alloc::Global;
+
+/// What is known of a line while its steps go by.
+#[derive(Drop)]
+pub(crate) struct Scan {
+    pub(crate) state: LineState,
+    pub(crate) stores: LastStores,
+    // The number of the last flush or clflush of the line, or 0.
+    pub(crate) flush: u32,
+}
+
+/// What is known of a line at the end of the trace: its front, and the number of its last flush or clflush, or 0.
+#[derive(Clone, Copy)]
+pub(crate) struct Ending {
+    pub(crate) front: u64,
+    pub(crate) flush: u64,
+}
+
+// The front after the last raise.
+fn last_front(raises: &[Raise]) -> u64
+    ensures { result ≡ last_front_of 0 raises.now }
+{
+    match raises.last() {
+        Some(raise) => raise.front,
+        None => 0,
+    }
+}
+
+// The number of the last flush or clflush, or 0.
+fn last_flush(steps: &[Step]) -> u64
+    ensures { result ≡ last_flush_of 0 steps.now }
+{
+    let mut last = 0;
+    for step in steps {
+        match step.kind {
+            StepKind::Flush | StepKind::Clflush => last = step.number,
+            StepKind::Store { .. } | StepKind::Fence => {}
+        }
+    }
+    last
+}
+
+// The least of the numbers that are above low.
+fn next_above(numbers: &[u32], low: u32) -> Option<u32>
+    ensures { MatchOption result (IsNoneAbove low numbers.now) (IsNextAbove low numbers.now) }
+{
+    let mut next = None;
+    for number in numbers {
+        if *number > low && next.is_none_or(|least| *number < least) {
+            next = Some(*number);
+        }
+    }
+    next
+}
+
+// Adds the finding, if it is one.
+fn push_if(found: &mut Vec<Finding>, is_one: bool, finding: Finding) -> Result<(), OutOfMemory>
+    ensures { OnOk result (found.new.items ≡ found.old.items ++ found_if is_one finding) }
+{
+    if is_one {
+        found.push(finding)?;
+    }
+    Ok(())
+}
+
+// Adds that the later store overwrites each of the earlier ones that come after the last flush.
+fn push_overwritten(
+    found: &mut Vec<Finding>,
+    earlier: &[u32],
+    flush: u32,
+    later: u64,
+) -> Result<(), OutOfMemory>
+    ensures { OnOk result (PushesOverwritten found.old.items found.new.items earlier.now flush later) }
+{
+    let mut low = flush;
+    while let Some(next) = next_above(earlier, low) {
+        found.push(Finding::Overwritten {
+            earlier: next as u64,
+            later,
+        })?;
+        low = next;
+    }
+    Ok(())
+}
+
+impl Scan {
+    // Nothing has come yet.
+    fn new(alloc: Global) -> Self
+        ensures state { result.state ≡ record { count = 0; front = 0; marks = [] } }
+        ensures stores { result.stores.numbers ≡ replicate 256 0 }
+        ensures flush { result.flush ≡ 0 }
+    {
+        Scan {
+            state: LineState::new(alloc),
+            stores: LastStores::new(),
+            flush: 0,
+        }
+    }
+
+    // Whether the front or the mark of the thread counts all stores to the line already.
+    fn is_marked(&self, thread: u8) -> bool
+        ensures { result ≡ is_marked self.now.state thread }
+    {
+        let mark = self.state.mark(thread).unwrap_or(0);
+        self.state.count() <= self.state.front().max(mark)
+    }
+
+    // Adds what is found at the step, before it is taken.
+    fn report(
+        &self,
+        found: &mut Vec<Finding>,
+        ending: Ending,
+        step: Step,
+    ) -> Result<(), OutOfMemory>
+        requires { IsStepKind step.kind }
+        ensures { OnOk result (Reports self.now ending step found.old.items found.new.items) }
+    {
+        let number = step.number;
+        match step.kind {
+            StepKind::Store { addr, len } => self.report_store(found, ending, number, addr, len),
+            StepKind::Flush => push_if(
+                found,
+                self.is_marked(step.thread),
+                Finding::RedundantFlush { event: number },
+            ),
+            StepKind::Clflush => push_if(
+                found,
+                self.state.count() <= self.state.front(),
+                Finding::RedundantFlush { event: number },
+            ),
+            StepKind::Fence => Ok(()),
+        }
+    }
+
+    fn report_store(
+        &self,
+        found: &mut Vec<Finding>,
+        ending: Ending,
+        number: u64,
+        addr: u64,
+        len: u64,
+    ) -> Result<(), OutOfMemory>
+        requires { addr % 256 + len ≤ 256 }
+        ensures { OnOk result (ReportsStore self.now ending number addr len found.old.items found.new.items) }
+    {
+        push_overwritten(found, self.stores.of(addr, len), self.flush, number)?;
+        let flushed = number < ending.flush;
+        push_if(
+            found,
+            ending.front < self.state.count() + 1,
+            Finding::NeverPersisted {
+                event: number,
+                flushed,
+            },
+        )
+    }
+
+    // Takes the step.
+    fn take(&mut self, step: Step) -> Result<(), OutOfMemory>
+        requires few { self.old.state.count < event_limit }
+        requires within { step.number ≤ event_limit }
+        requires inside { IsStepKind step.kind }
+        ensures takes { OnOk result (TakesStep step self.old.state self.new.state) }
+        ensures counted { OnOk result (self.new.state.count ≤ self.old.state.count + 1) }
+        ensures bytes { OnOk result (TakesBytes self.old.stores.numbers self.new.stores.numbers step.number step.kind) }
+        ensures flush { OnOk result (self.new.flush ≡ flush_after self.old.flush step.number step.kind) }
+    {
+        let Step {
+            number,
+            thread,
+            kind,
+        } = step;
+        take_step(
+            &mut self.state,
+            Step {
+                number,
+                thread,
+                kind,
+            },
+        )?;
+        match kind {
+            StepKind::Store { addr, len } => self.stores.store(addr, len, number as u32),
+            StepKind::Flush | StepKind::Clflush => self.flush = number as u32,
+            StepKind::Fence => {}
+        }
+        Ok(())
+    }
+}
+
+// The findings of the job's line, in report order.
+pub(crate) fn line_findings(
+    alloc: Global,
+    job: &LineJob,
+    raises: &[Raise],
+) -> Result<Vec<Finding>, OutOfMemory>
+    ensures { IfOk result (λ found. FindsLine job.now raises.now found.items) }
+{
+    let steps = job.steps();
+    let ending = Ending {
+        front: last_front(raises),
+        flush: last_flush(steps),
+    };
+    let mut scan = Scan::new(alloc);
+    let mut found = Vec::new(alloc);
+    for step in steps {
+        let Step {
+            number,
+            thread,
+            kind,
+        } = *step;
+        scan.report(
+            &mut found,
+            ending,
+            Step {
+                number,
+                thread,
+                kind,
+            },
+        )?;
+        scan.take(Step {
+            number,
+            thread,
+            kind,
+        })?;
+    }
+    Ok(found)
+}
+
+#[cfg(test)]
+mod tests {
+    use super::*;
+    use crate::raises::run_line;
+    use std::test::Fail;
+
+    fn store(number: u64, addr: u64, len: u64) -> Step
+        ensures { result ≡ record { number = number; thread = 0; kind = StepKind.Store addr len } }
+    {
+        Step {
+            number,
+            thread: 0,
+            kind: StepKind::Store { addr, len },
+        }
+    }
+
+    fn step(number: u64, kind: StepKind) -> Step
+        ensures { result ≡ record { number = number; thread = 0; kind = kind } }
+    {
+        Step {
+            number,
+            thread: 0,
+            kind,
+        }
+    }
+
+    // Two bytes stored one by one, and then both at once.
+    #[test]
+    fn overwritten(rt: HostRuntime) -> Result<(), Fail> {
+        let mut job = LineJob::new(rt.alloc(), 64);
+        job.push(store(1, 0x1000, 1))?;
+        job.push(store(2, 0x1001, 1))?;
+        job.push(store(3, 0x1000, 2))?;
+        let never = |event| Finding::NeverPersisted {
+            event,
+            flushed: false,
+        };
+        let over = |earlier| Finding::Overwritten { earlier, later: 3 };
+        let found = run_line(rt.alloc(), job)?;
+        assert_eq!(rt; found.findings(), [never(1), never(2), over(1), over(2), never(3)].as_slice());
+        Ok(())
+    }
+
+    // The second flush has no store that the first one has not marked, and the third comes after the fence.
+    #[test]
+    fn redundant(rt: HostRuntime) -> Result<(), Fail> {
+        let mut job = LineJob::new(rt.alloc(), 64);
+        job.push(store(1, 0x1000, 1))?;
+        job.push(step(2, StepKind::Flush))?;
+        job.push(step(3, StepKind::Flush))?;
+        job.push(step(4, StepKind::Fence))?;
+        job.push(step(5, StepKind::Flush))?;
+        let flush = |event| Finding::RedundantFlush { event };
+        let found = run_line(rt.alloc(), job)?;
+        assert_eq!(rt; found.findings(), [flush(3), flush(5)].as_slice());
+        Ok(())
+    }
+}
