@@ -15,7 +15,7 @@ use Rattle.pmt_trim.specs.Kept as kept
 use Rattle.pmt_trim.specs.Kept.{IsKeptFor}
 
 -- a fence that changes the front has an open mark
-fence-touches : (T : Recording) (l n t : ℕ) → IsAct T n (Fences t) → front_at T l n ≢ front_at T l (n - 1) → Touches T l n
+pub fence-touches : (T : Recording) (l n t : ℕ) → IsAct T n (Fences t) → front_at T l n ≢ front_at T l (n - 1) → Touches T l n
 fence-touches T l zero t is changes = absurd (changes refl)
 fence-touches T l (suc n) t is changes = ByFence t is (λ none. changes (unraised none))
   where
@@ -75,7 +75,7 @@ pub record Awaits (T : Recording) (l t low : ℕ) : Type 0 where
   pub unflushed : (k : ℕ) → low < k → k < fence → ¬ IsAct T k (Flushes t l)
 
 -- the flush through which that fence raises the front
-awaited-flush : (T : Recording) (l t n : ℕ) → IsAct T (suc n) (Fences t) → front_at T l (suc n) ≢ front_at T l n →
+pub awaited-flush : (T : Recording) (l t n : ℕ) → IsAct T (suc n) (Fences t) → front_at T l (suc n) ≢ front_at T l n →
     (front_at T l n < mark t l (history T n)) × ((i : ℕ) × IsLastFlush T t l n i)
 awaited-flush T l t n is changes =
     let same : front_at T l (suc n) ≡ max (front_at T l n) (mark t l (history T n)) = ap (front l) (history-act T n (Fences t) is) in

@@ -3,7 +3,9 @@
 //! The definitions stand in `specs/`; those of useful flushes and fences, of cuts and of crashes are pmt_model's.
 #![tactic(auto)]
 
+pub mod join;
 pub mod kept;
 pub mod laws;
 
+pub use crate::join::liveness;
 pub use crate::kept::line_kept;
