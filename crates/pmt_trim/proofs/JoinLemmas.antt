@@ -13,7 +13,7 @@ use Rattle.pmt_model.specs.Machine.{Act, Flushes, FlushesNow, Fences}
 use Rattle.pmt_model.specs.Traces.{Recording, act_of, act, event, IsAct, history, lines_of}
 use Rattle.pmt_model.specs.Selections.{IsRising, Has, always_stays}
 use Rattle.pmt_model.specs.Keeping.{IsKept, Stays, ByFence, ByFlush, ByClflush, IsKeep}
-use Rattle.pmt_model.proofs.Histories.{event-some, event-within, event-none, act-within}
+use Rattle.pmt_laws.proofs.Histories.{event-some, event-within, event-none, act-within}
 use Rattle.pmt_trim.specs.Kept as kept
 use Rattle.pmt_trim.specs.Kept.{IsKeptFor, IsLineKept, AreLinesKept, AreAllKept}
 use Rattle.pmt_trim.specs.Marking.{op_stays, is_marked, MarksThese}

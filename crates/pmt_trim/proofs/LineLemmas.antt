@@ -6,7 +6,7 @@ use Rattle.pmt_model.specs.Machine.{Act, Stores, Flushes, FlushesNow, Fences, As
 use Rattle.pmt_model.specs.Traces.{Recording, IsAct, history, has_line, with_line, lines_of}
 use Rattle.pmt_model.specs.Fronts.{front_at}
 use Rattle.pmt_model.specs.Selections.{Has}
-use Rattle.pmt_model.proofs.Histories.{act-within, history-act, history-step}
+use Rattle.pmt_laws.proofs.Histories.{act-within, history-act, history-step}
 use Rattle.pmt_trim.specs.Kept as kept
 use Rattle.pmt_trim.specs.Kept.{IsKeptFor}
 use Rattle.pmt_trim.proofs.Waiting.{awaited-flush}

@@ -4,7 +4,7 @@ use Rattle.std.specs.Prelude.{◌↔◌, nat_lt}
 use Rattle.std.proofs.Math.Seq.{take-suc}
 use Rattle.std.proofs.lemmas.Bool.{cases_eq, lt-ltb, false≢true}
 use Rattle.std.proofs.lemmas.List.{length-take}
-use Rattle.pmt_model.proofs.CutLemmas.{has-above}
+use Rattle.pmt_laws.proofs.CutLemmas.{has-above}
 use Rattle.pmt_model.specs.Selecting.{first_fall}
 use Rattle.pmt_model.specs.Selections.{IsRising, Has}
 use Rattle.pmt_trim.specs.Marking.{is_marked, MarksThese}
