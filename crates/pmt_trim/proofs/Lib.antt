@@ -5,3 +5,4 @@ pub mod BackLemmas
 pub mod MarkingLemmas
 pub mod LineLemmas
 pub mod JoinLemmas
+pub mod TrimmingLemmas

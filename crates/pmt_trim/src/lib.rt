@@ -6,6 +6,7 @@
 pub mod join;
 pub mod kept;
 pub mod laws;
+pub mod trimming;
 
 pub use crate::join::liveness;
 pub use crate::kept::line_kept;
