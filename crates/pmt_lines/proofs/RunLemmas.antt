@@ -95,7 +95,7 @@ running-start l steps rising =
     }
 
 -- a step's number is that of an event
-kind-within : (T : Recording) (l n t : ℕ) (kind : StepKind) → IsKind T l n t kind → (1 ≤ n) × (n ≤ length T.events)
+pub kind-within : (T : Recording) (l n t : ℕ) (kind : StepKind) → IsKind T l n t kind → (1 ≤ n) × (n ≤ length T.events)
 kind-within T l n t (Store addr len) is = act-within T n (Stores l is.0) is.1
 kind-within T l n t Flush is = act-within T n (Flushes t l) is
 kind-within T l n t Clflush is = act-within T n (FlushesNow l) is

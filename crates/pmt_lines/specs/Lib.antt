@@ -3,3 +3,4 @@ pub mod Jobs
 pub mod Running
 pub mod Raises
 pub mod Fences
+pub mod Splitting

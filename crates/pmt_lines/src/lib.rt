@@ -5,7 +5,9 @@
 
 pub mod fences;
 pub mod job;
+mod open;
 pub mod raises;
+mod splitter;
 pub mod step;
 
 pub use crate::fences::{ThreadResult, run_fences};
