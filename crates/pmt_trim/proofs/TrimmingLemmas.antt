@@ -1,11 +1,17 @@
 -- What is kept for each line, one job after another.
-use Rattle.std.proofs.Common.{◌≡◌, ℕ, ◌≤◌, List, [], ◌∷◌, ◌++◌, map, length, inl, inr, refl, sym, ap, ◌∙◌, arith}
+use Rattle.std.proofs.Common.{◌≡◌, ℕ, ◌≤◌, List, [], ◌∷◌, ◌++◌, map, length, inl, inr, refl, sym, ap, ap₂, ◌∙◌, arith}
 use Rattle.std.proofs.lemmas.List.{map-append}
+use Rattle.std.proofs.lemmas.Option.{same_Some}
 use Rattle.std.specs.List.{AllByRecursion}
+use Rattle.pmt_model.specs.declared.event.Event.{Event}
+use Rattle.pmt_model.specs.Values.{Layout}
 use Rattle.pmt_model.specs.Traces.{Recording}
 use Rattle.pmt_model.specs.Selections.{IsSelection, Has}
 use Rattle.pmt_lines.specs.Steps.{LineWork}
-use Rattle.pmt_trim.specs.Kept.{IsLineKept, AreLinesKept, line_in, IsJob}
+use Rattle.pmt_text.specs.ListSources.{rest_of_trace}
+use Rattle.pmt_lines.specs.Splitting.{line_in, IsLeanJob}
+use Rattle.pmt_lines.specs.Sourcing.{IsWhole}
+use Rattle.pmt_trim.specs.Kept.{IsLineKept, AreLinesKept, IsJob}
 
 -- the jobs without the last one, and that one
 all-front : (P : LineWork → Type 0) (jobs : List LineWork) (job : LineWork) → AllByRecursion P (jobs ++ job ∷ []) → AllByRecursion P jobs × P job
@@ -33,3 +39,13 @@ selection-within T K s = go K (λ k h. s.within k h)
     go : (ks : List ℕ) → ((k : ℕ) → Has ks k → k ≤ length T.events) → AllByRecursion (λ k. k ≤ length T.events) ks
     go [] f = tt
     go (k ∷ ks) f = (f k (inl refl), go ks (λ j h. f j (inr h)))
+
+-- a list source whose whole list was taken apart gave the trace
+pub whole-list : (T R : Recording) → IsWhole (rest_of_trace T 0) R → R ≡ T
+whole-list T R whole =
+    ap₂ (λ (f : Layout) (es : List Event). let r : Recording = record { format = f; events = es } in r) (sym (same_Some T.format R.format whole.format)) (sym whole.events)
+
+-- lean jobs are jobs
+pub jobs-of : (T : Recording) (jobs : List LineWork) → AllByRecursion (IsLeanJob T) jobs → AllByRecursion (IsJob T) jobs
+jobs-of T [] all = tt
+jobs-of T (job ∷ jobs) all = (all.0.0, jobs-of T jobs all.1)

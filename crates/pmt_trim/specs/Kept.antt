@@ -19,10 +19,6 @@ pub record IsLineKept (T : Recording) (l : ℕ) (kept : List ℕ) : Type 0 where
   pub rising : IsRising 0 kept
   pub just : (n : ℕ) → Has kept n ↔ IsKeptFor T l n
 
--- The line of a job.
-abbrev pub line_in : LineWork → ℕ
-line_in job = job.line
-
 -- The job is that of its line in the trace.
 abbrev pub IsJob : Recording → LineWork → Type 0
 IsJob T job = IsJobOf T job.line job.steps

@@ -8,5 +8,9 @@ pub mod kept;
 pub mod laws;
 pub mod trimming;
 
+#[cfg(test)]
+mod tests;
+
 pub use crate::join::liveness;
 pub use crate::kept::line_kept;
+pub use crate::trimming::trim;

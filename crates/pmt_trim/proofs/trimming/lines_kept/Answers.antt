@@ -4,7 +4,8 @@ use Rattle.std.proofs.lemmas.Iterator.Adapters.{YieldsList-from_vec}
 use Rattle.std.proofs.lemmas.Iterator.Consumers.{YieldsList-end}
 use Rattle.std.specs.List.{AllByRecursion}
 use Rattle.pmt_lines.specs.Steps.{LineWork}
-use Rattle.pmt_trim.specs.Kept.{IsLineKept, AreLinesKept, line_in, IsJob}
+use Rattle.pmt_lines.specs.Splitting.{line_in}
+use Rattle.pmt_trim.specs.Kept.{IsLineKept, AreLinesKept, IsJob}
 use Rattle.pmt_trim.proofs.TrimmingLemmas.{jobs-push}
 use Rattle.pmt_trim.proofs.trimming.lines_kept.Goals as goal
 

@@ -1,7 +1,8 @@
 use Rattle.std.proofs.Common.{map}
 use Rattle.std.specs.List.{AllByRecursion}
 use Rattle.pmt_model.specs.Traces.{Recording}
-use Rattle.pmt_trim.specs.Kept.{AreLinesKept, line_in, IsJob}
+use Rattle.pmt_lines.specs.Splitting.{line_in}
+use Rattle.pmt_trim.specs.Kept.{AreLinesKept, IsJob}
 use Rattle.pmt_trim.proofs.trimming.lines_kept.Given as goal
 
 abbrev pub invariant-loop-job : goal.invariant-loop-job
