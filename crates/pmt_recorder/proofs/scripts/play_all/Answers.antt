@@ -1,10 +1,10 @@
-use Rattle.std.proofs.Common.{◌≡◌, ◌<◌, ℕ, length, map, get_or, arith, ap}
+use Rattle.std.proofs.Common.{◌≡◌, ◌<◌, ℕ, length, map, get_or, vec_len, rules, arith, ap, sym, ◌∙◌}
 use Rattle.std.proofs.lemmas.List.{length-map}
 use Rattle.pmt_recorder.proofs.RecordLemmas.{given-tape, thread-given, length-empty_tapes, plays_at}
 use Rattle.pmt_recorder.proofs.scripts.play_all.Goals as goal
 
 pub map_vec-requires-after_bounds : goal.map_vec-requires-after_bounds
-map_vec-requires-after_bounds g c = λ κ i x h e. given-tape (length c.args.scripts.now) i c.args.tapes.items x c.requires h e
+map_vec-requires-after_bounds g c = λ κ ok i x h e. given-tape (length c.args.scripts.now) i c.args.tapes.items x c.requires h e
 
 pub returns-clause-each : goal.returns-clause-each
 returns-clause-each g c = λ t d h.
@@ -15,3 +15,10 @@ returns-clause-each g c = λ t d h.
     let thread : gives.job.thread ≡ t = thread-given n t c.args.tapes.items gives.job gives.job c.requires within (gives.job_is gives.job) in
     let says = gives.call.met in
     plays_at g.L.Roll.format (map (λ script. script.items) c.args.scripts.now) t gives.job.thread (get_or c.in_ok-played.played.items t d) thread says
+
+pub returns-clause-len : goal.returns-clause-len
+returns-clause-len g c =
+    let tapes : length c.args.tapes.items ≡ length c.args.scripts.now = ap length c.requires ∙ length-empty_tapes (length c.args.scripts.now) in
+    let before : length c.args.tapes.items ≡ vec_len c.args.tapes = search rules in
+    let after : length c.in_ok-played.played.items ≡ vec_len c.in_ok-played.played = search rules in
+    after ∙ c.in_ok-played.ensures.len ∙ sym before ∙ tapes
