@@ -7,7 +7,7 @@ use Rattle.pmt_model.specs.Values.{Layout}
 use Rattle.pmt_model.specs.Machine.{Act, Stores, Flushes, FlushesNow, Fences, Asserts, count}
 use Rattle.pmt_model.specs.Traces.{Recording, act}
 use Rattle.pmt_model.specs.Pushing.{with_event}
-use Rattle.pmt_model.proofs.Histories.{length-history}
+use Rattle.pmt_laws.proofs.Histories.{length-history}
 use Rattle.pmt_book.specs.Ends.{whole_history}
 
 -- the acts of events, the newest first, with one more event

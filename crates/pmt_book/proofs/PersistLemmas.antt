@@ -12,7 +12,7 @@ use Rattle.pmt_model.specs.Machine.{Act, Stores, Flushes, FlushesNow, Fences, As
 use Rattle.pmt_model.specs.Fronts.{front}
 use Rattle.pmt_model.specs.Traces.{Recording, IsTrace, IsEventIn, IsOp, act, act_of}
 use Rattle.pmt_model.specs.Assertions.{Placed, last_store, InSpan, PersistPasses}
-use Rattle.pmt_model.proofs.AssertLemmas.{persist_by_fronts}
+use Rattle.pmt_laws.proofs.AssertLemmas.{persist_by_fronts}
 use Rattle.pmt_book.specs.Ends.{whole_history, last_front, last_count, PassesNow}
 use Rattle.pmt_book.specs.Live.{Lines, line_at, IsLive}
 use Rattle.pmt_book.specs.Sparing.{touches, store_on, spares_next, spares}

@@ -1,4 +1,4 @@
-use Rattle.pmt_model.proofs.BoxLemmas.{vectors_are_a_box}
+use Rattle.pmt_laws.proofs.BoxLemmas.{vectors_are_a_box}
 use Rattle.pmt_book.specs.Ends.{whole_history}
 use Rattle.pmt_book.proofs.laws.ends_are_between.Goals as goal
 

@@ -1,4 +1,0 @@
-pub mod Kept
-pub mod Headline
-pub mod Backwards
-pub mod Marking
