@@ -8,6 +8,7 @@ ghost use Rattle.pmt_lines.specs.Splitting.{line_in, IsSplitting, IsAccess, Take
 
 use crate::job::{LineJob, ThreadJob};
 use crate::open::OpenFlushes;
+use crate::splitting::Jobs;
 use crate::step::{Step, StepKind};
 use indexmap::IndexSet;
 use pmt_model::{Event, Format, Op, OutOfMemory, Trace, line_of};
@@ -16,11 +17,11 @@ use std::alloc::{AllocError, Global};
 /// A trace that is taken apart while its events come.
 #[derive(Drop)]
 pub(crate) struct Splitter {
-    pub(crate) trace: Trace,
+    trace: Trace,
     lines: IndexSet<u64>,
-    pub(crate) jobs: Vec<LineJob>,
+    jobs: Vec<LineJob>,
     open_flushes: OpenFlushes,
-    pub(crate) fences: ThreadJob,
+    fences: ThreadJob,
 }
 
 impl Splitter {
@@ -51,6 +52,26 @@ impl Splitter {
         match self.trace.push(Event { thread, op }) {
             Ok(()) => Ok(()),
             Err(_) => Err(AllocError),
+        }
+    }
+
+    // The trace and the jobs.
+    pub(crate) fn finish(self) -> Jobs
+        ensures trace { result.trace ≡ self.trace }
+        ensures lines { result.lines.items ≡ self.jobs.items }
+        ensures fences { result.fences ≡ self.fences }
+    {
+        let Splitter {
+            trace,
+            lines: _,
+            jobs,
+            open_flushes: _,
+            fences,
+        } = self;
+        Jobs {
+            trace,
+            lines: jobs,
+            fences,
         }
     }
 
