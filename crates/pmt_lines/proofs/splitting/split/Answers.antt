@@ -9,10 +9,11 @@ loop-splitter-preserved g c =
     let taken = rw c.in-Some.is at said.taken in
     let told = rw c.in-Some.is at said.told in
     let counted = rw c.in-Some.is at said.failures in
-    let fewer = rw c.in-Some.is at said.room in
-    (rw c.in-Ok-take.ensures.trace
-    (so_far-more (source.coming c.args.source.now) (source.coming c.loop-splitter.source) (source.coming c.next.new.self) (source.state c.args.source.now) (source.state c.loop-splitter.source) (source.state c.next.new.self) (source.known_format c.loop-splitter.source) (source.known_format c.next.new.self) (source.failures c.args.source.now) (source.failures c.loop-splitter.source) (source.failures c.next.new.self) (source.room c.loop-splitter.source) (source.room c.next.new.self) c.loop-splitter.splitter.trace c.loop-splitter.invariant.0 c.in-Some.event taken told said.kept counted fewer),
-    c.in-Ok-take.ensures.so_far)
+    let fewer = rw c.in-Some.is at said.room in (
+      rw c.in-Ok-take.ensures.trace
+          (so_far-more (source.coming c.args.source.now) (source.coming c.loop-splitter.source) (source.coming c.next.new.self) (source.state c.args.source.now) (source.state c.loop-splitter.source) (source.state c.next.new.self) (source.known_format c.loop-splitter.source) (source.known_format c.next.new.self) (source.failures c.args.source.now) (source.failures c.loop-splitter.source) (source.failures c.next.new.self) (source.room c.loop-splitter.source) (source.room c.next.new.self) c.loop-splitter.splitter.trace c.loop-splitter.invariant.0 c.in-Some.event taken told said.kept counted fewer),
+      c.in-Ok-take.ensures.so_far,
+    )
 
 pub returns-clause-apart : goal.returns-clause-apart
 returns-clause-apart g c =
