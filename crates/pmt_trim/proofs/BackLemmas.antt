@@ -56,12 +56,12 @@ awaits-over T l t low s next no_flush no_fence = (back, on)
   where
     back : Awaits T l t s.number → Awaits T l t low
     back a = record {
-        fence = a.fence;
-        later = omega (arith, next.later, a.later);
-        is_fence = a.is_fence;
-        raises = a.raises;
-        unflushed = λ k above below is. at a k below above is (cases_lt k s.number) (cases_lt s.number k)
-      }
+      fence = a.fence;
+      later = omega (arith, next.later, a.later);
+      is_fence = a.is_fence;
+      raises = a.raises;
+      unflushed = λ k above below is. at a k below above is (cases_lt k s.number) (cases_lt s.number k);
+    }
       where
         at : (a : Awaits T l t s.number) → (k : ℕ) → k < a.fence → low < k → IsAct T k (Flushes t l) → (k < s.number) ⊎ (s.number ≤ k) → (s.number < k) ⊎ (k ≤ s.number) → ⊥
         at a k below above is (inl before) other = next.untouched k above before (ByFlush t is)
@@ -70,12 +70,12 @@ awaits-over T l t low s next no_flush no_fence = (back, on)
 
     on : Awaits T l t low → Awaits T l t s.number
     on a = record {
-        fence = a.fence;
-        later = past a (cases_lt a.fence s.number) (cases_lt s.number a.fence);
-        is_fence = a.is_fence;
-        raises = a.raises;
-        unflushed = λ k above below is. a.unflushed k (omega (arith, next.later, above)) below is
-      }
+      fence = a.fence;
+      later = past a (cases_lt a.fence s.number) (cases_lt s.number a.fence);
+      is_fence = a.is_fence;
+      raises = a.raises;
+      unflushed = λ k above below is. a.unflushed k (omega (arith, next.later, above)) below is;
+    }
       where
         past : (a : Awaits T l t low) → (a.fence < s.number) ⊎ (s.number ≤ a.fence) → (s.number < a.fence) ⊎ (a.fence ≤ s.number) → s.number < a.fence
         past a (inl before) other = absurd (next.untouched a.fence a.later before (kept-touches T l a.fence (fence-kept T l t low a)))
@@ -100,12 +100,12 @@ awaits-fence T l t low s rises next tells is = (there, back)
   where
     there : rises ≡ true → Awaits T l t low
     there e = record {
-        fence = s.number;
-        later = next.later;
-        is_fence = is;
-        raises = tells.yes e;
-        unflushed = λ k above below flush. next.untouched k above below (ByFlush t flush)
-      }
+      fence = s.number;
+      later = next.later;
+      is_fence = is;
+      raises = tells.yes e;
+      unflushed = λ k above below flush. next.untouched k above below (ByFlush t flush);
+    }
 
     back : Awaits T l t low → rises ≡ true
     back a = go (cases_Bool rises) (cases_lt a.fence s.number) (cases_lt s.number a.fence)
@@ -127,9 +127,10 @@ told-raised T l low s raises before next told last = go s.number next.later next
     go zero later untouched told at = absurd (omega arith)
     go (suc n) later untouched told at =
         let e : suc n - 1 ≡ n = omega arith in
-        let split = raises-last T l 0 n before last.0 (subst (λ rs. RaisesBetween T l 0 (suc n) rs) last.1 told) at in
-        (raises-before T l 0 low n before split.0 (omega arith) (omega arith) (λ k a b. front-stays T l low k a (λ j x y. untouched j x (omega arith))),
-        record { yes = λ _. subst (λ m. front_at T l (suc n) ≢ front_at T l m) (sym e) split.1; no = λ f. cc })
+        let split = raises-last T l 0 n before last.0 (subst (λ rs. RaisesBetween T l 0 (suc n) rs) last.1 told) at in (
+          raises-before T l 0 low n before split.0 (omega arith) (omega arith) (λ k a b. front-stays T l low k a (λ j x y. untouched j x (omega arith))),
+          record { yes = λ _. subst (λ m. front_at T l (suc n) ≢ front_at T l m) (sym e) split.1; no = λ f. cc },
+        )
 
 -- and where it is elsewhere
 pub told-quiet : (T : Recording) (l low : ℕ) (s : Step) (raises : List Raise) → IsNextStep T l low s → RaisesBetween T l 0 s.number raises → LastIsElsewhere raises s.number →
@@ -141,9 +142,10 @@ told-quiet T l low s raises next told elsewhere = go s.number next.later next.un
     go (suc n) later untouched told elsewhere =
         let e : suc n - 1 ≡ n = omega arith in
         let same : front_at T l (suc n) ≡ front_at T l n = raises-elsewhere T l 0 n raises told (omega arith) elsewhere in
-        let stays : (k : ℕ) → low ≤ k → k ≤ n → front_at T l k ≡ front_at T l low = λ k a b. front-stays T l low k a (λ j x y. untouched j x (omega arith)) in
-        (raises-before T l 0 low (suc n) raises told (omega arith) (omega arith) (λ k a b. at stays same k a b (cases_lt n k)),
-        record { yes = λ f. cc; no = λ _. same ∙ ap (front_at T l) (sym e) })
+        let stays : (k : ℕ) → low ≤ k → k ≤ n → front_at T l k ≡ front_at T l low = λ k a b. front-stays T l low k a (λ j x y. untouched j x (omega arith)) in (
+          raises-before T l 0 low (suc n) raises told (omega arith) (omega arith) (λ k a b. at stays same k a b (cases_lt n k)),
+          record { yes = λ f. cc; no = λ _. same ∙ ap (front_at T l) (sym e) },
+        )
       where
         at : ((k : ℕ) → low ≤ k → k ≤ n → front_at T l k ≡ front_at T l low) → front_at T l (suc n) ≡ front_at T l n → (k : ℕ) → low ≤ k → k ≤ suc n → (n < k) ⊎ (k ≤ n) → front_at T l k ≡ front_at T l low
         at stays same k a b (inl end) = let f : k ≡ suc n = omega arith in ap (front_at T l) f ∙ same ∙ stays n (omega arith) (omega arith)
@@ -192,8 +194,8 @@ waits-before : (T : Recording) (l low : ℕ) (s : Step) (kind : StepKind) (rises
     (t : ℕ) → t < 256 → (get_or (waiting_before kind s.thread rises waiting) t false ≡ true) ↔ Awaits T l t low
 waits-before T l low s (Store addr len) rises waiting next kind tells small size awaited t h =
     let over = awaits-over T l t low s next
-            (λ is. let f : Flushes t l ≡ Stores l kind.0 = act-unique T s.number _ _ is kind.1 in cc)
-            (λ is. let f : Fences t ≡ Stores l kind.0 = act-unique T s.number _ _ is kind.1 in cc) in
+    (λ is. let f : Flushes t l ≡ Stores l kind.0 = act-unique T s.number _ _ is kind.1 in cc)
+    (λ is. let f : Fences t ≡ Stores l kind.0 = act-unique T s.number _ _ is kind.1 in cc) in
     (λ e. over.0 ((awaited t h).0 e), λ a. (awaited t h).1 (over.1 a))
 waits-before T l low s Flush rises waiting next kind tells small size awaited t h = go (cases_eq t s.thread)
   where
@@ -204,13 +206,13 @@ waits-before T l low s Flush rises waiting next kind tells small size awaited t 
     go (inr other) =
         let stays : get_or (set waiting s.thread false) t false ≡ get_or waiting t false = get_or-set_other waiting s.thread t false false other in
         let over = awaits-over T l t low s next
-                (λ is. let f : Flushes t l ≡ Flushes s.thread l = act-unique T s.number _ _ is kind in other (cc))
-                (λ is. let f : Fences t ≡ Flushes s.thread l = act-unique T s.number _ _ is kind in cc) in
+        (λ is. let f : Flushes t l ≡ Flushes s.thread l = act-unique T s.number _ _ is kind in other (cc))
+        (λ is. let f : Fences t ≡ Flushes s.thread l = act-unique T s.number _ _ is kind in cc) in
         (λ e. over.0 ((awaited t h).0 (sym stays ∙ e)), λ a. stays ∙ (awaited t h).1 (over.1 a))
 waits-before T l low s Clflush rises waiting next kind tells small size awaited t h =
     let over = awaits-over T l t low s next
-            (λ is. let f : Flushes t l ≡ FlushesNow l = act-unique T s.number _ _ is kind in cc)
-            (λ is. let f : Fences t ≡ FlushesNow l = act-unique T s.number _ _ is kind in cc) in
+    (λ is. let f : Flushes t l ≡ FlushesNow l = act-unique T s.number _ _ is kind in cc)
+    (λ is. let f : Fences t ≡ FlushesNow l = act-unique T s.number _ _ is kind in cc) in
     (λ e. over.0 ((awaited t h).0 e), λ a. (awaited t h).1 (over.1 a))
 waits-before T l low s Fence rises waiting next kind tells small size awaited t h = go (cases_eq t s.thread)
   where
@@ -222,8 +224,8 @@ waits-before T l low s Fence rises waiting next kind tells small size awaited t 
     go (inr other) =
         let stays : get_or (set waiting s.thread rises) t false ≡ get_or waiting t false = get_or-set_other waiting s.thread t rises false other in
         let over = awaits-over T l t low s next
-                (λ is. let f : Flushes t l ≡ Fences s.thread = act-unique T s.number _ _ is kind in cc)
-                (λ is. let f : Fences t ≡ Fences s.thread = act-unique T s.number _ _ is kind in other (cc)) in
+        (λ is. let f : Flushes t l ≡ Fences s.thread = act-unique T s.number _ _ is kind in cc)
+        (λ is. let f : Fences t ≡ Fences s.thread = act-unique T s.number _ _ is kind in other (cc)) in
         (λ e. over.0 ((awaited t h).0 (sym stays ∙ e)), λ a. stays ∙ (awaited t h).1 (over.1 a))
 
 -- the kept numbers, with the step where it is kept
@@ -269,12 +271,12 @@ pub passed-step : (T : Recording) (l low : ℕ) (s : Step) (rises : Bool) (after
     IsPassed T l low before (waiting_before s.kind s.thread rises waiting) (with_step (is_kept s.kind s.thread rises waiting) s.number numbers)
 passed-step T l low s rises after before waiting numbers next told tells small size passed =
     let more = kept-before T l low s (is_kept s.kind s.thread rises waiting) numbers next
-            (kept-iff T l low s.number s.thread s.kind rises waiting next.one.kind tells small (passed.awaited s.thread small)) passed.rising passed.just in
+    (kept-iff T l low s.number s.thread s.kind rises waiting next.one.kind tells small (passed.awaited s.thread small)) passed.rising passed.just in
     record {
       told = told;
       awaited = waits-before T l low s s.kind rises waiting next next.one.kind tells small size passed.awaited;
       rising = more.0;
-      just = more.1
+      just = more.1;
     }
 
 -- a step of the walk, and the number of the step before it
@@ -318,7 +320,7 @@ passed-none T l steps raises waiting job told start =
           (λ n a b. front-stays T l (last_number 0 steps) n a (λ k x y. end.1 k x));
       awaited = λ t h. (λ e. absurd (false≢true (sym (none t) ∙ e)), λ a. absurd (awaits-none T l t (last_number 0 steps) end.1 a));
       rising = tt;
-      just = λ n. (λ h. absurd h, λ x. absurd (end.1 n x.0 (kept-touches T l n x.1)))
+      just = λ n. (λ h. absurd h, λ x. absurd (end.1 n x.0 (kept-touches T l n x.1)));
     }
 
 -- after the last step back
@@ -373,7 +375,7 @@ turn s found raises left rises keeps waiting after numbers more told unwraps som
     record {
       told = told-left s.number found raises left told unwraps;
       waits = waits ∙ ap (λ b. waiting_before s.kind s.thread b waiting) some;
-      keeps = more_is ∙ ap (λ b. with_step b s.number numbers) (kept ∙ ap (λ b. is_kept s.kind s.thread b waiting) some)
+      keeps = more_is ∙ ap (λ b. with_step b s.number numbers) (kept ∙ ap (λ b. is_kept s.kind s.thread b waiting) some);
     }
 
 -- a number that was added at the end stands first in the reverse

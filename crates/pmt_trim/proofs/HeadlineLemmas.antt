@@ -37,7 +37,7 @@ cut-is-trimmed T K keep =
       never_persisted_stays = λ l i w is. never_persisted_stays T K l i w keep is;
       shortest = λ S selects same. keep_shortest T K S keep selects same;
       no_waste = no_waste T K keep;
-      trimmed_again = λ J again. trimmed_same T K J keep again
+      trimmed_again = λ J again. trimmed_same T K J keep again;
     }
 
 -- the trace cut to what is kept is trimmed

@@ -168,7 +168,7 @@ pub joined-keep : (T : Recording) (lists : List (List ℕ)) (marked : List Bool)
 joined-keep T lists marked K all marks rising has =
     record {
       rising = rising;
-      just = λ n. (λ h. marked-kept T lists n all ((marks n).0 ((has n).0 h)), λ k. (has n).1 ((marks n).1 (kept-marked T lists n all k)))
+      just = λ n. (λ h. marked-kept T lists n all ((marks n).0 ((has n).0 h)), λ k. (has n).1 ((marks n).1 (kept-marked T lists n all k)));
     }
 
 -- and so is the answer, where there is one

@@ -47,9 +47,10 @@ lines-grow l Asserts h x = x
 lines-mono : (T : Recording) (l m n : ℕ) → m ≤ n → Has (lines_of (history T m)) l → Has (lines_of (history T n)) l
 lines-mono T l m zero h x = let e : m ≡ 0 = omega arith in subst (λ k. Has (lines_of (history T k)) l) e x
 lines-mono T l m (suc n) h x =
-    elim (cases_lt n m)
-    [ inl past ↦ let e : m ≡ suc n = omega arith in subst (λ k. Has (lines_of (history T k)) l) e x
-    | inr more ↦ go (history-step T n) (lines-mono T l m n more x) ]
+    elim (cases_lt n m) [
+      | inl past ↦ let e : m ≡ suc n = omega arith in subst (λ k. Has (lines_of (history T k)) l) e x
+      | inr more ↦ go (history-step T n) (lines-mono T l m n more x)
+    ]
   where
     go : ((a : Act) × IsAct T (suc n) a) ⊎ ((length T.events ≤ n) × (history T (suc n) ≡ history T n)) → Has (lines_of (history T n)) l → Has (lines_of (history T (suc n))) l
     go (inl x) y = subst (λ h. Has (lines_of h) l) (sym (history-act T n x.0 x.1)) (lines-grow l x.0 (history T n) y)

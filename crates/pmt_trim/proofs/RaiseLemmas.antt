@@ -30,11 +30,13 @@ raises-before T l low middle high (x ∷ raises) r h g stays =
 -- where the last one is at the end, the front changes there
 pub raises-last : (T : Recording) (l low n : ℕ) (before : List Raise) (x : Raise) → RaisesBetween T l low (suc n) (before ++ x ∷ []) → x.place ≡ suc n →
     RaisesBetween T l low n before × (front_at T l (suc n) ≢ front_at T l n)
-raises-last T l low n [] x r is =
-    ((omega (arith, r.0), λ k a b. r.1 k a (omega arith)), λ same.
-    let end : front_at T l (suc n) ≡ x.front = ap (front_at T l) (sym is) ∙ r.3 in
-    let start : front_at T l n ≡ front_at T l low = r.1 n (omega (arith, r.0)) (omega arith) in
-    omega (arith, r.2))
+raises-last T l low n [] x r is = (
+  (omega (arith, r.0), λ k a b. r.1 k a (omega arith)),
+  λ same.
+      let end : front_at T l (suc n) ≡ x.front = ap (front_at T l) (sym is) ∙ r.3 in
+      let start : front_at T l n ≡ front_at T l low = r.1 n (omega (arith, r.0)) (omega arith) in
+      omega (arith, r.2),
+)
 raises-last T l low n (y ∷ before) x r is =
     let rest = raises-last T l y.place n before x r.4 is in ((r.0, r.1, r.2, r.3, rest.0), rest.1)
 

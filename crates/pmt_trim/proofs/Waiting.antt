@@ -54,17 +54,19 @@ front-next T l n untouched = go (cases_eq (front_at T l (suc n)) (front_at T l n
   where
     go : (front_at T l (suc n) ≡ front_at T l n) ⊎ (front_at T l (suc n) ≡ front_at T l n → ⊥) → front_at T l (suc n) ≡ front_at T l n
     go (inl same) = same
-    go (inr changes) = elim (history-step T n)
-        [ inl x ↦ absurd (untouched (raising-touches T l n x.0 x.1 changes))
-        | inr x ↦ ap (front l) x.1 ]
+    go (inr changes) = elim (history-step T n) [
+      | inl x ↦ absurd (untouched (raising-touches T l n x.0 x.1 changes))
+      | inr x ↦ ap (front l) x.1
+    ]
 
 -- and so do several such events
 pub front-stays : (T : Recording) (l low n : ℕ) → low ≤ n → ((k : ℕ) → low < k → k ≤ n → ¬ Touches T l k) → front_at T l n ≡ front_at T l low
 front-stays T l low zero h untouched = let e : 0 ≡ low = omega arith in ap (front_at T l) e
 front-stays T l low (suc n) h untouched =
-    elim (cases_lt n low)
-    [ inl past ↦ let e : suc n ≡ low = omega arith in ap (front_at T l) e
-    | inr more ↦ front-next T l n (untouched (suc n) (omega arith) (omega arith)) ∙ front-stays T l low n more (λ k a b. untouched k a (omega arith)) ]
+    elim (cases_lt n low) [
+      | inl past ↦ let e : suc n ≡ low = omega arith in ap (front_at T l) e
+      | inr more ↦ front-next T l n (untouched (suc n) (omega arith) (omega arith)) ∙ front-stays T l low n more (λ k a b. untouched k a (omega arith))
+    ]
 
 -- After event low, thread t comes to a fence that raises the front of line l, and does not flush the line before.
 pub record Awaits (T : Recording) (l t low : ℕ) : Type 0 where
@@ -119,7 +121,7 @@ useful-awaits T l i u e =
           let up : count_at T l i ≤ front_at T l u.fence = front-at_fence T u.thread l i u.fence (subst (λ k. IsAct T i (Flushes u.thread k)) e u.is_flush) u.is_fence u.later in
           let needed : front_at T l (u.fence - 1) < count_at T l i = subst (λ k. front_at T k (u.fence - 1) < count_at T k i) e u.needed in
           omega (arith, same);
-      unflushed = λ k above below is. u.last_flush k above below (subst (λ j. IsAct T k (Flushes u.thread j)) (sym e) is)
+      unflushed = λ k above below is. u.last_flush k above below (subst (λ j. IsAct T k (Flushes u.thread j)) (sym e) is);
     }
 
 -- a flush whose thread waits is useful
@@ -134,7 +136,7 @@ awaits-useful T l t i flush a = (
     later = a.later;
     next_fence = λ k above below is. awaits-unfenced T l t i a k above below is;
     last_flush = a.unflushed;
-    needed = needed a.fence a.later a.is_fence a.raises a.unflushed
+    needed = needed a.fence a.later a.is_fence a.raises a.unflushed;
   },
   refl,
 )

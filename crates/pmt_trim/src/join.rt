@@ -27,7 +27,10 @@ pub fn liveness(alloc: Global, trace: &Trace, lists: &[Vec<u64>]) -> Result<Sele
 fn stores_and_assertions(alloc: Global, events: &[Event]) -> Result<Vec<bool>, OutOfMemory>
     ensures { IfOk result (λ marked. marked.items ≡ map (λ e. op_stays e.op) events.now) }
 {
-    events.iter().map(|event| always_stays(event.op)).collect(alloc)
+    events
+        .iter()
+        .map(|event| always_stays(event.op))
+        .collect(alloc)
 }
 
 // Whether the op is a store or an assertion.

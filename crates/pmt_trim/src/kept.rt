@@ -21,7 +21,11 @@ pub fn line_kept(alloc: Global, found: &LineResult) -> Result<Vec<u64>, OutOfMem
     let mut waiting = [false; 256];
     let mut kept = Vec::new(alloc);
     for i in (0..steps.len()).rev() {
-        let Step { number, thread, kind } = steps[i];
+        let Step {
+            number,
+            thread,
+            kind,
+        } = steps[i];
         let before = raises_before(raises, number);
         raises = before.unwrap_or(raises);
         if go_back(kind, thread, before.is_some(), &mut waiting) {

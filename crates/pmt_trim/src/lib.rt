@@ -6,10 +6,9 @@
 pub mod join;
 pub mod kept;
 pub mod laws;
-pub mod trimming;
-
 #[cfg(test)]
 mod tests;
+pub mod trimming;
 
 pub use crate::join::liveness;
 pub use crate::kept::line_kept;

@@ -28,7 +28,11 @@ pub fn trim(alloc: Global, trace: &Trace) -> Result<(Trace, Selection), OutOfMem
 }
 
 // The trace cut to what is kept, from the jobs of its lines.
-fn trim_lines(alloc: Global, trace: &Trace, lines: Vec<LineJob>) -> Result<(Trace, Selection), OutOfMemory>
+fn trim_lines(
+    alloc: Global,
+    trace: &Trace,
+    lines: Vec<LineJob>,
+) -> Result<(Trace, Selection), OutOfMemory>
     requires covering { map line_in lines.items ≡ lines_of (history trace.now (length trace.now.events)) }
     requires jobs { AllByRecursion (IsJob trace.now) lines.items }
     ensures { IfOk result (λ pair. IsTrimmed trace.now pair.1 pair.0) }

@@ -11,7 +11,7 @@ pub loop-number-preserved : goal.loop-number-preserved
 loop-number-preserved c = record {
   size = length-set c.loop-number.marked _ _ ∙ c.loop-number.invariant.size;
   marks = marks-next c.args.marked.now c.loop-number.marked c.args.numbers.now c.loop-number.number-index c.loop-number-test.true
-      (λ n has. let range = c.requires n has in (range.0, omega (arith, range.1, c.loop-number.invariant.size))) c.loop-number.invariant.marks
+      (λ n has. let range = c.requires n has in (range.0, omega (arith, range.1, c.loop-number.invariant.size))) c.loop-number.invariant.marks;
 }
 
 pub overflow_sub-marked : goal.overflow_sub-marked

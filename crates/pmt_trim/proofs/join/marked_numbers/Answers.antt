@@ -10,15 +10,16 @@ use Rattle.pmt_trim.proofs.join.marked_numbers.Goals.{then-marked-i+in_ok-push, 
 
 pub loop-i-preserved : goal.loop-i-preserved
 loop-i-preserved c =
-    elim c.if-marked-i.branch
-    [ then-marked-i+in_ok-push w ↦
-        let next = marked-next c.args.marked.now c.loop-i.i true c.loop-i-test.true w.if-marked-i.true in
-        let e : c.loop-i.i + 1 ≡ suc c.loop-i.i = omega arith in
-        cc (next, e, w.in_ok-push.ensures.items, c.loop-i.invariant, w.numbers-is)
-    | else-marked-i w ↦
-        let next = marked-next c.args.marked.now c.loop-i.i false c.loop-i-test.true w.if-marked-i.false in
-        let same = append-nil (marked_from 0 (take c.loop-i.i c.args.marked.now)) in
-        cc (next, same, c.loop-i.invariant, w.numbers-is) ]
+    elim c.if-marked-i.branch [
+      | then-marked-i+in_ok-push w ↦
+          let next = marked-next c.args.marked.now c.loop-i.i true c.loop-i-test.true w.if-marked-i.true in
+          let e : c.loop-i.i + 1 ≡ suc c.loop-i.i = omega arith in
+          cc (next, e, w.in_ok-push.ensures.items, c.loop-i.invariant, w.numbers-is)
+      | else-marked-i w ↦
+          let next = marked-next c.args.marked.now c.loop-i.i false c.loop-i-test.true w.if-marked-i.false in
+          let same = append-nil (marked_from 0 (take c.loop-i.i c.args.marked.now)) in
+          cc (next, same, c.loop-i.invariant, w.numbers-is)
+    ]
 
 pub unreachable-requires : goal.unreachable-requires
 unreachable-requires c =

@@ -27,7 +27,7 @@ loop-i-init c =
           let all = take_all (length c.steps-steps.result.now) c.steps-steps.result.now (omega arith) in
           let own : IsJobOf T line c.steps-steps.result.now = subst (λ ss. IsJobOf T line ss) (sym steps_are) job in
           let told : IsRaises T line c.raises-raises.result.now = subst (λ rs. IsRaises T line rs) (sym c.raises-raises.ensures.value) (c.raises-raises.ensures.right.raises T job) in
-          rw (all, c.new-kept.ensures.items) (passed-none T line c.steps-steps.result.now c.raises-raises.result.now _ own told refl)
+          rw (all, c.new-kept.ensures.items) (passed-none T line c.steps-steps.result.now c.raises-raises.result.now _ own told refl);
     }
 
 pub loop-i-preserved : goal.loop-i-preserved
@@ -44,7 +44,7 @@ loop-i-preserved c =
           (turn s c.raises_before-before.result c.loop-i.raises c.unwrap_or-raises.result c.is_some.result false c.loop-i.waiting c.go_back.new.waiting (reverse c.loop-i.kept.items)
           (reverse c.loop-i.kept.items) c.raises_before-before.ensures c.unwrap_or-raises.ensures c.is_some.ensures (sym c.if-go_back.false ∙ c.go_back.ensures.kept) c.go_back.ensures.waits refl)
           (subst (λ ss. IsJobOf T line ss) (sym steps_are) job) (omega arith) (slice_get-get_or steps (c.loop-i.i - 1) _ (omega arith)) small c.loop-i.invariant.size
-          (c.loop-i.invariant.passed T job)
+          (c.loop-i.invariant.passed T job);
     }
 
 pub loop-i-preserved-in-Continue-1 : goal.loop-i-preserved-in-Continue-1
@@ -62,5 +62,5 @@ loop-i-preserved-in-Continue-1 c =
           (reverse c.push.new.self.items) c.raises_before-before.ensures c.unwrap_or-raises.ensures c.is_some.ensures (sym c.if-go_back.true ∙ c.go_back.ensures.kept) c.go_back.ensures.waits
           (ap reverse c.in_ok-push.ensures.items ∙ reverse-push c.loop-i.kept.items s.number))
           (subst (λ ss. IsJobOf T line ss) (sym steps_are) job) (omega arith) (slice_get-get_or steps (c.loop-i.i - 1) _ (omega arith)) small c.loop-i.invariant.size
-          (c.loop-i.invariant.passed T job)
+          (c.loop-i.invariant.passed T job);
     }

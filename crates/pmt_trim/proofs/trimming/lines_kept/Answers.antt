@@ -20,9 +20,9 @@ loop-job-preserved c = λ T all.
     let lists = map items c.loop-job.lists.items in
     let kept : List ℕ = c.in_ok-line_kept.field-0.items in
     let last : IsJob T job → IsLineKept T job.line kept =
-        subst (λ (w : LineWork). IsJob T w → IsLineKept T w.line kept) c.in_ok-found.ensures.job (c.in_ok-line_kept.ensures T) in
+    subst (λ (w : LineWork). IsJob T w → IsLineKept T w.line kept) c.in_ok-found.ensures.job (c.in_ok-line_kept.ensures T) in
     let more : map items c.push.new.self.items ≡ lists ++ kept ∷ [] =
-        ap (map items) c.in_ok-push.ensures.items ∙ map-append items c.loop-job.lists.items (c.in_ok-line_kept.field-0 ∷ []) in
+    ap (map items) c.in_ok-push.ensures.items ∙ map-append items c.loop-job.lists.items (c.in_ok-line_kept.field-0 ∷ []) in
     subst (λ ls. AreLinesKept T (map line_in (jobs ++ job ∷ [])) ls) (sym more) (jobs-push T jobs job lists kept (c.loop-job.invariant T) last all)
 
 pub returns : goal.returns

@@ -19,5 +19,5 @@ trim_lines-requires c =
     let same : taken ≡ T = whole-list T taken whole in
     record {
       covering = subst (λ (R : Recording). map line_in lines ≡ lines_of (history R (length R.events))) same c.in-Ok.ensures.apart.covering;
-      jobs = subst (λ (R : Recording). AllByRecursion (IsJob R) lines) same (jobs-of taken lines c.in-Ok.ensures.apart.jobs)
+      jobs = subst (λ (R : Recording). AllByRecursion (IsJob R) lines) same (jobs-of taken lines c.in-Ok.ensures.apart.jobs);
     }
