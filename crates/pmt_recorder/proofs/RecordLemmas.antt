@@ -168,11 +168,11 @@ recorded n f layout scripts played strips T len same_len lay is plays none seale
       let at = plays t t d (omega arith) here in
       let tapes : List Strip = map (λ (p : Played). p.0) played in
       let own : part t T.events ≡ entries_of t strips =
-          same_Some (part t T.events) (entries_of t strips) (sym (sealed.interleaving.parts t (omega (arith, length-by_thread n strips))) ∙ slice_get-by_thread n strips t within) in
+      same_Some (part t T.events) (entries_of t strips) (sym (sealed.interleaving.parts t (omega (arith, length-by_thread n strips))) ∙ slice_get-by_thread n strips t within) in
       let entries : entries_of t strips ≡ (get_or played t d).0.entries =
-          ap (entries_of t) is
-          ∙ entries_of-in_order 0 t t tapes d.0 (in_order-from_plays f scripts 0 played plays) (omega arith) (omega (arith, length-map played (λ (p : Played). p.0)))
-          ∙ ap (λ (s : Strip). s.entries) (get_or-map (λ (p : Played). p.0) played t d here) in
+      ap (entries_of t) is
+      ∙ entries_of-in_order 0 t t tapes d.0 (in_order-from_plays f scripts 0 played plays) (omega arith) (omega (arith, length-map played (λ (p : Played). p.0)))
+      ∙ ap (λ (s : Strip). s.entries) (get_or-map (λ (p : Played). p.0) played t d here) in
       let whole = whole-of_plays at.0 (get_or played t d).0 (get_or played t d).1 (all_whole 0 played none t d here) at.2.whole in
       at.1 ∙ ap Some (sym whole ∙ ap ops_of (sym entries ∙ sym own));
 }
@@ -192,7 +192,7 @@ pub all_there :
 all_there n f scripts played strips len same_len each is =
     let P : List Strip → Type 0 = λ s. IsOneOfEach n s in
     subst P (sym is) (one_of_each-in_order n (map (λ (p : Played). p.0) played) (omega (arith, length-map played (λ (p : Played). p.0), len, same_len))
-        (in_order-from_plays f scripts 0 played (plays-from_each f scripts played same_len each)))
+    (in_order-from_plays f scripts 0 played (plays-from_each f scripts played same_len each)))
 
 -- the trace is a recording of the scripts
 pub recorded_all :

@@ -6,8 +6,8 @@
 pub mod fault;
 mod parts;
 pub mod roll;
-mod seal;
 pub mod scripts;
+mod seal;
 pub mod session;
 pub mod shelf;
 pub mod tape;
@@ -18,3 +18,6 @@ pub use crate::scripts::record_scripts;
 pub use crate::session::{SealFault, Session};
 pub use crate::shelf::{Shelf, Snapshot};
 pub use crate::tape::Tape;
+
+#[cfg(test)]
+mod tests;

@@ -85,7 +85,10 @@ fn lowest_fault<L: Roll>(played: &[(Tape<L>, Result<(), AppendError>)]) -> Optio
         match *end {
             Ok(()) => {}
             Err(AppendError::NotInFormat) => return Some(RecordError::NotInFormat { recorder }),
-            Err(AppendError::Full { events }) => return Some(RecordError::Full { recorder, events }),
+            Err(AppendError::Full { events }) => return Some(RecordError::Full {
+                recorder,
+                events,
+            }),
             Err(AppendError::OutOfMemory) => return Some(RecordError::OutOfMemory),
         }
     }

@@ -38,7 +38,11 @@ pub struct SealFault<L: Roll> {
 }
 
 // The tapes of the threads below `n`, each with one part of the ledger.
-fn cut_tapes<L: Roll>(alloc: Global, share: &mut Share<L>, n: usize) -> Result<Vec<Tape<L>>, AllocError>
+fn cut_tapes<L: Roll>(
+    alloc: Global,
+    share: &mut Share<L>,
+    n: usize,
+) -> Result<Vec<Tape<L>>, AllocError>
     requires few { (n ≤ 256) × (n ≤ L.tapes) }
     requires parts { n ≤ share.old.parts }
     requires none { share.old.amount ≡ 0 }
@@ -59,7 +63,11 @@ impl<L: Roll> Session<L> {
     ///
     /// # Errors
     /// `BadCount` unless `n` is 1 to 256, `OutOfMemory`.
-    pub fn start(alloc: Global, blank: Blank, n: usize) -> Result<(Session<L>, Vec<Tape<L>>), StartError>
+    pub fn start(
+        alloc: Global,
+        blank: Blank,
+        n: usize,
+    ) -> Result<(Session<L>, Vec<Tape<L>>), StartError>
         requires name { blank.name ≡ L.name }
         requires parts { (blank.parts ≡ L.parts) × (blank.parts ≡ 256) }
         requires tapes { n ≡ L.tapes }

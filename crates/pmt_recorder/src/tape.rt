@@ -52,7 +52,8 @@ fn same_op(one: &Op, other: &Op) -> bool
         (Op::Sfence, Op::Sfence) => true,
         (Op::Mfence, Op::Mfence) => true,
         (Op::IsPersist(a), Op::IsPersist(b)) => same_range(a, b),
-        (Op::IsOrderedBefore(a, b), Op::IsOrderedBefore(c, d)) => same_range(a, c) && same_range(b, d),
+        (Op::IsOrderedBefore(a, b), Op::IsOrderedBefore(c, d)) => same_range(a, c)
+            && same_range(b, d),
         _ => false,
     }
 }

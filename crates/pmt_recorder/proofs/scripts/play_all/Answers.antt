@@ -10,7 +10,7 @@ pub returns-clause-each : goal.returns-clause-each
 returns-clause-each g c = λ t d h.
     let n = length c.args.scripts.now in
     let within : t < length c.args.tapes.items =
-        omega (arith, h, length-map c.args.scripts.now (λ script. script.items), ap length c.requires, length-empty_tapes n) in
+    omega (arith, h, length-map c.args.scripts.now (λ script. script.items), ap length c.requires, length-empty_tapes n) in
     let gives = (c.in_ok-played.ensures.each t d within).1 in
     let thread : gives.job.thread ≡ t = thread-given n t c.args.tapes.items gives.job gives.job c.requires within (gives.job_is gives.job) in
     let says = gives.call.met in

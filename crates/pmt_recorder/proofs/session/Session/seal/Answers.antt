@@ -12,14 +12,14 @@ returns-in-None-clause-ok g c =
     let strips = c.args.tapes.items in
     let T = c.audit.new.self in
     let back : c.as_slice-2.result.now ≡ strips =
-        written_back strips c.audit.new.tapes c.as_slice-2.result.now c.args.tapes.len c.as_slice-2.ensures.value
-        (c.audit.ensures.tapes ∙ c.as_mut_slice.ensures.value) (ap length (sym c.as_mut_slice.ensures.value) ∙ c.as_mut_slice.ensures.len) in
+    written_back strips c.audit.new.tapes c.as_slice-2.result.now c.args.tapes.len c.as_slice-2.ensures.value
+    (c.audit.ensures.tapes ∙ c.as_mut_slice.ensures.value) (ap length (sym c.as_mut_slice.ensures.value) ∙ c.as_mut_slice.ensures.len) in
     let given : IsOneOfEach n strips =
-        each_after n c.args.self.tapes strips c.as_slice.result.now c.args.self.count c.as_slice.ensures.value (c.if-not-is_one_of_each.ensures.0 refl) in
+    each_after n c.args.self.tapes strips c.as_slice.result.now c.args.self.count c.as_slice.ensures.value (c.if-not-is_one_of_each.ensures.0 refl) in
     let P : Recording → Type 0 = λ R. IsSealed n g.L.Roll.format strips R in
     subst P (sym (c.into_trace.ensures ∙ c.into_book-in-None.ensures))
     (sealed n g.L.Roll.format strips T c.events.ensures.format given c.events.ensures.whose
-        (parts_after n strips c.as_slice-2.result.now T c.events.result.now back c.events.ensures.value given.count c.in-None.ensures.none))
+    (parts_after n strips c.as_slice-2.result.now T c.events.result.now back c.events.ensures.value given.count c.in-None.ensures.none))
 
 pub returns-in-Some-clause-err : goal.returns-in-Some-clause-err
 returns-in-Some-clause-err g c =
@@ -27,12 +27,12 @@ returns-in-Some-clause-err g c =
     let strips = c.args.tapes.items in
     let T = c.audit.new.self in
     let back : c.as_slice-2.result.now ≡ strips =
-        written_back strips c.audit.new.tapes c.as_slice-2.result.now c.args.tapes.len c.as_slice-2.ensures.value
-        (c.audit.ensures.tapes ∙ c.as_mut_slice.ensures.value) (ap length (sym c.as_mut_slice.ensures.value) ∙ c.as_mut_slice.ensures.len) in
+    written_back strips c.audit.new.tapes c.as_slice-2.result.now c.args.tapes.len c.as_slice-2.ensures.value
+    (c.audit.ensures.tapes ∙ c.as_mut_slice.ensures.value) (ap length (sym c.as_mut_slice.ensures.value) ∙ c.as_mut_slice.ensures.len) in
     let given : IsOneOfEach n strips =
-        each_after n c.args.self.tapes strips c.as_slice.result.now c.args.self.count c.as_slice.ensures.value (c.if-not-is_one_of_each.ensures.0 refl) in
+    each_after n c.args.self.tapes strips c.as_slice.result.now c.args.self.count c.as_slice.ensures.value (c.if-not-is_one_of_each.ensures.0 refl) in
     let P : Recording → Type 0 = λ R. SealFails n strips (Torn c.in-Some.recorder) R in
     subst P (sym c.into_book-in-Some.ensures)
     (torn_at n strips c.as_slice-2.result.now T c.events.result.now c.in-Some.recorder c.in-Some.ensures.within given back c.events.ensures.value
-        (ap total_length (sym c.as_mut_slice.ensures.value) ∙ c.audit.ensures.total ∙ ap (λ (R : Recording). length R.events) (sym c.audit.ensures.same))
-        c.in-Some.ensures.torn c.in-Some.ensures.lowest)
+    (ap total_length (sym c.as_mut_slice.ensures.value) ∙ c.audit.ensures.total ∙ ap (λ (R : Recording). length R.events) (sym c.audit.ensures.same))
+    c.in-Some.ensures.torn c.in-Some.ensures.lowest)
