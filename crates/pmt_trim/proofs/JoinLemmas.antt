@@ -1,19 +1,17 @@
 -- All that is kept of a trace: what is kept for its lines, and the stores and assertions.
-use Rattle.std.proofs.Common.{◌≡◌, ◌≢◌, ℕ, zero, suc, ◌+◌, ◌-◌, ◌<◌, ◌≤◌, ◌⊎◌, inl, inr, Bool, true, false, List, [], ◌∷◌, ◌++◌, length, get_or, take, map, Option, Some, None, refl, sym, ap, subst, ◌∙◌, arith}
+use Rattle.std.proofs.Common.{◌≡◌, ℕ, zero, suc, ◌+◌, ◌<◌, ◌≤◌, ◌⊎◌, inl, inr, Bool, true, false, List, [], ◌∷◌, ◌++◌, length, get_or, take, map, Some, refl, sym, ap, subst, ◌∙◌, arith}
 use Rattle.std.specs.Prelude.{◌↔◌, slice_get, Result, Ok, Err, IfOk}
 use Rattle.std.proofs.Math.Seq.{take-suc}
-use Rattle.std.proofs.lemmas.List.{get_or-map, take_all, length-map}
 use Rattle.std.proofs.lemmas.Bool.{false≢true, cases_lt}
-use Rattle.std.proofs.lemmas.Option.{slice_get-get_or}
 use Rattle.pmt_model.specs.declared.event.Event.{Event}
 use Rattle.pmt_model.specs.declared.event.Op.{Op}
 use Rattle.pmt_model.specs.declared.event.Op.TheVariants.{Store, Clwb, ClflushOpt, Clflush, Sfence, Mfence, IsPersist, IsOrderedBefore}
 use Rattle.pmt_model.specs.Values.{Layout}
 use Rattle.pmt_model.specs.Machine.{Act, Flushes, FlushesNow, Fences}
-use Rattle.pmt_model.specs.Traces.{Recording, act_of, act, event, IsAct, history, lines_of}
+use Rattle.pmt_model.specs.Traces.{Recording, act_of, act, IsAct, history, lines_of}
 use Rattle.pmt_model.specs.Selections.{IsRising, Has, always_stays}
 use Rattle.pmt_model.specs.Keeping.{IsKept, Stays, ByFence, ByFlush, ByClflush, IsKeep}
-use Rattle.pmt_laws.proofs.Histories.{event-some, event-within, event-none, act-within}
+use Rattle.pmt_laws.proofs.Histories.{event-some, act-within}
 use Rattle.pmt_trim.specs.Kept as kept
 use Rattle.pmt_trim.specs.Kept.{IsKeptFor, IsLineKept, AreLinesKept, AreAllKept}
 use Rattle.pmt_trim.specs.Marking.{op_stays, is_marked, MarksThese}

@@ -1,16 +1,16 @@
 -- What is kept for a line touches it; a flush is useful exactly where its thread waits for a fence that raises the front.
-use Rattle.std.proofs.Common.{◌≡◌, ◌≢◌, ℕ, zero, suc, ◌-◌, ◌<◌, ◌≤◌, ◌⊎◌, inl, inr, ◌==◌, length, List, ◌∷◌, Option, Some, None, refl, sym, ap, subst, ◌∙◌, arith}
+use Rattle.std.proofs.Common.{◌≡◌, ◌≢◌, ℕ, zero, suc, ◌-◌, ◌<◌, ◌≤◌, ◌⊎◌, inl, inr, ◌==◌, None, refl, sym, ap, subst, ◌∙◌, arith}
 use Rattle.std.specs.Prelude.{max, unwrap_or}
 use Rattle.std.proofs.lemmas.Bool.{cases_eq, cases_lt, cond-false, ne_eqb}
 use Rattle.pmt_model.specs.Machine.{Act, Stores, Flushes, FlushesNow, Fences, Asserts, count}
 use Rattle.pmt_model.specs.Traces.{Recording, IsAct, history, count_at}
 use Rattle.pmt_model.specs.Fronts.{front, mark, open_mark, front_at}
 use Rattle.pmt_model.specs.Keeping.{IsUsefulFlush}
-use Rattle.pmt_laws.proofs.Histories.{act-within, act-unique, history-act, history-step, front-mono}
+use Rattle.pmt_laws.proofs.Histories.{history-act, history-step, front-mono}
 use Rattle.pmt_laws.proofs.LastFlushes.{IsLastFlush}
 use Rattle.pmt_laws.proofs.KeepLemmas.{front-at_fence, needed-flush}
 use Rattle.pmt_marks.proofs.FollowLemmas.{front-fence}
-use Rattle.pmt_lines.specs.Jobs.{Touches, ByStore, ByFlush, ByClflush, ByFence}
+use Rattle.pmt_lines.specs.Jobs.{Touches, ByFlush, ByClflush, ByFence}
 use Rattle.pmt_trim.specs.Kept as kept
 use Rattle.pmt_trim.specs.Kept.{IsKeptFor}
 

@@ -1,6 +1,5 @@
-use Rattle.std.proofs.Common.{◌≡◌, ◌<◌, ◌≤◌, ◌-◌, length, get_or, ℕ, refl, sym, ◌∙◌, arith}
+use Rattle.std.proofs.Common.{refl, ◌∙◌, arith}
 use Rattle.std.proofs.Math.ListN.{length-set}
-use Rattle.pmt_model.specs.Selections.{Has}
 use Rattle.pmt_trim.proofs.MarkingLemmas.{marks-none, marks-next, has-at}
 use Rattle.pmt_trim.proofs.join.mark_all.Goals as goal
 

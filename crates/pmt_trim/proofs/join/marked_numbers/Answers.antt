@@ -1,8 +1,7 @@
-use Rattle.std.proofs.Common.{◌≡◌, ◌≢◌, ◌<◌, ◌≤◌, ◌+◌, ℕ, suc, length, List, ◌++◌, take, get_or, true, false, Some, None, refl, sym, ap, subst, ◌∙◌, add-one, arith}
+use Rattle.std.proofs.Common.{◌≡◌, ◌+◌, suc, take, true, false, sym, ap, subst, ◌∙◌, arith}
 use Rattle.std.proofs.lemmas.List.{take_all, append-nil}
 use Rattle.std.specs.Prelude.{◌↔◌}
 use Rattle.pmt_trim.specs.Marking.{is_marked}
-use Rattle.pmt_model.specs.Selecting.{first_fall}
 use Rattle.pmt_model.specs.Selections.{IsRising, Has}
 use Rattle.pmt_trim.proofs.MarkingLemmas.{marked_from, marked-next, marked-rise, rising-no_fall, has-numbers}
 use Rattle.pmt_trim.proofs.join.marked_numbers.Goals as goal

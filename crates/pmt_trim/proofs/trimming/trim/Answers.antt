@@ -1,4 +1,4 @@
-use Rattle.std.proofs.Common.{◌≡◌, List, length, map, subst}
+use Rattle.std.proofs.Common.{◌≡◌, length, map, subst}
 use Rattle.std.specs.Prelude.{Option, IfSome}
 use Rattle.std.specs.List.{AllByRecursion}
 use Rattle.pmt_model.specs.Traces.{Recording, history, lines_of}

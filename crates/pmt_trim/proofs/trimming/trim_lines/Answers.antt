@@ -1,8 +1,7 @@
-use Rattle.std.proofs.Common.{◌≡◌, ℕ, List, map, length, Vec, Global, refl, sym, ap, subst, ◌∙◌}
+use Rattle.std.proofs.Common.{ℕ, List, map, length, Vec, Global, sym, subst}
 use Rattle.pmt_model.specs.Traces.{history, lines_of}
 use Rattle.pmt_laws.proofs.KeepLemmas.{keep_is_selection}
-use Rattle.pmt_lines.specs.Splitting.{line_in}
-use Rattle.pmt_trim.specs.Kept.{AreLinesKept, IsJob}
+use Rattle.pmt_trim.specs.Kept.{AreLinesKept}
 use Rattle.pmt_trim.proofs.TrimmingLemmas.{selection-within}
 use Rattle.pmt_trim.proofs.HeadlineLemmas.{keep-is-trimmed}
 use Rattle.pmt_trim.proofs.trimming.trim_lines.Goals as goal
