@@ -12,6 +12,3 @@ mod sparing;
 
 pub use crate::book::Book;
 pub use crate::fault::BookError;
-
-#[cfg(test)]
-mod tests;

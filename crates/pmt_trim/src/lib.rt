@@ -6,8 +6,6 @@
 pub mod join;
 pub mod kept;
 pub mod laws;
-#[cfg(test)]
-mod tests;
 pub mod trimming;
 
 pub use crate::join::liveness;
