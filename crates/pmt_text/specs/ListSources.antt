@@ -1,0 +1,28 @@
+-- What a list source gives.
+use Rattle.std.specs.Prelude.{◌≡◌, ℕ, ◌-◌, ◌≤◌, if◌then◌else◌, List, length, drop, Option, Some, None}
+use Rattle.std.proofs.Common.{arith}
+use Rattle.pmt_model.specs.Values.{Layout}
+use Rattle.pmt_model.specs.Traces.{Recording, event_limit}
+use Rattle.pmt_text.specs.declared.list_source.ListSource.{ListSource}
+use Rattle.pmt_text.specs.declared.source.SourceState.{SourceState}
+use Rattle.pmt_text.specs.declared.source.SourceState.TheVariants.{Open, Ended}
+use Rattle.pmt_text.specs.Coming.{Coming}
+
+-- the events from place n on, and then the end
+abbrev pub rest_of_trace : Recording → ℕ → Coming
+rest_of_trace T n = record { format = Some T.format; events = drop n T.events; fault = None }
+
+abbrev pub list_coming : ListSource → Option Coming
+list_coming s = Some (rest_of_trace s.trace.now s.given)
+
+abbrev pub list_state : ListSource → SourceState
+list_state s = if s.ended then Ended else Open
+
+abbrev pub list_format : ListSource → Option Layout
+list_format s = Some s.trace.now.format
+
+abbrev pub list_room : ListSource → ℕ
+list_room s = length s.trace.now.events - s.given
+
+pub list_few : (s : ListSource) → list_room s ≤ event_limit
+list_few s = let few = s.few in omega (arith, few)

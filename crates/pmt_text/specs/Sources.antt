@@ -1,0 +1,115 @@
+-- What a source of events tells, call by call.
+use Rattle.std.specs.Prelude.{◌≡◌, ◌≢◌, ℕ, ◌+◌, ◌<◌, List, [], ◌∷◌, ◌++◌, Option, Some, None, Result, Ok, Err}
+use Rattle.pmt_model.specs.declared.event.Event.{Event}
+use Rattle.pmt_model.specs.Values.{Layout}
+use Rattle.pmt_model.specs.Traces.{IsEventIn}
+use Rattle.pmt_text.specs.declared.kind.SourceError.{SourceError}
+use Rattle.pmt_text.specs.declared.kind.SourceError.TheVariants.{Text, TooMany, Read, OutOfMemory, Failed}
+use Rattle.pmt_text.specs.declared.source.SourceState.{SourceState}
+use Rattle.pmt_text.specs.declared.source.SourceState.TheVariants as states
+use Rattle.pmt_text.specs.Coming.{Coming}
+
+-- ---- What was coming, where that is known
+
+-- these events were taken, and the rest still comes
+abbrev pub Gives : Option Coming → List Event → Option Coming → Type 0
+Gives None taken new = Unit {0}
+Gives (Some c) taken new = (rest : List Event) × (c.events ≡ taken ++ rest) × (new ≡ Some (record { format = c.format; events = rest; fault = c.fault }))
+
+-- no event is left, and this is the end or the fault
+abbrev pub IsOver : Option Coming → Option SourceError → Type 0
+IsOver None fault = Unit {0}
+IsOver (Some c) fault = (c.events ≡ []) × (c.fault ≡ fault)
+
+-- A fault of the text was coming. A failed read and want of memory may come at any time, and take nothing.
+abbrev pub Faults : Option Coming → SourceError → Type 0
+Faults old (Text f) = IsOver old (Some (Text f))
+Faults old TooMany = IsOver old (Some TooMany)
+Faults old Read = Unit {0}
+Faults old OutOfMemory = Unit {0}
+Faults old Failed = Unit {0}
+
+abbrev pub TakesNext : Option Coming → Result (Option Event) SourceError → Option Coming → Type 0
+TakesNext old (Ok (Some e)) new = Gives old (e ∷ []) new
+TakesNext old (Ok None) new = IsOver old None × Gives old [] new
+TakesNext old (Err e) new = Faults old e
+
+-- the format that comes
+abbrev pub HasFormat : Option Coming → Option Layout → Type 0
+HasFormat None format = Unit {0}
+HasFormat (Some c) format = c.format ≡ format
+
+-- no event is taken
+abbrev pub TakesFormat : Option Coming → Result Layout SourceError → Option Coming → Type 0
+TakesFormat old (Ok f) new = HasFormat old (Some f) × Gives old [] new
+TakesFormat old (Err e) new = Faults old e
+
+-- ---- What was told
+
+-- After the end the end is told again; after a fault, that it failed.
+abbrev pub TellsNext : SourceState → Result (Option Event) SourceError → SourceState → Type 0
+TellsNext states.Open (Ok (Some e)) new = new ≡ states.Open
+TellsNext states.Open (Ok None) new = new ≡ states.Ended
+TellsNext states.Open (Err e) new = (new ≡ states.Failed e) × (e ≢ Failed)
+TellsNext states.Ended result new = (result ≡ Ok None) × (new ≡ states.Ended)
+TellsNext (states.Failed told) result new = (result ≡ Err Failed) × (new ≡ states.Failed told)
+
+-- The format is told after the end too; after a fault, that it failed.
+abbrev pub TellsFormat : SourceState → Result Layout SourceError → SourceState → Type 0
+TellsFormat states.Open (Ok f) new = new ≡ states.Open
+TellsFormat states.Open (Err e) new = (new ≡ states.Failed e) × (e ≢ Failed)
+TellsFormat states.Ended (Ok f) new = new ≡ states.Ended
+TellsFormat states.Ended (Err e) new = ⊥
+TellsFormat (states.Failed told) result new = (result ≡ Err Failed) × (new ≡ states.Failed told)
+
+-- ---- The format
+
+-- once it is known it stays
+abbrev pub KeepsFormat : Option Layout → Option Layout → Type 0
+KeepsFormat None new = Unit {0}
+KeepsFormat (Some f) new = new ≡ Some f
+
+-- an event that was given is of the format, which is known then
+abbrev pub IsGivenIn : Option Layout → Result (Option Event) SourceError → Type 0
+IsGivenIn (Some f) (Ok (Some e)) = IsEventIn f e
+IsGivenIn None (Ok (Some e)) = ⊥
+IsGivenIn format (Ok None) = Unit {0}
+IsGivenIn format (Err e) = Unit {0}
+
+-- a fault of the text that format tells is of line 1
+abbrev pub IsOfFirstLine : SourceError → Type 0
+IsOfFirstLine (Text f) = f.line ≡ 1
+IsOfFirstLine TooMany = Unit {0}
+IsOfFirstLine Read = Unit {0}
+IsOfFirstLine OutOfMemory = Unit {0}
+IsOfFirstLine Failed = Unit {0}
+
+-- a fault of the text that next tells, once the format is known, is of a later line
+abbrev pub IsOfLaterLine : Option Layout → SourceError → Type 0
+IsOfLaterLine None e = Unit {0}
+IsOfLaterLine (Some f) (Text t) = 1 < t.line
+IsOfLaterLine (Some f) TooMany = Unit {0}
+IsOfLaterLine (Some f) Read = Unit {0}
+IsOfLaterLine (Some f) OutOfMemory = Unit {0}
+IsOfLaterLine (Some f) Failed = Unit {0}
+
+-- ---- Events left, and failed reads
+
+-- an event that was given leaves one less to come
+abbrev pub LeavesFewer : ℕ → Result (Option Event) SourceError → ℕ → Type 0
+LeavesFewer old (Ok (Some e)) new = new < old
+LeavesFewer old (Ok None) new = new ≡ old
+LeavesFewer old (Err e) new = new ≡ old
+
+abbrev pub read_faults : {T : Type 0} → Result T SourceError → ℕ
+read_faults (Ok x) = 0
+read_faults (Err (Text f)) = 0
+read_faults (Err TooMany) = 0
+read_faults (Err Read) = 1
+read_faults (Err OutOfMemory) = 0
+read_faults (Err Failed) = 0
+
+-- A read fault is told exactly where the count of failed reads rises, which it does by one; None: the source has no count.
+abbrev pub CountsReads : {T : Type 0} → Option ℕ → Result T SourceError → Option ℕ → Type 0
+CountsReads None result new = Unit {0}
+CountsReads (Some n) result new = new ≡ Some (n + read_faults result)

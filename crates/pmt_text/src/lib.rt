@@ -1,0 +1,19 @@
+//! The texts of traces and of scripts: reading and writing; sources of events, and devices whose failures are counted.
+//!
+//! The definitions stand in `specs/`: the one spelling of each trace and script, and what any bytes are. The functions of `laws`
+//! have an empty body: each is a theorem about the definitions, which its contract states.
+#![tactic(auto)]
+
+pub mod counted;
+pub mod devices;
+pub mod kind;
+pub mod list_source;
+pub mod source;
+pub mod word;
+pub mod write_all;
+
+pub use crate::counted::Counted;
+pub use crate::kind::{ReadError, SourceError, TextError, TextKind};
+pub use crate::list_source::ListSource;
+pub use crate::source::{EventSource, SourceState};
+pub use crate::write_all::{WriteFault, write_all_counted};

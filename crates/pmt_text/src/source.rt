@@ -1,0 +1,67 @@
+ghost use Rattle.std.specs.Prelude.{◌≡◌, ℕ, ◌≤◌, Option, Some, None, IfOk, IfErr};
+ghost use Rattle.pmt_model.specs.Values.{Layout};
+ghost use Rattle.pmt_model.specs.Traces.{event_limit};
+ghost use Rattle.pmt_text.specs.Coming.{Coming};
+ghost use Rattle.pmt_text.specs.Sources.{TakesNext, TakesFormat, TellsNext, TellsFormat, KeepsFormat, IsGivenIn, IsOfFirstLine, IsOfLaterLine, LeavesFewer, CountsReads};
+ghost use Rattle.pmt_text.specs.declared.source.SourceState.{SourceState};
+
+use crate::kind::SourceError;
+use pmt_model::{Event, Format};
+
+/// What a source has told.
+#[derive(Clone, Copy, Debug, PartialEq, Eq)]
+pub enum SourceState {
+    /// Neither its end nor a fault.
+    Open,
+    /// Its end.
+    Ended,
+    /// This fault.
+    Failed(SourceError),
+}
+
+/// A list of at most 1,000,000 events of one format, followed by an end or by one fault. A fault takes no event. After the end
+/// `next` answers `None`; after a fault every call answers `Failed`.
+pub trait EventSource {
+    // What comes if no read fails and memory is found; None where that is not known.
+    ghost coming: { Self → Option Coming };
+
+    // What it told.
+    ghost state: { Self → SourceState };
+
+    // Its format, once it is known.
+    ghost known_format: { Self → Option Layout };
+
+    // At most so many events are still to come.
+    ghost room: { Self → ℕ };
+
+    // How many reads failed, where that is counted.
+    ghost failures: { Self → Option ℕ } = { λ _. None };
+
+    /// The format of all its events. It takes none of them.
+    ///
+    /// # Errors
+    /// A fault of line 1, `Read` where a read failed, `OutOfMemory`; `Failed` where it told a fault before.
+    fn format(&mut self) -> Result<Format, SourceError>
+        ensures told { TellsFormat (state self.old) result (state self.new) }
+        ensures taken { TakesFormat (coming self.old) result (coming self.new) }
+        ensures known { IfOk result (λ f. known_format self.new ≡ Some f) }
+        ensures kept { KeepsFormat (known_format self.old) (known_format self.new) }
+        ensures first_line { IfErr result IsOfFirstLine }
+        ensures room { room self.new ≡ room self.old }
+        ensures failures { CountsReads (failures self.old) result (failures self.new) };
+
+    /// The next event, or None at the end.
+    ///
+    /// # Errors
+    /// The fault that comes after its events, `Read` where a read failed, `OutOfMemory`; `Failed` where it told a fault before.
+    fn next(&mut self) -> Result<Option<Event>, SourceError>
+        ensures told { TellsNext (state self.old) result (state self.new) }
+        ensures taken { TakesNext (coming self.old) result (coming self.new) }
+        ensures in_format { IsGivenIn (known_format self.new) result }
+        ensures kept { KeepsFormat (known_format self.old) (known_format self.new) }
+        ensures later_line { IfErr result (IsOfLaterLine (known_format self.old)) }
+        ensures room { LeavesFewer (room self.old) result (room self.new) }
+        ensures failures { CountsReads (failures self.old) result (failures self.new) };
+
+    ghost few: { (s : Self) → room s ≤ event_limit };
+}
