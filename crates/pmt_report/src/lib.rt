@@ -1,0 +1,8 @@
+//! Reports of traces, and the runs that read a trace, judge it and write the answer.
+//!
+//! The definitions stand in `specs/`: the text of each answer and the line of each fault.
+#![tactic(auto)]
+
+pub mod fault;
+
+pub use crate::fault::{RunError, fault_text};
