@@ -1,1 +1,3 @@
 pub mod Faults
+pub mod Entries
+pub mod Reports

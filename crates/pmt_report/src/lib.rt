@@ -4,5 +4,6 @@
 #![tactic(auto)]
 
 pub mod fault;
+mod texts;
 
 pub use crate::fault::{RunError, fault_text};
