@@ -15,4 +15,5 @@ pub mod Keeping
 pub mod Assertions
 pub mod Findings
 pub mod Analyses
+pub mod Shortest
 pub mod Interleavings

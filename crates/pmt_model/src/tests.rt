@@ -1,4 +1,7 @@
-use crate::{Addr, Event, Format, FormatError, Op, OpError, Payload, PushError, Range, Selection, SplitStoreError, Trace, line_of, split_store};
+use crate::{
+    Addr, Event, Format, FormatError, Op, OpError, Payload, PushError, Range, Selection,
+    SplitStoreError, Trace, line_of, split_store,
+};
 use std::test::Fail;
 
 const PAST: u64 = 1 << 48;
@@ -57,7 +60,11 @@ fn formats_and_lines(rt: HostRuntime) -> Result<(), Fail> {
         assert_eq!(rt; Format::v2(size), Err(FormatError::BadLineSize), "{size}");
     }
     for (size, line) in [(32, 134), (64, 67), (128, 33), (256, 16)] {
-        assert_eq!(rt; line_of(Format::v2(size)?, Addr::new(0x10c0)?), line, "{size}");
+        assert_eq!(rt;
+            line_of(Format::v2(size)?, Addr::new(0x10c0)?),
+            line,
+            "{size}"
+        );
     }
     assert_eq!(rt; line_of(Format::v1(), Addr::new(0x10c0)?), 67);
     Ok(())
@@ -69,14 +76,26 @@ fn split_and_selection(rt: HostRuntime) -> Result<(), Fail> {
     assert_eq!(rt; pieces.len(), 2);
     assert_eq!(rt; pieces[0], Op::store(0x1006, &[1, 2])?);
     assert_eq!(rt; pieces[1], Op::store(0x1008, &[3, 4])?);
-    assert_eq!(rt; split_store(rt.alloc(), 0x1006, &[]).err(), Some(SplitStoreError::BadLength));
+    assert_eq!(rt;
+        split_store(rt.alloc(), 0x1006, &[]).err(),
+        Some(SplitStoreError::BadLength)
+    );
     let long = [7; 4097];
     assert_eq!(rt; split_store(rt.alloc(), 1, &long[..4096])?.len(), 513);
-    assert_eq!(rt; split_store(rt.alloc(), 0, &long).err(), Some(SplitStoreError::BadLength));
-    assert_eq!(rt; split_store(rt.alloc(), PAST - 1, &long[..2]).err(), Some(SplitStoreError::OutOfRange));
+    assert_eq!(rt;
+        split_store(rt.alloc(), 0, &long).err(),
+        Some(SplitStoreError::BadLength)
+    );
+    assert_eq!(rt;
+        split_store(rt.alloc(), PAST - 1, &long[..2]).err(),
+        Some(SplitStoreError::OutOfRange)
+    );
 
     let refused = Selection::from_numbers(vec![in rt.alloc(); 1, 3, 3]?);
-    assert_eq!(rt; refused.err().map(|e| (e.position, e.numbers.len())), Some((2, 3)));
+    assert_eq!(rt;
+        refused.err().map(|e| (e.position, e.numbers.len())),
+        Some((2, 3))
+    );
     let zero = Selection::from_numbers(vec![in rt.alloc(); 0]?);
     assert_eq!(rt; zero.err().map(|e| e.position), Some(0));
     Ok(())
@@ -86,7 +105,10 @@ fn split_and_selection(rt: HostRuntime) -> Result<(), Fail> {
 fn not_in_format(rt: HostRuntime) -> Result<(), Fail> {
     let mut trace = Trace::new(rt.alloc());
     for op in [Op::clflush(0x1000)?, Op::Mfence] {
-        assert_eq!(rt; trace.push(Event { thread: 0, op }), Err(PushError::NotInFormat));
+        assert_eq!(rt;
+            trace.push(Event { thread: 0, op }),
+            Err(PushError::NotInFormat)
+        );
         assert!(rt; trace.is_empty());
         let mut newer = Trace::new_with(rt.alloc(), Format::v2(64)?);
         newer.push(Event { thread: 0, op })?;
@@ -102,7 +124,10 @@ fn a_full_trace(rt: HostRuntime) -> Result<(), Fail> {
         trace.push(by_thread_3(Op::Sfence))?;
     }
     assert_eq!(rt; trace.push(by_thread_3(Op::Sfence)), Err(PushError::Full));
-    assert_eq!(rt; trace.push(by_thread_3(Op::Mfence)), Err(PushError::NotInFormat));
+    assert_eq!(rt;
+        trace.push(by_thread_3(Op::Mfence)),
+        Err(PushError::NotInFormat)
+    );
     assert_eq!(rt; trace.len(), Trace::LIMIT);
     Ok(())
 }
@@ -125,7 +150,14 @@ fn a_cut(rt: HostRuntime) -> Result<(), Fail> {
     assert!(rt; last_two.numbers().iter().all(|n| *n <= 3));
     let cut = trace.select(&last_two)?;
     assert_eq!(rt; cut.format().line_size(), 128);
-    assert_eq!(rt; cut.events().iter().map(|e| e.thread).collect::<Vec<u8>>(rt.alloc())?.as_slice(), [1, 2].as_slice());
+    assert_eq!(rt;
+        cut.events()
+            .iter()
+            .map(|e| e.thread)
+            .collect::<Vec<u8>>(rt.alloc())?
+            .as_slice(),
+        [1, 2].as_slice()
+    );
     assert_eq!(rt; cut.get(0), None);
     assert_eq!(rt; cut.get(3), None);
     Ok(())

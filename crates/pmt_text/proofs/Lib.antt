@@ -1,3 +1,15 @@
+pub mod NumeralLemmas
+pub mod NumberReading
+pub mod FieldLemmas
+pub mod LineLemmas
+pub mod WordLemmas
+pub mod OpLemmas
+pub mod AssertLemmas
+pub mod JudgeLemmas
+pub mod AheadLemmas
 pub mod ListLemmas
+pub mod PieceLemmas
 pub mod SourceLemmas
+pub mod TextLemmas
+pub mod EventLemmas
 pub mod WriteLemmas

@@ -36,7 +36,7 @@ is_known f words.IsOrderedBefore = true
 
 -- The word that the field is.
 unfoldable pub word_in : Layout → List ℕ → Option Word
-word_in f field = find (λ w. is_known f w && bytes_eq (word_text w) field) all_words
+word_in f field = find (λ w. bytes_eq (word_text w) field && is_known f w) all_words
 
 -- ---- Ranges
 

@@ -6,9 +6,17 @@
 
 pub mod counted;
 pub mod devices;
+pub mod fields;
+pub mod header;
 pub mod kind;
+pub mod line;
+pub(crate) mod line_reader;
 pub mod list_source;
+pub mod number;
+pub(crate) mod piece;
 pub mod source;
+pub(crate) mod text_events;
+pub mod text_source;
 pub mod word;
 pub mod write_all;
 
@@ -16,4 +24,5 @@ pub use crate::counted::Counted;
 pub use crate::kind::{ReadError, SourceError, TextError, TextKind};
 pub use crate::list_source::ListSource;
 pub use crate::source::{EventSource, SourceState};
+pub use crate::text_source::TextSource;
 pub use crate::write_all::{WriteFault, write_all_counted};

@@ -1,0 +1,139 @@
+#!/usr/bin/env python3
+"""Writes a trace of a million events of one kind to standard output: traces.py KIND [EVENTS]. Without words, lists the kinds."""
+import random
+import sys
+
+BASE = 0x7F0000000000
+
+
+def store(thread, addr, value):
+    return f"store {thread} {addr:#x} {value & 0xffffffffffffffff:016x}\n"
+
+
+def log_appends(count):
+    """Records of one to four words appended to a log, each flushed and fenced, then its commit word."""
+    at, value = BASE, 1
+    while True:
+        words = 1 + value % 4
+        for word in range(words):
+            yield store(0, at + 8 * word, value * 1103515245 + word)
+        for line in range(at // 64, (at + 8 * words - 1) // 64 + 1):
+            yield f"clwb 0 {line * 64:#x}\n"
+        yield "sfence 0\n"
+        yield store(0, BASE - 64, value)
+        yield f"clwb 0 {BASE - 64:#x}\n"
+        yield "sfence 0\n"
+        at, value = at + 8 * words, value + 1
+
+
+def tree_inserts(count):
+    """Nodes of a skewed tree: a few lines take most of the stores."""
+    choose = random.Random(7)
+    while True:
+        node = BASE + 64 * int(choose.paretovariate(0.6) % 200000)
+        yield store(0, node + 8 * choose.randrange(8), choose.getrandbits(60))
+        if choose.random() < 0.5:
+            yield f"clwb 0 {node:#x}\n"
+        if choose.random() < 0.2:
+            yield "sfence 0\n"
+
+
+def redundant_flushes(count):
+    """Each store is flushed four times before its fence, twice by another thread."""
+    value = 0
+    while True:
+        at = BASE + 64 * (value % 5000)
+        yield store(0, at, value)
+        for thread in (0, 0, 1, 1):
+            yield f"clwb {thread} {at:#x}\n"
+        yield "sfence 0\n"
+        value += 1
+
+
+def many_assertions(count):
+    """After each ten events an assertion on ranges of 4096 bytes."""
+    value = 0
+    while True:
+        at = BASE + 64 * (value * 37 % 4096)
+        for word in range(3):
+            yield store(0, at + 8 * word, value)
+            yield f"clwb 0 {at:#x}\n"
+            yield "sfence 0\n"
+        other = BASE + 4096 * (value % 60)
+        if value % 2:
+            yield f"isPersist 0 {other:#x} 4096\n"
+        else:
+            yield f"isOrderedBefore 0 {other:#x} 4096 {other + 4096:#x} 4096\n"
+        value += 1
+
+
+def one_line(count):
+    """Every event is of one line."""
+    value = 0
+    while True:
+        yield store(0, BASE + 8 * (value % 8), value)
+        if value % 50 == 49:
+            yield f"clwb 0 {BASE:#x}\n"
+            yield "sfence 0\n"
+        value += 1
+
+
+def many_lines(count):
+    """One store to each line."""
+    value = 0
+    while True:
+        yield store(0, BASE + 64 * value, value)
+        value += 1
+
+
+def threads_256(count):
+    """256 threads that store and flush a few shared lines and fence in turn."""
+    value = 0
+    while True:
+        thread = value % 256
+        at = BASE + 64 * (value % 7)
+        yield store(thread, at + 8 * (value % 8), value)
+        yield f"clwb {thread} {at:#x}\n"
+        if value % 3 == 0:
+            yield f"sfence {(value * 5) % 256}\n"
+        value += 1
+
+
+def long_intervals(count):
+    """50,000 lines are stored and flushed before each fence."""
+    value = 0
+    while True:
+        for line in range(50000):
+            yield store(0, BASE + 64 * line, value)
+            yield f"clwb 0 {BASE + 64 * line:#x}\n"
+        yield "sfence 0\n"
+        value += 1
+
+
+KINDS = {
+    kind.__name__: kind
+    for kind in (log_appends, tree_inserts, redundant_flushes, many_assertions, one_line, many_lines, threads_256, long_intervals)
+}
+
+
+def main():
+    if len(sys.argv) < 2 or sys.argv[1] not in KINDS:
+        for name, kind in KINDS.items():
+            print(f"{name}\t{kind.__doc__}")
+        return 0 if len(sys.argv) < 2 else 2
+    count = int(sys.argv[2]) if len(sys.argv) > 2 else 1_000_000
+    write = sys.stdout.write
+    write("pmtrace 1\n")
+    lines = KINDS[sys.argv[1]](count)
+    pending = []
+    for _ in range(count):
+        pending.append(next(lines))
+        if len(pending) == 10000:
+            write("".join(pending))
+            pending.clear()
+    write("".join(pending))
+    return 0
+
+
+if __name__ == "__main__":
+    sys.exit(main())

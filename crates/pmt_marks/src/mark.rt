@@ -1,0 +1,66 @@
+ghost use Rattle.std.specs.Prelude.{◌≡◌, ℕ, ◌≤◌, IfNone, OnOk, OnErr, IsOk, IsSome, Some, None};
+ghost use Rattle.pmt_marks.specs.Lines.{place_in, mark_in, OnePerThread, ChangesMark, KeepsMarks};
+
+use pmt_model::OutOfMemory;
+use smallvec::SmallVec;
+
+/// The last flush of a line by a thread that has not fenced since.
+#[derive(Clone, Copy, Debug, Default, PartialEq, Eq)]
+pub struct Mark {
+    /// The thread that flushed.
+    pub thread: u8,
+    /// How many stores to the line came before the flush.
+    pub stores: u32,
+}
+
+// The place of the thread's mark, if it has one.
+fn place_of(marks: &[Mark], thread: u8) -> Option<usize>
+    ensures { result ≡ place_in thread marks.now }
+{
+    marks.iter().position(|mark| mark.thread == thread)
+}
+
+// The stores before the thread's last flush, if it has a mark.
+pub(crate) fn stores_of(marks: &[Mark], thread: u8) -> Option<u32>
+    ensures { result ≡ mark_in thread marks.now }
+{
+    match place_of(marks, thread) {
+        Some(place) => Some(marks[place].stores),
+        None => None,
+    }
+}
+
+// Writes the mark over the one that its thread has, or adds it.
+pub(crate) fn set_mark(marks: &mut SmallVec<Mark, 4>, mark: Mark) -> Result<(), OutOfMemory>
+    ensures ok { OnOk result (ChangesMark mark.thread (Some mark.stores) marks.old.items marks.new.items) }
+    ensures again { IsSome (mark_in mark.thread marks.old.items) → IsOk result }
+    ensures err { OnErr result (marks.new ≡ marks.old) }
+    ensures kept { (limit : ℕ) → mark.stores ≤ limit → KeepsMarks limit marks.old.items marks.new.items }
+{
+    match place_of(marks.as_slice(), mark.thread) {
+        Some(place) => {
+            if let Some(held) = marks.get_mut(place) {
+                *held = mark;
+            }
+            Ok(())
+        }
+        None => {
+            marks.push(mark)?;
+            Ok(())
+        }
+    }
+}
+
+// Takes the thread's mark away: the stores before its last flush, if it had one.
+pub(crate) fn take_mark(marks: &mut SmallVec<Mark, 4>, thread: u8) -> Option<u32>
+    requires { OnePerThread marks.old.items }
+    ensures value { result ≡ mark_in thread marks.old.items }
+    ensures taken { ChangesMark thread None marks.old.items marks.new.items }
+    ensures none { IfNone result (marks.new ≡ marks.old) }
+    ensures kept { (limit : ℕ) → KeepsMarks limit marks.old.items marks.new.items }
+{
+    match place_of(marks.as_slice(), thread) {
+        Some(place) => Some(marks.remove(place).stores),
+        None => None,
+    }
+}

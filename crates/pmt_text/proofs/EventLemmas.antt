@@ -1,0 +1,104 @@
+-- What a line that was found takes from what was coming.
+use Rattle.std.proofs.Common.{◌≡◌, ℕ, zero, suc, ◌+◌, ◌<◌, ◌≤◌, List, [], ◌∷◌, ◌++◌, length, take, drop, get_or, Bool, true, false, ◌==◌, Option, Some, None, Result, Ok, Err, refl, sym, ap, ◌∙◌, subst, arith, add-one, append_assoc}
+use Rattle.std.proofs.Math.Seq.{drop-cons}
+use Rattle.std.proofs.lemmas.List.{take-append-drop, nil_from_length}
+use Rattle.std.proofs.lemmas.Bool.{eqb-true}
+use Rattle.pmt_model.specs.declared.event.Event.{Event}
+use Rattle.pmt_model.specs.Values.{Layout}
+use Rattle.pmt_model.specs.Traces.{event_limit}
+use Rattle.pmt_text.specs.declared.kind.TextKind.{TextKind}
+use Rattle.pmt_text.specs.declared.kind.TextKind.TheVariants.{Truncated, BadHeader, TooManyEvents}
+use Rattle.pmt_text.specs.declared.kind.SourceError.{SourceError}
+use Rattle.pmt_text.specs.declared.kind.SourceError.TheVariants.{Text, TooMany, Read, OutOfMemory, Failed}
+use Rattle.pmt_text.specs.declared.line_reader.LineReader.{LineReader}
+use Rattle.pmt_text.specs.declared.line_reader.Found.TheVariants.{End}
+use Rattle.pmt_text.specs.Judging.{line_judged}
+use Rattle.pmt_text.specs.Coming.{format_in, fault_at, rest_fault}
+use Rattle.pmt_text.specs.Lines.{Ahead, ahead, known_ahead, known_of, held, unread, IsLineAt, Finds}
+use Rattle.pmt_text.specs.Sources.{Gives, IsOver, HasFormat, Faults}
+use Rattle.pmt_text.specs.TextSources.{coming_of, coming_from}
+use Rattle.pmt_text.proofs.TextLemmas.{coming_now, coming_then, coming_first, event_taken, event_late, event_refused, events_much, header_taken, header_refused, header_much, events_last, header_last, Gives-kept}
+
+-- the bytes round place n
+cut_list : (xs : List ℕ) (n : ℕ) → n < length xs → get_or xs n 0 ≡ 10 → xs ≡ take n xs ++ 10 ∷ drop (n + 1) xs
+cut_list xs n within is =
+    let after : drop n xs ≡ 10 ∷ drop (n + 1) xs = drop-cons xs n 0 within ∙ (rw (is, add-one) refl) in
+    sym (take-append-drop n xs) ∙ ap (λ l. take n xs ++ l) after
+
+-- some bytes after the last LF
+rest_truncated : (number : ℕ) (front : List ℕ) → (length front == 0) ≡ false → rest_fault false number front ≡ Some (fault_at number Truncated)
+rest_truncated number [] some = absurd (cc)
+rest_truncated number (b ∷ front) some = refl
+
+module _ {R : Type 0} (remaining : R → Option (List ℕ)) (old new : LineReader R) (len : ℕ) (found : IsLineAt old len)
+    (rest : held new ≡ drop (len + 1) (unread old.piece)) (input : new.input ≡ old.input) (room : new.room ≡ old.room) where
+  abbrev line : List ℕ
+  line = old.front.items ++ take len (unread old.piece)
+
+  cut_held : held old ≡ line ++ 10 ∷ held new
+  cut_held =
+      ap (λ l. old.front.items ++ l) (cut_list (unread old.piece) len found.within found.ends) ∙ sym (append_assoc old.front.items (take len (unread old.piece)) (10 ∷ drop (len + 1) (unread old.piece)))
+      ∙ ap (λ l. line ++ 10 ∷ l) (sym rest)
+
+  ahead_new : known_ahead (known_of remaining old) (held new) old.room ≡ ahead remaining new
+  ahead_new = rw (input, room) refl
+
+  -- it is an event
+  pub found-taken : (f : Layout) (given : ℕ) (e : Event) → line_judged f line ≡ Ok e → given < event_limit
+      → Gives (coming_from remaining (Some f) given old) (e ∷ []) (coming_from remaining (Some f) (given + 1) new)
+  found-taken f given e judged few =
+      subst (λ (a : Option Ahead). Gives (coming_from remaining (Some f) given old) (e ∷ []) (coming_then f given a)) ahead_new
+          (event_taken f given (held old) (held new) line old.room cut_held found.one_line (known_of remaining old) e judged few)
+
+  -- it is one event too many
+  pub found-late : (f : Layout) (given : ℕ) (e : Event) → line_judged f line ≡ Ok e → event_limit ≤ given → IsOver (coming_from remaining (Some f) given old) (Some (fault_at (2 + given) TooManyEvents))
+  found-late f given e judged many = event_late f given (held old) (held new) line old.room cut_held found.one_line (known_of remaining old) e judged many
+
+  -- it is refused
+  pub found-refused : (f : Layout) (given : ℕ) (kind : TextKind) → line_judged f line ≡ Err kind → IsOver (coming_from remaining (Some f) given old) (Some (fault_at (2 + given) kind))
+  found-refused f given kind judged = event_refused f given (held old) (held new) line old.room cut_held found.one_line (known_of remaining old) kind judged
+
+  -- it is the header
+  pub found-header : (f : Layout) → format_in line ≡ Some f → HasFormat (coming_from remaining None 0 old) (Some f) × Gives (coming_from remaining None 0 old) [] (coming_from remaining (Some f) 0 new)
+  found-header f judged =
+      let h = header_taken (held old) (held new) line old.room cut_held found.one_line (known_of remaining old) f judged in
+      (h.0, subst (λ (a : Option Ahead). Gives (coming_from remaining None 0 old) [] (coming_now f 0 a)) ahead_new h.1)
+
+  -- it is no header
+  pub found-no_header : format_in line ≡ None → IsOver (coming_from remaining None 0 old) (Some (fault_at 1 BadHeader))
+  found-no_header judged = header_refused (held old) (held new) line old.room cut_held found.one_line (known_of remaining old) judged
+
+module _ {R : Type 0} (remaining : R → Option (List ℕ)) (old new : LineReader R) where
+  -- a search for an event's line that failed
+  pub failed-events : (f : Layout) (given : ℕ) (e : SourceError) → Finds remaining old (Err e) new → Faults (coming_from remaining (Some f) given old) e
+  failed-events f given (Text t) finds = absurd finds
+  failed-events f given TooMany finds = events_much f given (ahead remaining old) finds
+  failed-events f given Read finds = tt
+  failed-events f given OutOfMemory finds = tt
+  failed-events f given Failed finds = tt
+
+  -- a search for the header that failed
+  pub failed-header : (e : SourceError) → Finds remaining old (Err e) new → Faults (coming_from remaining None 0 old) e
+  failed-header (Text t) finds = absurd finds
+  failed-header TooMany finds = header_much (ahead remaining old) finds
+  failed-header Read finds = tt
+  failed-header OutOfMemory finds = tt
+  failed-header Failed finds = tt
+
+module _ {R : Type 0} (remaining : R → Option (List ℕ)) (old new : LineReader R) (finds : Finds remaining old (Ok End) new) where
+  -- the text ends with an LF
+  pub ended-events : (f : Layout) (given : ℕ) → (length new.front.items == 0) ≡ true
+      → IsOver (coming_from remaining (Some f) given old) None × Gives (coming_from remaining (Some f) given old) [] (coming_from remaining (Some f) given new)
+  ended-events f given none =
+      let nothing : new.front.items ≡ [] = nil_from_length new.front.items (eqb-true (length new.front.items) 0 none) in
+      let over : IsOver (coming_from remaining (Some f) given old) (rest_fault false (2 + given) new.front.items) = events_last f given (ahead remaining old) (ahead remaining new) new.front.items finds.0 finds.1 in
+      (rw nothing at over, Gives-kept (coming_of (Some f) given) (ahead remaining old) (ahead remaining new) finds.0)
+
+  -- it ends without LF
+  pub cut-events : (f : Layout) (given : ℕ) → (length new.front.items == 0) ≡ false → IsOver (coming_from remaining (Some f) given old) (Some (fault_at (2 + given) Truncated))
+  cut-events f given some =
+      rw (← rest_truncated (2 + given) new.front.items some) (events_last f given (ahead remaining old) (ahead remaining new) new.front.items finds.0 finds.1)
+
+  -- it ends before a first LF
+  pub cut-header : IsOver (coming_from remaining None 0 old) (Some (fault_at 1 Truncated))
+  cut-header = header_last (ahead remaining old) (ahead remaining new) new.front.items finds.0 finds.1

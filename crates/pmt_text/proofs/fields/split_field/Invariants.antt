@@ -1,0 +1,6 @@
+-- No space stands before the place.
+use Rattle.std.proofs.Common.{◌≢◌, ℕ, ◌<◌, get_or}
+use Rattle.pmt_text.proofs.fields.split_field.Given as goal
+
+abbrev pub invariant-loop-i : goal.invariant-loop-i
+invariant-loop-i l = (k : ℕ) → k < l.i → get_or l.line k 0 ≢ 32

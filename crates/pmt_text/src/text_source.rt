@@ -1,0 +1,140 @@
+ghost use Rattle.std.specs.Prelude.{◌≡◌, ◌≢◌, ◌-◌, ◌^◌, ◌<◌, ◌≤◌, false, true, is_some, option_map, Some, IfErr};
+ghost use Rattle.pmt_text.specs.Sources.{TakesNext, TellsNext, IsGivenIn, IsOfLaterLine, LeavesFewer, CountsReads};
+ghost use Rattle.pmt_model.specs.Traces.{event_limit};
+ghost use Rattle.pmt_text.specs.declared.source.SourceState.{SourceState};
+ghost use Rattle.pmt_text.specs.declared.source.SourceState.TheVariants as states;
+ghost use Rattle.pmt_text.specs.Counting.{failure_count, inner_device};
+ghost use Rattle.pmt_text.specs.Coming.{judged_within};
+
+use crate::counted::Counted;
+use crate::kind::SourceError;
+use crate::line_reader::LineReader;
+use crate::source::{EventSource, SourceState};
+use crate::text_events::{next_event, read_header};
+use pmt_model::{Event, Format};
+use std::alloc::Global;
+use std::io::Read;
+
+/// The events of the text that a reader gives. It reads pieces of at most 4096 bytes, and judges a complete line before it reads
+/// on; bytes past the first 67,108,864 are not judged.
+#[derive(Drop)]
+pub struct TextSource<R> {
+    lines: LineReader<R>,
+    format: Option<Format>,
+    given: u64,
+    state: SourceState,
+    ghost few: { given ≤ event_limit },
+    ghost fresh: { is_some format ≡ false → given ≡ 0 },
+    ghost known_at_end: { state ≡ states.Ended → is_some format ≡ true },
+    ghost counted: { state ≡ states.Open → failure_count lines.input < 2 ^ 64 - 1 },
+}
+
+impl<R: Read> TextSource<R> {
+    ghost use Rattle.pmt_text.specs.TextSources.{text_coming, text_state, text_input, text_format, text_room, text_failures};
+
+    /// The source of this reader's text.
+    pub fn new(alloc: Global, input: Counted<R>) -> Self
+        requires { failure_count input < 2 ^ 64 - 1 }
+        ensures coming { text_coming R.remaining result ≡ option_map (judged_within 67108864) (R.remaining (inner_device input)) }
+        ensures state { text_state result ≡ states.Open }
+        ensures input { text_input result ≡ input }
+    {
+        TextSource {
+            lines: LineReader::new(alloc, input),
+            format: None,
+            given: 0,
+            state: SourceState::Open,
+        }
+    }
+
+    /// The reader, with the count of its failed reads. What was read and not given is dropped.
+    pub fn into_input(self) -> Counted<R>
+        ensures { result ≡ text_input self }
+    {
+        let TextSource {
+            lines,
+            format: _,
+            given: _,
+            state: _,
+        } = self;
+        lines.into_input()
+    }
+
+    // The next event, where the format is known.
+    fn next_in(&mut self, format: Format) -> Result<Option<Event>, SourceError>
+        requires open { text_state self.old ≡ states.Open }
+        requires known { text_format self.old ≡ Some format }
+        ensures told { TellsNext states.Open result (text_state self.new) }
+        ensures taken { TakesNext (text_coming R.remaining self.old) result (text_coming R.remaining self.new) }
+        ensures in_format { IsGivenIn (Some format) result }
+        ensures kept { text_format self.new ≡ Some format }
+        ensures later_line { IfErr result (IsOfLaterLine (Some format)) }
+        ensures room { LeavesFewer (text_room self.old) result (text_room self.new) }
+        ensures failures { CountsReads (text_failures self.old) result (text_failures self.new) }
+    {
+        match next_event(&mut self.lines, format, self.given) {
+            Ok(Some(event)) => {
+                self.given += 1;
+                Ok(Some(event))
+            }
+            Ok(None) => {
+                self.state = SourceState::Ended;
+                Ok(None)
+            }
+            Err(e) => {
+                self.state = SourceState::Failed(e);
+                Err(e)
+            }
+        }
+    }
+}
+
+impl<R: Read> EventSource for TextSource<R> {
+    ghost use Rattle.pmt_text.specs.TextSources.{text_coming, text_state, text_format, text_room, text_failures, text_few};
+
+    ghost coming = { text_coming R.remaining };
+
+    ghost state = { text_state };
+
+    ghost known_format = { text_format };
+
+    ghost room = { text_room };
+
+    ghost failures = { text_failures };
+
+    ghost few = { text_few };
+
+    fn format(&mut self) -> Result<Format, SourceError> {
+        if let SourceState::Failed(_) = self.state {
+            return Err(SourceError::Failed);
+        }
+        if let Some(format) = self.format {
+            return Ok(format);
+        }
+        match read_header(&mut self.lines) {
+            Ok(format) => {
+                self.format = Some(format);
+                Ok(format)
+            }
+            Err(e) => {
+                self.state = SourceState::Failed(e);
+                Err(e)
+            }
+        }
+    }
+
+    fn next(&mut self) -> Result<Option<Event>, SourceError> {
+        match self.state {
+            SourceState::Open => {}
+            SourceState::Ended => return Ok(None),
+            SourceState::Failed(_) => return Err(SourceError::Failed),
+        }
+        match self.format {
+            Some(format) => self.next_in(format),
+            None => match self.format() {
+                Ok(format) => self.next_in(format),
+                Err(e) => Err(e),
+            },
+        }
+    }
+}
