@@ -1,12 +1,12 @@
 -- Numbers as std writes them are spelled as in a trace.
-use Rattle.std.proofs.Common.{◌≡◌, ℕ, zero, suc, ◌+◌, ◌^◌, ◌<◌, List, [], ◌∷◌, false, map, refl, sym, ap, ◌∙◌, ◌++◌, append_assoc, codes, arith, ne_eqb, ◌==◌, nat_lt}
-use Rattle.std.specs.Fmt.{decimal, digits}
+use Rattle.std.proofs.Common.{◌≡◌, ℕ, zero, suc, ◌+◌, ◌^◌, ◌<◌, List, [], ◌∷◌, map, refl, sym, ap, ◌∙◌, ◌++◌, append_assoc, codes, arith, ne_eqb, ◌==◌, nat_lt}
+use Rattle.std.specs.Fmt.{decimal}
 use Rattle.std.specs.Int.Digits.{digits_of, AllBelowBase}
 use Rattle.std.proofs.lemmas.Bool.{cond-true, cond-false}
 use Rattle.std.proofs.lemmas.Bool.Decides.{nat_tests}
 use Rattle.std.proofs.lemmas.Fmt.{decimal-digits_of, decimal_digit}
 use Rattle.std.proofs.lemmas.Int.Digits.{all_below_base_digits_of}
-use Rattle.pmt_text.specs.Spelling.{glyph, numeral, address}
+use Rattle.pmt_text.specs.Spelling.{glyph, numeral}
 
 glyph-small : (d : ℕ) → d < 10 → glyph d ≡ 48 + d
 glyph-small d h = grind (arith, nat_tests)
@@ -31,7 +31,3 @@ pub fault-of_line : (n : ℕ) (name : List ℕ) → n < 2 ^ 64 →
 fault-of_line n name h =
     ap (λ (d : List ℕ). codes "trace line " ++ (d ++ (codes ": " ++ name))) (sym (numeral-decimal n h))
     ∙ ap (λ (rest : List ℕ). codes "trace line " ++ rest) (sym (append_assoc (numeral 10 n) (codes ": ") name))
-
--- what std writes of an address in base 16, after 0x, is its spelling
-pub address-digits : (a : ℕ) → a < 2 ^ 64 → address a ≡ codes "0x" ++ digits 16 false a
-address-digits a h = ?

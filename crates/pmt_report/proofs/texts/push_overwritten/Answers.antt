@@ -1,4 +1,9 @@
+use Rattle.std.proofs.Common.{codes}
+use Rattle.pmt_text.specs.Spelling.{numeral}
+use Rattle.pmt_report.proofs.Pushing.{pushed-5}
 use Rattle.pmt_report.proofs.texts.push_overwritten.Goals as goal
 
 pub returns : goal.returns
-returns c = ?
+returns c =
+    pushed-5 _ _ _ _ _ _ (codes "overwritten ") (numeral 10 c.args.earlier) (codes " by ") (numeral 10 c.args.later) (codes "\n")
+    c.in_ok-push_str.ensures.bytes c.in_ok-push_number.ensures c.in_ok-push_str-2.ensures.bytes c.in_ok-push_number-2.ensures c.in_ok-push_str-3.ensures.bytes
