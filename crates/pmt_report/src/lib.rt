@@ -4,6 +4,7 @@
 #![tactic(auto)]
 
 pub mod fault;
+mod report;
 mod texts;
 
 pub use crate::fault::{RunError, fault_text};
