@@ -13,3 +13,4 @@ pub mod SourceLemmas
 pub mod TextLemmas
 pub mod EventLemmas
 pub mod WriteLemmas
+pub mod KnownLemmas

@@ -1,6 +1,7 @@
 -- What a list source gives.
-use Rattle.std.specs.Prelude.{◌≡◌, ℕ, ◌-◌, ◌≤◌, if◌then◌else◌, List, length, drop, Option, Some, None}
-use Rattle.std.proofs.Common.{arith}
+use Rattle.std.specs.Prelude.{◌≡◌, ℕ, ◌-◌, ◌≤◌, if◌then◌else◌, List, length, drop, Option, Some, None, IfSome}
+use Rattle.std.proofs.Common.{arith, refl}
+use Rattle.std.proofs.lemmas.List.{length-drop}
 use Rattle.pmt_model.specs.Values.{Layout}
 use Rattle.pmt_model.specs.Traces.{Recording, event_limit}
 use Rattle.pmt_text.specs.declared.list_source.ListSource.{ListSource}
@@ -26,3 +27,9 @@ list_room s = length s.trace.now.events - s.given
 
 pub list_few : (s : ListSource) → list_room s ≤ event_limit
 list_few s = let few = s.few in omega (arith, few)
+
+pub list_listed : (s : ListSource) → IfSome (list_coming s) (λ c. length c.events ≤ list_room s)
+list_listed s = let e = length-drop s.given s.trace.now.events in omega (arith, e)
+
+pub list_same_format : (s : ListSource) → IfSome (list_coming s) (λ c. IfSome (list_format s) (λ f. c.format ≡ Some f))
+list_same_format s = refl

@@ -35,7 +35,7 @@ impl<'a> ListSource<'a> {
 }
 
 impl EventSource for ListSource<'_> {
-    ghost use Rattle.pmt_text.specs.ListSources.{list_coming, list_state, list_format, list_room, list_few};
+    ghost use Rattle.pmt_text.specs.ListSources.{list_coming, list_state, list_format, list_room, list_few, list_listed, list_same_format};
 
     ghost coming = { list_coming };
 
@@ -46,6 +46,10 @@ impl EventSource for ListSource<'_> {
     ghost room = { list_room };
 
     ghost few = { list_few };
+
+    ghost listed = { list_listed };
+
+    ghost same_format = { list_same_format };
 
     fn format(&mut self) -> Result<Format, SourceError> {
         Ok(self.trace.format())

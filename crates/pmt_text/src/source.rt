@@ -1,4 +1,4 @@
-ghost use Rattle.std.specs.Prelude.{◌≡◌, ℕ, ◌≤◌, Option, Some, None, IfOk, IfErr};
+ghost use Rattle.std.specs.Prelude.{◌≡◌, ℕ, ◌≤◌, Option, Some, None, IfOk, IfErr, IfSome, length};
 ghost use Rattle.pmt_model.specs.Values.{Layout};
 ghost use Rattle.pmt_model.specs.Traces.{event_limit};
 ghost use Rattle.pmt_text.specs.Coming.{Coming};
@@ -63,5 +63,12 @@ pub trait EventSource {
         ensures room { LeavesFewer (room self.old) result (room self.new) }
         ensures failures { CountsReads (failures self.old) result (failures self.new) };
 
+    // There is room for no more than a million.
     ghost few: { (s : Self) → room s ≤ event_limit };
+
+    // What comes has that room.
+    ghost listed: { (s : Self) → IfSome (coming s) (λ c. length c.events ≤ room s) };
+
+    // What comes has the format that is known.
+    ghost same_format: { (s : Self) → IfSome (coming s) (λ c. IfSome (known_format s) (λ f. c.format ≡ Some f)) };
 }

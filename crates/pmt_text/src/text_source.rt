@@ -91,6 +91,7 @@ impl<R: Read> TextSource<R> {
 
 impl<R: Read> EventSource for TextSource<R> {
     ghost use Rattle.pmt_text.specs.TextSources.{text_coming, text_state, text_format, text_room, text_failures, text_few};
+    ghost use Rattle.pmt_text.specs.TextLaws.{text_listed, text_same_format};
 
     ghost coming = { text_coming R.remaining };
 
@@ -103,6 +104,10 @@ impl<R: Read> EventSource for TextSource<R> {
     ghost failures = { text_failures };
 
     ghost few = { text_few };
+
+    ghost listed = { text_listed R.remaining };
+
+    ghost same_format = { text_same_format R.remaining };
 
     fn format(&mut self) -> Result<Format, SourceError> {
         if let SourceState::Failed(_) = self.state {
