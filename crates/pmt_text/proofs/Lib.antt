@@ -14,3 +14,6 @@ pub mod TextLemmas
 pub mod EventLemmas
 pub mod WriteLemmas
 pub mod KnownLemmas
+pub mod JudgedLemmas
+pub mod ComingLemmas
+pub mod ReaderLemmas

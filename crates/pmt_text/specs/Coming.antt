@@ -1,5 +1,5 @@
 -- What comes from bytes: events in order, and then the end or one fault.
-use Rattle.std.specs.Prelude.{◌≡◌, ℕ, ◌+◌, nat_lt, Bool, true, false, ◌==◌, if◌then◌else◌, List, [], ◌∷◌, length, take, find, Option, Some, None, Result, Ok, Err}
+use Rattle.std.specs.Prelude.{◌≡◌, ℕ, ◌+◌, nat_lt, Bool, true, false, ◌==◌, if◌then◌else◌, List, [], ◌∷◌, length, take, find, Option, Some, None, Result, Ok, Err, Vec}
 use Rattle.std.specs.List.{slice_split}
 use Rattle.std.specs.Str.{bytes_eq}
 use Rattle.pmt_model.specs.declared.event.Op.{Op}
@@ -106,13 +106,16 @@ script_judged bytes = script_coming false bytes
 
 -- ---- What a reader of a whole text answers, by what the text is
 
--- An Ok is a text without fault; a fault is the text's. Want of memory may come with any text.
+-- A fault is the text's. Want of memory may come with any text.
+abbrev pub Refuses : ReadError → Option SourceError → Type 0
+Refuses (answers.Text f) fault = fault ≡ Some (Text f)
+Refuses answers.OutOfMemory fault = Unit {0}
+
+-- An Ok is what a text without fault is.
 abbrev pub GivesTrace : Result Recording ReadError → Coming → Type 0
 GivesTrace (Ok T) c = c ≡ record { format = Some T.format; events = T.events; fault = None }
-GivesTrace (Err (answers.Text f)) c = c.fault ≡ Some (Text f)
-GivesTrace (Err answers.OutOfMemory) c = Unit {0}
+GivesTrace (Err e) c = Refuses e c.fault
 
-abbrev pub GivesScript : Result (List Op) ReadError → Items Op → Type 0
-GivesScript (Ok ops) s = s ≡ record { items = ops; fault = None }
-GivesScript (Err (answers.Text f)) s = s.fault ≡ Some (Text f)
-GivesScript (Err answers.OutOfMemory) s = Unit {0}
+abbrev pub GivesScript : {Z : Type 0} → Result (Vec Op Z) ReadError → Items Op → Type 0
+GivesScript (Ok ops) s = s ≡ record { items = ops.items; fault = None }
+GivesScript (Err e) s = Refuses e s.fault

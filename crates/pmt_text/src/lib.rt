@@ -17,10 +17,12 @@ pub(crate) mod piece;
 pub mod source;
 pub(crate) mod text_events;
 pub mod text_source;
+pub mod text;
 pub mod word;
 pub mod write_all;
 
 pub use crate::counted::Counted;
+pub use crate::text::{read_script, read_trace};
 pub use crate::kind::{ReadError, SourceError, TextError, TextKind};
 pub use crate::list_source::ListSource;
 pub use crate::source::{EventSource, SourceState};

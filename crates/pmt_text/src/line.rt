@@ -1,4 +1,5 @@
-ghost use Rattle.std.specs.Prelude.{◌≡◌};
+ghost use Rattle.std.specs.Prelude.{◌≡◌, IfOk};
+ghost use Rattle.pmt_model.specs.Traces.{IsEventIn};
 ghost use Rattle.pmt_text.specs.Judging.{line_judged, script_line_judged};
 ghost use Rattle.pmt_text.specs.Reading.{fence_of_fields, fields_left, flushed_of_fields, kind_of as kind_in_text, op_of_fields, span_checked, with_thread};
 
@@ -160,7 +161,8 @@ fn event_of(thread: u64, op: Result<Op, TextKind>) -> Result<Event, TextKind>
 /// # Errors
 /// `BadWord`, `BadField`, `OutOfRange`, `CrossesWord`, in this order.
 pub fn judge_line(format: Format, line: &[u8]) -> Result<Event, TextKind>
-    ensures { result ≡ line_judged format line.now }
+    ensures judged { result ≡ line_judged format line.now }
+    ensures in_format { IfOk result (IsEventIn format) }
 {
     let (word, rest) = split_field(line);
     let Some(word) = read_word(format, word) else {
