@@ -1,3 +1,4 @@
 pub mod Decimals
 pub mod Pushing
 pub mod EntryLemmas
+pub mod TakingLemmas

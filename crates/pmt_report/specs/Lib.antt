@@ -1,3 +1,4 @@
 pub mod Faults
 pub mod Entries
 pub mod Reports
+pub mod Taking

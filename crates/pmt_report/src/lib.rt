@@ -5,6 +5,7 @@
 
 pub mod fault;
 mod report;
+mod taking;
 mod texts;
 
 pub use crate::fault::{RunError, fault_text};
