@@ -2,3 +2,4 @@ pub mod Faults
 pub mod Entries
 pub mod Reports
 pub mod Taking
+pub mod Runs
