@@ -17,3 +17,5 @@ pub mod KnownLemmas
 pub mod JudgedLemmas
 pub mod ComingLemmas
 pub mod ReaderLemmas
+pub mod NumberWriting
+pub mod LineWriting

@@ -53,11 +53,11 @@ base-high b (inr e) = omega arith
 
 -- ---- Numerals
 
-numeral-zero : (base : ℕ) → numeral base 0 ≡ 48 ∷ []
+pub numeral-zero : (base : ℕ) → numeral base 0 ≡ 48 ∷ []
 unfolding numeral
 numeral-zero base = refl
 
-numeral-above : (base n : ℕ) → 0 < n → numeral base n ≡ map glyph (digits_of base n)
+pub numeral-above : (base n : ℕ) → 0 < n → numeral base n ≡ map glyph (digits_of base n)
 unfolding numeral
 numeral-above base n h = cond-false (n == 0) (48 ∷ []) (map glyph (digits_of base n)) (ne_eqb n 0 (λ e. omega arith))
 
@@ -101,7 +101,7 @@ digits_after b n (d ∷ ds) low pos h =
     ∙ append_assoc (digits_of b n) (d ∷ []) ds
 
 -- a number below the base is its own digit
-digits_of-digit : (b d : ℕ) → 2 ≤ b → 0 < d → d < b → digits_of b d ≡ d ∷ []
+pub digits_of-digit : (b d : ℕ) → 2 ≤ b → 0 < d → d < b → digits_of b d ≡ d ∷ []
 digits_of-digit b d low pos h =
     let zero_times : 0 * b + d ≡ d = omega (arith, zero-mul b) in
     let quotient : d / b ≡ 0 = ap (λ (x : ℕ). x / b) (sym zero_times) ∙ digits_div 0 h in

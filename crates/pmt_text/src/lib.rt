@@ -20,9 +20,11 @@ pub mod text_source;
 pub mod text;
 pub mod word;
 pub mod write_all;
+pub mod write;
 
 pub use crate::counted::Counted;
 pub use crate::text::{read_script, read_trace};
+pub use crate::write::{write_event, write_trace};
 pub use crate::kind::{ReadError, SourceError, TextError, TextKind};
 pub use crate::list_source::ListSource;
 pub use crate::source::{EventSource, SourceState};

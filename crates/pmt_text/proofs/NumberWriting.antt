@@ -1,0 +1,80 @@
+-- The writer of a number: one digit on, and the room that it needs.
+use Rattle.std.proofs.Common.{◌≡◌, ℕ, zero, suc, ◌+◌, ◌-◌, ◌*◌, ◌/◌, ◌%◌, ◌^◌, ◌<◌, ◌≤◌, inl, inr, List, [], ◌∷◌, ◌++◌, map, length, drop, set, refl, sym, ◌∙◌, ap, arith, append_assoc, pow-suc, div-lt_iff_lt-mul, le-div_iff_mul-le, mul-le-mul_left, one-mul, take, get_or, flat_map}
+use Rattle.std.specs.Int.Digits.{digits_of}
+use Rattle.std.proofs.lemmas.List.{map-append, drop-set, take_more, flat_map_more}
+use Rattle.std.proofs.lemmas.Int.Digits.{digits_of_step}
+use Rattle.pmt_text.specs.Spelling.{glyph, numeral, hex_pair, hex_bytes}
+use Rattle.pmt_text.specs.Reading.{IsBase}
+use Rattle.pmt_text.proofs.NumeralLemmas.{base-low, base-high, numeral-above, numeral-zero, digits_of-digit}
+
+-- a number of two digits or more ends with its last one
+pub numeral-step : (base n : ℕ) → IsBase base → base ≤ n → numeral base n ≡ numeral base (n / base) ++ glyph (n % base) ∷ []
+numeral-step base n b l =
+    let low = base-low base b in
+    let above : 0 < n = omega (arith, low) in
+    let one : 1 * base ≤ n = omega (arith, one-mul base) in
+    let quotient : 0 < n / base = (le-div_iff_mul-le {k = base} {x = 1} {y = n} (omega arith)).1 one in
+    numeral-above base n above
+    ∙ ap (map glyph) (digits_of_step base n low above)
+    ∙ map-append glyph (digits_of base (n / base)) (n % base ∷ [])
+    ∙ ap (λ (xs : List ℕ). xs ++ glyph (n % base) ∷ []) (sym (numeral-above base (n / base) quotient))
+
+-- a number of one digit
+pub numeral-digit : (base n : ℕ) → IsBase base → n < base → numeral base n ≡ glyph n ∷ []
+numeral-digit base zero b l = numeral-zero base
+numeral-digit base (suc n) b l = numeral-above base (suc n) (omega arith) ∙ ap (map glyph) (digits_of-digit base (suc n) (base-low base b) (omega arith) l)
+
+-- a number of two digits or more has room for two
+pub room-two : (n at : ℕ) → 10 ≤ n → n < 10 ^ at → 2 ≤ at
+room-two n zero l h = absurd (omega arith)
+room-two n (suc zero) l h = absurd (omega arith)
+room-two n (suc (suc at)) l h = omega arith
+
+pub base-ten : (b : ℕ) → IsBase b → 10 ≤ b
+base-ten b (inl e) = omega arith
+base-ten b (inr e) = omega arith
+
+-- its first digits have one place less
+pub room-quotient : (base n at : ℕ) → IsBase base → n < 10 ^ suc at → n / base < 10 ^ at
+room-quotient base n at b h =
+    let ten = base-ten base b in
+    let grows : 10 ^ at * 10 ≤ 10 ^ at * base = mul-le-mul_left (10 ^ at) ten in
+    let below : n < 10 ^ at * base = omega (arith, pow-suc 10 at) in
+    (div-lt_iff_lt-mul {k = base} {x = n} {y = 10 ^ at} (omega arith)).1 below
+
+drop-front : (digits : List ℕ) (at d : ℕ) → 1 ≤ at → at ≤ length digits → drop (at - 1) (set digits (at - 1) d) ≡ d ∷ drop at digits
+drop-front digits at d pos l =
+    let back : at - 1 + 1 ≡ at = omega arith in
+    drop-set digits (at - 1) d (omega arith) ∙ ap (λ (n : ℕ). d ∷ drop n digits) back
+
+-- one digit is written in front of those that are
+pub write-step : (base n rest : ℕ) (digits : List ℕ) (at g : ℕ) → IsBase base → base ≤ rest → 1 ≤ at → at ≤ length digits → g ≡ glyph (rest % base) →
+    numeral base n ≡ numeral base rest ++ drop at digits → numeral base n ≡ numeral base (rest / base) ++ drop (at - 1) (set digits (at - 1) g)
+write-step base n rest digits at g b l pos fits is e =
+    e ∙ ap (λ (xs : List ℕ). xs ++ drop at digits) (numeral-step base rest b l)
+    ∙ append_assoc (numeral base (rest / base)) (glyph (rest % base) ∷ []) (drop at digits)
+    ∙ ap (λ (d : ℕ). numeral base (rest / base) ++ d ∷ drop at digits) (sym is)
+    ∙ ap (λ (xs : List ℕ). numeral base (rest / base) ++ xs) (sym (drop-front digits at g pos fits))
+
+-- the first digit is written in front of the others
+pub write-last : (base n rest : ℕ) (digits : List ℕ) (at g : ℕ) → IsBase base → rest < base → 1 ≤ at → at ≤ length digits → g ≡ glyph rest →
+    numeral base n ≡ numeral base rest ++ drop at digits → numeral base n ≡ drop (at - 1) (set digits (at - 1) g)
+write-last base n rest digits at g b l pos fits is e =
+    e ∙ ap (λ (xs : List ℕ). xs ++ drop at digits) (numeral-digit base rest b l)
+    ∙ ap (λ (d : ℕ). d ∷ drop at digits) (sym is)
+    ∙ sym (drop-front digits at g pos fits)
+
+-- one byte more is written
+pub hex_bytes-more : (bytes : List ℕ) (i : ℕ) → i < length bytes → get_or bytes i 0 < 256 →
+    hex_bytes (take (i + 1) bytes) ≡ hex_bytes (take i bytes) ++ glyph (get_or bytes i 0 / 16) ∷ glyph (get_or bytes i 0 % 16) ∷ []
+unfolding hex_bytes
+hex_bytes-more bytes i l small =
+    let b = get_or bytes i 0 in
+    let high : b / 16 % 16 ≡ b / 16 = omega arith in
+    ap (flat_map hex_pair) (take_more bytes i 0 l)
+    ∙ sym (flat_map_more hex_pair [] (take i bytes) b)
+    ∙ ap (λ (d : ℕ). flat_map hex_pair (take i bytes) ++ glyph d ∷ glyph (b % 16) ∷ []) high
+
+pub hex_bytes-nil : hex_bytes [] ≡ []
+unfolding hex_bytes
+hex_bytes-nil = refl
