@@ -48,7 +48,7 @@ module _ {R : Type 0} (remaining : R → Option (List ℕ)) (old new : LineReade
       → Gives (coming_from remaining (Some f) given old) (e ∷ []) (coming_from remaining (Some f) (given + 1) new)
   found-taken f given e judged few =
       subst (λ (a : Option Ahead). Gives (coming_from remaining (Some f) given old) (e ∷ []) (coming_then f given a)) ahead_new
-          (event_taken f given (held old) (held new) line old.room cut_held found.one_line (known_of remaining old) e judged few)
+      (event_taken f given (held old) (held new) line old.room cut_held found.one_line (known_of remaining old) e judged few)
 
   -- it is one event too many
   pub found-late : (f : Layout) (given : ℕ) (e : Event) → line_judged f line ≡ Ok e → event_limit ≤ given → IsOver (coming_from remaining (Some f) given old) (Some (fault_at (2 + given) TooManyEvents))

@@ -104,7 +104,10 @@ impl<R> LineReader<R> {
         ensures room { self.new.room ≡ self.old.room }
         ensures memory { IfErr result (λ e. e ≡ SourceError.OutOfMemory) }
     {
-        match self.front.extend_from_slice(&self.piece.as_slice()[..count]) {
+        match self
+            .front
+            .extend_from_slice(&self.piece.as_slice()[..count])
+        {
             Ok(()) => {
                 self.piece.skip(count);
                 Ok(())

@@ -47,7 +47,11 @@ impl Piece {
     }
 
     // Makes one read of at most `most` bytes, in place of what it held.
-    pub(crate) fn refill<R: Read>(&mut self, input: &mut Counted<R>, most: usize) -> io::Result<usize>
+    pub(crate) fn refill<R: Read>(
+        &mut self,
+        input: &mut Counted<R>,
+        most: usize,
+    ) -> io::Result<usize>
         requires counted { failure_count input.old < 2 ^ 64 - 1 }
         requires some { 0 < most }
         ensures len { IfOk result (λ n. length (unread self.new) ≡ n) }

@@ -143,3 +143,6 @@ impl<R: Read> EventSource for TextSource<R> {
         }
     }
 }
+
+#[cfg(test)]
+mod tests;
