@@ -1,8 +1,8 @@
-ghost use Rattle.std.specs.Prelude.{◌≡◌, IfOk, string_bytes};
-ghost use Rattle.pmt_report.specs.Faults.{fault_line};
+ghost use Rattle.std.specs.Prelude.{◌≡◌, ◌≢◌, IfOk, string_bytes};
+ghost use Rattle.pmt_report.specs.Faults.{fault_line, run_fault};
 
 use pmt_model::OutOfMemory;
-use pmt_text::TextError;
+use pmt_text::{SourceError, TextError};
 use std::alloc::Global;
 use thiserror::Error;
 
@@ -62,4 +62,18 @@ fn text_fault(alloc: Global, fault: &TextError) -> Result<String, OutOfMemory>
     let line = fault.line;
     let name = fault.kind.name();
     format!(in alloc; "trace line {line}: {name}")
+}
+
+/// What a run tells where its source told this fault.
+pub(crate) fn run_error(error: SourceError) -> RunError
+    requires { error ≢ SourceError.Failed }
+    ensures { result ≡ run_fault error }
+{
+    match error {
+        SourceError::Text(fault) => RunError::Text(fault),
+        SourceError::TooMany => RunError::TooMany,
+        SourceError::Read => RunError::Read,
+        SourceError::OutOfMemory => RunError::OutOfMemory,
+        SourceError::Failed => unreachable!(),
+    }
 }

@@ -1,5 +1,5 @@
 //! The report of an analysis.
-ghost use Rattle.std.specs.Prelude.{◌≡◌, ◌++◌, IfOk, OnOk, string_bytes};
+ghost use Rattle.std.specs.Prelude.{◌≡◌, ◌++◌, IfOk, OnOk};
 ghost use Rattle.std.specs.List.{flat_map};
 ghost use Rattle.pmt_model.specs.Analyses.{reported_at};
 ghost use Rattle.pmt_report.specs.Entries.{entries, verdict_entry, verdicts_before, verdicts_from};
@@ -17,10 +17,10 @@ pub(crate) fn report_of(
     findings: &[Finding],
     verdicts: &[Verdict],
     kept: u64,
-) -> Result<String, OutOfMemory>
-    ensures { IfOk result (λ text. string_bytes text ≡ report events lines findings.now verdicts.now kept) }
+) -> Result<Vec<u8>, OutOfMemory>
+    ensures { IfOk result (λ text. text.items ≡ report events lines findings.now verdicts.now kept) }
 {
-    let mut text = String::new(alloc);
+    let mut text = Vec::new(alloc);
     push_report_head(&mut text, events, lines)?;
     push_entries(&mut text, findings, verdicts)?;
     push_report_end(&mut text, events, kept)?;
@@ -28,8 +28,8 @@ pub(crate) fn report_of(
 }
 
 // Adds the entries, by event number.
-fn push_entries(text: &mut String, findings: &[Finding], verdicts: &[Verdict]) -> Result<(), OutOfMemory>
-    ensures { OnOk result (string_bytes text.new ≡ string_bytes text.old ++ entries findings.now verdicts.now) }
+fn push_entries(text: &mut Vec<u8>, findings: &[Finding], verdicts: &[Verdict]) -> Result<(), OutOfMemory>
+    ensures { OnOk result (text.new.items ≡ text.old.items ++ entries findings.now verdicts.now) }
 {
     let mut rest = verdicts;
     for finding in findings {
@@ -52,8 +52,8 @@ fn event_of(finding: Finding) -> u64
 }
 
 // Adds the entries of the verdicts of earlier events, and gives the others.
-fn push_earlier<'a>(text: &mut String, number: u64, verdicts: &'a [Verdict]) -> Result<&'a [Verdict], OutOfMemory>
-    ensures pushed { OnOk result (string_bytes text.new ≡ string_bytes text.old ++ flat_map verdict_entry (verdicts_before number verdicts.now)) }
+fn push_earlier<'a>(text: &mut Vec<u8>, number: u64, verdicts: &'a [Verdict]) -> Result<&'a [Verdict], OutOfMemory>
+    ensures pushed { OnOk result (text.new.items ≡ text.old.items ++ flat_map verdict_entry (verdicts_before number verdicts.now)) }
     ensures others { IfOk result (λ rest. rest.now ≡ verdicts_from number verdicts.now) }
 {
     let mut taken = 0;
@@ -69,8 +69,8 @@ fn push_earlier<'a>(text: &mut String, number: u64, verdicts: &'a [Verdict]) -> 
 }
 
 // Adds the entries of the verdicts.
-fn push_verdicts(text: &mut String, verdicts: &[Verdict]) -> Result<(), OutOfMemory>
-    ensures { OnOk result (string_bytes text.new ≡ string_bytes text.old ++ flat_map verdict_entry verdicts.now) }
+fn push_verdicts(text: &mut Vec<u8>, verdicts: &[Verdict]) -> Result<(), OutOfMemory>
+    ensures { OnOk result (text.new.items ≡ text.old.items ++ flat_map verdict_entry verdicts.now) }
 {
     for verdict in verdicts {
         push_verdict(text, *verdict)?;

@@ -1,4 +1,4 @@
-use Rattle.std.proofs.Common.{◌≡◌, ◌-◌, ◌≤◌, ◌++◌, length, drop, string_bytes}
+use Rattle.std.proofs.Common.{◌≡◌, ◌-◌, ◌≤◌, ◌++◌, length, drop}
 use Rattle.std.specs.List.{flat_map}
 use Rattle.pmt_report.specs.Entries.{verdict_entry, verdicts_before, verdicts_from}
 use Rattle.pmt_report.proofs.report.push_earlier.Given as goal
@@ -7,8 +7,8 @@ abbrev pub invariant-loop-taken : goal.invariant-loop-taken
 invariant-loop-taken l = record {
   within : l.taken ≤ length l.verdicts;
   pushed :
-    string_bytes l.text ++ flat_map verdict_entry (verdicts_before l.number (drop l.taken l.verdicts)) ≡
-    string_bytes l.initial.text ++ flat_map verdict_entry (verdicts_before l.number l.verdicts);
+    l.text.items ++ flat_map verdict_entry (verdicts_before l.number (drop l.taken l.verdicts)) ≡
+    l.initial.text.items ++ flat_map verdict_entry (verdicts_before l.number l.verdicts);
   others : verdicts_from l.number (drop l.taken l.verdicts) ≡ verdicts_from l.number l.verdicts
 }
 

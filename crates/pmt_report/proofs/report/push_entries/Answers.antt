@@ -1,4 +1,4 @@
-use Rattle.std.proofs.Common.{◌≡◌, ◌++◌, ℕ, ◌+◌, ◌<◌, ◌≤◌, List, [], ◌∷◌, suc, length, get_or, drop, add-one, arith, ap, sym, ◌∙◌, subst, OnOk, string_bytes}
+use Rattle.std.proofs.Common.{◌≡◌, ◌++◌, ℕ, ◌+◌, ◌<◌, ◌≤◌, List, [], ◌∷◌, suc, length, get_or, drop, add-one, arith, ap, sym, ◌∙◌, subst, OnOk}
 use Rattle.std.specs.List.{flat_map}
 use Rattle.std.proofs.Math.Seq.{drop-cons}
 use Rattle.std.proofs.lemmas.List.{drop_all}
@@ -17,10 +17,10 @@ loop-finding-preserved c =
     let f = get_or fs i (Overwritten 0 0) in
     let vs = c.loop-finding.rest.now in
     let rest = c.in_ok-rest.rest.now in
-    let s = string_bytes c.loop-finding.text in
-    let s1 = string_bytes c.push_earlier.new.text in
-    let s2 = string_bytes c.push_finding.new.text in
-    let total = string_bytes c.args.text.now ++ entries fs c.args.verdicts.now in
+    let s = c.loop-finding.text.items in
+    let s1 = c.push_earlier.new.text.items in
+    let s2 = c.push_finding.new.text.items in
+    let total = c.args.text.now.items ++ entries fs c.args.verdicts.now in
     let within : i < length fs = omega arith in
     let split : drop i fs ≡ f ∷ drop (i + 1) fs = drop-cons fs i (Overwritten 0 0) within ∙ ap (λ (n : ℕ). f ∷ drop n fs) (sym (add-one i)) in
     let before : s ++ entries (f ∷ drop (i + 1) fs) vs ≡ total = ap (λ (l : List Finding). s ++ entries l vs) (sym split) ∙ c.loop-finding.invariant in
@@ -34,8 +34,8 @@ pub returns : goal.returns
 returns c =
     let fs = c.args.findings.now in
     let vs = c.loop-finding.rest.now in
-    let s = string_bytes c.loop-finding.text in
+    let s = c.loop-finding.text.items in
     let none : drop c.loop-finding.finding-index fs ≡ [] = drop_all c.loop-finding.finding-index fs c.loop-finding-test.false in
-    let all : s ++ flat_map verdict_entry vs ≡ string_bytes c.args.text.now ++ entries fs c.args.verdicts.now =
+    let all : s ++ flat_map verdict_entry vs ≡ c.args.text.now.items ++ entries fs c.args.verdicts.now =
         ap (λ (l : List ℕ). s ++ l) (sym (entries-end vs)) ∙ ap (λ (l : List Finding). s ++ entries l vs) (sym none) ∙ c.loop-finding.invariant in
-    subst (λ (l : List ℕ). OnOk c.push_verdicts.result (string_bytes c.push_verdicts.new.text ≡ l)) all c.push_verdicts.ensures
+    subst (λ (l : List ℕ). OnOk c.push_verdicts.result (c.push_verdicts.new.text.items ≡ l)) all c.push_verdicts.ensures

@@ -1,8 +1,8 @@
-use Rattle.std.proofs.Common.{◌≡◌, ◌++◌, drop, string_bytes}
+use Rattle.std.proofs.Common.{◌≡◌, ◌++◌, drop}
 use Rattle.std.specs.List.{flat_map}
 use Rattle.pmt_report.specs.Entries.{verdict_entry}
 use Rattle.pmt_report.proofs.report.push_verdicts.Given as goal
 
 abbrev pub invariant-loop-verdict : goal.invariant-loop-verdict
 invariant-loop-verdict l =
-    string_bytes l.text ++ flat_map verdict_entry (drop l.verdict-index l.verdicts) ≡ string_bytes l.initial.text ++ flat_map verdict_entry l.verdicts
+    l.text.items ++ flat_map verdict_entry (drop l.verdict-index l.verdicts) ≡ l.initial.text.items ++ flat_map verdict_entry l.verdicts

@@ -1,4 +1,4 @@
-use Rattle.std.proofs.Common.{◌≡◌, ℕ, List, [], ◌++◌, ap, ◌∙◌, string_bytes}
+use Rattle.std.proofs.Common.{◌≡◌, ℕ, List, [], ◌++◌, ap, ◌∙◌}
 use Rattle.pmt_report.specs.Entries.{entries}
 use Rattle.pmt_report.specs.Reports.{report, report_head, report_end}
 use Rattle.pmt_report.proofs.Pushing.{pushed-3}
@@ -11,4 +11,4 @@ returns c =
     let middle = entries c.args.findings.now c.args.verdicts.now in
     let last = report_end c.args.events c.args.kept in
     pushed-3 _ _ _ _ head middle last c.in_ok-push_report_head.ensures c.in_ok-push_entries.ensures c.in_ok-push_report_end.ensures
-    ∙ ap (λ (s : List ℕ). s ++ (head ++ middle ++ last)) c.new-text.ensures.bytes
+    ∙ ap (λ (s : List ℕ). s ++ (head ++ middle ++ last)) c.new-text.ensures.items

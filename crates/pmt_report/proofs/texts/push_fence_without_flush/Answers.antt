@@ -5,4 +5,5 @@ use Rattle.pmt_report.proofs.texts.push_fence_without_flush.Goals as goal
 
 pub returns : goal.returns
 returns c =
-    pushed-3 _ _ _ _ (codes "fence-without-flush ") (numeral 10 c.args.event) (codes "\n") c.in_ok-push_str.ensures.bytes c.in_ok-push_number.ensures c.in_ok-push_str-2.ensures.bytes
+    pushed-3 _ _ _ _ (codes "fence-without-flush ") (numeral 10 c.args.event) (codes "\n")
+    c.in_ok-extend_from_slice.ensures.items c.in_ok-push_number.ensures c.in_ok-push.ensures.items

@@ -6,4 +6,4 @@ use Rattle.pmt_report.proofs.texts.push_overwritten.Goals as goal
 pub returns : goal.returns
 returns c =
     pushed-5 _ _ _ _ _ _ (codes "overwritten ") (numeral 10 c.args.earlier) (codes " by ") (numeral 10 c.args.later) (codes "\n")
-    c.in_ok-push_str.ensures.bytes c.in_ok-push_number.ensures c.in_ok-push_str-2.ensures.bytes c.in_ok-push_number-2.ensures c.in_ok-push_str-3.ensures.bytes
+    c.in_ok-extend_from_slice.ensures.items c.in_ok-push_number.ensures c.in_ok-extend_from_slice-2.ensures.items c.in_ok-push_number-2.ensures c.in_ok-push.ensures.items
