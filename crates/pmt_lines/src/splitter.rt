@@ -1,0 +1,177 @@
+ghost use Rattle.std.specs.Prelude.{◌≡◌, ℕ, suc, ◌<◌, ◌≤◌, length, map, vec_len, All, IfOk, OnOk};
+ghost use Rattle.pmt_model.specs.declared.event.Event.{Event};
+ghost use Rattle.pmt_model.specs.Machine.{Flushes, Fences};
+ghost use Rattle.pmt_model.specs.Pushing.{empty, with_event};
+ghost use Rattle.pmt_model.specs.Traces.{event_limit, act, IsEventIn};
+ghost use Rattle.pmt_lines.specs.Steps.{IsStepKind};
+ghost use Rattle.pmt_lines.specs.Splitting.{line_in, IsSplitting, IsAccess, TakesOnLine, EndBefore, EndsAt};
+
+use crate::job::{LineJob, ThreadJob};
+use crate::open::OpenFlushes;
+use crate::step::{Step, StepKind};
+use indexmap::IndexSet;
+use pmt_model::{Event, Format, Op, OutOfMemory, Trace, line_of};
+use std::alloc::{AllocError, Global};
+
+/// A trace that is taken apart while its events come.
+#[derive(Drop)]
+pub(crate) struct Splitter {
+    pub(crate) trace: Trace,
+    lines: IndexSet<u64>,
+    pub(crate) jobs: Vec<LineJob>,
+    open_flushes: OpenFlushes,
+    pub(crate) fences: ThreadJob,
+}
+
+impl Splitter {
+    // No events yet.
+    pub(crate) fn new(alloc: Global, format: Format) -> Result<Self, OutOfMemory>
+        ensures trace { IfOk result (λ s. s.trace ≡ empty format) }
+        ensures so_far { IfOk result (λ s. IsSplitting s.trace s.lines.keys s.jobs.items s.open_flushes s.fences) }
+    {
+        Ok(Splitter {
+            trace: Trace::new_with(alloc, format),
+            lines: IndexSet::new(alloc),
+            jobs: Vec::new(alloc),
+            open_flushes: OpenFlushes::new(alloc)?,
+            fences: ThreadJob::new(alloc),
+        })
+    }
+
+    // Takes the next event. What it leaves where memory was refused is not told.
+    pub(crate) fn take(&mut self, event: Event) -> Result<(), OutOfMemory>
+        requires so_far { IsSplitting self.old.trace self.old.lines.keys self.old.jobs.items self.old.open_flushes self.old.fences }
+        requires room { length self.old.trace.events < event_limit }
+        requires known { IsEventIn self.old.trace.format event }
+        ensures trace { OnOk result (self.new.trace ≡ with_event self.old.trace event) }
+        ensures so_far { OnOk result (IsSplitting self.new.trace self.new.lines.keys self.new.jobs.items self.new.open_flushes self.new.fences) }
+    {
+        self.sort(&event)?;
+        let Event { thread, op } = event;
+        match self.trace.push(Event { thread, op }) {
+            Ok(()) => Ok(()),
+            Err(_) => Err(AllocError),
+        }
+    }
+
+    // Adds the event to the jobs that it matters to.
+    fn sort(&mut self, event: &Event) -> Result<(), OutOfMemory>
+        requires so_far { IsSplitting self.old.trace self.old.lines.keys self.old.jobs.items self.old.open_flushes self.old.fences }
+        requires room { length self.old.trace.events < event_limit }
+        ensures trace { self.new.trace ≡ self.old.trace }
+        ensures so_far { OnOk result (IsSplitting (with_event self.old.trace event.now) self.new.lines.keys self.new.jobs.items self.new.open_flushes self.new.fences) }
+    {
+        let thread = event.thread;
+        let op = event.op;
+        let format = self.trace.format();
+        let number = self.trace.len() as u64 + 1;
+        match op {
+            Op::Store(store) => {
+                let addr = store.addr();
+                let kind = StepKind::Store {
+                    addr: addr.get(),
+                    len: store.bytes().len() as u64,
+                };
+                self.take_access(line_of(format, addr), Step { number, thread, kind })
+            }
+            Op::Clwb(addr) | Op::ClflushOpt(addr) => self.take_flush(line_of(format, addr), number, thread),
+            Op::Clflush(addr) => {
+                let kind = StepKind::Clflush;
+                self.take_access(line_of(format, addr), Step { number, thread, kind })
+            }
+            Op::Sfence | Op::Mfence => self.take_fence(number, thread),
+            Op::IsPersist(_) | Op::IsOrderedBefore(_, _) => Ok(()),
+        }
+    }
+
+    // A store to the line, or a clflush of it.
+    fn take_access(&mut self, line: u64, step: Step) -> Result<(), OutOfMemory>
+        requires so_far { IsSplitting self.old.trace self.old.lines.keys self.old.jobs.items self.old.open_flushes self.old.fences }
+        requires number { step.number ≡ suc (length self.old.trace.events) }
+        requires within { step.number ≤ event_limit }
+        requires kind { IsStepKind step.kind }
+        ensures trace { self.new.trace ≡ self.old.trace }
+        ensures so_far { OnOk result ((e : Event) → e.thread ≡ step.thread → IsAccess line step.kind (act self.old.trace.format e)
+            → IsSplitting (with_event self.old.trace e) self.new.lines.keys self.new.jobs.items self.new.open_flushes self.new.fences) }
+    {
+        take_on_line(&mut self.lines, &mut self.jobs, line, step)?;
+        Ok(())
+    }
+
+    // A flush of the line by the thread.
+    fn take_flush(&mut self, line: u64, number: u64, thread: u8) -> Result<(), OutOfMemory>
+        requires so_far { IsSplitting self.old.trace self.old.lines.keys self.old.jobs.items self.old.open_flushes self.old.fences }
+        requires number { number ≡ suc (length self.old.trace.events) }
+        requires within { number ≤ event_limit }
+        ensures trace { self.new.trace ≡ self.old.trace }
+        ensures so_far { OnOk result ((e : Event) → e.thread ≡ thread → act self.old.trace.format e ≡ Flushes thread line
+            → IsSplitting (with_event self.old.trace e) self.new.lines.keys self.new.jobs.items self.new.open_flushes self.new.fences) }
+    {
+        let kind = StepKind::Flush;
+        let step = Step { number, thread, kind };
+        let place = take_on_line(&mut self.lines, &mut self.jobs, line, step)?;
+        self.open_flushes.add(thread, place)?;
+        self.fences.push(step)?;
+        Ok(())
+    }
+
+    // A fence by the thread.
+    fn take_fence(&mut self, number: u64, thread: u8) -> Result<(), OutOfMemory>
+        requires so_far { IsSplitting self.old.trace self.old.lines.keys self.old.jobs.items self.old.open_flushes self.old.fences }
+        requires number { number ≡ suc (length self.old.trace.events) }
+        requires within { number ≤ event_limit }
+        ensures trace { self.new.trace ≡ self.old.trace }
+        ensures so_far { OnOk result ((e : Event) → e.thread ≡ thread → act self.old.trace.format e ≡ Fences thread
+            → IsSplitting (with_event self.old.trace e) self.new.lines.keys self.new.jobs.items self.new.open_flushes self.new.fences) }
+    {
+        let kind = StepKind::Fence;
+        let step = Step { number, thread, kind };
+        end_intervals(&mut self.jobs, self.open_flushes.of(thread), step)?;
+        self.open_flushes.clear(thread);
+        self.fences.push(step)?;
+        Ok(())
+    }
+}
+
+// Adds the step to the job of the line, which it makes if there is none yet: the place of the job.
+fn take_on_line(
+    lines: &mut IndexSet<u64>,
+    jobs: &mut Vec<LineJob>,
+    line: u64,
+    step: Step,
+) -> Result<usize, OutOfMemory>
+    requires same { map line_in jobs.old.items ≡ lines.old.keys }
+    requires numbered { 1 ≤ step.number }
+    requires later { EndBefore step.number jobs.old.items }
+    requires within { step.number ≤ event_limit }
+    requires kind { IsStepKind step.kind }
+    ensures { IfOk result (λ place. TakesOnLine line step place lines.old.keys lines.new.keys jobs.old.items jobs.new.items) }
+{
+    let (place, is_new) = lines.insert_full(line)?;
+    if is_new {
+        jobs.push(LineJob::new(*jobs.allocator(), line))?;
+    }
+    jobs[place].push(step)?;
+    Ok(place)
+}
+
+// Adds the fence to each job at one of the places, once.
+fn end_intervals(
+    jobs: &mut Vec<LineJob>,
+    places: &[usize],
+    fence: Step,
+) -> Result<(), OutOfMemory>
+    requires placed { All (λ place. place < vec_len jobs.old) places.now }
+    requires later { EndBefore fence.number jobs.old.items }
+    requires within { fence.number ≤ event_limit }
+    requires kind { IsStepKind fence.kind }
+    ensures { OnOk result (EndsAt places.now fence jobs.old.items jobs.new.items) }
+{
+    for place in places {
+        let job = &mut jobs[*place];
+        if job.last_number() < fence.number {
+            job.push(fence)?;
+        }
+    }
+    Ok(())
+}
