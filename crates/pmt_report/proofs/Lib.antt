@@ -2,3 +2,4 @@ pub mod Decimals
 pub mod Pushing
 pub mod EntryLemmas
 pub mod TakingLemmas
+pub mod CountLemmas

@@ -32,7 +32,10 @@ front_entry addr front count = ended (codes "line " ++ address addr ++ codes " f
 abbrev pub lines_at : Recording → ℕ → List ℕ
 lines_at T n = lines_of (history T n)
 
+-- A line of the trace, with its front and its number of stores at place n.
+abbrev pub line_entry : Recording → ℕ → ℕ → List ℕ
+line_entry T n l = front_entry (l * T.format.line_size) (front_at T l n) (count_at T l n)
+
 -- The fronts of the trace at place n.
 unfoldable pub fronts_text : Recording → ℕ → List ℕ
-fronts_text T n =
-    fronts_head n (length (lines_at T n)) ++ flat_map (λ l. front_entry (l * T.format.line_size) (front_at T l n) (count_at T l n)) (lines_at T n)
+fronts_text T n = fronts_head n (length (lines_at T n)) ++ flat_map (line_entry T n) (lines_at T n)
