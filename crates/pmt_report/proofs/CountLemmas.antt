@@ -10,23 +10,13 @@ use Rattle.pmt_lines.specs.declared.raises.Raise.{Raise}
 use Rattle.pmt_lines.specs.declared.step.StepKind.{StepKind}
 use Rattle.pmt_lines.specs.declared.step.StepKind.TheVariants.{Store, Flush, Clflush, Fence}
 use Rattle.pmt_lines.specs.declared.step.Step.{Step}
-use Rattle.pmt_lines.specs.Jobs.{IsKind, IsStepOf, Touches, ByStore, IsWalkFrom}
-use Rattle.pmt_lines.specs.Raises.{RaisesBetween}
+use Rattle.pmt_lines.specs.Steps.{LineWork}
+use Rattle.pmt_lines.specs.Jobs.{IsKind, IsStepOf, Touches, ByStore, IsWalkFrom, IsJobOf}
+use Rattle.pmt_lines.specs.Raises.{RaisesBetween, LineFound, IsLineResult}
 use Rattle.pmt_lines.proofs.RunLemmas.{kind-within}
+use Rattle.pmt_report.specs.FrontsOf.{store_of, stores_in, front_after}
 
 -- ---- Stores
-
--- 1 for a store
-abbrev pub store_of : StepKind → ℕ
-store_of (Store addr len) = 1
-store_of Flush = 0
-store_of Clflush = 0
-store_of Fence = 0
-
--- how many of the steps are stores
-abbrev pub stores_in : List Step → ℕ
-stores_in [] = 0
-stores_in (s ∷ steps) = store_of s.kind + stores_in steps
 
 -- a store to another line, and what is no store, leaves the number of stores
 count-other : (l : ℕ) (a : Act) (h : List Act) → ((w : Written) → a ≡ Stores l w → ⊥) → count l (a ∷ h) ≡ count l h
@@ -81,11 +71,6 @@ count-walk T l low (s ∷ steps) within walk =
 
 -- ---- Fronts
 
--- the front after the raises
-abbrev pub front_after : ℕ → List Raise → ℕ
-front_after front [] = front
-front_after front (r ∷ raises) = front_after r.front raises
-
 -- the last raise gives the front
 pub front-after_raises : (T : Recording) (l low high : ℕ) (raises : List Raise) → RaisesBetween T l low high raises → front_at T l high ≡ front_after (front_at T l low) raises
 front-after_raises T l low high [] r = r.1 high r.0 (omega arith)
@@ -97,3 +82,19 @@ front-last front (x ∷ []) zero r e is = cc
 front-last front (x ∷ []) (suc k) r e is = absurd (omega arith)
 front-last front (x ∷ y ∷ raises) zero r e is = absurd (omega arith)
 front-last front (x ∷ y ∷ raises) (suc k) r e is = front-last x.front (y ∷ raises) k r (omega arith) is
+
+-- the last of the raises gives the front
+pub front-from_last : (front : ℕ) (raises : List Raise) (r : Raise) → slice_get raises (length raises - 1) ≡ Some r → front_after front raises ≡ r.front
+front-from_last front [] r is = cc
+front-from_last front (x ∷ raises) r is = front-last front (x ∷ raises) (length (x ∷ raises) - 1) r (omega arith) is
+
+-- the result of a line's job tells the front
+pub front-told : (T : Recording) (job : LineWork) (found : LineFound) → found.job ≡ job → IsLineResult found → IsJobOf T job.line job.steps →
+    front_at T job.line (length T.events) ≡ front_after 0 found.raises
+front-told T job found same right is =
+    let told : IsJobOf T found.job.line found.job.steps = subst (λ (j : LineWork). IsJobOf T j.line j.steps) (sym same) is in
+    ap (λ (j : LineWork). front_at T j.line (length T.events)) (sym same) ∙ front-after_raises T found.job.line 0 (length T.events) found.raises (right.raises T told)
+
+-- and the job its number of stores
+pub stores-told : (T : Recording) (job : LineWork) → IsJobOf T job.line job.steps → count_at T job.line (length T.events) ≡ stores_in job.steps
+stores-told T job is = count-walk T job.line 0 job.steps (omega arith) is ∙ omega arith

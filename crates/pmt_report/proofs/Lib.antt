@@ -3,3 +3,5 @@ pub mod Pushing
 pub mod EntryLemmas
 pub mod TakingLemmas
 pub mod CountLemmas
+pub mod BoundLemmas
+pub mod LineLists

@@ -3,3 +3,4 @@ pub mod Entries
 pub mod Reports
 pub mod Taking
 pub mod Runs
+pub mod FrontsOf

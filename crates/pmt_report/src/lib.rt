@@ -4,6 +4,7 @@
 #![tactic(auto)]
 
 pub mod fault;
+mod fronts;
 mod output;
 mod report;
 mod taking;
