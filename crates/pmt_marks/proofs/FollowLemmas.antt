@@ -5,7 +5,7 @@ use Rattle.std.proofs.lemmas.Bool.{eq-eqb, ne_eqb, eqb-true, eqb-false, cases_eq
 use Rattle.pmt_model.specs.Values.{Written}
 use Rattle.pmt_model.specs.Machine.{Act, Stores, Flushes, FlushesNow, Fences, Asserts, count}
 use Rattle.pmt_model.specs.Fronts.{mark, open_mark, front}
-use Rattle.pmt_model.proofs.Histories.{mark-le-count}
+use Rattle.pmt_laws.proofs.Histories.{mark-le-count}
 use Rattle.pmt_marks.specs.Lines.{Line, Follows, mark_in, Marks, Completes}
 use Rattle.pmt_marks.specs.Others.{LeavesBe, OthersLeaveBe}
 

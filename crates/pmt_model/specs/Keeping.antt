@@ -43,6 +43,10 @@ pub record IsKeep (T : Recording) (K : List ℕ) : Type 0 where
   pub rising : IsRising 0 K
   pub just : (i : ℕ) → Has K i ↔ IsKept T i
 
+-- Each trace has such a list.
+abbrev pub KeepExists : Type 0
+KeepExists = (T : Recording) → (K : List ℕ) × IsKeep T K
+
 -- There is one such list.
 abbrev pub KeepIsUnique : Type 0
 KeepIsUnique = (T : Recording) (K J : List ℕ) → IsKeep T K → IsKeep T J → K ≡ J

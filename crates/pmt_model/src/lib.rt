@@ -1,7 +1,6 @@
 //! Events of persistent memory, their traces, and what a crash may leave of them.
 //!
-//! The definitions stand in `specs/`. The functions of `laws` have an empty body: each is a theorem about them, which its
-//! contract states.
+//! The definitions stand in `specs/`; the theorems about them are the crate pmt_laws.
 #![tactic(auto)]
 
 pub mod addr;
@@ -10,7 +9,6 @@ pub mod fault;
 pub mod finding;
 pub mod format;
 pub mod gate;
-pub mod laws;
 pub mod range;
 pub mod selection;
 pub mod split;

@@ -1,11 +1,11 @@
 -- What a reader of lines has ahead, from one read to the next.
-use Rattle.std.proofs.Common.{◌≡◌, ℕ, ◌+◌, ◌-◌, ◌<◌, ◌≤◌, nat_lt, Bool, true, false, List, [], ◌∷◌, ◌++◌, length, take, drop, Option, Some, None, IfSome, refl, sym, ap, ◌∙◌, subst, arith, append_assoc, append-nil, Result, Ok, Err}
+use Rattle.std.proofs.Common.{◌≡◌, ℕ, ◌+◌, ◌<◌, nat_lt, Bool, true, false, List, ◌++◌, length, take, Option, Some, None, IfSome, refl, sym, ap, ◌∙◌, subst, arith, append_assoc, Ok}
 use Rattle.std.proofs.Math.Seq.{take-append-add}
 use Rattle.std.proofs.lemmas.List.{length-append, take_all}
 use Rattle.std.proofs.lemmas.Bool.{lt-ltb, le-ltb, ltb-true, ltb-false}
 use Rattle.std.specs.Io.KnownBytes.{Consumes}
 use Rattle.pmt_text.specs.declared.line_reader.LineReader.{LineReader}
-use Rattle.pmt_text.specs.Lines.{Ahead, known_ahead, KeepsKnown, IsTooMuch, unread, held, known_of, ahead, Refills}
+use Rattle.pmt_text.specs.Lines.{Ahead, known_ahead, KeepsKnown, unread, held, known_of, ahead, Refills}
 
 -- the same on both sides does not change a comparison
 nat_lt-add : (a b n : ℕ) → nat_lt (a + n) (n + b) ≡ nat_lt a b

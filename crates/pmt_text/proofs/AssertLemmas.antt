@@ -1,6 +1,6 @@
 -- How the spans of an assertion, read one by one, meet the op that the fields spell; and how the thread joins an op.
-use Rattle.std.proofs.Common.{◌≡◌, ℕ, ◌^◌, ◌<◌, ◌≤◌, inl, inr, Bool, true, false, cond, ◌&&◌, List, [], ◌∷◌, Option, Some, None, option_map, Result, Ok, Err, refl, sym, ◌∙◌, ap, ap₂, arith, lt-ltb, le-ltb}
-use Rattle.std.proofs.lemmas.Bool.{cond-true, cond-false, and_left, cases_lt}
+use Rattle.std.proofs.Common.{◌≡◌, ℕ, ◌≤◌, inl, inr, Bool, true, false, ◌&&◌, List, [], ◌∷◌, Option, Some, None, option_map, Result, Ok, Err, refl, sym, ◌∙◌, ap, ap₂, arith, lt-ltb, le-ltb}
+use Rattle.std.proofs.lemmas.Bool.{cond-false, and_left, cases_lt}
 use Rattle.pmt_model.specs.declared.event.Op.{Op}
 use Rattle.pmt_model.specs.declared.event.Op.TheVariants.{IsPersist, IsOrderedBefore}
 use Rattle.pmt_model.specs.declared.event.Event.{Event}

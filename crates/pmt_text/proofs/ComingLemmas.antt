@@ -1,19 +1,15 @@
 -- Lines in order: what comes from a text, one line on.
-use Rattle.std.proofs.Common.{◌≡◌, ℕ, zero, suc, ◌+◌, ◌<◌, ◌≤◌, Bool, true, false, cond, ◌==◌, nat_lt, List, [], ◌∷◌, ◌++◌, length, take, drop, get_or, Option, Some, None, Result, Ok, Err, refl, sym, ◌∙◌, ap, ap₂, subst, arith, Bor, append_assoc, append-nil, lt-ltb, le-ltb, length-append}
+use Rattle.std.proofs.Common.{◌≡◌, ℕ, ◌+◌, ◌<◌, Bool, true, false, cond, ◌==◌, nat_lt, List, [], ◌∷◌, ◌++◌, length, Some, None, Result, Ok, Err, refl, sym, ◌∙◌, ap, ap₂, append_assoc, append-nil, lt-ltb, le-ltb}
 use Rattle.std.specs.List.{onto_first}
 use Rattle.std.proofs.lemmas.Bool.{cond-true, cond-false}
-use Rattle.std.proofs.lemmas.List.{length_push, take_rest}
-use Rattle.pmt_model.specs.Values.{Layout}
+use Rattle.std.proofs.lemmas.List.{length_push}
 use Rattle.pmt_model.specs.Traces.{event_limit}
 use Rattle.pmt_text.specs.declared.kind.TextKind.{TextKind}
 use Rattle.pmt_text.specs.declared.kind.TextKind.TheVariants.{Truncated, TooManyEvents}
 use Rattle.pmt_text.specs.declared.kind.TextError.{TextError}
-use Rattle.pmt_text.specs.declared.kind.SourceError.{SourceError}
-use Rattle.pmt_text.specs.declared.kind.SourceError.TheVariants.{Text, TooMany}
-use Rattle.pmt_text.specs.Judging.{line_judged}
-use Rattle.pmt_text.specs.Coming.{lines_of, fault_at, Items, ends_with, item_then, rest_fault, lines_coming, Coming, trace_coming, script_coming, format_in, header_then, without_format, with_format}
-use Rattle.pmt_text.specs.Texts.{after_items, error_at, IsLineFault}
-use Rattle.pmt_text.proofs.LineLemmas.{parts-at, parts-none}
+use Rattle.pmt_text.specs.declared.kind.SourceError.TheVariants.{Text}
+use Rattle.pmt_text.specs.Coming.{lines_of, fault_at, Items, ends_with, item_then, rest_fault, lines_coming}
+use Rattle.pmt_text.specs.Texts.{after_items, IsLineFault}
 
 pub lines_of-nonempty : (text : List ℕ) → lines_of text ≡ [] → ⊥
 lines_of-nonempty [] e = cc
@@ -41,7 +37,6 @@ unfolding lines_coming
 lines_coming-rest rule more first before rest = refl
 
 module _ {A : Type 0} (rule : List ℕ → Result A TextKind) (more : Bool) (first : ℕ) where
-
   -- what comes from the lines of a text, after the items so far
   abbrev pub coming_after : List A → List ℕ → Items A
   coming_after xs text = after_items xs (lines_coming rule more first (length xs) (lines_of text))
@@ -52,10 +47,10 @@ module _ {A : Type 0} (rule : List ℕ → Result A TextKind) (more : Bool) (fir
   coming_after-item xs text line rest x l r few =
       let later : Items A = lines_coming rule more first (length xs + 1) (lines_of rest) in
       let step : lines_coming rule more first (length xs) (lines_of text) ≡ record { items = x ∷ later.items; fault = later.fault } =
-          ap (lines_coming rule more first (length xs)) l
-          ∙ lines_coming-line rule more first (length xs) line rest
-          ∙ ap (λ (j : Result A TextKind). item_then (first + length xs) (length xs) j later) r
-          ∙ cond-true (nat_lt (length xs) event_limit) (record { items = x ∷ later.items; fault = later.fault }) (ends_with (Some (fault_at (first + length xs) TooManyEvents))) (lt-ltb (length xs) event_limit few) in
+      ap (lines_coming rule more first (length xs)) l
+      ∙ lines_coming-line rule more first (length xs) line rest
+      ∙ ap (λ (j : Result A TextKind). item_then (first + length xs) (length xs) j later) r
+      ∙ cond-true (nat_lt (length xs) event_limit) (record { items = x ∷ later.items; fault = later.fault }) (ends_with (Some (fault_at (first + length xs) TooManyEvents))) (lt-ltb (length xs) event_limit few) in
       ap (after_items xs) step
       ∙ ap (λ (ys : List A). record { items = ys; fault = later.fault }) (sym (append_assoc xs (x ∷ []) later.items))
       ∙ ap (λ (n : ℕ). after_items (xs ++ x ∷ []) (lines_coming rule more first n (lines_of rest))) (sym (length_push xs x))
@@ -70,6 +65,7 @@ module _ {A : Type 0} (rule : List ℕ → Result A TextKind) (more : Bool) (fir
     where
       later : Items A
       later = lines_coming rule more first (length xs + 1) (lines_of rest)
+
       go : (j : Result A TextKind) → IsLineFault j first (length xs) f → (item_then (first + length xs) (length xs) j (lines_coming rule more first (length xs + 1) (lines_of rest))).fault ≡ Some (Text f)
       go (Err kind) h = ap (λ (g : TextError). Some (Text g)) (sym h)
       go (Ok x) h =

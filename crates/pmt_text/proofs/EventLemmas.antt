@@ -1,5 +1,5 @@
 -- What a line that was found takes from what was coming.
-use Rattle.std.proofs.Common.{◌≡◌, ℕ, zero, suc, ◌+◌, ◌<◌, ◌≤◌, List, [], ◌∷◌, ◌++◌, length, take, drop, get_or, Bool, true, false, ◌==◌, Option, Some, None, Result, Ok, Err, refl, sym, ap, ◌∙◌, subst, arith, add-one, append_assoc}
+use Rattle.std.proofs.Common.{◌≡◌, ℕ, ◌+◌, ◌<◌, ◌≤◌, List, [], ◌∷◌, ◌++◌, length, take, drop, get_or, true, false, ◌==◌, Option, Some, None, Ok, Err, refl, sym, ap, ◌∙◌, subst, add-one, append_assoc}
 use Rattle.std.proofs.Math.Seq.{drop-cons}
 use Rattle.std.proofs.lemmas.List.{take-append-drop, nil_from_length}
 use Rattle.std.proofs.lemmas.Bool.{eqb-true}
@@ -17,7 +17,7 @@ use Rattle.pmt_text.specs.Coming.{format_in, fault_at, rest_fault}
 use Rattle.pmt_text.specs.Lines.{Ahead, ahead, known_ahead, known_of, held, unread, IsLineAt, Finds}
 use Rattle.pmt_text.specs.Sources.{Gives, IsOver, HasFormat, Faults}
 use Rattle.pmt_text.specs.TextSources.{coming_of, coming_from}
-use Rattle.pmt_text.proofs.TextLemmas.{coming_now, coming_then, coming_first, event_taken, event_late, event_refused, events_much, header_taken, header_refused, header_much, events_last, header_last, Gives-kept}
+use Rattle.pmt_text.proofs.TextLemmas.{coming_now, coming_then, event_taken, event_late, event_refused, events_much, header_taken, header_refused, header_much, events_last, header_last, Gives-kept}
 
 -- the bytes round place n
 cut_list : (xs : List ℕ) (n : ℕ) → n < length xs → get_or xs n 0 ≡ 10 → xs ≡ take n xs ++ 10 ∷ drop (n + 1) xs

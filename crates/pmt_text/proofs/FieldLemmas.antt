@@ -1,6 +1,6 @@
 -- Addresses and bytes: how the reader of a field meets what the field spells.
-use Rattle.std.proofs.Common.{◌≡◌, ◌≢◌, ℕ, zero, suc, ◌+◌, ◌*◌, ◌/◌, ◌%◌, ◌<◌, ◌≤◌, ◌⊎◌, inl, inr, Bool, true, false, cond, List, [], ◌∷◌, ◌++◌, length, get_or, take, drop, Option, Some, None, option_map, refl, sym, ◌∙◌, ap, ap₂, subst, arith, set, length-take, get_or-take, get_or-set_same, get_or-set_other}
-use Rattle.std.specs.List.{flat_map, AllByRecursion}
+use Rattle.std.proofs.Common.{◌≡◌, ◌≢◌, ℕ, zero, suc, ◌+◌, ◌*◌, ◌/◌, ◌%◌, ◌<◌, ◌≤◌, ◌⊎◌, inl, inr, Bool, true, false, cond, List, [], ◌∷◌, length, get_or, take, drop, Option, Some, None, option_map, refl, sym, ◌∙◌, ap, ap₂, subst, arith, set, length-take, get_or-take, get_or-set_same, get_or-set_other}
+use Rattle.std.specs.List.{AllByRecursion}
 use Rattle.std.specs.Char.{digit_value}
 use Rattle.std.specs.Str.{bytes_eq}
 use Rattle.std.specs.Str.Parse.{digits_value}
@@ -8,11 +8,10 @@ use Rattle.std.proofs.lemmas.Bool.{false_from_ne_true, cond-true, cond-false, ca
 use Rattle.std.proofs.lemmas.Bool.Decides.{nat_tests}
 use Rattle.std.proofs.lemmas.Grind.{same_number_lists}
 use Rattle.std.proofs.lemmas.Slice.Eq.{bytes_eq-Decides}
-use Rattle.std.proofs.Math.Arith.{digits_div, digits_mod}
-use Rattle.pmt_text.specs.Spelling.{glyph, numeral, address, hex_pair, hex_bytes}
+use Rattle.pmt_text.specs.Spelling.{glyph, numeral, address, hex_bytes}
 use Rattle.pmt_text.specs.Fields.{number_in, address_in, bytes_in, paired}
-use Rattle.pmt_text.specs.Reading.{capped, digit_of, GivesBytes, IsBase}
-use Rattle.pmt_text.proofs.NumeralLemmas.{AreDigits, AreDigits-at, digit_of-glyph, digit_value-glyph, digit_value-digit_of, glyph-digit_of, number_in-numeral, numeral-number_in}
+use Rattle.pmt_text.specs.Reading.{capped, digit_of, GivesBytes}
+use Rattle.pmt_text.proofs.NumeralLemmas.{AreDigits, AreDigits-at, digit_of-glyph, digit_value-glyph, digit_value-digit_of, glyph-digit_of, number_in-numeral}
 
 -- ---- Addresses
 

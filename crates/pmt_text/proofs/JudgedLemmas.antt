@@ -1,6 +1,6 @@
 -- A line that is judged an event is the event's spelling, and the event is within its limits and in the format.
-use Rattle.std.proofs.Common.{◌≡◌, ℕ, ◌+◌, ◌*◌, ◌%◌, ◌^◌, ◌<◌, ◌≤◌, Bool, true, false, cond, ◌&&◌, nat_lt, nat_le, List, [], ◌∷◌, length, Option, Some, None, option_map, Result, Ok, Err, IfOk, refl, sym, ◌∙◌, ap, ap₂, subst, arith, ltb-true, leb-true}
-use Rattle.std.specs.List.{AllByRecursion, join_with_byte}
+use Rattle.std.proofs.Common.{◌≡◌, ℕ, ◌+◌, ◌*◌, ◌%◌, ◌^◌, ◌<◌, ◌≤◌, Bool, true, false, cond, ◌&&◌, nat_le, List, [], ◌∷◌, length, Option, Some, None, option_map, Result, Ok, Err, IfOk, refl, sym, ◌∙◌, ap, ap₂, subst, arith, ltb-true, leb-true}
+use Rattle.std.specs.List.{join_with_byte}
 use Rattle.std.specs.Char.{digit_value}
 use Rattle.std.specs.Str.{bytes_eq}
 use Rattle.std.proofs.lemmas.Bool.{and_parts}
@@ -8,14 +8,14 @@ use Rattle.std.proofs.lemmas.List.Splits.{join_with_byte-slice_split}
 use Rattle.pmt_model.specs.declared.event.Op.{Op}
 use Rattle.pmt_model.specs.declared.event.Op.TheVariants.{Store, Clwb, ClflushOpt, Clflush, Sfence, Mfence, IsPersist, IsOrderedBefore}
 use Rattle.pmt_model.specs.declared.event.Event.{Event}
-use Rattle.pmt_model.specs.Values.{Layout, Span, Written, AreBytes, IsStore, IsRange, IsAddress}
+use Rattle.pmt_model.specs.Values.{Layout, Span, AreBytes, IsRange}
 use Rattle.pmt_model.specs.Formats.{first_version}
-use Rattle.pmt_model.specs.Traces.{IsOp, IsEvent, IsEventIn, in_format}
+use Rattle.pmt_model.specs.Traces.{IsOp, IsEventIn, in_format}
 use Rattle.pmt_text.specs.declared.kind.TextKind.{TextKind}
 use Rattle.pmt_text.specs.declared.kind.TextKind.TheVariants.{BadWord, BadField, OutOfRange, CrossesWord}
 use Rattle.pmt_text.specs.declared.word.Word.{Word}
 use Rattle.pmt_text.specs.declared.word.Word.TheVariants as words
-use Rattle.pmt_text.specs.Spelling.{numeral, address, hex_bytes, word_text, word_of, arguments_of, event_fields, event_line, op_fields, op_line}
+use Rattle.pmt_text.specs.Spelling.{numeral, address, hex_bytes, word_text, word_of, arguments_of, event_line, op_line}
 use Rattle.pmt_text.specs.Fields.{◌>>=◌, number_in, address_in, bytes_in, paired, span_in, store_in, flushed_in, none_in, persist_in, ordered_in, op_in, event_in}
 use Rattle.pmt_text.specs.Judging.{fields_of, word_in, is_known, required, checked, is_thread, is_address, is_span, is_in_range, is_in_word, op_checked, event_checked, event_judged, op_judged, line_judged, script_line_judged}
 use Rattle.pmt_text.specs.Reading.{digit_of}
@@ -229,14 +229,14 @@ event_judged-ok f line (word ∷ thread ∷ rest) e fs j =
     let both = and_parts (is_thread made.0.thread) (is_in_range made.0.op) ranged.0 in
     let bytes : HasBytes made.0.op = subst (λ (x : Event). HasBytes x.op) is read.bytes in
     let known : in_format f made.0.op ≡ true =
-        in_format-is_known f made.0.op ∙ ap (λ (x : Event). is_known f (word_of x.op)) (sym is) ∙ ap (is_known f) read.named ∙ named.1 in
+    in_format-is_known f made.0.op ∙ ap (λ (x : Event). is_known f (word_of x.op)) (sym is) ∙ ap (is_known f) read.named ∙ named.1 in
     let text : event_line made.0 ≡ line =
-        ap event_line (sym is)
-        ∙ ap (λ (v : Word). join_with_byte 32 (word_text v ∷ numeral 10 t.0 ∷ arguments_of op.0)) read.named
-        ∙ ap (λ (x : List ℕ). join_with_byte 32 (x ∷ numeral 10 t.0 ∷ arguments_of op.0)) named.0
-        ∙ ap (λ (x : List ℕ). join_with_byte 32 (word ∷ x ∷ arguments_of op.0)) (numeral-number_in 10 thread t.0 t.1)
-        ∙ ap (λ (xs : List (List ℕ)). join_with_byte 32 (word ∷ thread ∷ xs)) read.arguments
-        ∙ joined_fields line (word ∷ thread ∷ rest) fs in
+    ap event_line (sym is)
+    ∙ ap (λ (v : Word). join_with_byte 32 (word_text v ∷ numeral 10 t.0 ∷ arguments_of op.0)) read.named
+    ∙ ap (λ (x : List ℕ). join_with_byte 32 (x ∷ numeral 10 t.0 ∷ arguments_of op.0)) named.0
+    ∙ ap (λ (x : List ℕ). join_with_byte 32 (word ∷ x ∷ arguments_of op.0)) (numeral-number_in 10 thread t.0 t.1)
+    ∙ ap (λ (xs : List (List ℕ)). join_with_byte 32 (word ∷ thread ∷ xs)) read.arguments
+    ∙ joined_fields line (word ∷ thread ∷ rest) fs in
     subst (λ (x : Event). IsLineOf f line x) same (record {
       spelled = text;
       allowed = record { event = record { thread = ltb-true made.0.thread 256 both.0; op = is_op made.0.op bytes both.1 inside.0 }; known = known };
@@ -270,10 +270,10 @@ op_judged-ok line (word ∷ rest) op fs j =
     let same : made.0 ≡ op = let ok = inside.1 in cc in
     subst (λ (x : Op). IsScriptLineOf line x) same (record {
       spelled =
-        ap (λ (v : Word). join_with_byte 32 (word_text v ∷ arguments_of made.0)) read.named
-        ∙ ap (λ (x : List ℕ). join_with_byte 32 (x ∷ arguments_of made.0)) named.0
-        ∙ ap (λ (xs : List (List ℕ)). join_with_byte 32 (word ∷ xs)) read.arguments
-        ∙ joined_fields line (word ∷ rest) fs;
+          ap (λ (v : Word). join_with_byte 32 (word_text v ∷ arguments_of made.0)) read.named
+          ∙ ap (λ (x : List ℕ). join_with_byte 32 (x ∷ arguments_of made.0)) named.0
+          ∙ ap (λ (xs : List (List ℕ)). join_with_byte 32 (word ∷ xs)) read.arguments
+          ∙ joined_fields line (word ∷ rest) fs;
       allowed = is_op made.0 read.bytes ranged.0 inside.0;
       known = in_format-is_known first_version made.0 ∙ ap (is_known first_version) read.named ∙ named.1;
     })

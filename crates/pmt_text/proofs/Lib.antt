@@ -6,6 +6,13 @@ pub mod WordLemmas
 pub mod OpLemmas
 pub mod AssertLemmas
 pub mod JudgeLemmas
+pub mod JudgedLemmas
+pub mod ComingLemmas
+pub mod ReaderLemmas
+pub mod NumberWriting
+pub mod LineWriting
+pub mod SpelledLemmas
+pub mod WholeLemmas
 pub mod AheadLemmas
 pub mod ListLemmas
 pub mod PieceLemmas
@@ -13,9 +20,3 @@ pub mod SourceLemmas
 pub mod TextLemmas
 pub mod EventLemmas
 pub mod WriteLemmas
-pub mod KnownLemmas
-pub mod JudgedLemmas
-pub mod ComingLemmas
-pub mod ReaderLemmas
-pub mod NumberWriting
-pub mod LineWriting

@@ -1,11 +1,10 @@
 -- The parts of a line and of a text, in the order in which they are written.
-use Rattle.std.proofs.Common.{◌≡◌, ℕ, ◌==◌, List, [], ◌∷◌, ◌++◌, codes, refl, sym, ◌∙◌, ap, append_assoc, append-nil, eq-eqb, ne_eqb}
-use Rattle.std.specs.List.{flat_map, join_with_byte}
+use Rattle.std.proofs.Common.{◌≡◌, ℕ, ◌==◌, List, [], ◌∷◌, ◌++◌, codes, sym, ◌∙◌, ap, append_assoc, append-nil, eq-eqb, ne_eqb}
+use Rattle.std.specs.List.{join_with_byte}
 use Rattle.std.proofs.lemmas.Bool.{cond-true, cond-false}
 use Rattle.pmt_model.specs.declared.event.Event.{Event}
-use Rattle.pmt_model.specs.declared.event.Op.{Op}
 use Rattle.pmt_model.specs.Values.{Layout}
-use Rattle.pmt_text.specs.Spelling.{numeral, header, word_text, word_of, arguments_of, event_line, event_text, op_line, op_text}
+use Rattle.pmt_text.specs.Spelling.{numeral, header, word_text, word_of, arguments_of, event_line, event_text}
 use Rattle.pmt_text.specs.Writing.{spaced}
 
 -- each field but the first stands behind a space

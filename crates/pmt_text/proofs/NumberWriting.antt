@@ -5,7 +5,7 @@ use Rattle.std.proofs.lemmas.List.{map-append, drop-set, take_more, flat_map_mor
 use Rattle.std.proofs.lemmas.Int.Digits.{digits_of_step}
 use Rattle.pmt_text.specs.Spelling.{glyph, numeral, hex_pair, hex_bytes}
 use Rattle.pmt_text.specs.Reading.{IsBase}
-use Rattle.pmt_text.proofs.NumeralLemmas.{base-low, base-high, numeral-above, numeral-zero, digits_of-digit}
+use Rattle.pmt_text.proofs.NumeralLemmas.{base-low, numeral-above, numeral-zero, digits_of-digit}
 
 -- a number of two digits or more ends with its last one
 pub numeral-step : (base n : ℕ) → IsBase base → base ≤ n → numeral base n ≡ numeral base (n / base) ++ glyph (n % base) ∷ []

@@ -1,23 +1,21 @@
 -- How the fields of an op, read one by one, meet the op that they spell.
-use Rattle.std.proofs.Common.{◌≡◌, ◌≢◌, ℕ, zero, suc, ◌+◌, ◌%◌, ◌^◌, ◌<◌, ◌≤◌, ◌⊎◌, inl, inr, Bool, true, false, cond, ◌&&◌, nat_lt, nat_le, ◌==◌, List, [], ◌∷◌, ◌++◌, length, take, Option, Some, None, is_some, option_map, Result, Ok, Err, refl, sym, ◌∙◌, ap, ap₂, subst, arith, Bor, lt-ltb, le-ltb, ltb-true, leb-true, true≢false}
-use Rattle.std.specs.List.{slice_split, onto_first}
-use Rattle.std.proofs.lemmas.Bool.{cond-true, cond-false, and_left, and_right, and_parts, cases_lt, cases_Bool, lt-leb}
+use Rattle.std.proofs.Common.{◌≡◌, ℕ, ◌+◌, ◌^◌, ◌<◌, ◌≤◌, inl, inr, Bool, true, false, cond, ◌&&◌, nat_lt, nat_le, ◌==◌, List, [], ◌∷◌, length, Option, Some, None, is_some, option_map, Result, Ok, Err, refl, sym, ◌∙◌, ap, ap₂, arith, Bor, le-ltb, ltb-true, leb-true}
+use Rattle.std.specs.List.{onto_first}
+use Rattle.std.proofs.lemmas.Bool.{cond-false, and_left, and_right, and_parts, cases_lt, lt-leb}
 use Rattle.std.proofs.lemmas.Bool.Decides.{nat_tests}
 use Rattle.pmt_model.specs.declared.event.Op.{Op}
-use Rattle.pmt_model.specs.declared.event.Op.TheVariants.{Store, Clwb, ClflushOpt, Clflush, Sfence, Mfence, IsPersist, IsOrderedBefore}
-use Rattle.pmt_model.specs.declared.event.Event.{Event}
+use Rattle.pmt_model.specs.declared.event.Op.TheVariants.{Store}
 use Rattle.pmt_model.specs.declared.fault.OpError.{OpError}
 use Rattle.pmt_model.specs.declared.fault.OpError.TheVariants as faults
-use Rattle.pmt_model.specs.Values.{Span, Written}
+use Rattle.pmt_model.specs.Values.{Span}
 use Rattle.pmt_model.specs.Constructing.{address_of}
 use Rattle.pmt_model.specs.Ops.{store_of}
 use Rattle.pmt_text.specs.declared.kind.TextKind.{TextKind}
 use Rattle.pmt_text.specs.declared.kind.TextKind.TheVariants.{BadField, OutOfRange, CrossesWord}
-use Rattle.pmt_text.specs.declared.word.Word.{Word}
 use Rattle.pmt_text.specs.declared.word.Word.TheVariants as words
-use Rattle.pmt_text.specs.Fields.{◌>>=◌, number_in, address_in, bytes_in, span_in, store_in, flushed_in, persist_in, ordered_in, op_in, event_in}
-use Rattle.pmt_text.specs.Judging.{fields_of, required, checked, is_thread, is_address, is_span, is_in_range, is_in_word, op_checked, event_checked}
-use Rattle.pmt_text.specs.Reading.{capped, fields_left, first_number, first_address, first_span, op_of_fields, flushed_of_fields, kind_of, span_checked, with_thread}
+use Rattle.pmt_text.specs.Fields.{◌>>=◌, number_in, address_in, bytes_in, span_in, store_in, flushed_in}
+use Rattle.pmt_text.specs.Judging.{fields_of, required, checked, is_address, is_span, is_in_range, is_in_word, op_checked}
+use Rattle.pmt_text.specs.Reading.{capped, fields_left, first_number, first_address, first_span, op_of_fields, flushed_of_fields, kind_of, span_checked}
 
 -- ---- What is left
 

@@ -1,18 +1,14 @@
 -- What the readers of whole texts answer, at each of their returns.
-use Rattle.std.proofs.Common.{◌≡◌, ℕ, ◌+◌, ◌<◌, Bool, true, false, ◌==◌, List, [], ◌∷◌, ◌++◌, length, Option, Some, None, Result, Ok, Err, refl, sym, ◌∙◌, ap, subst, arith, eqb-true, eq-eqb, true≢false}
+use Rattle.std.proofs.Common.{◌≡◌, ℕ, ◌+◌, Bool, true, false, ◌==◌, List, [], ◌∷◌, length, Option, Some, None, Ok, Err, refl, sym, ◌∙◌, ap, subst, arith, eqb-true, eq-eqb, true≢false}
 use Rattle.pmt_model.specs.declared.event.Op.{Op}
-use Rattle.pmt_model.specs.declared.event.Event.{Event}
 use Rattle.pmt_model.specs.Values.{Layout}
-use Rattle.pmt_model.specs.Pushing.{empty, with_event}
-use Rattle.pmt_model.specs.Traces.{Recording, event_limit}
-use Rattle.pmt_text.specs.declared.kind.TextKind.{TextKind}
+use Rattle.pmt_model.specs.Pushing.{empty}
+use Rattle.pmt_model.specs.Traces.{Recording}
 use Rattle.pmt_text.specs.declared.kind.TextKind.TheVariants.{Truncated, BadHeader}
-use Rattle.pmt_text.specs.declared.kind.TextError.{TextError}
 use Rattle.pmt_text.specs.declared.kind.ReadError.{ReadError}
 use Rattle.pmt_text.specs.declared.kind.ReadError.TheVariants as answers
-use Rattle.pmt_text.specs.declared.kind.SourceError.TheVariants.{Text}
 use Rattle.pmt_text.specs.Judging.{line_judged, script_line_judged}
-use Rattle.pmt_text.specs.Coming.{Items, Coming, lines_of, lines_coming, lines_of_trace, header_then, with_format, without_format, fault_at, format_in, trace_coming, judged, script_coming, script_judged, Refuses}
+use Rattle.pmt_text.specs.Coming.{Items, Coming, lines_of, lines_of_trace, header_then, with_format, fault_at, format_in, trace_coming, judged, script_coming, script_judged, Refuses}
 use Rattle.pmt_text.specs.Texts.{AddsLine, AddsOp, error_at, trace_then, script_then}
 use Rattle.pmt_text.proofs.ComingLemmas.{lines_of-nonempty, coming_after-item, coming_after-fault, coming_after-end, coming_after-truncated}
 
@@ -54,7 +50,7 @@ pub judged-no_line : (text : List ℕ) → lines_of text ≡ text ∷ [] → (ju
 unfolding trace_coming
 judged-no_line text l = ap (λ (lines : List (List ℕ)). (lines_of_trace false lines).fault) l
 
-judged-lines : (text line rest : List ℕ) → lines_of text ≡ line ∷ lines_of rest → judged text ≡ header_then (format_in line) false (lines_of rest)
+pub judged-lines : (text line rest : List ℕ) → lines_of text ≡ line ∷ lines_of rest → judged text ≡ header_then (format_in line) false (lines_of rest)
 unfolding trace_coming
 judged-lines text line rest l = ap (lines_of_trace false) l ∙ go (lines_of rest) (lines_of-nonempty rest)
   where

@@ -1,6 +1,6 @@
 -- What comes from the bytes ahead, once a line of them is found or no line is left.
-use Rattle.std.proofs.Common.{◌≡◌, ◌≢◌, ℕ, zero, suc, ◌+◌, ◌<◌, ◌≤◌, Bool, true, false, cond, ◌==◌, nat_lt, List, [], ◌∷◌, ◌++◌, length, take, drop, get_or, Option, Some, None, IfSome, option_map, append_assoc, Result, Ok, Err, refl, sym, ap, ◌∙◌, subst, arith, ne_eqb}
-use Rattle.std.specs.List.{slice_split, onto_first, AllByRecursion}
+use Rattle.std.proofs.Common.{◌≡◌, ℕ, suc, ◌+◌, ◌<◌, ◌≤◌, Bool, true, false, cond, ◌==◌, nat_lt, List, [], ◌∷◌, ◌++◌, length, take, Option, Some, None, IfSome, option_map, append_assoc, Result, Ok, Err, refl, sym, ap, ◌∙◌, subst, arith, ne_eqb}
+use Rattle.std.specs.List.{onto_first}
 use Rattle.std.proofs.lemmas.Bool.{lt-ltb, le-ltb}
 use Rattle.pmt_model.specs.declared.event.Event.{Event}
 use Rattle.pmt_model.specs.Values.{Layout}
@@ -10,10 +10,10 @@ use Rattle.pmt_text.specs.declared.kind.TextKind.TheVariants.{Truncated, BadHead
 use Rattle.pmt_text.specs.declared.kind.SourceError.{SourceError}
 use Rattle.pmt_text.specs.declared.kind.SourceError.TheVariants.{TooMany}
 use Rattle.pmt_text.specs.Judging.{line_judged}
-use Rattle.pmt_text.specs.Coming.{Coming, Items, lines_of, lines_coming, item_then, rest_fault, trace_coming, lines_of_trace, header_then, with_format, ends_with, format_in, fault_at, without_format}
+use Rattle.pmt_text.specs.Coming.{Coming, Items, lines_of, lines_coming, item_then, rest_fault, trace_coming, lines_of_trace, header_then, ends_with, format_in, fault_at, without_format}
 use Rattle.pmt_text.specs.OneLine.{IsOneLine}
 use Rattle.pmt_text.specs.Lines.{Ahead, known_ahead, KeepsKnown, IsLast, IsTooMuch}
-use Rattle.pmt_text.specs.Sources.{Gives, IsOver, HasFormat, Faults}
+use Rattle.pmt_text.specs.Sources.{Gives, IsOver, HasFormat}
 use Rattle.pmt_text.specs.TextSources.{coming_of}
 use Rattle.pmt_text.proofs.LineLemmas.{IsFree, parts-append, parts-free}
 

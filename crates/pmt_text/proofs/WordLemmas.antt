@@ -1,11 +1,11 @@
 -- Which word and which header a field or a line is.
-use Rattle.std.proofs.Common.{◌≡◌, ◌≢◌, ℕ, ◌==◌, Bool, true, false, cond, ◌&&◌, List, [], ◌∷◌, codes, find, Option, Some, None, refl, sym, ◌∙◌, ap, subst, inl, inr}
+use Rattle.std.proofs.Common.{◌≡◌, ◌≢◌, ℕ, Bool, true, false, cond, ◌&&◌, List, [], ◌∷◌, codes, find, Some, None, refl, sym, ◌∙◌, ap, inl, inr}
 use Rattle.std.specs.List.{AllByRecursion}
 use Rattle.std.specs.Str.{bytes_eq}
 use Rattle.std.proofs.lemmas.Bool.{cond-true, cond-false, and_left, and_right, and_parts, cases_Bool}
 use Rattle.std.proofs.lemmas.Slice.Eq.{bytes_eq-Decides}
 use Rattle.pmt_model.specs.Values.{Layout}
-use Rattle.pmt_model.specs.Formats.{first_version, second_version}
+use Rattle.pmt_model.specs.Formats.{first_version}
 use Rattle.pmt_text.specs.declared.word.Word.{Word}
 use Rattle.pmt_text.specs.declared.word.Word.TheVariants as words
 use Rattle.pmt_text.specs.Spelling.{word_text, header, numeral}
@@ -35,7 +35,7 @@ word_in-word_text f words.IsOrderedBefore = refl
 pub word_in-known : (f : Layout) (w : Word) (field : List ℕ) → field ≡ word_text w → is_known f w ≡ true → Some w ≡ word_in f field
 word_in-known f w field e k = sym (ap (word_in f) e ∙ word_in-word_text f w ∙ cond-true (is_known f w) (Some w) None k)
 
-find-none : {X : Type 0} (test : X → Bool) (xs : List X) → AllByRecursion (λ x. test x ≡ false) xs → find test xs ≡ None
+pub find-none : {X : Type 0} (test : X → Bool) (xs : List X) → AllByRecursion (λ x. test x ≡ false) xs → find test xs ≡ None
 find-none test [] h = refl
 find-none test (x ∷ xs) h = cond-false (test x) (Some x) (find test xs) h.0 ∙ find-none test xs h.1
 
@@ -54,7 +54,7 @@ word_in-other f field h =
         other known =
             elim (cases_Bool (bytes_eq (word_text w) field)) [ inl same ↦ absurd (h w known (sym ((bytes_eq-Decides (word_text w) field).0 same))) | inr unlike ↦ unlike ]
 
-find-some : {X : Type 0} (test : X → Bool) (xs : List X) (x : X) → find test xs ≡ Some x → test x ≡ true
+pub find-some : {X : Type 0} (test : X → Bool) (xs : List X) (x : X) → find test xs ≡ Some x → test x ≡ true
 find-some test [] x e = cc
 find-some test (y ∷ xs) x e = go (test y) refl e (find-some test xs x)
   where

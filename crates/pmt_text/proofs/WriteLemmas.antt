@@ -1,5 +1,5 @@
 -- What one more write adds to the bytes that are out.
-use Rattle.std.proofs.Common.{◌≡◌, ◌+◌, ◌-◌, ◌∙◌, ℕ, zero, suc, ◌<◌, ◌≤◌, List, Option, length, take, drop, arith, add-zero, ap, Ok}
+use Rattle.std.proofs.Common.{◌≡◌, ◌+◌, ◌-◌, ◌∙◌, ℕ, zero, suc, ◌<◌, ◌≤◌, List, Option, length, take, drop, arith, add-zero, Ok}
 use Rattle.std.proofs.KnownBytes.{Appends-trans}
 use Rattle.std.proofs.Math.Seq.{take-add}
 use Rattle.std.proofs.lemmas.List.{length-drop, take_all}

@@ -1,5 +1,5 @@
 -- What a reader of lines still has to give.
-use Rattle.std.specs.Prelude.{◌≡◌, ◌≢◌, ℕ, ◌+◌, ◌<◌, Bool, true, false, nat_lt, List, [], ◌∷◌, ◌++◌, length, take, drop, slice_index, slice_range, Option, Some, None, IfSome, option_map, Result, Ok, Err}
+use Rattle.std.specs.Prelude.{◌≡◌, ℕ, ◌+◌, ◌<◌, Bool, true, false, nat_lt, List, [], ◌++◌, length, take, slice_index, slice_range, Option, Some, None, IfSome, option_map, Result, Ok, Err}
 use Rattle.std.specs.Io.KnownBytes.{Consumes, IsAtEnd}
 use Rattle.pmt_text.specs.declared.piece.Piece.{Piece}
 use Rattle.pmt_text.specs.declared.line_reader.LineReader.{LineReader}

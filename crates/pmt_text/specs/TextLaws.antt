@@ -1,83 +1,70 @@
--- A source over a text keeps the laws of sources.
-use Rattle.std.specs.Prelude.{◌≡◌, ℕ, ◌+◌, ◌-◌, ◌≤◌, Bool, true, false, nat_lt, if◌then◌else◌, List, [], ◌∷◌, length, Option, Some, None, IfSome, is_some, option_map, Result, Ok, Err, refl}
-use Rattle.std.proofs.Common.{arith, ap, cond}
-use Rattle.std.proofs.lemmas.Bool.{ltb-true}
-use Rattle.pmt_model.specs.declared.event.Event.{Event}
-use Rattle.pmt_model.specs.Values.{Layout}
-use Rattle.pmt_model.specs.Traces.{event_limit}
-use Rattle.pmt_text.specs.declared.kind.TextKind.{TextKind}
-use Rattle.pmt_text.specs.declared.kind.TextKind.TheVariants.{TooManyEvents}
-use Rattle.pmt_text.specs.declared.source.SourceState.{SourceState}
-use Rattle.pmt_text.specs.declared.source.SourceState.TheVariants.{Open, Ended, Failed}
-use Rattle.pmt_text.specs.declared.text_source.TextSource.{TextSource}
-use Rattle.pmt_text.specs.Judging.{line_judged}
-use Rattle.pmt_text.specs.Coming.{Coming, Items, lines_of, lines_coming, item_then, ends_with, fault_at, trace_coming, lines_of_trace, header_then, format_in}
-use Rattle.pmt_text.specs.Lines.{Ahead, ahead}
-use Rattle.pmt_text.specs.TextSources.{coming_of, coming_in, coming_from, end_of, text_coming, text_room, text_format}
+-- The laws of texts: which texts are read, and as what.
+use Rattle.std.specs.Prelude.{◌≡◌, ℕ, ◌≤◌, Bool, true, false, List, ◌∷◌, codes, length, Some, None, Err, ◌⊎◌}
+use Rattle.std.specs.List.{AllByRecursion}
+use Rattle.pmt_model.specs.declared.event.Op.{Op}
+use Rattle.pmt_model.specs.declared.event.Op.TheVariants.{Store, Clwb, ClflushOpt, Clflush, Sfence, Mfence, IsPersist, IsOrderedBefore}
+use Rattle.pmt_model.specs.Formats.{first_version}
+use Rattle.pmt_model.specs.Traces.{Recording, IsTrace, IsOp, event_limit}
+use Rattle.pmt_text.specs.declared.kind.TextKind.TheVariants.{BadWord}
+use Rattle.pmt_text.specs.Spelling.{spelling, script_spelling}
+use Rattle.pmt_text.specs.Judging.{fields_of, line_judged}
+use Rattle.pmt_text.specs.Coming.{Coming, Items, judged, judged_within, script_judged}
 
--- a line gives at most one event, and none where a million stand before it
-few_then : (line given : ℕ) (r : Result Event TextKind) (later : Items Event) → length later.items ≤ event_limit - (given + 1) → length (item_then line given r later).items ≤ event_limit - given
-few_then line given (Err kind) later few = omega arith
-few_then line given (Ok e) later few = by_test (nat_lt given event_limit) refl where
-  by_test : (t : Bool) → nat_lt given event_limit ≡ t
-      → length (let o : Items Event = if t then record { items = e ∷ later.items; fault = later.fault } else ends_with (Some (fault_at line TooManyEvents)) in o).items ≤ event_limit - given
-  by_test true lt = let below = ltb-true given event_limit lt in omega (arith, below, few)
-  by_test false lt = omega arith
+-- A whole trace comes, without a fault.
+abbrev pub whole : Recording → Coming
+whole T = record { format = Some T.format; events = T.events; fault = None }
 
-few_lines : (f : Layout) (more : Bool) (given : ℕ) (lines : List (List ℕ)) → length (lines_coming (line_judged f) more 2 given lines).items ≤ event_limit - given
-unfolding lines_coming
-few_lines f more given [] = omega arith
-few_lines f more given (rest ∷ []) = omega arith
-few_lines f more given (line ∷ next ∷ tail) =
-    few_then (2 + given) given (line_judged f line) (lines_coming (line_judged f) more 2 (given + 1) (next ∷ tail)) (few_lines f more (given + 1) (next ∷ tail))
+-- The spelling of a trace is read as the trace.
+abbrev pub SpelledIsRead : Type 0
+SpelledIsRead = (T : Recording) → IsTrace T → judged (spelling T) ≡ whole T
 
-few_after : (more : Bool) (format : Option Layout) (lines : List (List ℕ)) → length (header_then format more lines).events ≤ event_limit
-few_after more None lines = omega arith
-few_after more (Some f) lines = few_lines f more 0 lines
+-- A text without fault is the spelling of the trace that it is read as.
+abbrev pub ReadIsSpelled : Type 0
+ReadIsSpelled = (text : List ℕ) → (judged text).fault ≡ None → (T : Recording) × IsTrace T × (judged text ≡ whole T) × (text ≡ spelling T)
 
-few_trace : (more : Bool) (lines : List (List ℕ)) → length (lines_of_trace more lines).events ≤ event_limit
-few_trace more [] = omega arith
-few_trace more (rest ∷ []) = omega arith
-few_trace more (line ∷ next ∷ tail) = few_after more (format_in line) (next ∷ tail)
+-- No text is the text of two traces.
+abbrev pub OneTraceOfText : Type 0
+OneTraceOfText = (T U : Recording) → IsTrace T → IsTrace U → spelling T ≡ spelling U → T ≡ U
 
-few_coming : (format : Option Layout) (given : ℕ) (a : Ahead) → (is_some format ≡ false → given ≡ 0) → length (coming_of format given a).events ≤ event_limit - given
-unfolding trace_coming
-few_coming None given a fresh = let none = fresh refl in let few = few_trace a.more (lines_of a.bytes) in omega (arith, none, few)
-few_coming (Some f) given a fresh = few_lines f a.more given (lines_of a.bytes)
+-- No trace is read from two texts.
+abbrev pub OneTextOfTrace : Type 0
+OneTextOfTrace = (first second : List ℕ) (T : Recording) → judged first ≡ whole T → judged second ≡ whole T → first ≡ second
 
-few_from : (format : Option Layout) (given : ℕ) (a : Option Ahead) → (is_some format ≡ false → given ≡ 0) → IfSome (option_map (coming_of format given) a) (λ c. length c.events ≤ event_limit - given)
-few_from format given None fresh = tt
-few_from format given (Some a) fresh = few_coming format given a fresh
+-- The ops that version 1 has always had.
+abbrev pub is_of_first_version : Op → Bool
+is_of_first_version (Store w) = true
+is_of_first_version (Clwb a) = true
+is_of_first_version (ClflushOpt a) = true
+is_of_first_version (Clflush a) = false
+is_of_first_version Sfence = true
+is_of_first_version Mfence = false
+is_of_first_version (IsPersist r) = true
+is_of_first_version (IsOrderedBefore r q) = true
 
-few_end : (format : Option Layout) (room : ℕ) → IfSome (end_of format) (λ c. length c.events ≤ room)
-few_end None room = tt
-few_end (Some f) room = omega arith
+-- A text of version 1 gives these ops alone, also before a fault.
+abbrev pub FirstVersionStays : Type 0
+FirstVersionStays = (text : List ℕ) → (judged text).format ≡ Some first_version → AllByRecursion (λ e. is_of_first_version e.op ≡ true) (judged text).events
 
-few_in : (state : SourceState) (known : Option Coming) (format : Option Layout) (room : ℕ) → IfSome known (λ c. length c.events ≤ room) → IfSome (coming_in state known format) (λ c. length c.events ≤ room)
-few_in Open known format room few = few
-few_in Ended known format room few = few_end format room
-few_in (Failed fault) known format room few = tt
+-- In version 1 clflush and mfence are none of the words, whatever follows them.
+abbrev pub NewWordsAreBad : Type 0
+NewWordsAreBad =
+    (line : List ℕ) (rest : List (List ℕ)) → (fields_of line ≡ codes "clflush" ∷ rest) ⊎ (fields_of line ≡ codes "mfence" ∷ rest) →
+    line_judged first_version line ≡ Err BadWord
 
-abbrev IsOf : Option Layout → Option Coming → Type 0
-IsOf format known = IfSome known (λ c. IfSome format (λ f. c.format ≡ Some f))
+-- A script has at most a million ops, each of version 1 and within its limits.
+pub record IsScript (ops : List Op) : Type 0 where
+  pub few : length ops ≤ event_limit
+  pub each : AllByRecursion (λ op. IsOp op × (is_of_first_version op ≡ true)) ops
 
-of_from : (format : Option Layout) (given : ℕ) (a : Option Ahead) → IsOf format (option_map (coming_of format given) a)
-of_from format given None = tt
-of_from None given (Some a) = tt
-of_from (Some f) given (Some a) = refl
+abbrev pub whole_script : List Op → Items Op
+whole_script ops = record { items = ops; fault = None }
 
-of_end : (format : Option Layout) → IsOf format (end_of format)
-of_end None = tt
-of_end (Some f) = refl
+-- The spelling of a script is read as the script, and a script's text without fault is its spelling.
+abbrev pub ScriptsAreSpelled : Type 0
+ScriptsAreSpelled =
+    ((ops : List Op) → IsScript ops → script_judged (script_spelling ops) ≡ whole_script ops)
+    × ((text : List ℕ) → (script_judged text).fault ≡ None → (ops : List Op) × IsScript ops × (script_judged text ≡ whole_script ops) × (text ≡ script_spelling ops))
 
-of_in : (state : SourceState) (known : Option Coming) (format : Option Layout) → IsOf format known → IsOf format (coming_in state known format)
-of_in Open known format is = is
-of_in Ended known format is = of_end format
-of_in (Failed fault) known format is = tt
-
-module _ {R : Type 0} (remaining : R → Option (List ℕ)) where
-  pub text_listed : (s : TextSource R) → IfSome (text_coming remaining s) (λ c. length c.events ≤ text_room s)
-  text_listed s = few_in s.state _ s.format (text_room s) (few_from s.format s.given (ahead remaining s.lines) s.fresh)
-
-  pub text_same_format : (s : TextSource R) → IfSome (text_coming remaining s) (λ c. IfSome (text_format s) (λ f. c.format ≡ Some f))
-  text_same_format s = of_in s.state _ s.format (of_from s.format s.given (ahead remaining s.lines))
+-- A text of no more bytes than the bound is judged whole.
+abbrev pub WithinBound : Type 0
+WithinBound = (bound : ℕ) (text : List ℕ) → length text ≤ bound → judged_within bound text ≡ judged text

@@ -1,11 +1,10 @@
 -- What a source over a text gives.
-use Rattle.std.specs.Prelude.{◌≡◌, ◌≢◌, ℕ, ◌+◌, ◌-◌, ◌≤◌, ◌<◌, List, [], Option, Some, None, option_map, Result, Ok, Err}
+use Rattle.std.specs.Prelude.{ℕ, ◌+◌, ◌-◌, ◌≤◌, List, [], Option, Some, None, option_map, Result, Ok, Err}
 use Rattle.std.proofs.Common.{arith}
 use Rattle.pmt_model.specs.declared.event.Event.{Event}
 use Rattle.pmt_model.specs.Values.{Layout}
 use Rattle.pmt_model.specs.Traces.{event_limit}
 use Rattle.pmt_text.specs.declared.kind.SourceError.{SourceError}
-use Rattle.pmt_text.specs.declared.kind.SourceError.TheVariants as faults
 use Rattle.pmt_text.specs.declared.source.SourceState.{SourceState}
 use Rattle.pmt_text.specs.declared.source.SourceState.TheVariants.{Open, Ended, Failed}
 use Rattle.pmt_text.specs.declared.counted.Counted.{Counted}

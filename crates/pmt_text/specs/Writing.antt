@@ -1,5 +1,5 @@
 -- What the parts of the writer add.
-use Rattle.std.specs.Prelude.{ℕ, List, [], ◌∷◌}
+use Rattle.std.specs.Prelude.{ℕ, List, ◌∷◌}
 use Rattle.std.specs.List.{flat_map}
 
 -- The fields, each behind a space.

@@ -74,9 +74,6 @@ fn take_event<R: Read>(
             if given == EVENT_LIMIT {
                 return Err(fault(2 + given, TextKind::TooManyEvents));
             }
-            if !event.is_in(format) {
-                unreachable!();
-            }
             Ok(Some(event))
         }
         Err(kind) => Err(fault(2 + given, kind)),

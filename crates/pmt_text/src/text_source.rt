@@ -91,7 +91,7 @@ impl<R: Read> TextSource<R> {
 
 impl<R: Read> EventSource for TextSource<R> {
     ghost use Rattle.pmt_text.specs.TextSources.{text_coming, text_state, text_format, text_room, text_failures, text_few};
-    ghost use Rattle.pmt_text.specs.TextLaws.{text_listed, text_same_format};
+    ghost use Rattle.pmt_text.specs.SourceLaws.{text_listed, text_same_format};
 
     ghost coming = { text_coming R.remaining };
 

@@ -1,5 +1,5 @@
 -- The first space cuts off the first field.
-use Rattle.std.proofs.Common.{ℕ, ◌+◌, ◌≢◌, List, length, get_or, take, drop, sym, ap, ◌∙◌, ◌∷◌, arith}
+use Rattle.std.proofs.Common.{ℕ, ◌+◌, List, take, sym, ap, ◌∙◌, ◌∷◌, arith}
 use Rattle.std.proofs.lemmas.List.{take_rest}
 use Rattle.pmt_text.specs.Judging.{fields_of}
 use Rattle.pmt_text.proofs.LineLemmas.{parts-at, parts-none}

@@ -1,5 +1,5 @@
 -- At each return, what the line is judged as.
-use Rattle.std.proofs.Common.{◌≡◌, ℕ, sym, ◌∙◌, ap}
+use Rattle.std.proofs.Common.{◌∙◌, ap}
 use Rattle.pmt_text.specs.Reading.{fields_left, with_thread}
 use Rattle.pmt_text.proofs.JudgeLemmas.{line-no_word, line-no_thread, line-event}
 use Rattle.pmt_text.proofs.JudgedLemmas.{allowed_line}

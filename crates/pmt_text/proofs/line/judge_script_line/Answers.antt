@@ -1,5 +1,5 @@
 -- At each return, what the line is judged as.
-use Rattle.std.proofs.Common.{◌≡◌, ℕ, List, Option, None, Some, sym, ◌∙◌, ap}
+use Rattle.std.proofs.Common.{◌∙◌, ap}
 use Rattle.pmt_model.specs.Values.{Layout}
 use Rattle.pmt_text.specs.Judging.{word_in}
 use Rattle.pmt_text.specs.Reading.{fields_left}

@@ -1,5 +1,5 @@
 -- At each return, the op of the word.
-use Rattle.std.proofs.Common.{◌≡◌, ℕ, List, sym, ◌∙◌, ap, Ok, Err}
+use Rattle.std.proofs.Common.{sym, ◌∙◌, ap}
 use Rattle.std.proofs.lemmas.Result.{err_from_is_err_and}
 use Rattle.pmt_model.specs.declared.event.Op.TheVariants.{Clwb, ClflushOpt, Clflush}
 use Rattle.pmt_text.specs.declared.word.Word.{Word}

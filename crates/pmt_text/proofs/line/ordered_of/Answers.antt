@@ -1,5 +1,5 @@
 -- At each return, what the fields are as an assertion on two spans.
-use Rattle.std.proofs.Common.{◌≡◌, ℕ, sym, ◌∙◌, ap, ap₂, Ok, Err, Result}
+use Rattle.std.proofs.Common.{sym, ◌∙◌, ap, ap₂}
 use Rattle.std.proofs.lemmas.Result.{err_from_is_err_and}
 use Rattle.pmt_text.specs.Reading.{fields_left, span_checked}
 use Rattle.pmt_text.proofs.OpLemmas.{left-some, left-none}

@@ -1,5 +1,5 @@
 -- At each return, what the fields are as a store.
-use Rattle.std.proofs.Common.{◌≡◌, ℕ, List, ◌∷◌, sym, ◌∙◌, ap, Ok, Err}
+use Rattle.std.proofs.Common.{sym, ◌∙◌, ap, Err}
 use Rattle.pmt_text.specs.declared.kind.TextKind.{TextKind}
 use Rattle.pmt_text.specs.Fields.{bytes_in}
 use Rattle.pmt_text.specs.Reading.{fields_left}

@@ -1,5 +1,5 @@
 -- At each return, what the reader answers of the field; and one pair of digits more.
-use Rattle.std.proofs.Common.{◌≡◌, ℕ, ◌+◌, ◌*◌, ◌<◌, ◌≤◌, ◌/◌, List, length, get_or, sym, ap, ap₂, ◌∙◌, subst, arith, below_more, eqb-true}
+use Rattle.std.proofs.Common.{◌≡◌, ℕ, ◌+◌, ◌*◌, ◌<◌, ◌/◌, List, length, get_or, sym, ap, ap₂, ◌∙◌, arith, below_more, eqb-true}
 use Rattle.std.proofs.lemmas.Bool.{eqb-false}
 use Rattle.pmt_text.specs.Fields.{paired}
 use Rattle.pmt_text.specs.Reading.{digit_of}

@@ -1,5 +1,5 @@
 -- The op of the line is added.
-use Rattle.std.proofs.Common.{◌≡◌, sym, ◌∙◌, arith}
+use Rattle.std.proofs.Common.{sym, arith}
 use Rattle.pmt_text.proofs.text.push_op.Goals as goal
 
 pub returns-in-Ok-push : goal.returns-in-Ok-push

@@ -1,9 +1,9 @@
 -- At each return, what comes after the events so far; and one line on.
-use Rattle.std.proofs.Common.{◌≡◌, ℕ, ◌+◌, sym, ◌∙◌, ap, arith}
+use Rattle.std.proofs.Common.{ℕ, ◌+◌, sym, ◌∙◌, ap}
 use Rattle.std.proofs.lemmas.Result.{err_from_is_err_and}
 use Rattle.pmt_text.specs.declared.kind.TextKind.TheVariants.{Truncated}
 use Rattle.pmt_text.specs.declared.kind.ReadError.TheVariants as answers
-use Rattle.pmt_text.specs.Texts.{trace_then, error_at}
+use Rattle.pmt_text.specs.Texts.{error_at}
 use Rattle.pmt_text.proofs.ReaderLemmas.{is_empty, not_empty, trace_then-line, gives_fault, gives_truncated, trace_then-end}
 use Rattle.pmt_text.proofs.text.read_events.Goals as goal
 

@@ -1,9 +1,9 @@
 -- At each return, what comes after the ops so far; and one line on.
-use Rattle.std.proofs.Common.{◌≡◌, ℕ, ◌+◌, sym, ◌∙◌, ap, arith, []}
+use Rattle.std.proofs.Common.{ℕ, ◌+◌, sym, ◌∙◌, ap}
 use Rattle.std.proofs.lemmas.Result.{err_from_is_err_and}
 use Rattle.pmt_text.specs.declared.kind.TextKind.TheVariants.{Truncated}
 use Rattle.pmt_text.specs.declared.kind.ReadError.TheVariants as answers
-use Rattle.pmt_text.specs.Texts.{script_then, error_at}
+use Rattle.pmt_text.specs.Texts.{error_at}
 use Rattle.pmt_text.proofs.ReaderLemmas.{is_empty, not_empty, script_then-line, refuses_fault, refuses_truncated, script_then-end, script_judged-lines}
 use Rattle.pmt_text.proofs.text.read_script.Goals as goal
 

@@ -1,5 +1,5 @@
 -- At each return, what the text is.
-use Rattle.std.proofs.Common.{◌≡◌, ℕ, List, sym, ◌∙◌, ap, subst, Err}
+use Rattle.std.proofs.Common.{sym, ◌∙◌, ap, subst, Err}
 use Rattle.pmt_model.specs.Traces.{Recording}
 use Rattle.pmt_text.specs.declared.kind.ReadError.{ReadError}
 use Rattle.pmt_text.specs.Coming.{Coming, judged, GivesTrace}

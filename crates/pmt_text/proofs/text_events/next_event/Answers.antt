@@ -1,4 +1,4 @@
-use Rattle.std.proofs.Common.{sym, ◌∙◌}
+use Rattle.std.proofs.Common.{sym}
 use Rattle.pmt_text.proofs.EventLemmas.{failed-events, ended-events, cut-events}
 use Rattle.pmt_text.proofs.text_events.next_event.Goals as goal
 

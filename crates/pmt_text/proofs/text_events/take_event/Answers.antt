@@ -2,10 +2,7 @@ use Rattle.std.proofs.Common.{◌≡◌, ◌<◌, ◌≤◌, ◌++◌, ◌∙◌
 use Rattle.pmt_model.specs.Traces.{event_limit}
 use Rattle.pmt_text.specs.Judging.{line_judged}
 use Rattle.pmt_text.specs.Lines.{unread}
-use Rattle.pmt_text.specs.Sources.{Faults}
-use Rattle.pmt_text.specs.TextSources.{coming_from}
 use Rattle.pmt_text.proofs.EventLemmas.{found-taken, found-late, found-refused}
-use Rattle.pmt_text.proofs.KnownLemmas.{in_format-line_judged}
 use Rattle.pmt_text.proofs.text_events.take_event.Goals as goal
 
 pub returns-then-given-eq-EVENT_LIMIT-clause-taken : goal.returns-then-given-eq-EVENT_LIMIT-clause-taken
@@ -13,27 +10,20 @@ returns-then-given-eq-EVENT_LIMIT-clause-taken g c =
     let old = c.args.lines.now in
     let h = c.skip_line.ensures in
     let many : event_limit ≤ c.args.given = omega arith in
-    let judged : line_judged c.args.format (old.front.items ++ take c.args.len (unread old.piece)) ≡ Ok c.in-Ok.event = ap (line_judged c.args.format) (sym c.line.ensures) ∙ sym c.in-Ok.ensures in
+    let judged : line_judged c.args.format (old.front.items ++ take c.args.len (unread old.piece)) ≡ Ok c.in-Ok.event = ap (line_judged c.args.format) (sym c.line.ensures) ∙ sym c.in-Ok.ensures.judged in
     rw c.fault.ensures (found-late g.R.Read.remaining old c.skip_line.new.self c.args.len c.requires.found h.held h.input h.room c.args.format c.args.given c.in-Ok.event judged many)
 
-pub unreachable-requires : goal.unreachable-requires
-unreachable-requires g c =
-    let old = c.args.lines.now in
-    let judged : line_judged c.args.format (old.front.items ++ take c.args.len (unread old.piece)) ≡ Ok c.in-Ok.event = ap (line_judged c.args.format) (sym c.line.ensures) ∙ sym c.in-Ok.ensures in
-    let known = in_format-line_judged c.args.format (old.front.items ++ take c.args.len (unread old.piece)) c.in-Ok.event judged in
-    absurd (cc (known, c.if-not-is_in.ensures.known))
-
-pub returns-else-not-is_in-clause-taken : goal.returns-else-not-is_in-clause-taken
-returns-else-not-is_in-clause-taken g c =
+pub returns-else-given-eq-EVENT_LIMIT-clause-taken : goal.returns-else-given-eq-EVENT_LIMIT-clause-taken
+returns-else-given-eq-EVENT_LIMIT-clause-taken g c =
     let old = c.args.lines.now in
     let h = c.skip_line.ensures in
     let few : c.args.given < event_limit = omega (arith, c.requires.few) in
-    let judged : line_judged c.args.format (old.front.items ++ take c.args.len (unread old.piece)) ≡ Ok c.in-Ok.event = ap (line_judged c.args.format) (sym c.line.ensures) ∙ sym c.in-Ok.ensures in
+    let judged : line_judged c.args.format (old.front.items ++ take c.args.len (unread old.piece)) ≡ Ok c.in-Ok.event = ap (line_judged c.args.format) (sym c.line.ensures) ∙ sym c.in-Ok.ensures.judged in
     found-taken g.R.Read.remaining old c.skip_line.new.self c.args.len c.requires.found h.held h.input h.room c.args.format c.args.given c.in-Ok.event judged few
 
 pub returns-in-Err-clause-taken : goal.returns-in-Err-clause-taken
 returns-in-Err-clause-taken g c =
     let old = c.args.lines.now in
     let h = c.skip_line.ensures in
-    let judged : line_judged c.args.format (old.front.items ++ take c.args.len (unread old.piece)) ≡ Err c.in-Err.kind = ap (line_judged c.args.format) (sym c.line.ensures) ∙ sym c.in-Err.ensures in
+    let judged : line_judged c.args.format (old.front.items ++ take c.args.len (unread old.piece)) ≡ Err c.in-Err.kind = ap (line_judged c.args.format) (sym c.line.ensures) ∙ sym c.in-Err.ensures.judged in
     rw c.fault-in-Err.ensures (found-refused g.R.Read.remaining old c.skip_line.new.self c.args.len c.requires.found h.held h.input h.room c.args.format c.args.given c.in-Err.kind judged)

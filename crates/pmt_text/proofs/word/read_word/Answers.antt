@@ -1,5 +1,5 @@
 -- At each return, the word that the field is.
-use Rattle.std.proofs.Common.{◌≡◌, ◌≢◌, ℕ, List, true, false, refl, sym, ◌∙◌, ap, eq-eqb, ne_eqb, ◌==◌, true≢false}
+use Rattle.std.proofs.Common.{◌≡◌, ◌≢◌, true, false, refl, sym, ◌∙◌, eq-eqb, ne_eqb, ◌==◌, true≢false}
 use Rattle.pmt_text.specs.declared.word.Word.{Word}
 use Rattle.pmt_text.specs.declared.word.Word.TheVariants as words
 use Rattle.pmt_text.specs.Spelling.{word_text}

@@ -1,5 +1,5 @@
 -- No byte yet; and one byte more.
-use Rattle.std.proofs.Common.{◌≡◌, ℕ, ◌+◌, ◌/◌, ◌%◌, ◌<◌, List, [], ◌∷◌, ◌++◌, length, get_or, take, sym, ap, ap₂, ◌∙◌, arith, rules, append_assoc}
+use Rattle.std.proofs.Common.{ℕ, ◌/◌, ◌%◌, ◌<◌, List, [], ◌∷◌, ◌++◌, get_or, take, sym, ap, ap₂, ◌∙◌, arith, rules, append_assoc}
 use Rattle.std.proofs.lemmas.Slice.{pushed}
 use Rattle.pmt_text.specs.Spelling.{glyph, hex_bytes}
 use Rattle.pmt_text.proofs.NumberWriting.{hex_bytes-more, hex_bytes-nil}

@@ -1,7 +1,6 @@
 -- One digit on; and the first digit.
-use Rattle.std.proofs.Common.{◌≡◌, ℕ, suc, ◌+◌, ◌-◌, ◌^◌, ◌<◌, ◌≤◌, List, ◌++◌, length, take, drop, set, sym, ◌∙◌, subst, arith, rules, length-set}
+use Rattle.std.proofs.Common.{◌≡◌, ℕ, suc, ◌-◌, ◌^◌, ◌<◌, ◌≤◌, subst, arith, rules, length-set}
 use Rattle.std.proofs.lemmas.List.{take_rest}
-use Rattle.pmt_text.specs.Spelling.{numeral}
 use Rattle.pmt_text.proofs.NumberWriting.{room-two, room-quotient, base-ten, write-step, write-last}
 use Rattle.pmt_text.proofs.write.push_number.Goals as goal
 

@@ -1,5 +1,5 @@
 -- The digits that are left to write and those that are written are the numeral, and there is room for those that are left.
-use Rattle.std.proofs.Common.{◌≡◌, ℕ, ◌<◌, ◌≤◌, ◌^◌, ◌++◌, length, drop}
+use Rattle.std.proofs.Common.{◌≡◌, ◌<◌, ◌≤◌, ◌^◌, ◌++◌, length, drop}
 use Rattle.pmt_text.specs.Spelling.{numeral}
 use Rattle.pmt_text.proofs.write.push_number.Given as goal
 

@@ -1,5 +1,5 @@
 -- All events are written.
-use Rattle.std.proofs.Common.{◌≡◌, List, ◌++◌, flat_map, ap, ◌∙◌, arith, take_all}
+use Rattle.std.proofs.Common.{List, ◌++◌, flat_map, ap, ◌∙◌, arith, take_all}
 use Rattle.pmt_model.specs.declared.event.Event.{Event}
 use Rattle.pmt_text.specs.Spelling.{ended, header, event_text, spelling}
 use Rattle.pmt_text.proofs.write.write_trace.Goals as goal

@@ -1,4 +1,4 @@
-use Rattle.std.proofs.Common.{◌∙◌, ◌<◌, ◌≤◌, length, arith}
+use Rattle.std.proofs.Common.{◌∙◌, arith}
 use Rattle.pmt_text.proofs.WriteLemmas.{Appends-more, within-more, same_count}
 use Rattle.pmt_text.proofs.write_all.write_all_counted.Goals as goal
 

@@ -1,4 +1,4 @@
-use Rattle.std.proofs.Common.{◌≡◌, true, subst, Ok}
+use Rattle.std.proofs.Common.{true, Ok}
 use Rattle.pmt_text.specs.Lines.{unread, known_of, Refills}
 use Rattle.pmt_text.proofs.AheadLemmas.{ahead-read_on}
 use Rattle.pmt_text.proofs.line_reader.LineReader.read_on.Goals as goal

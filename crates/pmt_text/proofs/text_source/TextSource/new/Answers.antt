@@ -1,4 +1,4 @@
-use Rattle.std.proofs.Common.{◌≡◌, ℕ, [], ◌++◌, List, Option, Some, None, refl, option_map}
+use Rattle.std.proofs.Common.{◌≡◌, ℕ, [], List, Option, Some, None, refl, option_map}
 use Rattle.pmt_text.specs.Coming.{judged_within}
 use Rattle.pmt_text.specs.Lines.{known_ahead}
 use Rattle.pmt_text.specs.TextSources.{coming_of}

@@ -1,0 +1,400 @@
+-- A test for the events that are kept. It computes, so the kept list of a written-out trace is found by computation.
+use Rattle.std.proofs.Common.{◌≡◌, ◌≢◌, ℕ, zero, suc, ◌+◌, ◌-◌, ◌<◌, ◌≤◌, ◌⊎◌, ◌==◌, ◌&&◌, ◌||◌, Bool, true, false, not, if◌then◌else◌, List, [], ◌∷◌, length, Option, Some, None, refl, sym, ◌∙◌, ap, subst, inl, inr, arith}
+use Rattle.std.specs.Prelude.{nat_lt}
+use Rattle.std.specs.Bool.{Decides}
+use Rattle.std.proofs.lemmas.Bool.{cases_eq, both_ways, and_parts, and_from, or_cases, or_left, or_right, ltb-true, lt-ltb, eqb-true, eq-eqb, ne_eqb, cond-false, false_from_ne_true}
+use Rattle.std.proofs.lemmas.Bool.Decides.{not_from_Decides, Decides-not, Decides-eqb}
+use Rattle.std.proofs.lemmas.Option.{none-some, same_Some}
+use Rattle.pmt_model.specs.declared.event.Event.{Event}
+use Rattle.pmt_model.specs.Values.{Layout}
+use Rattle.pmt_model.specs.Machine.{Act, Stores, Flushes, FlushesNow, Fences, Asserts, count}
+use Rattle.pmt_model.specs.Traces.{Recording, act, event, IsAct, history, count_at}
+use Rattle.pmt_model.specs.Fronts.{front_at}
+use Rattle.pmt_model.specs.Selections.{IsRising, Has, always_stays}
+use Rattle.pmt_model.specs.Keeping.{IsKept, Stays, ByFence, ByFlush, ByClflush, IsKeep, KeepExists}
+use Rattle.pmt_laws.proofs.Histories.{act-within, front-le-count, front-mono}
+
+-- The act of an event, if there is one.
+abbrev pub act_of_event : Layout → Option Event → Option Act
+act_of_event f None = None
+act_of_event f (Some e) = Some (act f e)
+
+-- The act with this number, if there is one.
+abbrev pub act_at : Recording → ℕ → Option Act
+act_at T i = act_of_event T.format (event T i)
+
+-- What the act with this number is.
+act-there : (T : Recording) (i : ℕ) (a : Act) → act_at T i ≡ Some a → IsAct T i a
+act-there T i a is = go (event T i) refl is
+  where
+    go : (o : Option Event) → event T i ≡ o → act_of_event T.format o ≡ Some a → IsAct T i a
+    go None e h = absurd (none-some a h)
+    go (Some x) e h = (x, e, same_Some (act T.format x) a h)
+
+-- The act with this number is the one that is read off.
+pub there-act : (T : Recording) (i : ℕ) (a : Act) → IsAct T i a → act_at T i ≡ Some a
+there-act T i a is = ap (act_of_event T.format) is.1 ∙ ap (λ (b : Act). Some b) is.2
+
+-- The act is a fence by the thread.
+abbrev is_fence_of : ℕ → Option Act → Bool
+is_fence_of t None = false
+is_fence_of t (Some (Stores l w)) = false
+is_fence_of t (Some (Flushes u l)) = false
+is_fence_of t (Some (FlushesNow l)) = false
+is_fence_of t (Some (Fences u)) = u == t
+is_fence_of t (Some Asserts) = false
+
+-- The act is a flush of the line by the thread.
+abbrev is_flush_of : ℕ → ℕ → Option Act → Bool
+is_flush_of t l None = false
+is_flush_of t l (Some (Stores k w)) = false
+is_flush_of t l (Some (Flushes u k)) = (u == t) && (k == l)
+is_flush_of t l (Some (FlushesNow k)) = false
+is_flush_of t l (Some (Fences u)) = false
+is_flush_of t l (Some Asserts) = false
+
+-- The test finds the fences of a thread.
+Decides-fence : (T : Recording) (t i : ℕ) → Decides (is_fence_of t (act_at T i)) (IsAct T i (Fences t))
+Decides-fence T t i = (λ e. act-there T i (Fences t) (go (act_at T i) e), λ is. ap (is_fence_of t) (there-act T i (Fences t) is) ∙ eq-eqb t t refl)
+  where
+    go : (o : Option Act) → is_fence_of t o ≡ true → o ≡ Some (Fences t)
+    go None e = cc
+    go (Some (Stores l w)) e = cc
+    go (Some (Flushes u l)) e = cc
+    go (Some (FlushesNow l)) e = cc
+    go (Some (Fences u)) e = ap (λ n. Some (Fences n)) (eqb-true u t e)
+    go (Some Asserts) e = cc
+
+-- The test finds the flushes of a line by a thread.
+Decides-flush : (T : Recording) (t l i : ℕ) → Decides (is_flush_of t l (act_at T i)) (IsAct T i (Flushes t l))
+Decides-flush T t l i = (
+  λ e. act-there T i (Flushes t l) (go (act_at T i) e),
+  λ is. ap (is_flush_of t l) (there-act T i (Flushes t l) is) ∙ and_from (t == t) (l == l) (eq-eqb t t refl) (eq-eqb l l refl),
+)
+  where
+    go : (o : Option Act) → is_flush_of t l o ≡ true → o ≡ Some (Flushes t l)
+    go None e = cc
+    go (Some (Stores k w)) e = cc
+    go (Some (Flushes u k)) e =
+        let both = and_parts (u == t) (k == l) e in
+        let thread : u ≡ t = eqb-true u t both.0 in
+        let line : k ≡ l = eqb-true k l both.1 in
+        cc
+    go (Some (FlushesNow k)) e = cc
+    go (Some (Fences u)) e = cc
+    go (Some Asserts) e = cc
+
+-- A first test, or where it fails a second one that must fail and a third one.
+abbrev first_or : Bool → Bool → Bool → Bool → Bool
+first_or f b g r = if f then b else (if g then false else r)
+
+-- How the test may pass.
+first_or-cases : (f b g r : Bool) → first_or f b g r ≡ true → ((f ≡ true) × (b ≡ true)) ⊎ ((f ≡ false) × (g ≡ false) × (r ≡ true))
+first_or-cases true b g r e = inl (refl, e)
+first_or-cases false b true r e = cc
+first_or-cases false b false r e = inr (refl, refl, e)
+
+-- It passes where the first test and what it asks for do.
+first_or-first : (f b g r : Bool) → f ≡ true → b ≡ true → first_or f b g r ≡ true
+first_or-first true b g r e h = h
+first_or-first false b g r e h = cc
+
+-- It passes where the first two tests fail and the third passes.
+first_or-rest : (f b g r : Bool) → f ≡ false → g ≡ false → r ≡ true → first_or f b g r ≡ true
+first_or-rest true b g r e d h = cc
+first_or-rest false b true r e d h = cc
+first_or-rest false b false r e d h = h
+
+-- Of the m events after event n, a fence of the thread comes before any flush of the line by it, and the front just before that
+-- fence is below c.
+abbrev is_needed : Recording → ℕ → ℕ → ℕ → ℕ → ℕ → Bool
+is_needed T t l c n zero = false
+is_needed T t l c n (suc m) =
+    first_or (is_fence_of t (act_at T (suc n))) (nat_lt (front_at T l n) c) (is_flush_of t l (act_at T (suc n))) (is_needed T t l c (suc n) m)
+
+-- The fence that a flush of c stores after event n would be needed for.
+pub record IsNeed (T : Recording) (t l c n : ℕ) : Type 0 where
+  pub fence : ℕ
+  pub later : n < fence
+  pub is_fence : IsAct T fence (Fences t)
+  pub next_fence : (k : ℕ) → n < k → k < fence → ¬ IsAct T k (Fences t)
+  pub last_flush : (k : ℕ) → n < k → k < fence → ¬ IsAct T k (Flushes t l)
+  pub needed : front_at T l (fence - 1) < c
+
+-- A need right after event n.
+need-now : (T : Recording) (t l c n : ℕ) → IsAct T (suc n) (Fences t) → front_at T l n < c → IsNeed T t l c n
+need-now T t l c n is below = record {
+  fence = suc n;
+  later = omega arith;
+  is_fence = is;
+  next_fence = λ k after before at. absurd (omega arith);
+  last_flush = λ k after before at. absurd (omega arith);
+  needed = let e : n ≡ suc n - 1 = omega arith in let P : ℕ → Type 0 = λ k. front_at T l k < c in subst P e below;
+}
+
+-- A need after one more event, which is neither a fence nor a flush of this kind.
+need-later : (T : Recording) (t l c n : ℕ) → ¬ IsAct T (suc n) (Fences t) → ¬ IsAct T (suc n) (Flushes t l) → IsNeed T t l c (suc n) → IsNeed T t l c n
+need-later T t l c n no_fence no_flush need = record {
+  fence = need.fence;
+  later = let after : suc n < need.fence = need.later in omega arith;
+  is_fence = need.is_fence;
+  next_fence = λ k after before at. go (Fences t) no_fence k after at (λ more. need.next_fence k more before at);
+  last_flush = λ k after before at. go (Flushes t l) no_flush k after at (λ more. need.last_flush k more before at);
+  needed = need.needed;
+}
+  where
+    go : (a : Act) → ¬ IsAct T (suc n) a → (k : ℕ) → n < k → IsAct T k a → (suc n < k → ⊥) → ⊥
+    go a none k after at rest = by_place (cases_eq k (suc n))
+      where
+        by_place : (k ≡ suc n) ⊎ (k ≡ suc n → ⊥) → ⊥
+        by_place (inl e) = let P : ℕ → Type 0 = λ j. IsAct T j a in none (subst P e at)
+        by_place (inr apart) = rest (omega arith)
+
+-- Where the test passes there is a need.
+is_needed-tells : (T : Recording) (t l c n m : ℕ) → is_needed T t l c n m ≡ true → IsNeed T t l c n
+is_needed-tells T t l c n zero e = cc
+is_needed-tells T t l c n (suc m) e =
+    go (is_needed-tells T t l c (suc n) m)
+    (first_or-cases (is_fence_of t (act_at T (suc n))) (nat_lt (front_at T l n) c) (is_flush_of t l (act_at T (suc n))) (is_needed T t l c (suc n) m) e)
+  where
+    go : (is_needed T t l c (suc n) m ≡ true → IsNeed T t l c (suc n)) →
+        ((is_fence_of t (act_at T (suc n)) ≡ true) × (nat_lt (front_at T l n) c ≡ true))
+        ⊎ ((is_fence_of t (act_at T (suc n)) ≡ false) × (is_flush_of t l (act_at T (suc n)) ≡ false) × (is_needed T t l c (suc n) m ≡ true)) →
+        IsNeed T t l c n
+    go more (inl now) = need-now T t l c n ((Decides-fence T t (suc n)).0 now.0) (ltb-true (front_at T l n) c now.1)
+    go more (inr later) =
+        need-later T t l c n (not_from_Decides (is_fence_of t (act_at T (suc n))) (Decides-fence T t (suc n)) later.0)
+        (not_from_Decides (is_flush_of t l (act_at T (suc n))) (Decides-flush T t l (suc n)) later.1) (more later.2)
+
+-- A need that is not met by the next event is one after it.
+need-rest : (T : Recording) (t l c n : ℕ) → ¬ IsAct T (suc n) (Fences t) → (need : IsNeed T t l c n) → IsNeed T t l c (suc n)
+need-rest T t l c n no_fence need = record {
+  fence = need.fence;
+  later = go (cases_eq need.fence (suc n));
+  is_fence = need.is_fence;
+  next_fence = λ k after before at. need.next_fence k (omega arith) before at;
+  last_flush = λ k after before at. need.last_flush k (omega arith) before at;
+  needed = need.needed;
+}
+  where
+    go : (need.fence ≡ suc n) ⊎ (need.fence ≡ suc n → ⊥) → suc n < need.fence
+    go (inl e) = let P : ℕ → Type 0 = λ j. IsAct T j (Fences t) in absurd (no_fence (subst P e need.is_fence))
+    go (inr apart) = let after : n < need.fence = need.later in omega arith
+
+-- The next event meets a need, or leaves it.
+need-cases : (T : Recording) (t l c n : ℕ) → IsNeed T t l c n →
+    (IsAct T (suc n) (Fences t) × (front_at T l n < c)) ⊎ (¬ IsAct T (suc n) (Fences t) × ¬ IsAct T (suc n) (Flushes t l) × IsNeed T t l c (suc n))
+need-cases T t l c n need = go (cases_eq need.fence (suc n))
+  where
+    go : (need.fence ≡ suc n) ⊎ (need.fence ≡ suc n → ⊥) →
+        (IsAct T (suc n) (Fences t) × (front_at T l n < c)) ⊎ (¬ IsAct T (suc n) (Fences t) × ¬ IsAct T (suc n) (Flushes t l) × IsNeed T t l c (suc n))
+    go (inl e) =
+        let before : need.fence - 1 ≡ n = omega (arith, e) in
+        let P : ℕ → Type 0 = λ j. IsAct T j (Fences t) in
+        let Q : ℕ → Type 0 = λ k. front_at T l k < c in
+        inl (subst P e need.is_fence, subst Q before need.needed)
+    go (inr apart) =
+        let after : n < need.fence = need.later in
+        let no_fence = need.next_fence (suc n) (omega arith) (omega arith) in
+        inr (no_fence, need.last_flush (suc n) (omega arith) (omega arith), need-rest T t l c n no_fence need)
+
+-- Where there is a need, the test of all later events passes.
+tells-is_needed : (T : Recording) (t l c n m : ℕ) → length T.events ≤ n + m → IsNeed T t l c n → is_needed T t l c n m ≡ true
+tells-is_needed T t l c n zero all need =
+    let within : need.fence ≤ length T.events = (act-within T need.fence (Fences t) need.is_fence).1 in
+    let after : n < need.fence = need.later in
+    absurd (omega arith)
+tells-is_needed T t l c n (suc m) all need = go (λ more. tells-is_needed T t l c (suc n) m (omega arith) more) (need-cases T t l c n need)
+  where
+    go : (IsNeed T t l c (suc n) → is_needed T t l c (suc n) m ≡ true) →
+        (IsAct T (suc n) (Fences t) × (front_at T l n < c)) ⊎ (¬ IsAct T (suc n) (Fences t) × ¬ IsAct T (suc n) (Flushes t l) × IsNeed T t l c (suc n)) →
+        is_needed T t l c n (suc m) ≡ true
+    go rest (inl now) =
+        first_or-first (is_fence_of t (act_at T (suc n))) (nat_lt (front_at T l n) c) (is_flush_of t l (act_at T (suc n))) (is_needed T t l c (suc n) m)
+        ((Decides-fence T t (suc n)).1 now.0) (lt-ltb (front_at T l n) c now.1)
+    go rest (inr later) =
+        first_or-rest (is_fence_of t (act_at T (suc n))) (nat_lt (front_at T l n) c) (is_flush_of t l (act_at T (suc n))) (is_needed T t l c (suc n) m)
+        (false_from_ne_true (is_fence_of t (act_at T (suc n))) (λ e. later.0 ((Decides-fence T t (suc n)).0 e)))
+        (false_from_ne_true (is_flush_of t l (act_at T (suc n))) (λ e. later.1 ((Decides-flush T t l (suc n)).0 e)))
+        (rest later.2)
+
+-- The front of the line differs before and after event i.
+abbrev differs : Recording → ℕ → ℕ → Bool
+differs T l i = not (front_at T l i == front_at T l (i - 1))
+
+-- The front of some line that is stored in the history differs before and after event i.
+abbrev some_differs : Recording → ℕ → List Act → Bool
+some_differs T i [] = false
+some_differs T i (Stores l w ∷ h) = differs T l i || some_differs T i h
+some_differs T i (Flushes t l ∷ h) = some_differs T i h
+some_differs T i (FlushesNow l ∷ h) = some_differs T i h
+some_differs T i (Fences t ∷ h) = some_differs T i h
+some_differs T i (Asserts ∷ h) = some_differs T i h
+
+-- The test finds the lines whose front differs.
+Decides-differs : (T : Recording) (l i : ℕ) → Decides (differs T l i) (front_at T l i ≢ front_at T l (i - 1))
+Decides-differs T l i = Decides-not (front_at T l i == front_at T l (i - 1)) (Decides-eqb (front_at T l i) (front_at T l (i - 1)))
+
+-- Where the test passes some line's front differs.
+some_differs-tells : (T : Recording) (i : ℕ) (h : List Act) → some_differs T i h ≡ true → (l : ℕ) × (front_at T l i ≢ front_at T l (i - 1))
+some_differs-tells T i [] e = cc
+some_differs-tells T i (Stores l w ∷ h) e = go (some_differs-tells T i h) (or_cases (differs T l i) (some_differs T i h) e)
+  where
+    go : (some_differs T i h ≡ true → (k : ℕ) × (front_at T k i ≢ front_at T k (i - 1))) →
+        (differs T l i ≡ true) ⊎ (some_differs T i h ≡ true) → (k : ℕ) × (front_at T k i ≢ front_at T k (i - 1))
+    go rest (inl d) = (l, (Decides-differs T l i).0 d)
+    go rest (inr d) = rest d
+some_differs-tells T i (Flushes t l ∷ h) e = some_differs-tells T i h e
+some_differs-tells T i (FlushesNow l ∷ h) e = some_differs-tells T i h e
+some_differs-tells T i (Fences t ∷ h) e = some_differs-tells T i h e
+some_differs-tells T i (Asserts ∷ h) e = some_differs-tells T i h e
+
+-- A stored line whose front differs is found.
+tells-some_differs : (T : Recording) (l i : ℕ) (h : List Act) → 0 < count l h → front_at T l i ≢ front_at T l (i - 1) → some_differs T i h ≡ true
+tells-some_differs T l i [] some apart = absurd (omega arith)
+tells-some_differs T l i (Stores k w ∷ h) some apart = go (λ more. tells-some_differs T l i h more apart) (cases_eq k l)
+  where
+    go : (0 < count l h → some_differs T i h ≡ true) → (k ≡ l) ⊎ (k ≡ l → ⊥) → some_differs T i (Stores k w ∷ h) ≡ true
+    go rest (inl e) = or_left (differs T k i) (some_differs T i h) (ap (λ (j : ℕ). differs T j i) e ∙ (Decides-differs T l i).1 apart)
+    go rest (inr other) =
+        let same = cond-false (k == l) (suc (count l h)) (count l h) (ne_eqb k l other) in
+        or_right (differs T k i) (some_differs T i h) (rest (omega (arith, same)))
+tells-some_differs T l i (Flushes t k ∷ h) some apart = tells-some_differs T l i h some apart
+tells-some_differs T l i (FlushesNow k ∷ h) some apart = tells-some_differs T l i h some apart
+tells-some_differs T l i (Fences t ∷ h) some apart = tells-some_differs T l i h some apart
+tells-some_differs T l i (Asserts ∷ h) some apart = tells-some_differs T l i h some apart
+
+-- The act with number i of the trace is kept.
+abbrev keeps_act : Recording → ℕ → Option Act → Bool
+keeps_act T i None = false
+keeps_act T i (Some (Stores l w)) = true
+keeps_act T i (Some (Flushes t l)) = is_needed T t l (count_at T l i) i (length T.events)
+keeps_act T i (Some (FlushesNow l)) = differs T l i
+keeps_act T i (Some (Fences t)) = some_differs T i (history T i)
+keeps_act T i (Some Asserts) = true
+
+-- Event i is kept.
+abbrev is_kept : Recording → ℕ → Bool
+is_kept T i = keeps_act T i (act_at T i)
+
+-- A front that differs is of a line with stores.
+differs-stored : (T : Recording) (l i : ℕ) → front_at T l i ≢ front_at T l (i - 1) → 0 < count_at T l i
+differs-stored T l i apart =
+    let below : front_at T l (i - 1) ≤ front_at T l i = front-mono T l (i - 1) i (omega arith) in
+    let within : front_at T l i ≤ count_at T l i = front-le-count l (history T i) in
+    omega (arith, apart)
+
+-- What the test of an act finds is kept.
+keeps_act-tells : (T : Recording) (i : ℕ) (o : Option Act) → act_at T i ≡ o → keeps_act T i o ≡ true → IsKept T i
+keeps_act-tells T i None is e = cc
+keeps_act-tells T i (Some (Stores l w)) is e = Stays (Stores l w) (act-there T i (Stores l w) is) refl
+keeps_act-tells T i (Some (Flushes t l)) is e =
+    let need = is_needed-tells T t l (count_at T l i) i (length T.events) e in
+    ByFlush
+    (record {
+      thread = t;
+      line = l;
+      fence = need.fence;
+      is_flush = act-there T i (Flushes t l) is;
+      is_fence = need.is_fence;
+      later = need.later;
+      next_fence = need.next_fence;
+      last_flush = need.last_flush;
+      needed = need.needed;
+    })
+keeps_act-tells T i (Some (FlushesNow l)) is e =
+    ByClflush (record { line = l; is_clflush = act-there T i (FlushesNow l) is; raises = (Decides-differs T l i).0 e })
+keeps_act-tells T i (Some (Fences t)) is e =
+    let found = some_differs-tells T i (history T i) e in
+    ByFence (record { thread = t; line = found.0; is_fence = act-there T i (Fences t) is; raises = found.1 })
+keeps_act-tells T i (Some Asserts) is e = Stays Asserts (act-there T i Asserts is) refl
+
+-- What is kept passes the test.
+tells-is_kept : (T : Recording) (i : ℕ) → IsKept T i → is_kept T i ≡ true
+tells-is_kept T i (Stays a is stays) = ap (keeps_act T i) (there-act T i a is) ∙ go a stays
+  where
+    go : (a : Act) → always_stays a ≡ true → keeps_act T i (Some a) ≡ true
+    go (Stores l w) e = refl
+    go (Flushes t l) e = cc
+    go (FlushesNow l) e = cc
+    go (Fences t) e = cc
+    go Asserts e = refl
+tells-is_kept T i (ByFence u) =
+    ap (keeps_act T i) (there-act T i (Fences u.thread) u.is_fence)
+    ∙ tells-some_differs T u.line i (history T i) (differs-stored T u.line i u.raises) u.raises
+tells-is_kept T i (ByFlush u) =
+    ap (keeps_act T i) (there-act T i (Flushes u.thread u.line) u.is_flush)
+    ∙ tells-is_needed T u.thread u.line (count_at T u.line i) i (length T.events) (omega arith)
+    (record { fence = u.fence; later = u.later; is_fence = u.is_fence; next_fence = u.next_fence; last_flush = u.last_flush; needed = u.needed })
+tells-is_kept T i (ByClflush u) = ap (keeps_act T i) (there-act T i (FlushesNow u.line) u.is_clflush) ∙ (Decides-differs T u.line i).1 u.raises
+
+-- The test finds the events that are kept.
+pub Decides-kept : (T : Recording) (i : ℕ) → Decides (is_kept T i) (IsKept T i)
+Decides-kept T i = (keeps_act-tells T i (act_at T i) refl, tells-is_kept T i)
+
+-- The events that are kept among the m after event n.
+abbrev pub kept_among : Recording → ℕ → ℕ → List ℕ
+kept_among T n zero = []
+kept_among T n (suc m) = if is_kept T (suc n) then suc n ∷ kept_among T (suc n) m else kept_among T (suc n) m
+
+-- The numbers of the events that are kept.
+abbrev pub kept_numbers : Recording → List ℕ
+kept_numbers T = kept_among T 0 (length T.events)
+
+-- Rising numbers also rise from further below.
+rising-below : (low high : ℕ) (K : List ℕ) → low ≤ high → IsRising high K → IsRising low K
+rising-below low high [] le r = tt
+rising-below low high (k ∷ ks) le r = let above : high < k = r.0 in (omega arith, r.1)
+
+-- The numbers that pass the test rise.
+among-rising : (T : Recording) (n m : ℕ) → IsRising n (kept_among T n m)
+among-rising T n zero = tt
+among-rising T n (suc m) = go (is_kept T (suc n)) (among-rising T (suc n) m)
+  where
+    go : (b : Bool) → IsRising (suc n) (kept_among T (suc n) m) → IsRising n (if b then suc n ∷ kept_among T (suc n) m else kept_among T (suc n) m)
+    go true r = (omega arith, r)
+    go false r = rising-below n (suc n) (kept_among T (suc n) m) (omega arith) r
+
+-- Each of the numbers passes the test.
+among-kept : (T : Recording) (n m i : ℕ) → Has (kept_among T n m) i → is_kept T i ≡ true
+among-kept T n zero i h = absurd h
+among-kept T n (suc m) i h = go (is_kept T (suc n)) refl (among-kept T (suc n) m i) h
+  where
+    go : (b : Bool) → is_kept T (suc n) ≡ b → (Has (kept_among T (suc n) m) i → is_kept T i ≡ true) →
+        Has (if b then suc n ∷ kept_among T (suc n) m else kept_among T (suc n) m) i → is_kept T i ≡ true
+    go true e rest (inl same) = let P : ℕ → Type 0 = λ j. is_kept T j ≡ true in subst P same e
+    go true e rest (inr later) = rest later
+    go false e rest later = rest later
+
+-- What passes the test among the m events after event n is one of the numbers.
+kept-among : (T : Recording) (n m i : ℕ) → n < i → i ≤ n + m → is_kept T i ≡ true → Has (kept_among T n m) i
+kept-among T n zero i after within e = absurd (omega arith)
+kept-among T n (suc m) i after within e = go (is_kept T (suc n)) refl (λ more. kept-among T (suc n) m i more (omega arith) e) (cases_eq (suc n) i)
+  where
+    go : (b : Bool) → is_kept T (suc n) ≡ b → (suc n < i → Has (kept_among T (suc n) m) i) → (suc n ≡ i) ⊎ (suc n ≡ i → ⊥) →
+        Has (if b then suc n ∷ kept_among T (suc n) m else kept_among T (suc n) m) i
+    go true is rest (inl same) = inl same
+    go true is rest (inr apart) = inr (rest (omega arith))
+    go false is rest (inl same) = let P : ℕ → Type 0 = λ j. is_kept T j ≡ true in absurd (both_ways (is_kept T (suc n)) is (subst P (sym same) e))
+    go false is rest (inr apart) = rest (omega arith)
+
+-- What is kept is an event.
+kept-event : (T : Recording) (i : ℕ) → IsKept T i → (1 ≤ i) × (i ≤ length T.events)
+kept-event T i (Stays a is stays) = act-within T i a is
+kept-event T i (ByFence u) = act-within T i (Fences u.thread) u.is_fence
+kept-event T i (ByFlush u) = act-within T i (Flushes u.thread u.line) u.is_flush
+kept-event T i (ByClflush u) = act-within T i (FlushesNow u.line) u.is_clflush
+
+-- The numbers that pass the test are the list of the events that are kept.
+pub keep-kept_numbers : (T : Recording) → IsKeep T (kept_numbers T)
+keep-kept_numbers T = record {
+  rising = among-rising T 0 (length T.events);
+  just = λ i. (
+    λ has. (Decides-kept T i).0 (among-kept T 0 (length T.events) i has),
+    λ kept. let within = kept-event T i kept in kept-among T 0 (length T.events) i (omega arith) (omega arith) (tells-is_kept T i kept),
+  );
+}
+
+-- Each trace has a list of the events that are kept.
+pub keep_exists : KeepExists
+keep_exists T = (kept_numbers T, keep-kept_numbers T)

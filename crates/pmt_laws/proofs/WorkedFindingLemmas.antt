@@ -1,0 +1,115 @@
+-- What the definitions say of the worked traces with findings, of the order within a line, and of lines of other sizes.
+use Rattle.std.proofs.Common.{◌≡◌, ℕ, ◌<◌, ◌≤◌, ◌⊎◌, [], ◌∷◌, ◌-◌, true, inl, inr, refl, sym, subst, lit<, lit≤, arith}
+use Rattle.std.specs.Prelude.{nat_lt, nat_le}
+use Rattle.std.proofs.lemmas.Bool.{and_parts, leb-true, ltb-true}
+use Rattle.pmt_model.specs.Machine.{Stores, Flushes, FlushesNow, writes}
+use Rattle.pmt_model.specs.declared.finding.Finding.TheVariants.{RedundantFlush, Overwritten}
+use Rattle.pmt_model.specs.Values.{Written}
+use Rattle.pmt_model.specs.Traces.{history}
+use Rattle.pmt_model.specs.Findings.{IsRedundantFlush}
+use Rattle.pmt_model.specs.Analyses.{IsFinding}
+use Rattle.pmt_laws.specs.Worked.{store, clwb}
+use Rattle.pmt_laws.specs.WorkedFindings.{double_flush, DoubleFlush, overwritten_before_flush, OverwrittenBeforeFlush, order_within_a_line, OrderWithinALine, flushed_further_on, WideLine, NarrowLine}
+use Rattle.pmt_laws.proofs.Histories.{act-unique}
+use Rattle.pmt_laws.proofs.RedundantLemmas.{redundant_flush_by_fronts}
+use Rattle.pmt_laws.proofs.OverwrittenLemmas.{overwritten_by_numbers}
+use Rattle.pmt_laws.proofs.ByteAssertions.{keeps, covered-passes, passes-covered, no_later-passes, passes-no_later}
+
+-- The first flush has a store to mark.
+first_is_needed : IsFinding double_flush (RedundantFlush 2) → ⊥
+first_is_needed (inl (t, l, redundant)) =
+    let e : Flushes t l ≡ Flushes 0 64 = act-unique double_flush 2 (Flushes t l) (Flushes 0 64) redundant.is_flush (clwb 0 0x1000, refl, refl) in
+    go t l (cc) (cc) redundant
+  where
+    go : (t l : ℕ) → 0 ≡ t → 64 ≡ l → IsRedundantFlush double_flush t l 2 → ⊥
+    go t l e d redundant =
+        let P : ℕ → Type 0 = λ u. IsRedundantFlush double_flush u l 2 in
+        let Q : ℕ → Type 0 = λ k. IsRedundantFlush double_flush 0 k 2 in
+        let exact : IsRedundantFlush double_flush 0 64 2 = subst Q (sym d) (subst P (sym e) redundant) in
+        let above : 1 ≤ 0 = (redundant_flush_by_fronts double_flush 0 64 2 (clwb 0 0x1000, refl, refl)).0 exact in
+        omega arith
+first_is_needed (inr (l, redundant)) =
+    let e : FlushesNow l ≡ Flushes 0 64 = act-unique double_flush 2 (FlushesNow l) (Flushes 0 64) redundant.is_clflush (clwb 0 0x1000, refl, refl) in cc
+
+-- The first flush marks the store, and the second one alone is kept.
+pub double_flush_says : DoubleFlush
+double_flush_says = record {
+  second_is_redundant = inl (0, 64, (redundant_flush_by_fronts double_flush 0 64 3 (clwb 0 0x1000, refl, refl)).1 (lit≤ tt));
+  first_is_not = first_is_needed;
+  kept = keeps double_flush (1 ∷ 3 ∷ 4 ∷ []) refl;
+}
+
+-- A store of one byte writes at its address alone.
+writes-one : (a value byte : ℕ) → writes (record { addr = a; bytes = value ∷ [] }) byte ≡ true → byte ≡ a
+writes-one a value byte e =
+    let parts = and_parts (nat_le a byte) (nat_lt (byte - a) 1) e in
+    let low : a ≤ byte = leb-true a byte parts.0 in
+    let high : byte - a < 1 = ltb-true (byte - a) 1 parts.1 in
+    omega arith
+
+-- No byte is written by both of the last two stores.
+not_beside : IsFinding overwritten_before_flush (Overwritten 2 3) → ⊥
+not_beside o =
+    let beside : Written = record { addr = 0x1001; bytes = 2 ∷ [] } in
+    let again : Written = record { addr = 0x1000; bytes = 3 ∷ [] } in
+    let second : Stores o.line o.earlier ≡ Stores 64 beside =
+    act-unique overwritten_before_flush 2 (Stores o.line o.earlier) (Stores 64 beside) o.is_earlier (store 0 0x1001 2, refl, refl) in
+    let third : Stores o.line o.later ≡ Stores 64 again =
+    act-unique overwritten_before_flush 3 (Stores o.line o.later) (Stores 64 again) o.is_later (store 1 0x1000 3, refl, refl) in
+    let P : Written → Type 0 = λ w. writes w o.byte ≡ true in
+    let earlier : o.earlier ≡ beside = cc in
+    let later : o.later ≡ again = cc in
+    let high : o.byte ≡ 0x1001 = writes-one 0x1001 2 o.byte (subst P earlier o.writes_earlier) in
+    let low : o.byte ≡ 0x1000 = writes-one 0x1000 3 o.byte (subst P later o.writes_later) in
+    omega arith
+
+-- The last store overwrites the first one, and not the one beside it.
+pub overwritten_before_flush_says : OverwrittenBeforeFlush
+overwritten_before_flush_says = record {
+  same_byte =
+      (overwritten_by_numbers overwritten_before_flush 1 3).1 (
+        64,
+        record { addr = 0x1000; bytes = 1 ∷ [] },
+        record { addr = 0x1000; bytes = 3 ∷ [] },
+        0x1000,
+        record {
+          is_earlier = (store 0 0x1000 1, refl, refl);
+          is_later = (store 1 0x1000 3, refl, refl);
+          writes_later = refl;
+          last = refl;
+          unflushed = lit< tt;
+        },
+      );
+  byte_beside = not_beside;
+  kept = keeps overwritten_before_flush (1 ∷ 2 ∷ 3 ∷ []) refl;
+}
+
+-- The earlier store of the line has the smaller rank.
+pub order_within_a_line_says : OrderWithinALine
+order_within_a_line_says = record {
+  passes = no_later-passes (history order_within_a_line 3) 0x1000 0x1008 (inl (refl, lit≤ tt));
+  fails = λ passes. go (passes-no_later (history order_within_a_line 4) 0x1008 0x1000 passes);
+  kept = keeps order_within_a_line (1 ∷ 2 ∷ 3 ∷ 4 ∷ []) refl;
+}
+  where
+    go : (◌≡◌ {A = ℕ} 64 64 × (2 ≤ 1)) ⊎ (2 ≤ 0) → ⊥
+    go (inl same) = omega (arith, same.1)
+    go (inr above) = omega arith
+
+-- The flush is of the line of the store.
+pub wide_line_says : WideLine
+wide_line_says = record {
+  fenced = (refl, refl);
+  passes = covered-passes (history (flushed_further_on 128) 4) 0x1000 (lit≤ tt);
+  kept = keeps (flushed_further_on 128) (1 ∷ 2 ∷ 3 ∷ 4 ∷ []) refl;
+}
+
+-- The flush is of a line without stores.
+pub narrow_line_says : NarrowLine
+narrow_line_says = record {
+  fenced = (refl, refl);
+  next_line = (refl, refl);
+  fails = λ passes. let above : 1 ≤ 0 = passes-covered (history (flushed_further_on 64) 4) 0x1000 passes in omega arith;
+  redundant = inl (0, 65, (redundant_flush_by_fronts (flushed_further_on 64) 0 65 2 (clwb 0 0x1040, refl, refl)).1 (lit≤ tt));
+  kept = keeps (flushed_further_on 64) (1 ∷ 4 ∷ []) refl;
+}

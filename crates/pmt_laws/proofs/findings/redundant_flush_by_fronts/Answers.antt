@@ -1,0 +1,6 @@
+-- Proved in RedundantLemmas.
+use Rattle.pmt_laws.proofs.RedundantLemmas.{redundant_flush_by_fronts}
+use Rattle.pmt_laws.proofs.findings.redundant_flush_by_fronts.Goals as goal
+
+pub returns : goal.returns
+returns c = redundant_flush_by_fronts

@@ -1,0 +1,10 @@
+//! Laws of the definitions in pmt_model: each function has an empty body, and its contract states a theorem.
+#![tactic(auto)]
+
+pub mod findings;
+pub mod fronts;
+pub mod keeping;
+pub mod needed;
+pub mod shortest;
+pub mod verdicts;
+pub mod worked;

@@ -1,5 +1,0 @@
-use Rattle.pmt_model.proofs.FrontLemmas.{fronts_are_greatest}
-use Rattle.pmt_model.proofs.laws.fronts.fronts_are_greatest.Goals as goal
-
-pub returns : goal.returns
-returns c = fronts_are_greatest

@@ -1,6 +1,0 @@
-use Rattle.pmt_model.proofs.BoxLemmas.{vectors_are_a_box}
-use Rattle.pmt_model.proofs.FaithfulLemmas.{fronts_decide}
-use Rattle.pmt_model.proofs.laws.keeping.fronts_decide.Goals as goal
-
-pub returns : goal.returns
-returns c = fronts_decide vectors_are_a_box

@@ -1,6 +1,0 @@
--- Proved in NoneCanGoLemmas.
-use Rattle.pmt_model.proofs.NoneCanGoLemmas.{none_can_go}
-use Rattle.pmt_model.proofs.laws.needed.none_can_go.Goals as goal
-
-pub returns : goal.returns
-returns c = none_can_go

@@ -1,5 +1,0 @@
-use Rattle.pmt_model.proofs.laws.shortest.trimmed_has_no_waste.Goals as goal
-use Rattle.pmt_model.proofs.NoWaste.{no_waste}
-
-pub returns : goal.returns
-returns c = no_waste

@@ -1,5 +1,0 @@
-use Rattle.pmt_model.proofs.NeverLemmas.{never_persisted_by_fronts}
-use Rattle.pmt_model.proofs.laws.verdicts.never_persisted_by_fronts.Goals as goal
-
-pub returns : goal.returns
-returns c = never_persisted_by_fronts

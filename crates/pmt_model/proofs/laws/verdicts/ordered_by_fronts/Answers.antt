@@ -1,5 +1,0 @@
-use Rattle.pmt_model.proofs.AssertLemmas.{ordered_by_fronts}
-use Rattle.pmt_model.proofs.laws.verdicts.ordered_by_fronts.Goals as goal
-
-pub returns : goal.returns
-returns c = ordered_by_fronts

@@ -1,0 +1,83 @@
+-- A source over a text keeps the laws of sources.
+use Rattle.std.specs.Prelude.{◌≡◌, ℕ, ◌+◌, ◌-◌, ◌≤◌, Bool, true, false, nat_lt, if◌then◌else◌, List, [], ◌∷◌, length, Option, Some, None, IfSome, is_some, option_map, Result, Ok, Err, refl}
+use Rattle.std.proofs.Common.{arith}
+use Rattle.std.proofs.lemmas.Bool.{ltb-true}
+use Rattle.pmt_model.specs.declared.event.Event.{Event}
+use Rattle.pmt_model.specs.Values.{Layout}
+use Rattle.pmt_model.specs.Traces.{event_limit}
+use Rattle.pmt_text.specs.declared.kind.TextKind.{TextKind}
+use Rattle.pmt_text.specs.declared.kind.TextKind.TheVariants.{TooManyEvents}
+use Rattle.pmt_text.specs.declared.source.SourceState.{SourceState}
+use Rattle.pmt_text.specs.declared.source.SourceState.TheVariants.{Open, Ended, Failed}
+use Rattle.pmt_text.specs.declared.text_source.TextSource.{TextSource}
+use Rattle.pmt_text.specs.Judging.{line_judged}
+use Rattle.pmt_text.specs.Coming.{Coming, Items, lines_of, lines_coming, item_then, ends_with, fault_at, trace_coming, lines_of_trace, header_then, format_in}
+use Rattle.pmt_text.specs.Lines.{Ahead, ahead}
+use Rattle.pmt_text.specs.TextSources.{coming_of, coming_in, end_of, text_coming, text_room, text_format}
+
+-- a line gives at most one event, and none where a million stand before it
+few_then : (line given : ℕ) (r : Result Event TextKind) (later : Items Event) → length later.items ≤ event_limit - (given + 1) → length (item_then line given r later).items ≤ event_limit - given
+few_then line given (Err kind) later few = omega arith
+few_then line given (Ok e) later few = by_test (nat_lt given event_limit) refl where
+  by_test : (t : Bool) → nat_lt given event_limit ≡ t
+      → length (let o : Items Event = if t then record { items = e ∷ later.items; fault = later.fault } else ends_with (Some (fault_at line TooManyEvents)) in o).items ≤ event_limit - given
+  by_test true lt = let below = ltb-true given event_limit lt in omega (arith, below, few)
+  by_test false lt = omega arith
+
+few_lines : (f : Layout) (more : Bool) (given : ℕ) (lines : List (List ℕ)) → length (lines_coming (line_judged f) more 2 given lines).items ≤ event_limit - given
+unfolding lines_coming
+few_lines f more given [] = omega arith
+few_lines f more given (rest ∷ []) = omega arith
+few_lines f more given (line ∷ next ∷ tail) =
+    few_then (2 + given) given (line_judged f line) (lines_coming (line_judged f) more 2 (given + 1) (next ∷ tail)) (few_lines f more (given + 1) (next ∷ tail))
+
+few_after : (more : Bool) (format : Option Layout) (lines : List (List ℕ)) → length (header_then format more lines).events ≤ event_limit
+few_after more None lines = omega arith
+few_after more (Some f) lines = few_lines f more 0 lines
+
+few_trace : (more : Bool) (lines : List (List ℕ)) → length (lines_of_trace more lines).events ≤ event_limit
+few_trace more [] = omega arith
+few_trace more (rest ∷ []) = omega arith
+few_trace more (line ∷ next ∷ tail) = few_after more (format_in line) (next ∷ tail)
+
+few_coming : (format : Option Layout) (given : ℕ) (a : Ahead) → (is_some format ≡ false → given ≡ 0) → length (coming_of format given a).events ≤ event_limit - given
+unfolding trace_coming
+few_coming None given a fresh = let none = fresh refl in let few = few_trace a.more (lines_of a.bytes) in omega (arith, none, few)
+few_coming (Some f) given a fresh = few_lines f a.more given (lines_of a.bytes)
+
+few_from : (format : Option Layout) (given : ℕ) (a : Option Ahead) → (is_some format ≡ false → given ≡ 0) → IfSome (option_map (coming_of format given) a) (λ c. length c.events ≤ event_limit - given)
+few_from format given None fresh = tt
+few_from format given (Some a) fresh = few_coming format given a fresh
+
+few_end : (format : Option Layout) (room : ℕ) → IfSome (end_of format) (λ c. length c.events ≤ room)
+few_end None room = tt
+few_end (Some f) room = omega arith
+
+few_in : (state : SourceState) (known : Option Coming) (format : Option Layout) (room : ℕ) → IfSome known (λ c. length c.events ≤ room) → IfSome (coming_in state known format) (λ c. length c.events ≤ room)
+few_in Open known format room few = few
+few_in Ended known format room few = few_end format room
+few_in (Failed fault) known format room few = tt
+
+abbrev IsOf : Option Layout → Option Coming → Type 0
+IsOf format known = IfSome known (λ c. IfSome format (λ f. c.format ≡ Some f))
+
+of_from : (format : Option Layout) (given : ℕ) (a : Option Ahead) → IsOf format (option_map (coming_of format given) a)
+of_from format given None = tt
+of_from None given (Some a) = tt
+of_from (Some f) given (Some a) = refl
+
+of_end : (format : Option Layout) → IsOf format (end_of format)
+of_end None = tt
+of_end (Some f) = refl
+
+of_in : (state : SourceState) (known : Option Coming) (format : Option Layout) → IsOf format known → IsOf format (coming_in state known format)
+of_in Open known format is = is
+of_in Ended known format is = of_end format
+of_in (Failed fault) known format is = tt
+
+module _ {R : Type 0} (remaining : R → Option (List ℕ)) where
+  pub text_listed : (s : TextSource R) → IfSome (text_coming remaining s) (λ c. length c.events ≤ text_room s)
+  text_listed s = few_in s.state _ s.format (text_room s) (few_from s.format s.given (ahead remaining s.lines) s.fresh)
+
+  pub text_same_format : (s : TextSource R) → IfSome (text_coming remaining s) (λ c. IfSome (text_format s) (λ f. c.format ≡ Some f))
+  text_same_format s = of_in s.state _ s.format (of_from s.format s.given (ahead remaining s.lines))
