@@ -8,7 +8,7 @@ use Rattle.pmt_model.specs.declared.event.Op.TheVariants.{Store, Clwb, ClflushOp
 use Rattle.pmt_model.specs.Values.{Layout, Written, IsStore}
 use Rattle.pmt_model.specs.Machine.{Act, Stores, Flushes, FlushesNow, Fences, Asserts}
 use Rattle.pmt_model.specs.Traces.{Recording, IsTrace, IsEvent, IsEventIn, IsOp, IsAct, event, act, act_of, history, has_line, with_line, lines_of}
-use Rattle.pmt_model.proofs.Histories.{history-act, history-step}
+use Rattle.pmt_laws.proofs.Histories.{history-act, history-step}
 
 -- the first address of the line has 48 bits
 abbrev pub IsLow : ℕ → ℕ → Type 0

@@ -5,7 +5,7 @@ use Rattle.pmt_model.specs.Values.{Written}
 use Rattle.pmt_model.specs.Machine.{Act, Stores, Flushes, FlushesNow, Fences, Asserts, count}
 use Rattle.pmt_model.specs.Traces.{Recording, IsAct, history, count_at}
 use Rattle.pmt_model.specs.Fronts.{front_at}
-use Rattle.pmt_model.proofs.Histories.{history-act, history-step}
+use Rattle.pmt_laws.proofs.Histories.{history-act, history-step}
 use Rattle.pmt_lines.specs.declared.raises.Raise.{Raise}
 use Rattle.pmt_lines.specs.declared.step.StepKind.{StepKind}
 use Rattle.pmt_lines.specs.declared.step.StepKind.TheVariants.{Store, Flush, Clflush, Fence}
