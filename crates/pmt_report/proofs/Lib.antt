@@ -5,3 +5,4 @@ pub mod TakingLemmas
 pub mod CountLemmas
 pub mod BoundLemmas
 pub mod LineLists
+pub mod RunLemmas

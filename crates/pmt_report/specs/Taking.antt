@@ -8,11 +8,9 @@ use Rattle.pmt_text.specs.declared.source.SourceState.{SourceState}
 use Rattle.pmt_text.specs.declared.source.SourceState.TheVariants as states
 use Rattle.pmt_text.specs.Coming.{Coming}
 use Rattle.pmt_text.specs.Sources.{Gives, HasFormat}
+use Rattle.pmt_text.specs.TextLaws.{whole}
 
 -- All that comes is the trace, and then the end.
-abbrev pub whole : Recording → Coming
-whole T = record { format = Some T.format; events = T.events; fault = None }
-
 abbrev pub IsAllOf : Option Coming → Recording → Type 0
 IsAllOf coming T = IfSome coming (λ c. c ≡ whole T)
 

@@ -6,9 +6,25 @@ ghost use Rattle.pmt_report.specs.FrontsOf.{IsLineOf, job_entry, stores_in, fron
 ghost use Rattle.pmt_report.specs.Reports.{fronts_text, lines_at};
 
 use crate::texts::{push_front_entry, push_fronts_head};
-use pmt_lines::{LineJob, LineResult, StepKind, run_line};
+use pmt_lines::{Jobs, LineJob, LineResult, StepKind, run_line, split};
 use pmt_model::{OutOfMemory, Trace};
-use std::alloc::Global;
+use pmt_text::ListSource;
+use std::alloc::{AllocError, Global};
+
+// The fronts at the end of the trace.
+pub(crate) fn fronts_of_trace(alloc: Global, trace: &Trace) -> Result<Vec<u8>, OutOfMemory>
+    ensures { IfOk result (λ text. text.items ≡ fronts_text trace.now (length trace.now.events)) }
+{
+    let mut source = ListSource::new(trace);
+    match split(alloc, &mut source) {
+        Ok(Jobs {
+            trace: whole,
+            lines,
+            fences: _,
+        }) => fronts_of_jobs(alloc, &whole, lines),
+        Err(_) => Err(AllocError),
+    }
+}
 
 // The fronts at the end of the trace, from the jobs of its lines.
 fn fronts_of_jobs(alloc: Global, trace: &Trace, jobs: Vec<LineJob>) -> Result<Vec<u8>, OutOfMemory>

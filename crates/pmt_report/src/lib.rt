@@ -6,8 +6,10 @@
 pub mod fault;
 mod fronts;
 mod output;
+pub mod run;
 mod report;
 mod taking;
 mod texts;
 
 pub use crate::fault::{RunError, fault_text};
+pub use crate::run::run_fronts;

@@ -3,6 +3,8 @@ ghost use Rattle.std.specs.Prelude.{◌≤◌};
 use crate::fault::Fault;
 use crate::opener::Opener;
 use crate::request::{Request, request_of};
+use pmt_report::{RunError, run_fronts};
+use pmt_text::Counted;
 use std::alloc::Global;
 use std::convert::AsStr;
 use std::io::{Read, Write};
@@ -43,7 +45,7 @@ fn answer<T, O, I, W>(
     rt: &T,
     request: Request<'_>,
     files: &O,
-    input: I,
+    _input: I,
     out: &mut W,
 ) -> Result<(), Fault>
 where
@@ -52,15 +54,26 @@ where
     I: Read + Drop,
     W: Write,
 {
+    let alloc = rt.alloc();
     match request {
         Request::Show(text) => show(out, text.as_str()),
-        Request::Check { workers: _, file: _ } => not_yet(rt.alloc(), "check"),
-        Request::Trim { workers: _, stream: _, file: _ } => not_yet(rt.alloc(), "trim"),
-        Request::Fronts { file: _, place: _ } => not_yet(rt.alloc(), "fronts"),
-        Request::Record { scripts: _ } => not_yet(rt.alloc(), "record"),
+        Request::Fronts { file, place } => fronts(alloc, place, files.open(file)?, out),
+        Request::Check { workers: _, file: _ } => not_yet(alloc, "the command 'check'"),
+        Request::Trim {
+            workers: _,
+            stream: true,
+            file: _,
+        } => not_yet(alloc, "the option '--stream'"),
+        Request::Trim {
+            workers: _,
+            stream: false,
+            file: _,
+        } => not_yet(alloc, "the command 'trim'"),
+        Request::Record { scripts: _ } => not_yet(alloc, "the command 'record'"),
     }
 }
 
+// Help, or the version.
 fn show<W: Write>(out: &mut W, text: &str) -> Result<(), Fault> {
     match out.write_all(text.as_bytes()) {
         Ok(()) => Ok(()),
@@ -68,7 +81,25 @@ fn show<W: Write>(out: &mut W, text: &str) -> Result<(), Fault> {
     }
 }
 
-fn not_yet(alloc: Global, command: &str) -> Result<(), Fault> {
-    let message = format!(in alloc; "the command '{command}' is not there yet")?;
+fn fronts<R: Read + Drop, W: Write>(
+    alloc: Global,
+    place: u64,
+    reader: R,
+    out: &mut W,
+) -> Result<(), Fault> {
+    let mut writer = Counted::new(out);
+    let (_reader, done) = run_fronts(alloc, place, Counted::new(reader), &mut writer);
+    told(done)
+}
+
+fn told(done: Result<(), RunError>) -> Result<(), Fault> {
+    match done {
+        Ok(()) => Ok(()),
+        Err(error) => Err(Fault::Run(error)),
+    }
+}
+
+fn not_yet(alloc: Global, what: &str) -> Result<(), Fault> {
+    let message = format!(in alloc; "{what} is not there yet")?;
     Err(Fault::usage(alloc, message.as_str())?)
 }
