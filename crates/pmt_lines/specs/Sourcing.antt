@@ -1,12 +1,11 @@
 -- What the split of a source tells.
-use Rattle.std.specs.Prelude.{◌≡◌, ◌≢◌, ◌⊎◌, Option, Some, None, IfSome, Result, Ok, Err}
+use Rattle.std.specs.Prelude.{◌≡◌, ◌≢◌, ◌⊎◌, Some, None, Result, Ok, Err}
 use Rattle.pmt_model.specs.Traces.{Recording}
 use Rattle.pmt_text.specs.declared.kind.SourceError.{SourceError}
 use Rattle.pmt_text.specs.declared.kind.SourceError.TheVariants.{Text, TooMany, Read, OutOfMemory, Failed}
 use Rattle.pmt_text.specs.declared.source.SourceState.{SourceState}
 use Rattle.pmt_text.specs.declared.source.SourceState.TheVariants as states
 use Rattle.pmt_text.specs.Coming.{Coming}
-use Rattle.pmt_text.specs.Sources.{Faults}
 
 -- All that came: the format, the events, and no fault.
 pub record IsWhole (c : Coming) (T : Recording) : Type 0 where

@@ -1,13 +1,12 @@
-use Rattle.std.proofs.Common.{◌≡◌, ◌+◌, ◌<◌, ◌++◌, ◌∷◌, [], ℕ, Bool, true, false, not, get_or, set, drop, refl, sym, ap, ◌∙◌, arith}
-use Rattle.std.specs.Prelude.{◌&&◌}
+use Rattle.std.proofs.Common.{◌≡◌, ◌+◌, ◌<◌, false, not, get_or, drop, refl, sym, ◌∙◌, arith}
 use Rattle.std.proofs.lemmas.List.{get_or-replicate}
 use Rattle.std.proofs.lemmas.Bool.{and_from, and_left, and_right, not_from_true, not_from_false}
 use Rattle.pmt_lines.specs.declared.step.StepKind.TheVariants.{Store}
 use Rattle.pmt_lines.specs.declared.step.Step.{Step}
-use Rattle.pmt_lines.specs.Steps.{AreSteps, is_fence, is_flush}
+use Rattle.pmt_lines.specs.Steps.{AreSteps, is_fence}
 use Rattle.pmt_lines.specs.Jobs.{IsThreadJobOf}
 use Rattle.pmt_lines.specs.Fences.{IsThreadResult, IsEmptyFences}
-use Rattle.pmt_lines.proofs.FenceRunLemmas.{FencesRunning, fences-start, fences-next, fences-past, fences-quiet, fences-told, fences-end}
+use Rattle.pmt_lines.proofs.FenceRunLemmas.{fences-start, fences-next, fences-past, fences-quiet, fences-told, fences-end}
 use Rattle.pmt_lines.proofs.fences.run_fences.Goals as goal
 use Rattle.pmt_lines.proofs.fences.run_fences.Goals.{then-is_fence+then-not-has_flushed+in_ok-push, else-is_fence, else-is_fence-via-then-is_fence+else-not-has_flushed, else-is_fence-via-else-is_fence, After-loop-step}
 

@@ -1,10 +1,10 @@
-use Rattle.std.proofs.Common.{◌≡◌, ◌+◌, ◌<◌, ◌++◌, ◌∷◌, [], true, false, get_or, drop, sym, refl}
+use Rattle.std.proofs.Common.{◌≡◌, ◌+◌, ◌++◌, ◌∷◌, [], get_or, drop, refl}
 use Rattle.std.proofs.lemmas.Bool.{both_ways}
 use Rattle.pmt_lines.specs.declared.step.StepKind.TheVariants.{Store}
 use Rattle.pmt_lines.specs.declared.step.Step.{Step}
 use Rattle.pmt_lines.specs.Jobs.{IsJobOf}
 use Rattle.pmt_lines.specs.Raises.{IsLineResult, IsRaises}
-use Rattle.pmt_lines.proofs.RunLemmas.{Running, running-next, running-past, running-room, running-quiet, running-raised, running-end}
+use Rattle.pmt_lines.proofs.RunLemmas.{running-next, running-past, running-room, running-quiet, running-raised, running-end}
 use Rattle.pmt_lines.proofs.raises.run_line.Goals as goal
 use Rattle.pmt_lines.proofs.raises.run_line.Goals.{then-branch+in_ok-push, else-branch, After-loop-step}
 

@@ -1,4 +1,3 @@
-use Rattle.std.proofs.Common.{◌≡◌, ◌+◌, ◌≤◌, length, Some}
 use Rattle.pmt_lines.specs.Splitting.{IsSplitting}
 use Rattle.pmt_lines.proofs.SourceRunLemmas.{SoFar}
 use Rattle.pmt_lines.proofs.splitting.split.Given as goal
