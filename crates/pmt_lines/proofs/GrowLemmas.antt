@@ -1,11 +1,10 @@
 -- A trace with one event more: what was so of its events is so still, and the jobs go on.
-use Rattle.std.proofs.Common.{◌≡◌, ◌≢◌, ℕ, zero, suc, ◌+◌, ◌-◌, ◌<◌, ◌≤◌, ◌⊎◌, inl, inr, List, [], ◌∷◌, ◌++◌, length, take, map, reverse, Option, Some, None, refl, sym, ap, subst, ◌∙◌, arith}
+use Rattle.std.proofs.Common.{◌≡◌, ℕ, zero, suc, ◌-◌, ◌<◌, ◌≤◌, ◌⊎◌, inl, inr, List, [], ◌∷◌, ◌++◌, length, map, reverse, Some, refl, sym, ap, subst, ◌∙◌, arith}
 use Rattle.std.specs.Prelude.{slice_get}
-use Rattle.std.specs.List.{AllByRecursion}
 use Rattle.std.proofs.lemmas.Bool.{cases_lt}
 use Rattle.std.proofs.lemmas.List.{take-append-le, length-append}
 use Rattle.pmt_model.specs.declared.event.Event.{Event}
-use Rattle.pmt_model.specs.Machine.{Act, Stores, Flushes, FlushesNow, Fences, Asserts}
+use Rattle.pmt_model.specs.Machine.{Act, Stores, Flushes, FlushesNow, Fences}
 use Rattle.pmt_model.specs.Traces.{Recording, act, event, IsAct, history}
 use Rattle.pmt_model.specs.Pushing.{with_event}
 use Rattle.pmt_model.specs.Fronts.{open_mark}
@@ -14,7 +13,7 @@ use Rattle.pmt_lines.specs.declared.step.StepKind.{StepKind}
 use Rattle.pmt_lines.specs.declared.step.StepKind.TheVariants.{Store, Flush, Clflush, Fence}
 use Rattle.pmt_lines.specs.declared.step.Step.{Step}
 use Rattle.pmt_lines.specs.Steps.{LineWork, last_number, with_step}
-use Rattle.pmt_lines.specs.Jobs.{IsKind, IsBy, IsStepOf, Touches, ByStore, ByFlush, ByClflush, ByFence, IsWalkFrom, IsJobOf, EachTouches, IsThreadKind, IsThreadStep, IsFlushOrFence, AFlush, AFence, IsThreadJobOf}
+use Rattle.pmt_lines.specs.Jobs.{IsKind, IsStepOf, Touches, ByStore, ByFlush, ByClflush, ByFence, IsWalkFrom, EachTouches, IsThreadKind, IsThreadStep, IsFlushOrFence, AFlush, AFence, IsThreadJobOf}
 use Rattle.pmt_lines.specs.Splitting.{IsLeanJob}
 use Rattle.pmt_lines.proofs.RunLemmas.{kind-within}
 
@@ -136,19 +135,21 @@ module _ (T : Recording) (e : Event) where
 
   -- the job of a line that the new event doesn't matter to
   pub job-stays : (job : LineWork) → ¬ Touches (with_event T e) job.line (suc (length T.events)) → IsLeanJob T job → IsLeanJob (with_event T e) job
-  job-stays job untouched lean =
-      (walk-stays (IsStepOf T job.line) (IsStepOf (with_event T e) job.line) (Touches T job.line) (Touches (with_event T e) job.line) 0 job.steps (step-to job.line) (λ k. where_from job.line k untouched) lean.0,
-      each-to job.line job.steps lean.1)
+  job-stays job untouched lean = (
+    walk-stays (IsStepOf T job.line) (IsStepOf (with_event T e) job.line) (Touches T job.line) (Touches (with_event T e) job.line) 0 job.steps (step-to job.line) (λ k. where_from job.line k untouched) lean.0,
+    each-to job.line job.steps lean.1,
+  )
 
   -- the job of a line that it matters to
   pub job-takes : (job : LineWork) (s : Step) → s.number ≡ suc (length T.events) → IsStepOf (with_event T e) job.line s → Touches (with_event T e) job.line s.number → IsLeanJob T job → IsLeanJob (with_event T e) (with_step job s)
-  job-takes job s last is touches lean =
-      (walk-takes (IsStepOf T job.line) (IsStepOf (with_event T e) job.line) (Touches T job.line) (Touches (with_event T e) job.line) 0 job.steps s
+  job-takes job s last is touches lean = (
+    walk-takes (IsStepOf T job.line) (IsStepOf (with_event T e) job.line) (Touches T job.line) (Touches (with_event T e) job.line) 0 job.steps s
         (λ x one. (step-to job.line x one, omega (arith, (kind-within T job.line x.number x.thread x.kind one.kind).1)))
         (λ k h. touches-from job.line k (omega arith))
         (λ k h. touches-past job.line k (omega arith))
         (omega arith) is lean.0,
-      each-push job.line job.steps s (each-to job.line job.steps lean.1) touches)
+    each-push job.line job.steps s (each-to job.line job.steps lean.1) touches,
+  )
 
   thread_kind-to : (n t : ℕ) (kind : StepKind) → IsThreadKind T n t kind → IsThreadKind (with_event T e) n t kind
   thread_kind-to n t (Store addr len) is = is

@@ -1,13 +1,11 @@
 -- Acts on one line: which lines they matter to, and the lines that have appeared.
-use Rattle.std.proofs.Common.{◌≡◌, ◌≢◌, ℕ, zero, suc, ◌+◌, ◌-◌, ◌<◌, ◌≤◌, ◌⊎◌, inl, inr, Bool, true, false, List, [], ◌∷◌, ◌++◌, length, Option, Some, None, refl, sym, ap, subst, ◌∙◌, arith}
-use Rattle.std.specs.Prelude.{◌==◌, ◌||◌, ◌&&◌, if◌then◌else◌}
-use Rattle.std.proofs.lemmas.Bool.{cases_lt, cases_eq, eq-eqb, ne_eqb, eqb-true, eqb-false, both_ways, or_parts, true≢false, false≢true}
-use Rattle.pmt_model.specs.Values.{Written}
+use Rattle.std.proofs.Common.{◌≡◌, ◌≢◌, ℕ, zero, suc, ◌-◌, ◌≤◌, ◌⊎◌, inl, inr, Bool, true, false, List, [], ◌∷◌, ◌++◌, length, Some, None, refl, sym, ap, subst, ◌∙◌, arith}
+use Rattle.std.specs.Prelude.{◌==◌, ◌&&◌, if◌then◌else◌}
+use Rattle.std.proofs.lemmas.Bool.{cases_lt, ne_eqb, eqb-false, both_ways, or_parts}
 use Rattle.pmt_model.specs.Machine.{Act, Stores, Flushes, FlushesNow, Fences, Asserts, count}
 use Rattle.pmt_model.specs.Traces.{Recording, IsAct, history, has_line, with_line, lines_of}
 use Rattle.pmt_model.specs.Fronts.{open_mark}
 use Rattle.pmt_model.proofs.Histories.{history-act, history-step, act-within, act-unique}
-use Rattle.pmt_lines.specs.Steps.{LineWork}
 use Rattle.pmt_lines.specs.Jobs.{Touches, ByStore, ByFlush, ByClflush, ByFence}
 use Rattle.pmt_lines.specs.Splitting.{IsLeanJob}
 use Rattle.pmt_lines.proofs.PlaceLemmas.{has_line-push}
@@ -102,9 +100,10 @@ open_mark-absent t l (Asserts ∷ h) e = open_mark-absent t l h e
 absent-before : (T : Recording) (l n k : ℕ) → k ≤ n → has_line l (lines_of (history T n)) ≡ false → has_line l (lines_of (history T k)) ≡ false
 absent-before T l zero k h e = let same : 0 ≡ k = omega arith in subst (λ j. has_line l (lines_of (history T j)) ≡ false) same e
 absent-before T l (suc n) k h e =
-    elim (cases_lt n k)
-    [ inl last ↦ let same : suc n ≡ k = omega arith in subst (λ j. has_line l (lines_of (history T j)) ≡ false) same e
-    | inr before ↦ absent-before T l n k before (go (history-step T n)) ]
+    elim (cases_lt n k) [
+      | inl last ↦ let same : suc n ≡ k = omega arith in subst (λ j. has_line l (lines_of (history T j)) ≡ false) same e
+      | inr before ↦ absent-before T l n k before (go (history-step T n))
+    ]
   where
     go : ((a : Act) × IsAct T (suc n) a) ⊎ ((length T.events ≤ n) × (history T (suc n) ≡ history T n)) → has_line l (lines_of (history T n)) ≡ false
     go (inl x) = (absent-act l x.0 (history T n) (ap (λ h. has_line l (lines_of h)) (sym (history-act T n x.0 x.1)) ∙ e)).1

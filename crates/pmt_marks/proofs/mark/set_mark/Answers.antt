@@ -1,5 +1,5 @@
-use Rattle.std.proofs.Common.{◌≡◌, Some, None, sym, ◌∙◌}
-use Rattle.pmt_marks.specs.Lines.{place_in, mark_in, ChangesMark, KeepsMarks}
+use Rattle.std.proofs.Common.{◌≡◌, Some, None}
+use Rattle.pmt_marks.specs.Lines.{place_in, mark_in}
 use Rattle.pmt_marks.proofs.MarkLemmas.{IsPlaceOf, IsPlaceOf-from_place_in, mark_in-from_no_place, changes-set, keeps-set, changes-push, keeps-push}
 use Rattle.pmt_marks.proofs.mark.set_mark.Goals as goal
 use Rattle.pmt_marks.proofs.mark.set_mark.Goals.{In-Some, In-None}

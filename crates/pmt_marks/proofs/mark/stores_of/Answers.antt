@@ -1,6 +1,5 @@
-use Rattle.std.proofs.Common.{◌≡◌, Some, None, get_or, sym, ap, ◌∙◌}
+use Rattle.std.proofs.Common.{sym, ◌∙◌}
 use Rattle.pmt_marks.specs.declared.mark.Mark.{Mark}
-use Rattle.pmt_marks.specs.Lines.{place_in}
 use Rattle.pmt_marks.proofs.MarkLemmas.{IsPlaceOf-from_place_in, mark_in-at, mark_in-from_no_place}
 use Rattle.pmt_marks.proofs.mark.stores_of.Goals as goal
 

@@ -1,7 +1,6 @@
 use Rattle.std.proofs.Common.{◌≡◌, Some, None, refl, sym, ap, ◌∙◌}
-use Rattle.std.proofs.lemmas.List.{get_or_read}
 use Rattle.pmt_marks.specs.declared.mark.Mark.{Mark}
-use Rattle.pmt_marks.specs.Lines.{place_in, mark_in, ChangesMark, KeepsMarks}
+use Rattle.pmt_marks.specs.Lines.{place_in, mark_in}
 use Rattle.pmt_marks.proofs.MarkLemmas.{IsPlaceOf, IsPlaceOf-from_place_in, mark_in-at, mark_in-from_no_place, changes-remove, keeps-remove}
 use Rattle.pmt_marks.proofs.mark.take_mark.Goals as goal
 use Rattle.pmt_marks.proofs.mark.take_mark.Goals.{In-Some, In-None}

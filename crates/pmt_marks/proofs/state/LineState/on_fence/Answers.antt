@@ -1,6 +1,6 @@
-use Rattle.std.proofs.Common.{◌≡◌, ◌≤◌, arith, rules}
+use Rattle.std.proofs.Common.{◌≡◌, arith, rules}
 use Rattle.std.specs.Prelude.{unwrap_or, max}
-use Rattle.pmt_marks.specs.Lines.{mark_in, Completes}
+use Rattle.pmt_marks.specs.Lines.{mark_in}
 use Rattle.pmt_marks.proofs.MarkLemmas.{mark_in-le}
 use Rattle.pmt_marks.proofs.FollowLemmas.{follows-fence}
 use Rattle.pmt_marks.proofs.state.LineState.on_fence.Goals as goal

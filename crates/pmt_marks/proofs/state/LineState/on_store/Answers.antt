@@ -1,4 +1,4 @@
-use Rattle.std.proofs.Common.{◌+◌, ◌<◌, ◌≤◌, arith}
+use Rattle.std.proofs.Common.{◌+◌, ◌<◌, arith}
 use Rattle.pmt_model.specs.Traces.{event_limit}
 use Rattle.pmt_marks.proofs.MarkLemmas.{none_above-more}
 use Rattle.pmt_marks.proofs.state.LineState.on_store.Goals as goal
