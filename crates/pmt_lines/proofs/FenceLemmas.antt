@@ -5,7 +5,7 @@ use Rattle.std.proofs.lemmas.Bool.{cases_lt, cases_eq, eq-eqb, ne_eqb}
 use Rattle.pmt_model.specs.Machine.{Act, Stores, Flushes, FlushesNow, Fences, Asserts}
 use Rattle.pmt_model.specs.Traces.{Recording, IsAct, history}
 use Rattle.pmt_model.specs.Findings.{IsEmptyFence}
-use Rattle.pmt_model.proofs.Histories.{history-act, history-step, act-within, act-unique}
+use Rattle.pmt_laws.proofs.Histories.{history-act, history-step, act-within, act-unique}
 
 -- the thread has flushed a line since its last fence
 abbrev pub has_flushed : ℕ → List Act → Bool

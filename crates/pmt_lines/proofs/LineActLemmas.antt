@@ -5,7 +5,7 @@ use Rattle.std.proofs.lemmas.Bool.{cases_lt, ne_eqb, eqb-false, both_ways, or_pa
 use Rattle.pmt_model.specs.Machine.{Act, Stores, Flushes, FlushesNow, Fences, Asserts, count}
 use Rattle.pmt_model.specs.Traces.{Recording, IsAct, history, has_line, with_line, lines_of}
 use Rattle.pmt_model.specs.Fronts.{open_mark}
-use Rattle.pmt_model.proofs.Histories.{history-act, history-step, act-within, act-unique}
+use Rattle.pmt_laws.proofs.Histories.{history-act, history-step, act-within, act-unique}
 use Rattle.pmt_lines.specs.Jobs.{Touches, ByStore, ByFlush, ByClflush, ByFence}
 use Rattle.pmt_lines.specs.Splitting.{IsLeanJob}
 use Rattle.pmt_lines.proofs.PlaceLemmas.{has_line-push}
