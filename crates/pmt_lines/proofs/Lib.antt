@@ -1,0 +1,4 @@
+pub mod StepLemmas
+pub mod RunLemmas
+pub mod FenceLemmas
+pub mod FenceRunLemmas

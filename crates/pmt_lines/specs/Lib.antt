@@ -1,0 +1,5 @@
+pub mod Steps
+pub mod Jobs
+pub mod Running
+pub mod Raises
+pub mod Fences
