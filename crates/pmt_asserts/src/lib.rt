@@ -1,13 +1,7 @@
-// A library with one function.
+//! The verdicts of the assertions of a trace, from the results of its lines' jobs.
+//!
+//! The definitions stand in `specs/`.
 #![tactic(auto)]
 
-ghost use Rattle.std.specs.Prelude.{◌≡◌};
-ghost use Rattle.pmt_asserts.specs.Echo.{echo_of};
-
-// The `ensures` clause is the contract: what `echo` returns is `echo_of` of its argument, a definition
-// in `specs/Echo.antt`, which a caller's clause can cite too.
-pub fn echo(x: usize) -> usize
-    ensures { result ≡ echo_of x }
-{
-    x
-}
+mod oldest;
+mod put;
