@@ -1,1 +1,4 @@
 pub mod TraceLemmas
+pub mod WordLemmas
+pub mod LastLemmas
+pub mod RaiseLemmas

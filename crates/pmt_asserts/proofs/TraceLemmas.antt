@@ -116,7 +116,7 @@ same-store T l m n v w a b e =
       | inr more ↦ absurd (omega (arith, count-mono T l n (m - 1) (omega arith), count_at-before T l m v a)) ] ]
 
 -- no more stores have come at a place than come in all
-count_at-le_length : (T : Recording) (l n : ℕ) → count_at T l n ≤ count_at T l (length T.events)
+pub count_at-le_length : (T : Recording) (l n : ℕ) → count_at T l n ≤ count_at T l (length T.events)
 count_at-le_length T l n =
     elim (cases_lt (length T.events) n)
     [ inl past ↦ let e = count_at-over-end n past in omega (arith, e)
