@@ -1,5 +1,5 @@
 -- The stores of a line's job, and which of them wrote a byte last.
-use Rattle.std.specs.Prelude.{◌≡◌, ℕ, zero, suc, ◌-◌, ◌<◌, ◌≤◌, ◌⊎◌, ◌&&◌, nat_le, nat_lt, Bool, true, if◌then◌else◌, List, [], ◌∷◌, length, Option, MatchOption, Contains, slice_index_or}
+use Rattle.std.specs.Prelude.{◌≡◌, ℕ, zero, suc, ◌+◌, ◌-◌, ◌^◌, ◌<◌, ◌≤◌, ◌⊎◌, ◌&&◌, nat_le, nat_lt, Bool, true, if◌then◌else◌, List, [], ◌∷◌, length, Option, MatchOption, Contains, All, None, Some, min, ◌==◌, slice_index_or}
 use Rattle.pmt_lines.specs.declared.step.StepKind.{StepKind}
 use Rattle.pmt_lines.specs.declared.step.StepKind.TheVariants.{Store, Flush, Clflush, Fence}
 use Rattle.pmt_lines.specs.declared.step.Step.{Step}
@@ -58,8 +58,23 @@ pub record IsWriteOf (puts : List Put) (w : Write) : Type 0 where
   pub within : w.rank ≤ length puts
   pub writes : covers (put_at puts (w.rank - 1)) w.byte ≡ true
 
+-- The store has bytes, and none past 2^64.
+pub record IsInside (p : Put) : Type 0 where
+  pub some : 0 < p.len
+  pub within : p.addr + p.len < 2 ^ 64
+
 -- All bytes that the stores write, by byte and then by rank.
 pub record AreWritesOf (puts : List Put) (writes : List Write) : Type 0 where
   pub sorted : (i j : ℕ) (d : Write) → i ≤ j → j < length writes → IsUpTo (slice_index_or writes i d) (slice_index_or writes j d)
   pub just : (w : Write) → Contains writes w → IsWriteOf puts w
   pub all : (w : Write) → IsWriteOf puts w → Contains writes w
+
+-- What every table of a line keeps.
+pub record IsTableOf (steps : List Step) (puts : List Put) (writes : List Write) : Type 0 where
+  pub stores : puts ≡ puts_of steps
+  pub inside : All IsInside puts
+  pub written : AreWritesOf puts writes
+
+-- The lesser one of two ranks, 0 being none.
+abbrev pub IsLesser : Option ℕ → ℕ → Option ℕ → Type 0
+IsLesser least rank result = MatchOption least (result ≡ if rank == 0 then None else Some rank) (λ other. result ≡ if rank == 0 then Some other else Some (min other rank))

@@ -3,5 +3,7 @@
 //! The definitions stand in `specs/`.
 #![tactic(auto)]
 
+mod build;
 mod oldest;
 mod put;
+mod table;
