@@ -1,5 +1,5 @@
 -- The stores of a line's job, and which of them wrote a byte last.
-use Rattle.std.specs.Prelude.{◌≡◌, ℕ, zero, suc, ◌+◌, ◌-◌, ◌^◌, ◌<◌, ◌≤◌, ◌⊎◌, ◌&&◌, nat_le, nat_lt, Bool, true, if◌then◌else◌, List, [], ◌∷◌, length, Option, MatchOption, Contains, All, None, Some, min, ◌==◌, slice_index_or}
+use Rattle.std.specs.Prelude.{◌≡◌, ℕ, zero, suc, ◌+◌, ◌-◌, ◌^◌, ◌<◌, ◌≤◌, ◌⊎◌, ◌&&◌, nat_le, nat_lt, Bool, true, if◌then◌else◌, List, [], ◌∷◌, length, Option, MatchOption, Contains, All, None, Some, min, ◌==◌, ◌||◌, slice_index_or}
 use Rattle.pmt_lines.specs.declared.step.StepKind.{StepKind}
 use Rattle.pmt_lines.specs.declared.step.StepKind.TheVariants.{Store, Flush, Clflush, Fence}
 use Rattle.pmt_lines.specs.declared.step.Step.{Step}
@@ -51,6 +51,9 @@ IsLeastOf puts c low high o = MatchOption o ((b : ℕ) → low ≤ b → b < hig
 -- By byte, and then by rank.
 abbrev pub IsUpTo : Write → Write → Type 0
 IsUpTo v w = (v.byte < w.byte) ⊎ ((v.byte ≡ w.byte) × (v.rank ≤ w.rank))
+
+abbrev pub is_up_to : ℕ → ℕ → Write → Bool
+is_up_to byte rank w = nat_lt w.byte byte || ((w.byte == byte) && nat_le w.rank rank)
 
 -- The store with this rank writes this byte.
 pub record IsWriteOf (puts : List Put) (w : Write) : Type 0 where

@@ -1,7 +1,7 @@
 ghost use Rattle.std.specs.Prelude.{◌≡◌, ◌≤◌, ◌↔◌, IsTrue, IfOk, length};
 ghost use Rattle.pmt_model.specs.Traces.{count_at as stores_by};
 ghost use Rattle.pmt_model.specs.Fronts.{front_at as front_by};
-ghost use Rattle.pmt_asserts.specs.Puts.{puts_of, last_in, IsGreatestIn, IsLeastOf, IsLesser};
+ghost use Rattle.pmt_asserts.specs.Puts.{puts_of, last_in, IsGreatestIn, IsLeastOf, IsLesser, is_up_to};
 ghost use Rattle.pmt_asserts.specs.Tables.{OfEachTrace, LieIn, EachFrom, PersistedBy, RankedBy, IsOldestOf};
 
 use crate::build::{collect_puts, collect_writes};
@@ -70,9 +70,12 @@ impl LineTable {
         requires { count ≤ length (puts_of self.now.job.steps) }
         ensures { result ≡ last_in (puts_of self.now.job.steps) byte count }
     {
-        let end = self
-            .writes
-            .partition_point(|write| write.byte < byte || (write.byte == byte && write.rank <= count as u64));
+        let rank = count as u64;
+        let end = self.writes.partition_point(
+            |write: &Write| -> bool
+                ensures { result ≡ is_up_to byte rank write.now }
+            { write.byte < byte || (write.byte == byte && write.rank <= rank) },
+        );
         if end == 0 {
             return 0;
         }
@@ -131,9 +134,13 @@ impl LineTable {
     pub fn oldest(&self, low: u64, high: u64, place: u64) -> Option<Oldest>
         ensures { OfEachTrace self.now (λ T l. LieIn T l low high → IsOldestOf T place l low high result) }
     {
-        let rank = self.least(low, high, self.count_at(place))?;
-        let number = self.puts[rank as usize - 1].number;
-        Some(Oldest { rank, number })
+        match self.least(low, high, self.count_at(place)) {
+            None => None,
+            Some(rank) => {
+                let number = self.puts[rank as usize - 1].number;
+                Some(Oldest { rank, number })
+            }
+        }
     }
 }
 

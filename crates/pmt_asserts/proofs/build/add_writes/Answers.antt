@@ -1,0 +1,10 @@
+use Rattle.pmt_asserts.proofs.build.add_writes.Goals as goal
+
+pub loop-byte-init : goal.loop-byte-init
+loop-byte-init c = ?
+
+pub loop-byte-preserved : goal.loop-byte-preserved
+loop-byte-preserved c = ?
+
+pub returns : goal.returns
+returns c = ?
