@@ -4,3 +4,8 @@ pub mod LastLemmas
 pub mod RaiseLemmas
 pub mod RankLemmas
 pub mod TableLemmas
+pub mod BuildLemmas
+pub mod PlacingLemmas
+pub mod PartLemmas
+pub mod JudgeLemmas
+pub mod EarliestLemmas

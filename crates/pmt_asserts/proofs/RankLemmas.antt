@@ -44,7 +44,7 @@ last_in-covers puts b (suc c) r e = go (covers (put_at puts c) b) refl e (λ sam
     go false free same earlier = let below = earlier same in (omega (arith, below.0), below.1)
 
 -- what comes first, by byte and then by rank
-up_to-trans : (u v w : Write) → IsUpTo u v → IsUpTo v w → IsUpTo u w
+pub up_to-trans : (u v w : Write) → IsUpTo u v → IsUpTo v w → IsUpTo u w
 up_to-trans u v w (inl p) (inl q) = inl (omega arith)
 up_to-trans u v w (inl p) (inr q) = inl (omega (arith, q.0))
 up_to-trans u v w (inr p) (inl q) = inl (omega (arith, p.0))

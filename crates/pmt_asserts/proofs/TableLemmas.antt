@@ -126,6 +126,7 @@ oldest-found T l steps i low high m trace job lie is = record { first = first; r
             record {
               store = some ∙ ap (λ k. Some (record { line = l; rank = k })) e;
               past = past ∙ ap (λ k. history T (put_at puts k).number) f;
+              by_now = let g = ap (λ k. (put_at puts k).number) f in omega (arith, n, g);
             }
 
 -- where no rank is found, no byte is written

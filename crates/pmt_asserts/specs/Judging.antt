@@ -1,5 +1,6 @@
 -- How the verdicts come about from the tables.
-use Rattle.std.specs.Prelude.{◌≡◌, ◌≢◌, ℕ, ◌<◌, ◌≤◌, ◌⊎◌, Option, None, Some, MatchOption, IfSome}
+use Rattle.std.specs.Prelude.{◌≡◌, ◌≢◌, ℕ, ◌<◌, ◌≤◌, ◌⊎◌, Option, None, Some, MatchOption, IfSome, ◌==◌, nat_le, if◌then◌else◌}
+use Rattle.std.specs.Option.{option_map}
 use Rattle.pmt_model.specs.declared.finding.Verdict.{Verdict}
 use Rattle.pmt_model.specs.Values.{Span, line_of}
 use Rattle.pmt_model.specs.Traces.{Recording, history}
@@ -7,7 +8,7 @@ use Rattle.pmt_model.specs.Assertions.{InSpan, last_store, up_to_last}
 use Rattle.pmt_model.specs.Analyses.{IsVerdictOf}
 use Rattle.pmt_asserts.specs.declared.oldest.Oldest.{Oldest}
 use Rattle.pmt_asserts.specs.declared.oldest.Earliest.{Earliest}
-use Rattle.pmt_asserts.specs.Tables.{ComesFrom, IsLastAt, IsUnwritten}
+use Rattle.pmt_asserts.specs.Tables.{ComesFrom, IsLastAt, IsUnwritten, PersistedBy, RankedBy}
 
 -- P holds of each byte of A in this line.
 abbrev pub EachIn : Recording → ℕ → Span → (ℕ → Type 0) → Type 0
@@ -41,6 +42,24 @@ pub record IsEarliest (T : Recording) (i : ℕ) (skipped : Option ℕ) (A : Span
 
 abbrev pub IsEarliestOf : Recording → ℕ → Option ℕ → Span → Option Earliest → Type 0
 IsEarliestOf T i skipped A o = MatchOption o (EachApart T skipped A (IsUnwritten T i)) (IsEarliest T i skipped A)
+
+-- The earlier one of those of the lines before and that of this line.
+abbrev pub earlier_of : Option Earliest → ℕ → Option Oldest → Option Earliest
+earlier_of earliest line None = earliest
+earlier_of None line (Some o) = Some (record { line = line; number = o.number })
+earlier_of (Some e) line (Some o) = if nat_le e.number o.number then Some e else Some (record { line = line; number = o.number })
+
+-- Where the byte at b is written, the last store to the byte at a has at most the rank of that to the byte at b.
+abbrev pub RanksBefore : Recording → ℕ → ℕ → ℕ → Type 0
+RanksBefore T i a b = IfSome (last_store b (history T i)) (λ y. RankedBy T i y.rank a)
+
+-- In this line the last stores to bytes of A come before those to bytes of B, and they are persisted for sure by a place.
+abbrev pub IsLineOrdered : Recording → ℕ → Span → Span → ℕ → Option ℕ → Type 0
+IsLineOrdered T i A B line by = EachIn T line A (λ a. EachIn T line B (RanksBefore T i a)) × IfSome by (λ n. EachIn T line A (PersistedBy T i n))
+
+-- The place by which the stores to a line have to be persisted: that of the earliest store to another line.
+abbrev pub place_for : Earliest → Option Earliest → ℕ → Option ℕ
+place_for e other line = if line == e.line then option_map (λ o. o.number) other else Some e.number
 
 -- The verdict of the event with this number, if it is an assertion.
 abbrev pub IsVerdictAt : Recording → ℕ → Option Verdict → Type 0

@@ -48,6 +48,7 @@ ComesFrom T i rank place b =
 pub record IsLastAt (T : Recording) (i l rank place b : ℕ) : Type 0 where
   pub store : last_store b (history T i) ≡ Some (record { line = l; rank = rank })
   pub past : up_to_last b (history T i) ≡ history T place
+  pub by_now : place ≤ i
 
 -- Of the last ones of the first i events that store to a byte from low to high, in line l, this is the first.
 pub record IsOldest (T : Recording) (i l low high : ℕ) (o : Oldest) : Type 0 where

@@ -1,4 +1,4 @@
-ghost use Rattle.std.specs.Prelude.{◌≡◌, ◌+◌, ◌^◌, ◌<◌, ◌⊎◌, ◌↔◌, true, IfOk, OnOk, All, Contains};
+ghost use Rattle.std.specs.Prelude.{◌≡◌, ◌+◌, ◌^◌, ◌<◌, ◌⊎◌, ◌↔◌, true, ◌++◌, ◌∷◌, [], IfOk, OnOk, All, Contains};
 ghost use Rattle.pmt_asserts.specs.declared.put.Write.{Write};
 ghost use Rattle.pmt_asserts.specs.Puts.{covers, puts_of, IsInside, AreWritesOf};
 
@@ -13,15 +13,25 @@ pub fn collect_puts(alloc: Global, steps: &[Step]) -> Result<Vec<Put>, OutOfMemo
 {
     let mut puts = Vec::new(alloc);
     for step in steps {
-        if let StepKind::Store { addr, len } = step.kind {
-            puts.push(Put {
-                number: step.number,
-                addr,
-                len,
-            })?;
-        }
+        push_put(&mut puts, *step)?;
     }
     Ok(puts)
+}
+
+// Adds the step, if it is a store.
+fn push_put(puts: &mut Vec<Put>, step: Step) -> Result<(), OutOfMemory>
+    ensures { OnOk result (puts.new.items ≡ puts.old.items ++ puts_of (step ∷ [])) }
+{
+    let Step { number, kind, .. } = step;
+    match kind {
+        StepKind::Store { addr, len } => {
+            puts.push(Put { number, addr, len })?;
+            Ok(())
+        }
+        StepKind::Flush => Ok(()),
+        StepKind::Clflush => Ok(()),
+        StepKind::Fence => Ok(()),
+    }
 }
 
 // The bytes that the stores write, by byte and then by rank.

@@ -4,6 +4,12 @@
 #![tactic(auto)]
 
 mod build;
+mod judge;
 mod oldest;
+mod part;
 mod put;
 mod table;
+mod tables;
+
+pub use crate::judge::{verdict, verdicts};
+pub use crate::tables::Tables;

@@ -12,22 +12,22 @@ returns-in-None c = λ T trace job lie.
     let f = c.args.self.now in
     let count = c.count_at.ensures.value T trace job in
     oldest-none T f.job.line f.job.steps c.args.place c.args.low c.args.high trace job lie
-    (λ b above below. ap (last_in (puts_of f.job.steps) b) count ∙ c.in-None.ensures b above below)
+    (λ b above below. ap (last_in (puts_of f.job.steps) b) count ∙ c.in-None.ensures {u = tt} b above below)
 
 pub index-requires : goal.index-requires
 index-requires c =
-    let is = c.in-Some.ensures in
+    let is = c.in-Some.ensures {u = tt} in
     let within = least-within (puts_of c.args.self.now.job.steps) c.count_at.result c.args.low c.args.high c.in-Some.rank is in
     let all = c.count_at.ensures.within in
     let same = ap length (c.self.invariant.stores ∙ ap (λ (g : LineFound). puts_of g.job.steps) c.self.view_is) in
     let some = is.some in
-    ?
+    search rules
 
 pub returns-in-Some : goal.returns-in-Some
 returns-in-Some c = λ T trace job lie.
     let f = c.args.self.now in
     let puts = puts_of f.job.steps in
-    let is = c.in-Some.ensures in
+    let is = c.in-Some.ensures {u = tt} in
     let m = c.in-Some.rank in
     let count = c.count_at.ensures.value T trace job in
     let within = least-within puts c.count_at.result c.args.low c.args.high m is in
