@@ -1,0 +1,5 @@
+pub mod StepLemmas
+pub mod RunLemmas
+pub mod FenceLemmas
+pub mod FenceRunLemmas
+pub mod PlaceLemmas

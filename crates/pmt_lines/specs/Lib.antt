@@ -1,0 +1,6 @@
+pub mod Steps
+pub mod Jobs
+pub mod Running
+pub mod Raises
+pub mod Fences
+pub mod Splitting

@@ -1,0 +1,27 @@
+-- Where the front of a line rises.
+use Rattle.std.specs.Prelude.{◌≡◌, ℕ, ◌<◌, ◌≤◌, List, [], ◌∷◌, length}
+use Rattle.pmt_model.specs.Traces.{Recording}
+use Rattle.pmt_model.specs.Fronts.{front_at}
+use Rattle.pmt_lines.specs.declared.raises.Raise.{Raise}
+use Rattle.pmt_lines.specs.Steps.{LineWork}
+use Rattle.pmt_lines.specs.Jobs.{IsJobOf}
+
+-- From place low to place high the front of the line rises at these places, to these numbers, and nowhere else.
+abbrev pub RaisesBetween : Recording → ℕ → ℕ → ℕ → List Raise → Type 0
+RaisesBetween T l low high [] = (low ≤ high) × ((n : ℕ) → low ≤ n → n ≤ high → front_at T l n ≡ front_at T l low)
+RaisesBetween T l low high (r ∷ raises) =
+    (low < r.place) × ((n : ℕ) → low ≤ n → n < r.place → front_at T l n ≡ front_at T l low) × (front_at T l low < r.front)
+    × (front_at T l r.place ≡ r.front) × RaisesBetween T l r.place high raises
+
+-- All places at which the front of the line rises, with the new fronts.
+abbrev pub IsRaises : Recording → ℕ → List Raise → Type 0
+IsRaises T l raises = RaisesBetween T l 0 (length T.events) raises
+
+-- What contracts see of the result of a line's job.
+pub record LineFound : Type 0 where
+  pub job : LineWork
+  pub raises : List Raise
+
+-- What every value of type LineResult keeps: the raises are those of its job's line, in whatever trace the job is of.
+pub record IsLineResult (r : LineFound) : Type 0 where
+  pub raises : (T : Recording) → IsJobOf T r.job.line r.job.steps → IsRaises T r.job.line r.raises

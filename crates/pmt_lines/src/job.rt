@@ -1,0 +1,123 @@
+ghost use Rattle.std.specs.Prelude.{◌≡◌, ◌<◌, ◌≤◌, OnOk, OnErr, [], ◌∷◌, ◌++◌};
+ghost use Rattle.pmt_model.specs.Traces.{event_limit};
+ghost use Rattle.pmt_lines.specs.Steps.{IsStepKind, AreSteps, last_number, with_step};
+
+use crate::step::Step;
+use pmt_model::OutOfMemory;
+use std::alloc::Global;
+use std::marker::Model;
+
+/// The events of a trace that matter to one line, in order.
+#[derive(Debug, Drop)]
+pub struct LineJob {
+    line: u64,
+    steps: Vec<Step>,
+}
+
+impl Model for LineJob {
+    ghost use Rattle.pmt_lines.specs.Steps.{LineWork, AreSteps};
+
+    ghost Value = { LineWork };
+
+    ghost view = { λ j. record { line = j.line; steps = j.steps.items } };
+
+    ghost invariant = { λ j. AreSteps 0 j.steps.items };
+}
+
+impl LineJob {
+    // The job of a line for which nothing has come.
+    pub(crate) fn new(alloc: Global, line: u64) -> Self
+        ensures { result ≡ record { line = line; steps = [] } }
+    {
+        LineJob {
+            line,
+            steps: Vec::new(alloc),
+        }
+    }
+
+    /// The number of the line.
+    pub fn line(&self) -> u64
+        ensures { result ≡ self.now.line }
+    {
+        self.line
+    }
+
+    /// The stores, flushes and fences, by rising numbers from 1 to 1,000,000; each store lies inside one word.
+    pub fn steps(&self) -> &[Step]
+        ensures value { result.now ≡ self.now.steps }
+        ensures rising { AreSteps 0 self.now.steps }
+    {
+        self.steps.as_slice()
+    }
+
+    // The number of the last step, or 0.
+    pub(crate) fn last_number(&self) -> u64
+        ensures { result ≡ last_number 0 self.now.steps }
+    {
+        match self.steps.last() {
+            Some(step) => step.number,
+            None => 0,
+        }
+    }
+
+    // Adds a later step.
+    pub(crate) fn push(&mut self, step: Step) -> Result<(), OutOfMemory>
+        requires later { last_number 0 self.old.steps < step.number }
+        requires within { step.number ≤ event_limit }
+        requires inside { IsStepKind step.kind }
+        ensures ok { OnOk result (self.new ≡ with_step self.old step) }
+        ensures err { OnErr result (self.new ≡ self.old) }
+    {
+        self.steps.push(step)?;
+        Ok(())
+    }
+}
+
+/// The flushes and fences of a trace, in order.
+#[derive(Debug, Drop)]
+pub struct ThreadJob {
+    steps: Vec<Step>,
+}
+
+impl Model for ThreadJob {
+    ghost use Rattle.std.specs.Prelude.{List};
+    ghost use Rattle.pmt_lines.specs.declared.step.Step.{Step};
+    ghost use Rattle.pmt_lines.specs.Steps.{AreSteps};
+
+    ghost Value = { List Step };
+
+    ghost view = { λ j. j.steps.items };
+
+    ghost invariant = { λ j. AreSteps 0 j.steps.items };
+}
+
+impl ThreadJob {
+    // The job for which nothing has come.
+    pub(crate) fn new(alloc: Global) -> Self
+        ensures { result ≡ [] }
+    {
+        ThreadJob {
+            steps: Vec::new(alloc),
+        }
+    }
+
+    /// The flushes and fences, by rising numbers from 1 to 1,000,000.
+    pub fn steps(&self) -> &[Step]
+        ensures value { result.now ≡ self.now }
+        ensures rising { AreSteps 0 self.now }
+    {
+        self.steps.as_slice()
+    }
+
+    // Adds a later step.
+    pub(crate) fn push(&mut self, step: Step) -> Result<(), OutOfMemory>
+        requires later { last_number 0 self.old < step.number }
+        requires within { step.number ≤ event_limit }
+        requires inside { IsStepKind step.kind }
+        ensures ok { OnOk result (self.new ≡ self.old ++ step ∷ []) }
+        ensures err { OnErr result (self.new ≡ self.old) }
+    {
+        self.steps.push(step)?;
+        Ok(())
+    }
+}
