@@ -1,0 +1,4 @@
+pub mod HeadlineLemmas
+pub mod Waiting
+pub mod RaiseLemmas
+pub mod BackLemmas
