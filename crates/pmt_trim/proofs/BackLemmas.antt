@@ -8,8 +8,8 @@ use Rattle.pmt_model.specs.Machine.{Act, Stores, Flushes, FlushesNow, Fences}
 use Rattle.pmt_model.specs.Traces.{Recording, IsAct}
 use Rattle.pmt_model.specs.Fronts.{front_at}
 use Rattle.pmt_model.specs.Selections.{IsRising, Has}
-use Rattle.pmt_model.proofs.Histories.{act-within, act-unique}
-use Rattle.pmt_model.proofs.CutLemmas.{has-above}
+use Rattle.pmt_laws.proofs.Histories.{act-within, act-unique}
+use Rattle.pmt_laws.proofs.CutLemmas.{has-above}
 use Rattle.pmt_lines.specs.declared.raises.Raise.{Raise}
 use Rattle.pmt_lines.specs.declared.step.StepKind.{StepKind}
 use Rattle.pmt_lines.specs.declared.step.StepKind.TheVariants.{Store, Flush, Clflush, Fence}

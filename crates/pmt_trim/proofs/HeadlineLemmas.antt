@@ -3,15 +3,15 @@ use Rattle.std.proofs.Common.{◌≡◌, ℕ, zero, suc, List, refl, sym, ap, �
 use Rattle.pmt_model.specs.Traces.{Recording, event}
 use Rattle.pmt_model.specs.Selections.{Has, IsSelection, cut, matching_place}
 use Rattle.pmt_model.specs.Keeping.{IsKeep}
-use Rattle.pmt_model.proofs.BoxLemmas.{vectors_are_a_box}
-use Rattle.pmt_model.proofs.Histories.{event-some}
-use Rattle.pmt_model.proofs.CutLemmas.{has-above, place-kept, cut-event}
-use Rattle.pmt_model.proofs.KeepLemmas.{keep_is_faithful, keep_is_selection}
-use Rattle.pmt_model.proofs.NoneCanGoLemmas.{none_can_go}
-use Rattle.pmt_model.proofs.StayLemmas.{verdicts_stay, never_persisted_stays}
-use Rattle.pmt_model.proofs.ShortestLemmas.{keep_shortest}
-use Rattle.pmt_model.proofs.NoWaste.{no_waste}
-use Rattle.pmt_model.proofs.WholeSelections.{trimmed_same}
+use Rattle.pmt_laws.proofs.BoxLemmas.{vectors_are_a_box}
+use Rattle.pmt_laws.proofs.Histories.{event-some}
+use Rattle.pmt_laws.proofs.CutLemmas.{has-above, place-kept, cut-event}
+use Rattle.pmt_laws.proofs.KeepLemmas.{keep_is_faithful, keep_is_selection}
+use Rattle.pmt_laws.proofs.NoneCanGoLemmas.{none_can_go}
+use Rattle.pmt_laws.proofs.StayLemmas.{verdicts_stay, never_persisted_stays}
+use Rattle.pmt_laws.proofs.ShortestLemmas.{keep_shortest}
+use Rattle.pmt_laws.proofs.NoWaste.{no_waste}
+use Rattle.pmt_laws.proofs.WholeSelections.{trimmed_same}
 use Rattle.pmt_trim.specs.Headline.{IsTrimmed}
 
 -- a selected event stands at its matching place

@@ -6,9 +6,9 @@ use Rattle.pmt_model.specs.Machine.{Act, Stores, Flushes, FlushesNow, Fences, As
 use Rattle.pmt_model.specs.Traces.{Recording, IsAct, history, count_at}
 use Rattle.pmt_model.specs.Fronts.{front, mark, open_mark, front_at}
 use Rattle.pmt_model.specs.Keeping.{IsUsefulFlush}
-use Rattle.pmt_model.proofs.Histories.{act-within, act-unique, history-act, history-step, front-mono}
-use Rattle.pmt_model.proofs.LastFlushes.{IsLastFlush}
-use Rattle.pmt_model.proofs.KeepLemmas.{front-at_fence, needed-flush}
+use Rattle.pmt_laws.proofs.Histories.{act-within, act-unique, history-act, history-step, front-mono}
+use Rattle.pmt_laws.proofs.LastFlushes.{IsLastFlush}
+use Rattle.pmt_laws.proofs.KeepLemmas.{front-at_fence, needed-flush}
 use Rattle.pmt_marks.proofs.FollowLemmas.{front-fence}
 use Rattle.pmt_lines.specs.Jobs.{Touches, ByStore, ByFlush, ByClflush, ByFence}
 use Rattle.pmt_trim.specs.Kept as kept
