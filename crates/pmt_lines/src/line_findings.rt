@@ -278,7 +278,10 @@ mod tests {
         };
         let over = |earlier| Finding::Overwritten { earlier, later: 3 };
         let found = run_line(rt.alloc(), job)?;
-        assert_eq!(rt; found.findings(), [never(1), never(2), over(1), over(2), never(3)].as_slice());
+        assert_eq!(rt;
+            found.findings(),
+            [never(1), never(2), over(1), over(2), never(3)].as_slice()
+        );
         Ok(())
     }
 
