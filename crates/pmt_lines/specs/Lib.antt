@@ -6,3 +6,4 @@ pub mod Raises
 pub mod Fences
 pub mod Scans
 pub mod Splitting
+pub mod Sourcing
