@@ -66,20 +66,23 @@ module _ (T : Recording) (e : Event) (t : ℕ) (s : Step) (keys : List ℕ) (lin
         threads = length-set opens t [] ∙ so_far.threads;
         open_each = λ u k d h. subst (λ hs. (has_line k (places_of u (set opens t [])) ≡ true) ↔ (open_mark u (get_or new k d).line hs ≢ None)) (sym grown) (subst (λ m. (has_line k (places_of u (set opens t [])) ≡ true) ↔ (open_mark u m (Fences t ∷ history T (length T.events)) ≢ None)) (sym (line_at k d (subst (λ n. k < n) ends.same_length h))) (open-fence t (history T (length T.events)) lines opens so_far.threads thread so_far.open_each u k d (subst (λ n. k < n) ends.same_length h)));
         placed = λ u k d h. subst (λ n. get_or (places_of u (set opens t [])) k d < n) (sym ends.same_length) (placed-fence t (history T (length T.events)) lines opens so_far.threads thread so_far.placed u k d h);
-        thread_job = thread_job
+        thread_job = thread_job;
       }
     where
       grown : history (with_event T e) (length (with_event T e).events) ≡ Fences t ∷ history T (length T.events)
       grown = ap (history (with_event T e)) (length-grown T e) ∙ history-new T e ∙ ap (λ a. a ∷ history T (length T.events)) fence
+
       line_of_choice : (b : Bool) (j : LineWork) → line_in (if b then with_step j s else j) ≡ j.line
       line_of_choice true j = refl
       line_of_choice false j = refl
+
       line_at : (k : ℕ) (d : LineWork) → k < length lines → (get_or new k d).line ≡ (get_or lines k d).line
       line_at k d h = ap line_in (ends.each k d h) ∙ line_of_choice (has_line k (places_of t opens)) (get_or lines k d)
+
       lines_then : map line_in new ≡ keys
       lines_then =
           same_lists (map line_in new) (map line_in lines) (length-map new line_in ∙ ends.same_length ∙ sym (length-map lines line_in))
-            (λ k d h. each k d (subst (λ n. k < n) (length-map new line_in ∙ ends.same_length) h))
+          (λ k d h. each k d (subst (λ n. k < n) (length-map new line_in ∙ ends.same_length) h))
           ∙ so_far.line_each
         where
           each : (k d : ℕ) → k < length lines → get_or (map line_in new) k d ≡ get_or (map line_in lines) k d
@@ -87,10 +90,13 @@ module _ (T : Recording) (e : Event) (t : ℕ) (s : Step) (keys : List ℕ) (lin
               get_or-map line_in new k (record { line = 0; steps = [] }) d (subst (λ n. k < n) (sym ends.same_length) h)
               ∙ line_at k (record { line = 0; steps = [] }) h
               ∙ sym (get_or-map line_in lines k (record { line = 0; steps = [] }) d h)
+
       is_act : IsAct (with_event T e) (suc (length T.events)) (Fences t)
       is_act = subst (IsAct (with_event T e) (suc (length T.events))) fence (act-new T e)
+
       before : (m : ℕ) → open_mark t m (history (with_event T e) (suc (length T.events) - 1)) ≡ open_mark t m (history T (length T.events))
       before m = let one_less : suc (length T.events) - 1 ≡ length T.events = omega arith in ap (λ k. open_mark t m (history (with_event T e) k)) one_less ∙ ap (open_mark t m) (history-old T e (length T.events) (omega arith))
+
       job : (k : ℕ) (d : LineWork) → k < length lines → (b : Bool) → has_line k (places_of t opens) ≡ b → IsLeanJob (with_event T e) (if b then with_step (get_or lines k d) s else get_or lines k d)
       job k d h true has =
           let mark = (so_far.open_each t k d h).0 has in
@@ -118,13 +124,15 @@ module _ (T : Recording) (e : Event) (keys : List ℕ) (lines : List LineWork) (
         threads = so_far.threads;
         open_each = subst (λ hs. OpenEach hs lines opens) (sym grown) so_far.open_each;
         placed = so_far.placed;
-        thread_job = thread_job-stays T e fences none so_far.thread_job
+        thread_job = thread_job-stays T e fences none so_far.thread_job;
       }
     where
       grown : history (with_event T e) (length (with_event T e).events) ≡ Asserts ∷ history T (length T.events)
       grown = ap (history (with_event T e)) (length-grown T e) ∙ history-new T e ∙ ap (λ a. a ∷ history T (length T.events)) assert
+
       is_act : IsAct (with_event T e) (suc (length T.events)) Asserts
       is_act = subst (IsAct (with_event T e) (suc (length T.events))) assert (act-new T e)
+
       none : ¬ IsFlushOrFence (with_event T e) (suc (length T.events))
       none = no_flush_or_fence (with_event T e) (suc (length T.events)) Asserts is_act (λ t l e. cc) (λ t e. cc)
 
@@ -138,7 +146,7 @@ split-start format opens threads none =
       threads = threads;
       open_each = λ t k d h. absurd (omega arith);
       placed = λ t. subst (λ ps. All (λ p. p < 0) ps) (sym (none t)) (λ k d h. absurd (omega arith));
-      thread_job = λ n h is. nothing n is
+      thread_job = λ n h is. nothing n is;
     }
   where
     nothing : (n : ℕ) → IsFlushOrFence (empty format) n → ⊥

@@ -69,17 +69,19 @@ data Concern (t : ℕ) : Act → Type 0 where
 concern : (t : ℕ) (a : Act) → Concern t a
 concern t (Stores l w) = Another tt (λ k e. cc) (λ e. cc)
 concern t (Flushes u l) =
-    elim (cases_eq u t)
-    [ inl same ↦ subst (λ v. Concern t (Flushes v l)) (sym same) (Own_flush l)
-    | inr other ↦ Another other (λ k e. other (thread-flush u t l k e)) (λ e. cc) ]
+    elim (cases_eq u t) [
+      | inl same ↦ subst (λ v. Concern t (Flushes v l)) (sym same) (Own_flush l)
+      | inr other ↦ Another other (λ k e. other (thread-flush u t l k e)) (λ e. cc)
+    ]
   where
     thread-flush : (u t l k : ℕ) → Flushes u l ≡ Flushes t k → u ≡ t
     thread-flush u t l k e = cc
 concern t (FlushesNow l) = Another tt (λ k e. cc) (λ e. cc)
 concern t (Fences u) =
-    elim (cases_eq u t)
-    [ inl same ↦ subst (λ v. Concern t (Fences v)) (sym same) Own_fence
-    | inr other ↦ Another other (λ k e. cc) (λ e. other (thread-fence u t e)) ]
+    elim (cases_eq u t) [
+      | inl same ↦ subst (λ v. Concern t (Fences v)) (sym same) Own_fence
+      | inr other ↦ Another other (λ k e. cc) (λ e. other (thread-fence u t e))
+    ]
   where
     thread-fence : (u t : ℕ) → Fences u ≡ Fences t → u ≡ t
     thread-fence u t e = cc
@@ -106,9 +108,10 @@ none-at T n a past = λ is. absurd (omega (arith, (act-within T (suc n) a is).1)
 flushed : (T : Recording) (t n : ℕ) → Flushed T t n (has_flushed t (history T n))
 flushed T t zero = λ j l by is. absurd (omega (arith, (act-within T j (Flushes t l) is).0))
 flushed T t (suc n) =
-    elim (history-step T n)
-    [ inl x ↦ rw (history-act T n x.0 x.1) (go x.0 x.1 (concern t x.0) (flushed T t n))
-    | inr x ↦ rw x.1 (flushed-left T t n (has_flushed t (history T n)) (λ l. none-at T n (Flushes t l) x.0) (none-at T n (Fences t) x.0) (flushed T t n)) ]
+    elim (history-step T n) [
+      | inl x ↦ rw (history-act T n x.0 x.1) (go x.0 x.1 (concern t x.0) (flushed T t n))
+      | inr x ↦ rw x.1 (flushed-left T t n (has_flushed t (history T n)) (λ l. none-at T n (Flushes t l) x.0) (none-at T n (Fences t) x.0) (flushed T t n))
+    ]
   where
     go : (a : Act) → IsAct T (suc n) a → Concern t a → Flushed T t n (has_flushed t (history T n)) → Flushed T t (suc n) (has_flushed t (a ∷ history T n))
     go a is (Own_flush l) f =
@@ -138,6 +141,7 @@ test-from_empty T t n is empty = go (has_flushed t (history T n)) refl
   where
     same : empty.thread ≡ t
     same = let e : Fences empty.thread ≡ Fences t = act-unique T (suc n) (Fences empty.thread) (Fences t) empty.is_fence is in cc
+
     go : (b : Bool) → has_flushed t (history T n) ≡ b → has_flushed t (history T n) ≡ false
     go false e = e
     go true e =

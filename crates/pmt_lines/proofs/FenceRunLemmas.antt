@@ -49,6 +49,7 @@ flags-next T n flags nothing f = λ t within. f t within ∙ sym (go t (history-
     left t (FlushesNow l) is = refl
     left t (Fences u) is = absurd (nothing (AFence u is))
     left t Asserts is = refl
+
     go : (t : ℕ) → ((a : Act) × IsAct T (suc n) a) ⊎ ((length T.events ≤ n) × (history T (suc n) ≡ history T n)) → has_flushed t (history T (suc n)) ≡ has_flushed t (history T n)
     go t (inl x) = ap (has_flushed t) (history-act T n x.0 x.1) ∙ left t x.0 x.1
     go t (inr x) = ap (has_flushed t) x.1
@@ -56,9 +57,10 @@ flags-next T n flags nothing f = λ t within. f t within ∙ sym (go t (history-
 flags-over : (T : Recording) (low n : ℕ) (flags : List Bool) → low ≤ n → ((k : ℕ) → low < k → k ≤ n → ¬ IsFlushOrFence T k) → FlagsAt T low flags → FlagsAt T n flags
 flags-over T low zero flags h nothing f = let e : low ≡ 0 = omega arith in subst (λ k. FlagsAt T k flags) e f
 flags-over T low (suc n) flags h nothing f =
-    elim (cases_lt n low)
-    [ inl past ↦ let e : low ≡ suc n = omega arith in subst (λ k. FlagsAt T k flags) e f
-    | inr more ↦ flags-next T n flags (nothing (suc n) (omega arith) (omega arith)) (flags-over T low n flags more (λ k a b. nothing k a (omega arith)) f) ]
+    elim (cases_lt n low) [
+      | inl past ↦ let e : low ≡ suc n = omega arith in subst (λ k. FlagsAt T k flags) e f
+      | inr more ↦ flags-next T n flags (nothing (suc n) (omega arith) (omega arith)) (flags-over T low n flags more (λ k a b. nothing k a (omega arith)) f)
+    ]
 
 flags-set : (T : Recording) (n t : ℕ) (flags : List Bool) (b : Bool) (a : Act) → t < length flags → IsAct T (suc n) a → has_flushed t (a ∷ history T n) ≡ b → ((u : ℕ) → u ≢ t → has_flushed u (a ∷ history T n) ≡ has_flushed u (history T n)) → FlagsAt T n flags → FlagsAt T (suc n) (set flags t b)
 flags-set T n t flags b a within is own others f = λ u h. go u h (cases_eq u t) ∙ sym (ap (has_flushed u) (history-act T n a is))
@@ -84,9 +86,10 @@ IsTold T n b = (b ≡ true → IsEmptyFence T n) × (b ≡ false → ¬ IsEmptyF
 told-kind : (T : Recording) (n t : ℕ) (kind : StepKind) (flags : List Bool) → t < 256 → IsThreadKind T (suc n) t kind → FlagsAt T n flags → IsTold T (suc n) (is_fence kind && not (get_or flags t false))
 unfolding IsTold
 told-kind T n t (Store addr len) flags within is f = absurd is
-told-kind T n t Flush flags within is f =
-    (λ e. absurd (false≢true e),
-    λ e empty. let both : Flushes t is.0 ≡ Fences empty.thread = act-unique T (suc n) (Flushes t is.0) (Fences empty.thread) is.1 empty.is_fence in cc)
+told-kind T n t Flush flags within is f = (
+  λ e. absurd (false≢true e),
+  λ e empty. let both : Flushes t is.0 ≡ Fences empty.thread = act-unique T (suc n) (Flushes t is.0) (Fences empty.thread) is.1 empty.is_fence in cc,
+)
 told-kind T n t Clflush flags within is f = absurd is
 told-kind T n t Fence flags within is f = go (get_or flags t false) (f t within)
   where
@@ -118,7 +121,7 @@ fences-start steps flags are each none =
       bounded = λ n has. absurd has;
       rising = tt;
       following = are;
-      ran = λ T job. record { rest = job; flags_at = none; told = λ n has. absurd has; all = λ n h empty. absurd (omega (arith, (act-within T n (Fences empty.thread) empty.is_fence).0)) }
+      ran = λ T job. record { rest = job; flags_at = none; told = λ n has. absurd has; all = λ n h empty. absurd (omega (arith, (act-within T n (Fences empty.thread) empty.is_fence).0)) };
     }
 
 -- what a step gives in a trace
@@ -141,7 +144,7 @@ fence-stepped T low s rest flags empty thread each ran = go (s.number - 1) (omeg
           later = ran.rest.0;
           nothing = λ k a b empty. ran.rest.2 k a b (AFence empty.thread empty.is_fence);
           flags_at = subst (λ k. FlagsAt T k (set flags s.thread (is_flush s.kind))) (sym is) (flags-step T n s.thread s.kind flags (omega arith) kind before);
-          is_told = subst (λ k. IsTold T k (is_fence s.kind && not (get_or flags s.thread false))) (sym is) (told-kind T n s.thread s.kind flags thread kind before)
+          is_told = subst (λ k. IsTold T k (is_fence s.kind && not (get_or flags s.thread false))) (sym is) (told-kind T n s.thread s.kind flags thread kind before);
         }
 
 -- a step that is no fence without flush
@@ -154,7 +157,7 @@ fences-quiet steps s rest flags empty running thread quiet =
       bounded = λ n has. omega (arith, running.bounded n has, running.following.0);
       rising = running.rising;
       following = running.following.3;
-      ran = λ T job. go T (running.ran T job)
+      ran = λ T job. go T (running.ran T job);
     }
   where
     go : (T : Recording) → FencesRan T running.low (s ∷ rest) flags empty → FencesRan T s.number rest (set flags s.thread (is_flush s.kind)) empty
@@ -164,11 +167,13 @@ fences-quiet steps s rest flags empty running thread quiet =
           rest = x.rest;
           flags_at = x.flags_at;
           told = λ n has. let y = ran.told n has in (omega (arith, y.0, x.later), y.1);
-          all = λ n h e. elim (cases_lt running.low n)
-            [ inl after ↦ elim (cases_lt n s.number)
-                [ inl before ↦ absurd (x.nothing n after before e)
-                | inr last ↦ let same : n ≡ s.number = omega arith in absurd (x.is_told.1 quiet (subst (IsEmptyFence T) same e)) ]
-            | inr old ↦ ran.all n old e ]
+          all = λ n h e. elim (cases_lt running.low n) [
+            | inl after ↦ elim (cases_lt n s.number) [
+              | inl before ↦ absurd (x.nothing n after before e)
+              | inr last ↦ let same : n ≡ s.number = omega arith in absurd (x.is_told.1 quiet (subst (IsEmptyFence T) same e))
+            ]
+            | inr old ↦ ran.all n old e
+          ];
         }
 
 -- a fence without flush
@@ -178,12 +183,13 @@ fences-told steps s rest flags empty running thread is =
     record {
       low = s.number;
       flag_each = length-set flags s.thread (is_flush s.kind) ∙ running.flag_each;
-      bounded = λ n has. elim (Has-from_push empty s.number n has)
-        [ inl old ↦ omega (arith, running.bounded n old, running.following.0)
-        | inr new ↦ omega arith ];
+      bounded = λ n has. elim (Has-from_push empty s.number n has) [
+        | inl old ↦ omega (arith, running.bounded n old, running.following.0)
+        | inr new ↦ omega arith
+      ];
       rising = IsRising-push 0 empty s.number running.rising (omega (arith, running.following.0)) (λ k has. omega (arith, running.bounded k has, running.following.0));
       following = running.following.3;
-      ran = λ T job. go T (running.ran T job)
+      ran = λ T job. go T (running.ran T job);
     }
   where
     go : (T : Recording) → FencesRan T running.low (s ∷ rest) flags empty → FencesRan T s.number rest (set flags s.thread (is_flush s.kind)) (empty ++ s.number ∷ [])
@@ -192,14 +198,17 @@ fences-told steps s rest flags empty running thread is =
         record {
           rest = x.rest;
           flags_at = x.flags_at;
-          told = λ n has. elim (Has-from_push empty s.number n has)
-            [ inl old ↦ let y = ran.told n old in (omega (arith, y.0, x.later), y.1)
-            | inr new ↦ (omega arith, subst (IsEmptyFence T) new (x.is_told.0 is)) ];
-          all = λ n h e. elim (cases_lt running.low n)
-            [ inl after ↦ elim (cases_lt n s.number)
-                [ inl before ↦ absurd (x.nothing n after before e)
-                | inr last ↦ let same : s.number ≡ n = omega arith in subst (Has (empty ++ s.number ∷ [])) same (Has-push_new empty s.number) ]
-            | inr old ↦ Has-push_old empty s.number n (ran.all n old e) ]
+          told = λ n has. elim (Has-from_push empty s.number n has) [
+            | inl old ↦ let y = ran.told n old in (omega (arith, y.0, x.later), y.1)
+            | inr new ↦ (omega arith, subst (IsEmptyFence T) new (x.is_told.0 is))
+          ];
+          all = λ n h e. elim (cases_lt running.low n) [
+            | inl after ↦ elim (cases_lt n s.number) [
+              | inl before ↦ absurd (x.nothing n after before e)
+              | inr last ↦ let same : s.number ≡ n = omega arith in subst (Has (empty ++ s.number ∷ [])) same (Has-push_new empty s.number)
+            ]
+            | inr old ↦ Has-push_old empty s.number n (ran.all n old e)
+          ];
         }
 
 -- the run of the whole job
@@ -208,9 +217,13 @@ fences-end steps flags empty running T job =
     let ran = running.ran T job in
     record {
       rising = running.rising;
-      just = λ n. (λ has. (ran.told n has).1, λ e. elim (cases_lt running.low n)
-        [ inl after ↦ absurd (ran.rest n after (AFence e.thread e.is_fence))
-        | inr old ↦ ran.all n old e ])
+      just = λ n. (
+        λ has. (ran.told n has).1,
+        λ e. elim (cases_lt running.low n) [
+          | inl after ↦ absurd (ran.rest n after (AFence e.thread e.is_fence))
+          | inr old ↦ ran.all n old e
+        ],
+      );
     }
 
 -- the next step of the job, and its end

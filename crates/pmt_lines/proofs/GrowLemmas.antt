@@ -136,19 +136,21 @@ module _ (T : Recording) (e : Event) where
 
   -- the job of a line that the new event doesn't matter to
   pub job-stays : (job : LineWork) → ¬ Touches (with_event T e) job.line (suc (length T.events)) → IsLeanJob T job → IsLeanJob (with_event T e) job
-  job-stays job untouched lean =
-      (walk-stays (IsStepOf T job.line) (IsStepOf (with_event T e) job.line) (Touches T job.line) (Touches (with_event T e) job.line) 0 job.steps (step-to job.line) (λ k. where_from job.line k untouched) lean.0,
-      each-to job.line job.steps lean.1)
+  job-stays job untouched lean = (
+    walk-stays (IsStepOf T job.line) (IsStepOf (with_event T e) job.line) (Touches T job.line) (Touches (with_event T e) job.line) 0 job.steps (step-to job.line) (λ k. where_from job.line k untouched) lean.0,
+    each-to job.line job.steps lean.1,
+  )
 
   -- the job of a line that it matters to
   pub job-takes : (job : LineWork) (s : Step) → s.number ≡ suc (length T.events) → IsStepOf (with_event T e) job.line s → Touches (with_event T e) job.line s.number → IsLeanJob T job → IsLeanJob (with_event T e) (with_step job s)
-  job-takes job s last is touches lean =
-      (walk-takes (IsStepOf T job.line) (IsStepOf (with_event T e) job.line) (Touches T job.line) (Touches (with_event T e) job.line) 0 job.steps s
+  job-takes job s last is touches lean = (
+    walk-takes (IsStepOf T job.line) (IsStepOf (with_event T e) job.line) (Touches T job.line) (Touches (with_event T e) job.line) 0 job.steps s
         (λ x one. (step-to job.line x one, omega (arith, (kind-within T job.line x.number x.thread x.kind one.kind).1)))
         (λ k h. touches-from job.line k (omega arith))
         (λ k h. touches-past job.line k (omega arith))
         (omega arith) is lean.0,
-      each-push job.line job.steps s (each-to job.line job.steps lean.1) touches)
+    each-push job.line job.steps s (each-to job.line job.steps lean.1) touches,
+  )
 
   thread_kind-to : (n t : ℕ) (kind : StepKind) → IsThreadKind T n t kind → IsThreadKind (with_event T e) n t kind
   thread_kind-to n t (Store addr len) is = is

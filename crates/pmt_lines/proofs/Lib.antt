@@ -8,3 +8,4 @@ pub mod LineActLemmas
 pub mod SplitLemmas
 pub mod FenceActLemmas
 pub mod TakeLemmas
+pub mod SourceRunLemmas

@@ -102,9 +102,10 @@ open_mark-absent t l (Asserts ∷ h) e = open_mark-absent t l h e
 absent-before : (T : Recording) (l n k : ℕ) → k ≤ n → has_line l (lines_of (history T n)) ≡ false → has_line l (lines_of (history T k)) ≡ false
 absent-before T l zero k h e = let same : 0 ≡ k = omega arith in subst (λ j. has_line l (lines_of (history T j)) ≡ false) same e
 absent-before T l (suc n) k h e =
-    elim (cases_lt n k)
-    [ inl last ↦ let same : suc n ≡ k = omega arith in subst (λ j. has_line l (lines_of (history T j)) ≡ false) same e
-    | inr before ↦ absent-before T l n k before (go (history-step T n)) ]
+    elim (cases_lt n k) [
+      | inl last ↦ let same : suc n ≡ k = omega arith in subst (λ j. has_line l (lines_of (history T j)) ≡ false) same e
+      | inr before ↦ absent-before T l n k before (go (history-step T n))
+    ]
   where
     go : ((a : Act) × IsAct T (suc n) a) ⊎ ((length T.events ≤ n) × (history T (suc n) ≡ history T n)) → has_line l (lines_of (history T n)) ≡ false
     go (inl x) = (absent-act l x.0 (history T n) (ap (λ h. has_line l (lines_of h)) (sym (history-act T n x.0 x.1)) ∙ e)).1

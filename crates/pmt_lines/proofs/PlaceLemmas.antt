@@ -103,21 +103,27 @@ takes_on_line l s place keys jobs k same distinct stored equal =
       within = within;
       here = λ d. here d;
       apart = λ j d h other e. apart j d h other e (cases_order j place);
-      added = λ d. ap (λ j. set (with_job l keys jobs) place (with_step j s)) (get_or_default (with_job l keys jobs) place (record { line = l; steps = [] }) d within)
+      added = λ d. ap (λ j. set (with_job l keys jobs) place (with_step j s)) (get_or_default (with_job l keys jobs) place (record { line = l; steps = [] }) d within);
     }
   where
     lines : map line_in (with_job l keys jobs) ≡ with_line l keys
     lines = lines-with_job l keys jobs same
+
     within : place < length (with_job l keys jobs)
     within = omega (arith, slice_get_within (with_line l keys) place k stored, length-lines (with_job l keys jobs) (with_line l keys) lines)
+
     at_place : get_or (with_line l keys) place 0 ≡ l
     at_place = get_or_from_slice_get (with_line l keys) place k 0 stored ∙ sym (eqb-true l k equal)
+
     here : (d : LineWork) → (get_or (with_job l keys jobs) place d).line ≡ l
     here d = line-at (with_job l keys jobs) (with_line l keys) place d lines within ∙ at_place
+
     differ : (i j d : ℕ) → i < j → j < length (with_line l keys) → get_or (with_line l keys) i d ≢ get_or (with_line l keys) j d
     differ i j d = AllPairs-from_IsDistinct Decides-eqb (with_line l keys) distinct i j d
+
     long : length (with_line l keys) ≡ length (with_job l keys jobs)
     long = length-lines (with_job l keys jobs) (with_line l keys) lines
+
     apart : (j : ℕ) (d : LineWork) → j < length (with_job l keys jobs) → j ≢ place → (get_or (with_job l keys jobs) j d).line ≡ l → (j ≡ place) ⊎ ((j < place) ⊎ (place < j)) → ⊥
     apart j d h other e (inl is) = other is
     apart j d h other e (inr (inl before)) =
@@ -135,16 +141,19 @@ module _ (places : List ℕ) (s : Step) (old mid : List LineWork) (place : ℕ) 
   ends-more lacks =
       record {
         same_length = length-set mid place (with_step (get_or mid place d) s) ∙ ends.same_length;
-        each = λ k e h. each k e h (cases_eq k place)
+        each = λ k e h. each k e h (cases_eq k place);
       }
     where
       fresh : (b : Bool) → has_line place places ≡ b → get_or mid place d ≡ (if b then with_step (get_or old place d) s else get_or old place d) → has_line place places ≡ false
       fresh true e is = absurd (omega (arith, last_number-push 0 (get_or old place d).steps s, ap (λ (j : LineWork). last_number 0 j.steps) is))
       fresh false e is = e
+
       lacking : has_line place places ≡ false
       lacking = fresh (has_line place places) refl (ends.each place d within)
+
       unchanged : get_or mid place d ≡ get_or old place d
       unchanged = ends.each place d within ∙ ap (λ b. if b then with_step (get_or old place d) s else get_or old place d) lacking
+
       each : (k : ℕ) (e : LineWork) → k < length old → (k ≡ place) ⊎ (k ≡ place → ⊥) → get_or (set mid place (with_step (get_or mid place d) s)) k e ≡ (if has_line k (places ++ place ∷ []) then with_step (get_or old k e) s else get_or old k e)
       each k e h (inl same) =
           ap (λ j. get_or (set mid place (with_step (get_or mid place d) s)) j e) same
@@ -163,6 +172,7 @@ module _ (places : List ℕ) (s : Step) (old mid : List LineWork) (place : ℕ) 
       held : (b : Bool) → has_line place places ≡ b → get_or mid place d ≡ (if b then with_step (get_or old place d) s else get_or old place d) → has_line place places ≡ true
       held true e is = e
       held false e is = absurd (omega (arith, before place d within, ap (λ (j : LineWork). last_number 0 j.steps) is))
+
       same : (k : ℕ) → (k ≡ place) ⊎ (k ≡ place → ⊥) → has_line k (places ++ place ∷ []) ≡ has_line k places
       same k (inl is) = ap (λ j. has_line j (places ++ place ∷ [])) is ∙ has_line-push_same places place ∙ sym (held (has_line place places) refl (ends.each place d within)) ∙ ap (λ j. has_line j places) (sym is)
       same k (inr other) = has_line-push_other k places place other

@@ -27,6 +27,7 @@ leaves-be T l n (Fences t) is untouched = go (open_mark t l (history T n)) refl
   where
     before : suc n - 1 ≡ n
     before = omega arith
+
     go : (mark : Option ℕ) → open_mark t l (history T n) ≡ mark → open_mark t l (history T n) ≡ None
     go None e = e
     go (Some m) e = absurd (untouched (ByFence t is (λ none. let e' : open_mark t l (history T n) ≡ None = ap (λ k. open_mark t l (history T k)) (sym before) ∙ none in let never : Some m ≡ None = sym e ∙ e' in cc)))
@@ -35,17 +36,19 @@ leaves-be T l n Asserts is untouched = tt
 -- the state is still that of the line after an event that doesn't matter to it
 follows-next : (T : Recording) (l n : ℕ) (line : Line) → ¬ Touches T l (suc n) → Follows l (history T n) line → Follows l (history T (suc n)) line
 follows-next T l n line untouched f =
-    elim (history-step T n)
-    [ inl x ↦ rw (history-act T n x.0 x.1) (others_leave l (history T n) line x.0 (leaves-be T l n x.0 x.1 untouched) f)
-    | inr x ↦ rw x.1 f ]
+    elim (history-step T n) [
+      | inl x ↦ rw (history-act T n x.0 x.1) (others_leave l (history T n) line x.0 (leaves-be T l n x.0 x.1 untouched) f)
+      | inr x ↦ rw x.1 f
+    ]
 
 -- and after several such events
 follows-over : (T : Recording) (l low n : ℕ) (line : Line) → low ≤ n → ((k : ℕ) → low < k → k ≤ n → ¬ Touches T l k) → Follows l (history T low) line → Follows l (history T n) line
 follows-over T l low zero line h untouched f = let e : low ≡ 0 = omega arith in subst (λ k. Follows l (history T k) line) e f
 follows-over T l low (suc n) line h untouched f =
-    elim (cases_lt n low)
-    [ inl past ↦ let e : low ≡ suc n = omega arith in subst (λ k. Follows l (history T k) line) e f
-    | inr more ↦ follows-next T l n line (untouched (suc n) (omega arith) (omega arith)) (follows-over T l low n line more (λ k a b. untouched k a (omega arith)) f) ]
+    elim (cases_lt n low) [
+      | inl past ↦ let e : low ≡ suc n = omega arith in subst (λ k. Follows l (history T k) line) e f
+      | inr more ↦ follows-next T l n line (untouched (suc n) (omega arith) (omega arith)) (follows-over T l low n line more (λ k a b. untouched k a (omega arith)) f)
+    ]
 
 -- the front stays over events that don't matter to the line
 front-stays : (T : Recording) (l low n : ℕ) (line : Line) → low ≤ n → ((k : ℕ) → low < k → k ≤ n → ¬ Touches T l k) → Follows l (history T low) line → front_at T l n ≡ front_at T l low
@@ -62,9 +65,13 @@ raises-stay T l first low high (x ∷ raises) r h same = (r.0, r.1, r.2, r.3, ra
 
 -- one raise more
 raises-push : (T : Recording) (l first low : ℕ) (raises : List Raise) (x : Raise) → RaisesBetween T l first low raises → low < x.place → ((n : ℕ) → low ≤ n → n < x.place → front_at T l n ≡ front_at T l low) → front_at T l low < x.front → front_at T l x.place ≡ x.front → RaisesBetween T l first x.place (raises ++ x ∷ [])
-raises-push T l first low [] x r later same more is =
-    (omega (arith, r.0), λ n above below. go n above below (cases_lt n low), rw (← r.1 low r.0 (omega arith)) more, is,
-    (omega arith, λ n above below. let e : n ≡ x.place = omega arith in ap (front_at T l) e))
+raises-push T l first low [] x r later same more is = (
+  omega (arith, r.0),
+  λ n above below. go n above below (cases_lt n low),
+  rw (← r.1 low r.0 (omega arith)) more,
+  is,
+  (omega arith, λ n above below. let e : n ≡ x.place = omega arith in ap (front_at T l) e),
+)
   where
     go : (n : ℕ) → first ≤ n → n < x.place → (n < low) ⊎ (low ≤ n) → front_at T l n ≡ front_at T l first
     go n above below (inl before) = r.1 n above (omega arith)
@@ -91,7 +98,7 @@ running-start l steps rising =
       low = 0;
       rising = rising;
       counted = omega arith;
-      ran = λ T job. record { rest = job; within = omega arith; follows = follows-start l; told = (omega arith, λ n above below. let e : n ≡ 0 = omega arith in ap (front_at T l) e) }
+      ran = λ T job. record { rest = job; within = omega arith; follows = follows-start l; told = (omega arith, λ n above below. let e : n ≡ 0 = omega arith in ap (front_at T l) e) };
     }
 
 -- a step's number is that of an event
@@ -137,7 +144,7 @@ stepped T l low s rest old new raises ran takes = go (s.number - 1) (omega (arit
           follows = f;
           stays = λ k above below. front-stays T l low k old above (λ j a b. ran.rest.2 j a (omega arith)) ran.follows;
           old_front = ran.follows.fronts;
-          new_front = f.fronts
+          new_front = f.fronts;
         }
 
 -- a step that raises nothing
@@ -147,7 +154,7 @@ running-quiet l steps s rest old new raises running takes counted quiet =
       low = s.number;
       rising = running.rising.3;
       counted = omega (arith, running.counted, running.rising.0, counted);
-      ran = λ T job. go T (running.ran T job)
+      ran = λ T job. go T (running.ran T job);
     }
   where
     go : (T : Recording) → Ran T l running.low (s ∷ rest) old raises → Ran T l s.number rest new raises
@@ -159,7 +166,7 @@ running-quiet l steps s rest old new raises running takes counted quiet =
           rest = x.rest;
           within = x.within;
           follows = x.follows;
-          told = raises-stay T l 0 running.low s.number raises ran.told (omega (arith, x.later)) (λ n above below. stays T x same n above below (cases_lt n s.number))
+          told = raises-stay T l 0 running.low s.number raises ran.told (omega (arith, x.later)) (λ n above below. stays T x same n above below (cases_lt n s.number));
         }
       where
         stays : (T : Recording) → Stepped T l running.low s rest old new → front_at T l s.number ≡ front_at T l running.low → (n : ℕ) → running.low ≤ n → n ≤ s.number → (n < s.number) ⊎ (s.number ≤ n) → front_at T l n ≡ front_at T l running.low
@@ -173,7 +180,7 @@ running-raised l steps s rest old new raises running takes counted raised =
       low = s.number;
       rising = running.rising.3;
       counted = omega (arith, running.counted, running.rising.0, counted);
-      ran = λ T job. go T (running.ran T job)
+      ran = λ T job. go T (running.ran T job);
     }
   where
     go : (T : Recording) → Ran T l running.low (s ∷ rest) old raises → Ran T l s.number rest new (raises ++ record { place = s.number; front = new.front } ∷ [])
@@ -183,7 +190,7 @@ running-raised l steps s rest old new raises running takes counted raised =
           rest = x.rest;
           within = x.within;
           follows = x.follows;
-          told = raises-push T l 0 running.low raises (record { place = s.number; front = new.front }) ran.told x.later x.stays (omega (arith, x.old_front, raised)) (sym x.new_front)
+          told = raises-push T l 0 running.low raises (record { place = s.number; front = new.front }) ran.told x.later x.stays (omega (arith, x.old_front, raised)) (sym x.new_front);
         }
 
 -- the run of the whole job

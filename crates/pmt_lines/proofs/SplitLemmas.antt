@@ -104,6 +104,7 @@ module _ (t l place : ℕ) (h : List Act) (lines : List LineWork) (opens : List 
     where
       some-none : (n : ℕ) → Some n ≡ None → ⊥
       some-none n e = cc
+
       go : (u ≡ t) ⊎ (u ≡ t → ⊥) → (k ≡ place) ⊎ (k ≡ place → ⊥) → (has_line k (places_of u (with_place t place opens)) ≡ true) ↔ (open_mark u (get_or lines k d).line (Flushes t l ∷ h) ≢ None)
       go (inl same) (inl at) =
           let has : has_line k (places_of u (with_place t place opens)) ≡ true = ap (λ v. has_line k (places_of v (with_place t place opens))) same ∙ ap (has_line k) places-same ∙ ap (λ j. has_line j (places_of t opens ++ place ∷ [])) at ∙ has_line-push_same (places_of t opens) place in
@@ -127,19 +128,24 @@ module _ (T : Recording) (e : Event) (l place : ℕ) (s : Step) (keys new_keys :
         threads = threads;
         open_each = λ t k d h. subst (λ hs. (has_line k (places_of t new_opens) ≡ true) ↔ (open_mark t (get_or new k d).line hs ≢ None)) (sym grown) (rw (line_at k d (subst (λ n. k < n) long h)) (open_each t k d (subst (λ n. k < n) long h)));
         placed = λ t k d h. subst (λ n. get_or (places_of t new_opens) k d < n) (sym long) (placed t k d h);
-        thread_job = thread_job
+        thread_job = thread_job;
       }
     where
       grown : history (with_event T e) (length (with_event T e).events) ≡ act T.format e ∷ history T (length T.events)
       grown = ap (history (with_event T e)) (length-grown T e) ∙ history-new T e
+
       written : LineWork → LineWork
       written d = with_step (get_or (with_job l keys lines) place d) s
+
       new_is : (d : LineWork) → new ≡ set (with_job l keys lines) place (written d)
       new_is d = taken.added d
+
       long : length new ≡ length (with_job l keys lines)
       long = ap length (new_is (record { line = l; steps = [] })) ∙ length-set (with_job l keys lines) place (written (record { line = l; steps = [] }))
+
       at_then : (k : ℕ) (d : LineWork) → get_or new k d ≡ get_or (set (with_job l keys lines) place (written d)) k d
       at_then k d = ap (λ js. get_or js k d) (new_is d)
+
       line_at : (k : ℕ) (d : LineWork) → k < length (with_job l keys lines) → (get_or new k d).line ≡ (get_or (with_job l keys lines) k d).line
       line_at k d h = ap line_in (at_then k d) ∙ go (cases_eq k place)
         where
@@ -148,11 +154,12 @@ module _ (T : Recording) (e : Event) (l place : ℕ) (s : Step) (keys new_keys :
               ap (λ j. (get_or (set (with_job l keys lines) place (written d)) j d).line) same
               ∙ ap line_in (get_or-set_same (with_job l keys lines) place (written d) d taken.within) ∙ ap (λ j. (get_or (with_job l keys lines) j d).line) (sym same)
           go (inr other) = ap line_in (get_or-set_other (with_job l keys lines) place k (written d) d other)
+
       lines_then : map line_in new ≡ new_keys
       lines_then =
           same_lists (map line_in new) (map line_in (with_job l keys lines))
-            (length-map new line_in ∙ long ∙ sym (length-map (with_job l keys lines) line_in))
-            (λ k d h. each k d (subst (λ n. k < n) (length-map new line_in ∙ long) h))
+          (length-map new line_in ∙ long ∙ sym (length-map (with_job l keys lines) line_in))
+          (λ k d h. each k d (subst (λ n. k < n) (length-map new line_in ∙ long) h))
           ∙ lines-with_job l keys lines so_far.line_each ∙ sym taken.keys
         where
           each : (k d : ℕ) → k < length (with_job l keys lines) → get_or (map line_in new) k d ≡ get_or (map line_in (with_job l keys lines)) k d
@@ -160,8 +167,10 @@ module _ (T : Recording) (e : Event) (l place : ℕ) (s : Step) (keys new_keys :
               get_or-map line_in new k (record { line = l; steps = [] }) d (subst (λ n. k < n) (sym long) h)
               ∙ line_at k (record { line = l; steps = [] }) h
               ∙ sym (get_or-map line_in (with_job l keys lines) k (record { line = l; steps = [] }) d h)
+
       is_act : IsAct (with_event T e) s.number (act T.format e)
       is_act = subst (λ n. IsAct (with_event T e) n (act T.format e)) (sym last) (act-new T e)
+
       job : (k : ℕ) (d : LineWork) → k < length (with_job l keys lines) → (k ≡ place) ⊎ (k ≡ place → ⊥) → IsLeanJob (with_event T e) (get_or (set (with_job l keys lines) place (written d)) k d)
       job k d h (inl same) =
           let lean = prepared-jobs T l keys lines opens fences so_far place d taken.within in

@@ -4,3 +4,4 @@ pub mod Running
 pub mod Raises
 pub mod Fences
 pub mod Splitting
+pub mod Sourcing

@@ -1,8 +1,8 @@
 ghost use Rattle.std.specs.Prelude.{◌≡◌, IfOk};
 ghost use Rattle.pmt_lines.specs.Fences.{IsThreadResult};
 
-use crate::job::ThreadJob;
 use crate::step::Step;
+use crate::thread_job::ThreadJob;
 use pmt_model::OutOfMemory;
 use std::alloc::Global;
 use std::marker::Model;
@@ -55,7 +55,11 @@ pub fn run_fences(alloc: Global, job: ThreadJob) -> Result<ThreadResult, OutOfMe
     let mut empty = Vec::new(alloc);
     let steps = job.steps();
     for step in steps {
-        let Step { number, thread, kind } = *step;
+        let Step {
+            number,
+            thread,
+            kind,
+        } = *step;
         let has_flushed = flushed[thread as usize];
         flushed[thread as usize] = kind.is_flush();
         if kind.is_fence() && !has_flushed {

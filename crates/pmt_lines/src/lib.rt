@@ -8,9 +8,13 @@ pub mod job;
 mod open;
 pub mod raises;
 mod splitter;
+pub mod splitting;
 pub mod step;
+pub mod thread_job;
 
 pub use crate::fences::{ThreadResult, run_fences};
-pub use crate::job::{LineJob, ThreadJob};
+pub use crate::job::LineJob;
 pub use crate::raises::{LineResult, Raise, run_line};
+pub use crate::splitting::{Jobs, split};
 pub use crate::step::{Step, StepKind};
+pub use crate::thread_job::ThreadJob;

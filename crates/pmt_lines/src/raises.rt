@@ -66,8 +66,19 @@ pub fn run_line(alloc: Global, job: LineJob) -> Result<LineResult, OutOfMemory>
     let mut raises = Vec::new(alloc);
     let steps = job.steps();
     for step in steps {
-        let Step { number, thread, kind } = *step;
-        if take_step(&mut state, Step { number, thread, kind })? {
+        let Step {
+            number,
+            thread,
+            kind,
+        } = *step;
+        if take_step(
+            &mut state,
+            Step {
+                number,
+                thread,
+                kind,
+            },
+        )? {
             raises.push(Raise {
                 place: number,
                 front: state.front(),

@@ -6,9 +6,11 @@ ghost use Rattle.pmt_model.specs.Traces.{event_limit, act, IsEventIn};
 ghost use Rattle.pmt_lines.specs.Steps.{IsStepKind};
 ghost use Rattle.pmt_lines.specs.Splitting.{line_in, IsSplitting, IsAccess, TakesOnLine, EndBefore, EndsAt};
 
-use crate::job::{LineJob, ThreadJob};
+use crate::job::LineJob;
 use crate::open::OpenFlushes;
+use crate::splitting::Jobs;
 use crate::step::{Step, StepKind};
+use crate::thread_job::ThreadJob;
 use indexmap::IndexSet;
 use pmt_model::{Event, Format, Op, OutOfMemory, Trace, line_of};
 use std::alloc::{AllocError, Global};
@@ -16,11 +18,11 @@ use std::alloc::{AllocError, Global};
 /// A trace that is taken apart while its events come.
 #[derive(Drop)]
 pub(crate) struct Splitter {
-    pub(crate) trace: Trace,
+    trace: Trace,
     lines: IndexSet<u64>,
-    pub(crate) jobs: Vec<LineJob>,
+    jobs: Vec<LineJob>,
     open_flushes: OpenFlushes,
-    pub(crate) fences: ThreadJob,
+    fences: ThreadJob,
 }
 
 impl Splitter {
@@ -54,6 +56,26 @@ impl Splitter {
         }
     }
 
+    // The trace and the jobs.
+    pub(crate) fn finish(self) -> Jobs
+        ensures trace { result.trace ≡ self.trace }
+        ensures lines { result.lines.items ≡ self.jobs.items }
+        ensures fences { result.fences ≡ self.fences }
+    {
+        let Splitter {
+            trace,
+            lines: _,
+            jobs,
+            open_flushes: _,
+            fences,
+        } = self;
+        Jobs {
+            trace,
+            lines: jobs,
+            fences,
+        }
+    }
+
     // Adds the event to the jobs that it matters to.
     fn sort(&mut self, event: &Event) -> Result<(), OutOfMemory>
         requires so_far { IsSplitting self.old.trace self.old.lines.keys self.old.jobs.items self.old.open_flushes self.old.fences }
@@ -72,12 +94,30 @@ impl Splitter {
                     addr: addr.get(),
                     len: store.bytes().len() as u64,
                 };
-                self.take_access(line_of(format, addr), Step { number, thread, kind })
+                self.take_access(
+                    line_of(format, addr),
+                    Step {
+                        number,
+                        thread,
+                        kind,
+                    },
+                )
             }
-            Op::Clwb(addr) | Op::ClflushOpt(addr) => self.take_flush(line_of(format, addr), number, thread),
+            Op::Clwb(addr) | Op::ClflushOpt(addr) => self.take_flush(
+                line_of(format, addr),
+                number,
+                thread,
+            ),
             Op::Clflush(addr) => {
                 let kind = StepKind::Clflush;
-                self.take_access(line_of(format, addr), Step { number, thread, kind })
+                self.take_access(
+                    line_of(format, addr),
+                    Step {
+                        number,
+                        thread,
+                        kind,
+                    },
+                )
             }
             Op::Sfence | Op::Mfence => self.take_fence(number, thread),
             Op::IsPersist(_) | Op::IsOrderedBefore(_, _) => Ok(()),
@@ -108,7 +148,11 @@ impl Splitter {
             → IsSplitting (with_event self.old.trace e) self.new.lines.keys self.new.jobs.items self.new.open_flushes self.new.fences) }
     {
         let kind = StepKind::Flush;
-        let step = Step { number, thread, kind };
+        let step = Step {
+            number,
+            thread,
+            kind,
+        };
         let place = take_on_line(&mut self.lines, &mut self.jobs, line, step)?;
         self.open_flushes.add(thread, place)?;
         self.fences.push(step)?;
@@ -125,7 +169,11 @@ impl Splitter {
             → IsSplitting (with_event self.old.trace e) self.new.lines.keys self.new.jobs.items self.new.open_flushes self.new.fences) }
     {
         let kind = StepKind::Fence;
-        let step = Step { number, thread, kind };
+        let step = Step {
+            number,
+            thread,
+            kind,
+        };
         end_intervals(&mut self.jobs, self.open_flushes.of(thread), step)?;
         self.open_flushes.clear(thread);
         self.fences.push(step)?;
@@ -156,11 +204,7 @@ fn take_on_line(
 }
 
 // Adds the fence to each job at one of the places, once.
-fn end_intervals(
-    jobs: &mut Vec<LineJob>,
-    places: &[usize],
-    fence: Step,
-) -> Result<(), OutOfMemory>
+fn end_intervals(jobs: &mut Vec<LineJob>, places: &[usize], fence: Step) -> Result<(), OutOfMemory>
     requires placed { All (λ place. place < vec_len jobs.old) places.now }
     requires later { EndBefore fence.number jobs.old.items }
     requires within { fence.number ≤ event_limit }

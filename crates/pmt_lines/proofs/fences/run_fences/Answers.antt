@@ -30,18 +30,20 @@ loop-step-preserved c =
     let running = fences-next steps i blank flags empty c.loop-step-test.true c.loop-step.invariant in
     let thread : s.thread < 256 = omega arith in
     let kind : is_fence s.kind ≡ c.is_fence.result = sym c.is_fence.ensures in
-    elim c.if-is_fence.branch
-    [ then-is_fence+then-not-has_flushed+in_ok-push w ↦
-      let told = and_from (is_fence s.kind) (not (get_or flags s.thread false)) (kind ∙ w.if-is_fence.true) (not_from_false (get_or flags s.thread false) w.if-not-has_flushed.true) in
-      rw (c.is_flush.ensures, w.empty-is, w.in_ok-push.ensures.items) (fences-told steps s (drop (i + 1) steps) flags empty running thread told)
-    | else-is_fence w ↦
-      elim w.else-is_fence.branch
-      [ else-is_fence-via-then-is_fence+else-not-has_flushed v ↦
-        let quiet = and_right (is_fence s.kind) (not (get_or flags s.thread false)) (not_from_true (get_or flags s.thread false) v.if-not-has_flushed.false) in
-        rw (c.is_flush.ensures, w.empty-is) (fences-quiet steps s (drop (i + 1) steps) flags empty running thread quiet)
-      | else-is_fence-via-else-is_fence v ↦
-        let quiet = and_left (is_fence s.kind) (not (get_or flags s.thread false)) (kind ∙ v.if-is_fence.false) in
-        rw (c.is_flush.ensures, w.empty-is) (fences-quiet steps s (drop (i + 1) steps) flags empty running thread quiet) ] ]
+    elim c.if-is_fence.branch [
+      | then-is_fence+then-not-has_flushed+in_ok-push w ↦
+          let told = and_from (is_fence s.kind) (not (get_or flags s.thread false)) (kind ∙ w.if-is_fence.true) (not_from_false (get_or flags s.thread false) w.if-not-has_flushed.true) in
+          rw (c.is_flush.ensures, w.empty-is, w.in_ok-push.ensures.items) (fences-told steps s (drop (i + 1) steps) flags empty running thread told)
+      | else-is_fence w ↦
+          elim w.else-is_fence.branch [
+            | else-is_fence-via-then-is_fence+else-not-has_flushed v ↦
+                let quiet = and_right (is_fence s.kind) (not (get_or flags s.thread false)) (not_from_true (get_or flags s.thread false) v.if-not-has_flushed.false) in
+                rw (c.is_flush.ensures, w.empty-is) (fences-quiet steps s (drop (i + 1) steps) flags empty running thread quiet)
+            | else-is_fence-via-else-is_fence v ↦
+                let quiet = and_left (is_fence s.kind) (not (get_or flags s.thread false)) (kind ∙ v.if-is_fence.false) in
+                rw (c.is_flush.ensures, w.empty-is) (fences-quiet steps s (drop (i + 1) steps) flags empty running thread quiet)
+          ]
+    ]
 
 -- after the last step the fences without flush are told
 right : (c : After-loop-step) → IsThreadResult (record { steps = c.args.job; empty = c.loop-step.empty.items })

@@ -27,13 +27,14 @@ loop-step-preserved c =
     let new = c.take_step.new.state in
     let said = c.in_ok-take_step.ensures in
     let running = running-next c.args.job.line steps i blank old c.loop-step.raises.items c.loop-step-test.true c.loop-step.invariant in
-    elim c.if-branch.branch
-    [ then-branch+in_ok-push w ↦
-      let told : c.if-branch.raises.items ≡ c.loop-step.raises.items ++ record { place = s.number; front = new.front } ∷ [] = rw (w.raises-is, w.in_ok-push.ensures.items, w.front.ensures.value) refl in
-      rw told (running-raised c.args.job.line steps s (drop (i + 1) steps) old new c.loop-step.raises.items running said.takes said.counted (said.rose.0 w.if-branch.true))
-    | else-branch w ↦
-      let told : c.if-branch.raises.items ≡ c.loop-step.raises.items = cc in
-      rw told (running-quiet c.args.job.line steps s (drop (i + 1) steps) old new c.loop-step.raises.items running said.takes said.counted (λ h. both_ways c.in_ok-take_step.field-0 w.if-branch.false (said.rose.1 h))) ]
+    elim c.if-branch.branch [
+      | then-branch+in_ok-push w ↦
+          let told : c.if-branch.raises.items ≡ c.loop-step.raises.items ++ record { place = s.number; front = new.front } ∷ [] = rw (w.raises-is, w.in_ok-push.ensures.items, w.front.ensures.value) refl in
+          rw told (running-raised c.args.job.line steps s (drop (i + 1) steps) old new c.loop-step.raises.items running said.takes said.counted (said.rose.0 w.if-branch.true))
+      | else-branch w ↦
+          let told : c.if-branch.raises.items ≡ c.loop-step.raises.items = cc in
+          rw told (running-quiet c.args.job.line steps s (drop (i + 1) steps) old new c.loop-step.raises.items running said.takes said.counted (λ h. both_ways c.in_ok-take_step.field-0 w.if-branch.false (said.rose.1 h)))
+    ]
 
 -- after the last step the raises are those of the line
 right : (c : After-loop-step) → IsLineResult (record { job = c.args.job; raises = c.loop-step.raises.items })

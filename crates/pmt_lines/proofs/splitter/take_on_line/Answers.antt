@@ -14,13 +14,14 @@ jobs_then : (c : After-index_mut) → c.if-is_new.jobs.items ≡ with_job c.args
 jobs_then c =
     let keys = c.args.lines.now.keys in
     let l = c.args.line in
-    elim c.if-is_new.branch
-    [ then-is_new+in_ok-push w ↦
-      let new = has_line-from_new l keys c.in_ok-place.is_new c.in_ok-place.ensures.added w.if-is_new.true in
-      rw (w.jobs-is, w.in_ok-push.ensures.items, w.new.ensures) (sym (with_job-new l keys c.args.jobs.now.items new))
-    | else-is_new w ↦
-      let old = has_line-from_old l keys c.in_ok-place.is_new c.in_ok-place.ensures.added w.if-is_new.false in
-      rw w.jobs-is (sym (with_job-old l keys c.args.jobs.now.items old)) ]
+    elim c.if-is_new.branch [
+      | then-is_new+in_ok-push w ↦
+          let new = has_line-from_new l keys c.in_ok-place.is_new c.in_ok-place.ensures.added w.if-is_new.true in
+          rw (w.jobs-is, w.in_ok-push.ensures.items, w.new.ensures) (sym (with_job-new l keys c.args.jobs.now.items new))
+      | else-is_new w ↦
+          let old = has_line-from_old l keys c.in_ok-place.is_new c.in_ok-place.ensures.added w.if-is_new.false in
+          rw w.jobs-is (sym (with_job-old l keys c.args.jobs.now.items old))
+    ]
 
 -- the lines once it is among them
 keys_then : (c : After-index_mut) → c.insert_full.new.self.keys ≡ with_line c.args.line c.args.lines.now.keys
@@ -53,5 +54,5 @@ returns c =
     let job = c.index_mut.result.now in
     let same : job ≡ get_or (with_job l keys jobs) place blank = read_then a ∙ get_or_default (with_job l keys jobs) place job blank (taken a).within in
     let added : set c.if-is_new.jobs.items place c.push-2.new.self ≡ set (with_job l keys jobs) place (with_step (get_or (with_job l keys jobs) place blank) c.args.step) =
-        ap (λ js. set js place c.push-2.new.self) (jobs_then a) ∙ ap (set (with_job l keys jobs) place) (c.in_ok-push-2.ensures.ok ∙ ap (λ j. with_step j c.args.step) same) in
+    ap (λ js. set js place c.push-2.new.self) (jobs_then a) ∙ ap (set (with_job l keys jobs) place) (c.in_ok-push-2.ensures.ok ∙ ap (λ j. with_step j c.args.step) same) in
     rw (added, keys_then a) (taken a)

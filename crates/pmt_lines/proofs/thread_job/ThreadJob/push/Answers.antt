@@ -1,7 +1,7 @@
 use Rattle.std.proofs.Common.{◌<◌}
 use Rattle.pmt_lines.specs.Steps.{last_number}
 use Rattle.pmt_lines.proofs.StepLemmas.{are_steps-push}
-use Rattle.pmt_lines.proofs.job.ThreadJob.push.Goals as goal
+use Rattle.pmt_lines.proofs.thread_job.ThreadJob.push.Goals as goal
 
 pub invariant_of-self-2 : goal.invariant_of-self-2
 invariant_of-self-2 c =

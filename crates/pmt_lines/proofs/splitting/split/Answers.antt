@@ -1,0 +1,22 @@
+use Rattle.pmt_lines.proofs.FenceActLemmas.{split-end}
+use Rattle.pmt_lines.proofs.SourceRunLemmas.{so_far-more}
+use Rattle.pmt_lines.proofs.splitting.split.Goals as goal
+
+pub loop-splitter-preserved : goal.loop-splitter-preserved
+loop-splitter-preserved g c =
+    let source = g.S.EventSource in
+    let said = c.in_ok-event.ensures in
+    let taken = rw c.in-Some.is at said.taken in
+    let told = rw c.in-Some.is at said.told in
+    let counted = rw c.in-Some.is at said.failures in
+    let fewer = rw c.in-Some.is at said.room in (
+      rw c.in-Ok-take.ensures.trace
+          (so_far-more (source.coming c.args.source.now) (source.coming c.loop-splitter.source) (source.coming c.next.new.self) (source.state c.args.source.now) (source.state c.loop-splitter.source) (source.state c.next.new.self) (source.known_format c.loop-splitter.source) (source.known_format c.next.new.self) (source.failures c.args.source.now) (source.failures c.loop-splitter.source) (source.failures c.next.new.self) (source.room c.loop-splitter.source) (source.room c.next.new.self) c.loop-splitter.splitter.trace c.loop-splitter.invariant.0 c.in-Some.event taken told said.kept counted fewer),
+      c.in-Ok-take.ensures.so_far,
+    )
+
+pub returns-clause-apart : goal.returns-clause-apart
+returns-clause-apart g c =
+    let s = c.loop-splitter.splitter in
+    rw (c.finish.ensures.trace, c.finish.ensures.lines, c.finish.ensures.fences)
+    (split-end s.trace s.lines.keys s.jobs.items s.open_flushes s.fences c.loop-splitter.invariant.1)

@@ -1,0 +1,127 @@
+ghost use Rattle.std.specs.Prelude.{◌≡◌, IfOk, IfErr, IfSome};
+ghost use Rattle.pmt_text.specs.Sources.{CountsReads};
+ghost use Rattle.pmt_lines.specs.Splitting.{IsSplit};
+ghost use Rattle.pmt_lines.specs.Sourcing.{IsWhole, IsFaultOf, TellsWhole};
+
+use crate::job::LineJob;
+use crate::splitter::Splitter;
+use crate::thread_job::ThreadJob;
+use pmt_model::Trace;
+use pmt_text::{EventSource, SourceError};
+use std::alloc::Global;
+
+/// A trace taken apart by its lines.
+#[derive(Drop)]
+pub struct Jobs {
+    /// The trace.
+    pub trace: Trace,
+    /// The job of each line that is stored or flushed, in order of first appearance.
+    pub lines: Vec<LineJob>,
+    /// The flushes and fences.
+    pub fences: ThreadJob,
+}
+
+/// Takes all events of the source, and takes their trace apart by lines.
+///
+/// # Errors
+/// The fault that the source told, `OutOfMemory` where memory was refused, `Failed` where the source had told a fault before.
+/// The source stands past the events that were taken.
+pub fn split<S: EventSource>(alloc: Global, source: &mut S) -> Result<Jobs, SourceError>
+    ensures apart { IfOk result (λ jobs. IsSplit jobs.trace jobs.lines.items jobs.fences) }
+    ensures whole { IfOk result (λ jobs. IfSome (S.coming source.old) (λ c. IsWhole c jobs.trace)) }
+    ensures fault { IfErr result (λ e. IfSome (S.coming source.old) (λ c. IsFaultOf c e)) }
+    ensures told { TellsWhole (S.state source.old) result (S.state source.new) }
+    ensures failures { CountsReads (S.failures source.old) result (S.failures source.new) }
+{
+    let format = source.format()?;
+    let Ok(mut splitter) = Splitter::new(alloc, format) else {
+        return Err(SourceError::OutOfMemory);
+    };
+    while let Some(event) = source.next()? {
+        let Ok(()) = splitter.take(event) else {
+            return Err(SourceError::OutOfMemory);
+        };
+    }
+    Ok(splitter.finish())
+}
+
+#[cfg(test)]
+mod tests {
+    use super::*;
+    use crate::{StepKind, run_fences, run_line};
+    use pmt_model::{Event, Op};
+    use pmt_text::ListSource;
+    use std::test::Fail;
+
+    // The trace of these events.
+    fn trace_of(alloc: Global, events: &[(u8, Op)]) -> Result<Trace, Fail> {
+        let mut trace = Trace::new(alloc);
+        for event in events {
+            let (thread, op) = *event;
+            trace.push(Event { thread, op })?;
+        }
+        Ok(trace)
+    }
+
+    // A fence stands in the job of each line that its thread has flushed since its last fence, and in no other.
+    #[test]
+    fn steps_of_a_job(rt: HostRuntime) -> Result<(), Fail> {
+        let alloc = rt.alloc();
+        let near = 0x1000;
+        let far = 0x1040;
+        let events = [
+            (0, Op::store(near, &[1])?),
+            (0, Op::clwb(near)?),
+            (1, Op::clwb(far)?),
+            (0, Op::Sfence),
+            (0, Op::Sfence),
+            (1, Op::Sfence),
+        ];
+        let trace = trace_of(alloc, events.as_slice())?;
+        let mut source = ListSource::new(&trace);
+        let Jobs {
+            trace,
+            lines,
+            fences,
+        } = split(alloc, &mut source)?;
+        assert_eq!(rt; trace.len(), 6);
+        assert_eq!(rt; fences.steps().len(), 5);
+        assert_eq!(rt; lines.len(), 2);
+        assert_eq!(rt; lines[0].line(), 64);
+        assert_eq!(rt; lines[1].line(), 65);
+        assert_eq!(rt; lines[0].steps().len(), 3);
+        assert_eq!(rt; lines[1].steps().len(), 2);
+        assert_eq!(rt; lines[0].steps()[2].number, 4);
+        assert!(rt; matches!(lines[0].steps()[2].kind, StepKind::Fence));
+        Ok(())
+    }
+
+    #[test]
+    fn double_flush(rt: HostRuntime) -> Result<(), Fail> {
+        let alloc = rt.alloc();
+        let events = [
+            (0, Op::store(0x1000, &[1])?),
+            (0, Op::clwb(0x1000)?),
+            (0, Op::clwb(0x1000)?),
+            (0, Op::Sfence),
+            (0, Op::Sfence),
+        ];
+        let trace = trace_of(alloc, events.as_slice())?;
+        let mut source = ListSource::new(&trace);
+        let Jobs {
+            trace: _,
+            mut lines,
+            fences,
+        } = split(alloc, &mut source)?;
+        let job = lines.pop().ok_or("no job")?;
+        let result = run_line(alloc, job)?;
+        assert_eq!(rt; result.raises().len(), 1);
+        assert_eq!(rt; result.raises()[0].place, 4);
+        assert_eq!(rt; result.raises()[0].front, 1);
+        assert_eq!(rt; result.job().steps().len(), 4);
+        let found = run_fences(alloc, fences)?;
+        assert_eq!(rt; found.empty(), [5].as_slice());
+        assert_eq!(rt; found.job().steps().len(), 4);
+        Ok(())
+    }
+}
