@@ -10,7 +10,7 @@ use Rattle.pmt_model.specs.Machine.{Act, Flushes, Fences, Asserts}
 use Rattle.pmt_model.specs.Traces.{Recording, act, IsAct, history, has_line, lines_of}
 use Rattle.pmt_model.specs.Pushing.{with_event, empty}
 use Rattle.pmt_model.specs.Fronts.{open_mark}
-use Rattle.pmt_model.proofs.Histories.{act-within, act-unique}
+use Rattle.pmt_laws.proofs.Histories.{act-within, act-unique}
 use Rattle.pmt_lines.specs.declared.step.Step.{Step}
 use Rattle.pmt_lines.specs.Steps.{LineWork, with_step}
 use Rattle.pmt_lines.specs.Jobs.{IsStepOf, Touches, ByFence, IsFlushOrFence, AFlush, AFence, IsThreadJobOf}

@@ -7,7 +7,7 @@ use Rattle.pmt_model.specs.Machine.{Act, Stores, Flushes, FlushesNow, Fences, As
 use Rattle.pmt_model.specs.Traces.{Recording, IsAct, history}
 use Rattle.pmt_model.specs.Findings.{IsEmptyFence}
 use Rattle.pmt_model.specs.Selections.{IsRising, Has}
-use Rattle.pmt_model.proofs.Histories.{history-act, history-step, act-within, act-unique}
+use Rattle.pmt_laws.proofs.Histories.{history-act, history-step, act-within, act-unique}
 use Rattle.pmt_lines.specs.declared.step.StepKind.{StepKind}
 use Rattle.pmt_lines.specs.declared.step.StepKind.TheVariants.{Store, Flush, Clflush, Fence}
 use Rattle.pmt_lines.specs.declared.step.Step.{Step}

@@ -9,7 +9,7 @@ use Rattle.pmt_model.specs.Machine.{Act, Stores, Flushes, FlushesNow, Fences, As
 use Rattle.pmt_model.specs.Traces.{Recording, act, event, IsAct, history}
 use Rattle.pmt_model.specs.Pushing.{with_event}
 use Rattle.pmt_model.specs.Fronts.{open_mark}
-use Rattle.pmt_model.proofs.Histories.{history-suc, act-within}
+use Rattle.pmt_laws.proofs.Histories.{history-suc, act-within}
 use Rattle.pmt_lines.specs.declared.step.StepKind.{StepKind}
 use Rattle.pmt_lines.specs.declared.step.StepKind.TheVariants.{Store, Flush, Clflush, Fence}
 use Rattle.pmt_lines.specs.declared.step.Step.{Step}

@@ -6,7 +6,7 @@ use Rattle.pmt_model.specs.Values.{Written}
 use Rattle.pmt_model.specs.Machine.{Act, Stores, Flushes, FlushesNow, Fences, Asserts, count}
 use Rattle.pmt_model.specs.Traces.{Recording, IsAct, history, has_line, with_line, lines_of}
 use Rattle.pmt_model.specs.Fronts.{open_mark}
-use Rattle.pmt_model.proofs.Histories.{history-act, history-step, act-within, act-unique}
+use Rattle.pmt_laws.proofs.Histories.{history-act, history-step, act-within, act-unique}
 use Rattle.pmt_lines.specs.Steps.{LineWork}
 use Rattle.pmt_lines.specs.Jobs.{Touches, ByStore, ByFlush, ByClflush, ByFence}
 use Rattle.pmt_lines.specs.Splitting.{IsLeanJob}

@@ -5,7 +5,7 @@ use Rattle.std.proofs.lemmas.List.{drop_more, drop_all}
 use Rattle.pmt_model.specs.Machine.{Act, Stores, Flushes, FlushesNow, Fences, Asserts}
 use Rattle.pmt_model.specs.Traces.{Recording, IsAct, history, event_limit}
 use Rattle.pmt_model.specs.Fronts.{open_mark, front_at}
-use Rattle.pmt_model.proofs.Histories.{history-act, history-step, act-within, front-mono}
+use Rattle.pmt_laws.proofs.Histories.{history-act, history-step, act-within, front-mono}
 use Rattle.pmt_marks.specs.Lines.{Line, Follows}
 use Rattle.pmt_marks.specs.Others.{LeavesBe}
 use Rattle.pmt_marks.proofs.FollowLemmas.{follows-start, others_leave}
