@@ -1,0 +1,4 @@
+pub mod Kept
+pub mod Headline
+pub mod Backwards
+pub mod Marking

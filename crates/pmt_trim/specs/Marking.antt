@@ -1,0 +1,25 @@
+-- Events that are marked by their numbers.
+use Rattle.std.specs.Prelude.{◌≡◌, ℕ, zero, suc, ◌⊎◌, ◌↔◌, Bool, true, false, List, [], ◌∷◌, slice_index_or}
+use Rattle.pmt_model.specs.declared.event.Op.{Op}
+use Rattle.pmt_model.specs.declared.event.Op.TheVariants.{Store, Clwb, ClflushOpt, Clflush, Sfence, Mfence, IsPersist, IsOrderedBefore}
+use Rattle.pmt_model.specs.Selections.{Has}
+
+-- A store or an assertion.
+abbrev pub op_stays : Op → Bool
+op_stays (Store w) = true
+op_stays (Clwb a) = false
+op_stays (ClflushOpt a) = false
+op_stays (Clflush a) = false
+op_stays Sfence = false
+op_stays Mfence = false
+op_stays (IsPersist r) = true
+op_stays (IsOrderedBefore r q) = true
+
+-- Event n is marked, the first one having the number 1.
+abbrev pub is_marked : List Bool → ℕ → Bool
+is_marked marked zero = false
+is_marked marked (suc i) = slice_index_or marked i false
+
+-- These numbers are marked besides.
+abbrev pub MarksThese : List Bool → List ℕ → List Bool → Type 0
+MarksThese old numbers new = (n : ℕ) → (is_marked new n ≡ true) ↔ ((is_marked old n ≡ true) ⊎ Has numbers n)

@@ -1,0 +1,70 @@
+ghost use Rattle.std.specs.Prelude.{◌≡◌, ◌+◌, IfOk, MatchOption};
+ghost use Rattle.pmt_model.specs.Traces.{Recording};
+ghost use Rattle.pmt_lines.specs.Jobs.{IsJobOf};
+ghost use Rattle.pmt_trim.specs.Kept.{IsLineKept};
+ghost use Rattle.pmt_trim.specs.Backwards.{is_kept, waiting_before, LastIsAt, LastIsElsewhere};
+
+use pmt_lines::{LineResult, Raise, Step, StepKind};
+use pmt_model::OutOfMemory;
+use std::alloc::Global;
+
+/// The rising numbers of the line's useful flushes and clflushes, and of the fences that raise its front: in whatever trace the
+/// result's job is the line's.
+///
+/// # Errors
+/// Where memory was refused.
+pub fn line_kept(alloc: Global, found: &LineResult) -> Result<Vec<u64>, OutOfMemory>
+    ensures { IfOk result (λ kept. (T : Recording) → IsJobOf T found.now.job.line found.now.job.steps → IsLineKept T found.now.job.line kept.items) }
+{
+    let steps = found.job().steps();
+    let mut raises = found.raises();
+    let mut waiting = [false; 256];
+    let mut kept = Vec::new(alloc);
+    for i in (0..steps.len()).rev() {
+        let Step {
+            number,
+            thread,
+            kind,
+        } = steps[i];
+        let before = raises_before(raises, number);
+        raises = before.unwrap_or(raises);
+        if go_back(kind, thread, before.is_some(), &mut waiting) {
+            kept.push(number)?;
+        }
+    }
+    kept.reverse();
+    Ok(kept)
+}
+
+// The raises before the last one, if that one is at this place.
+fn raises_before(raises: &[Raise], place: u64) -> Option<&[Raise]>
+    ensures { MatchOption result (LastIsElsewhere raises.now place) (λ before. LastIsAt raises.now place before.now) }
+{
+    let (last, before) = raises.split_last()?;
+    if last.place == place {
+        Some(before)
+    } else {
+        None
+    }
+}
+
+// Goes back over a step, which raises the front or not: true where it is kept.
+fn go_back(kind: StepKind, thread: u8, rises: bool, waiting: &mut [bool; 256]) -> bool
+    ensures kept { result ≡ is_kept kind thread rises waiting.old }
+    ensures waits { waiting.new ≡ waiting_before kind thread rises waiting.old }
+{
+    let thread = thread as usize;
+    match kind {
+        StepKind::Store { .. } => false,
+        StepKind::Flush => {
+            let kept = waiting[thread];
+            waiting[thread] = false;
+            kept
+        }
+        StepKind::Clflush => rises,
+        StepKind::Fence => {
+            waiting[thread] = rises;
+            rises
+        }
+    }
+}

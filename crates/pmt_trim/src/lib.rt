@@ -1,0 +1,15 @@
+//! What is kept of a trace, and the trimmed trace.
+//!
+//! The definitions stand in `specs/`; those of useful flushes and fences, of cuts and of crashes are pmt_model's.
+#![tactic(auto)]
+
+pub mod join;
+pub mod kept;
+pub mod laws;
+#[cfg(test)]
+mod tests;
+pub mod trimming;
+
+pub use crate::join::liveness;
+pub use crate::kept::line_kept;
+pub use crate::trimming::trim;
