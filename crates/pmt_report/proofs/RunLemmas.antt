@@ -66,3 +66,9 @@ fronts-computed place a b P s es text taken enough ends is =
         fronts = is ∙ fronts-longer P es ∙ ap (fronts_text (longer P es)) at
       }
     }
+
+-- where fewer events came than were asked for, they are all
+pub all-taken : (most : ℕ) (a b : Option Coming) (P : Recording) (s : SourceState) → TakesFirst most a P b s → length P.events < most → IsAllOf a P
+all-taken most None b P s taken few = tt
+all-taken most (Some c) b P s taken few =
+    elim taken.few [ inl fewer ↦ coming-parts c P taken.format fewer.1.0 fewer.1.1 | inr full ↦ absurd (omega (arith, full.0)) ]

@@ -1,10 +1,12 @@
 -- What a run did, by its answer: what was written, and which calls of its devices failed.
-use Rattle.std.specs.Prelude.{◌≡◌, ℕ, ◌+◌, ◌<◌, ◌≤◌, List, length, take, Option, Some, None, IfSome, Result, Ok, Err}
+use Rattle.std.specs.Prelude.{◌≡◌, ℕ, ◌+◌, ◌<◌, ◌≤◌, List, length, take, Option, Some, None, IfSome, Result, Ok, Err, Bool, true, false, ◌==◌, ◌||◌}
 use Rattle.std.specs.Option.{option_map}
 use Rattle.std.specs.Io.KnownBytes.{Keeps, Appends}
 use Rattle.pmt_model.specs.Traces.{Recording}
 use Rattle.pmt_text.specs.declared.kind.SourceError.TheVariants as sources
 use Rattle.pmt_text.specs.Coming.{Coming, judged_within}
+use Rattle.pmt_text.specs.Spelling.{spelling}
+use Rattle.pmt_trim.specs.Headline.{IsTrimmed}
 use Rattle.pmt_report.specs.declared.fault.RunError.{RunError}
 use Rattle.pmt_report.specs.declared.fault.RunError.TheVariants.{BadWorkers, Text, TooMany, Read, PastEnd, OutOfMemory, Write}
 use Rattle.pmt_report.specs.Reports.{fronts_text}
@@ -45,6 +47,17 @@ read_faults (Err (PastEnd events)) = 0
 read_faults (Err OutOfMemory) = 0
 read_faults (Err (Write written)) = 0
 
+-- The answer is that the number of workers is bad.
+abbrev pub tells_workers : {A : Type 0} → Result A RunError → Bool
+tells_workers (Ok x) = false
+tells_workers (Err BadWorkers) = true
+tells_workers (Err (Text f)) = false
+tells_workers (Err TooMany) = false
+tells_workers (Err Read) = false
+tells_workers (Err (PastEnd events)) = false
+tells_workers (Err OutOfMemory) = false
+tells_workers (Err (Write written)) = false
+
 -- ---- What is read
 
 -- Of a text so many bytes are judged.
@@ -80,6 +93,15 @@ IsComingFault coming (PastEnd events) = ⊥
 IsComingFault coming OutOfMemory = Unit {0}
 IsComingFault coming (Write written) = ⊥
 
+abbrev pub IsTrimFault : Option Coming → RunError → Type 0
+IsTrimFault coming BadWorkers = Unit {0}
+IsTrimFault coming (Text f) = IsComingFault coming (Text f)
+IsTrimFault coming TooMany = IsComingFault coming TooMany
+IsTrimFault coming Read = Unit {0}
+IsTrimFault coming (PastEnd events) = ⊥
+IsTrimFault coming OutOfMemory = Unit {0}
+IsTrimFault coming (Write written) = ⊥
+
 abbrev pub IsFrontsFault : ℕ → Option Coming → RunError → Type 0
 IsFrontsFault place coming BadWorkers = ⊥
 IsFrontsFault place coming (Text f) = IsComingFault coming (Text f)
@@ -98,6 +120,17 @@ pub record IsFrontsAt (place : ℕ) (T : Recording) (text : List ℕ) : Type 0 w
 abbrev pub CountsRuns : {A : Type 0} → Option ℕ → Result A RunError → Option ℕ → Type 0
 CountsRuns None result new = Unit {0}
 CountsRuns (Some n) result new = new ≡ Some (n + read_faults result)
+
+-- The text is that of the trimmed trace.
+pub record IsTrimmedText (T : Recording) (text : List ℕ) : Type 0 where
+  pub selection : List ℕ
+  pub trimmed : Recording
+  pub trim : IsTrimmed T selection trimmed
+  pub spelled : text ≡ spelling trimmed
+
+-- The numbers of workers that are allowed.
+abbrev pub is_workers : ℕ → Bool
+is_workers n = (n == 1) || (n == 2) || (n == 4) || (n == 8) || (n == 16)
 
 -- ---- What a run tells
 

@@ -12,4 +12,4 @@ mod taking;
 mod texts;
 
 pub use crate::fault::{RunError, fault_text};
-pub use crate::run::run_fronts;
+pub use crate::run::{run_fronts, run_trim};
