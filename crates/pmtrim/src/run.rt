@@ -3,7 +3,7 @@ ghost use Rattle.std.specs.Prelude.{◌≤◌};
 use crate::fault::Fault;
 use crate::opener::Opener;
 use crate::request::{Request, request_of};
-use pmt_report::{RunError, run_fronts};
+use pmt_report::{RunError, run_fronts, run_trim};
 use pmt_text::Counted;
 use std::alloc::Global;
 use std::convert::AsStr;
@@ -45,7 +45,7 @@ fn answer<T, O, I, W>(
     rt: &T,
     request: Request<'_>,
     files: &O,
-    _input: I,
+    input: I,
     out: &mut W,
 ) -> Result<(), Fault>
 where
@@ -65,10 +65,15 @@ where
             file: _,
         } => not_yet(alloc, "the option '--stream'"),
         Request::Trim {
-            workers: _,
+            workers,
             stream: false,
-            file: _,
-        } => not_yet(alloc, "the command 'trim'"),
+            file: Some(name),
+        } => trim(rt, workers, files.open(name)?, out),
+        Request::Trim {
+            workers,
+            stream: false,
+            file: None,
+        } => trim(rt, workers, input, out),
         Request::Record { scripts: _ } => not_yet(alloc, "the command 'record'"),
     }
 }
@@ -89,6 +94,17 @@ fn fronts<R: Read + Drop, W: Write>(
 ) -> Result<(), Fault> {
     let mut writer = Counted::new(out);
     let (_reader, done) = run_fronts(alloc, place, Counted::new(reader), &mut writer);
+    told(done)
+}
+
+fn trim<T, R, W>(rt: &T, workers: usize, reader: R, out: &mut W) -> Result<(), Fault>
+where
+    T: AllocGlobal + Threads + Wait + Sync,
+    R: Read + Drop,
+    W: Write,
+{
+    let mut writer = Counted::new(out);
+    let (_reader, done) = run_trim(rt, rt.alloc(), workers, Counted::new(reader), &mut writer);
     told(done)
 }
 
