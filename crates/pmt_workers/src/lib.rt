@@ -1,6 +1,7 @@
 //! The analysis of a trace by any number of workers: one answer, whatever their number.
 #![tactic(auto)]
 
+pub mod cut;
 pub mod halves;
 pub mod shard;
 
