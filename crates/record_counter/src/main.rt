@@ -99,8 +99,16 @@ fn claims(trace: &Trace) -> usize {
 
 fn main(rt: HostRuntime) -> Result<()> {
     let trace = record::<Brand, HostRuntime>(&rt, rt.alloc(), Blank::new(256))?;
-    println!(rt; "recorded {} events, {} of them claims", trace.len(), claims(&trace))?;
+    println!(rt;
+        "recorded {} events, {} of them claims",
+        trace.len(),
+        claims(&trace)
+    )?;
     let (trimmed, _) = trim(rt.alloc(), &trace)?;
-    println!(rt; "the trimmed trace has {} events, {} of them claims", trimmed.len(), claims(&trimmed))?;
+    println!(rt;
+        "the trimmed trace has {} events, {} of them claims",
+        trimmed.len(),
+        claims(&trimmed)
+    )?;
     Ok(())
 }
