@@ -82,7 +82,11 @@ impl Fault {
                 line.push_str("\n")?;
                 Ok(line)
             }
-            Fault::Record(fault) => format!(in alloc; "{fault}\n"),
+            Fault::Record(fault) => {
+                let mut line = fault.line(alloc)?;
+                line.push_str("\n")?;
+                Ok(line)
+            }
             Fault::File => String::from_str(alloc, "file fault\n"),
             Fault::OutOfMemory => String::from_str(alloc, "out of memory\n"),
         }

@@ -1,14 +1,14 @@
 //! Recording scripts: each is run in a thread of its own, and the trace that they record is written.
 
-ghost use Rattle.std.specs.Prelude.{◌≡◌, ◌<◌, ◌≤◌, IfErr};
+ghost use Rattle.std.specs.Prelude.{◌≡◌, IfOk, string_bytes};
+ghost use Rattle.pmtrim.specs.RecordFaults.{record_line, record_status};
 
 use crate::fault::Fault;
 use crate::opener::Opener;
-use pmt_model::{NoGate, Op, Trace};
+use pmt_model::{NoGate, Op, OutOfMemory, Trace};
 use pmt_recorder::{RecordError, record_scripts};
 use pmt_text::{Counted, SourceError, TextError, read_script_from, write_all_counted, write_trace};
 use std::alloc::Global;
-use std::fmt;
 use std::io::Write;
 use std::sync::Wait;
 use std::thread::Threads;
@@ -39,7 +39,7 @@ pub enum RecordFault {
 impl RecordFault {
     /// The exit status.
     pub fn status(&self) -> u8
-        ensures { result ≤ 6 }
+        ensures { result ≡ record_status self.now }
     {
         match self {
             RecordFault::Line {
@@ -51,21 +51,29 @@ impl RecordFault {
             RecordFault::Torn { recorder: _ } => 6,
         }
     }
-}
 
-impl fmt::Display for RecordFault {
-    fn fmt<W: fmt::Write>(&self, f: &mut fmt::Formatter<W>) -> fmt::Result {
-        match self {
-            RecordFault::Line { script, error } => {
-                let line = error.line;
-                let kind = error.kind.name();
-                write!(f, "script {script} line {line}: {kind}")
-            }
-            RecordFault::TooLong { script } => write!(f, "script {script} too long"),
-            RecordFault::Full => write!(f, "trace full"),
-            RecordFault::Torn { recorder } => write!(f, "torn recorder {recorder}"),
+    /// The fault line, without its LF.
+    ///
+    /// # Errors
+    /// `OutOfMemory`.
+    pub fn line(&self, alloc: Global) -> Result<String, OutOfMemory>
+        ensures { IfOk result (λ text. string_bytes text ≡ record_line self.now) }
+    {
+        match *self {
+            RecordFault::Line { script, error } => line_fault(alloc, script, &error),
+            RecordFault::TooLong { script } => format!(in alloc; "script {script} too long"),
+            RecordFault::Full => String::from_str(alloc, "trace full"),
+            RecordFault::Torn { recorder } => format!(in alloc; "torn recorder {recorder}"),
         }
     }
+}
+
+fn line_fault(alloc: Global, script: u64, error: &TextError) -> Result<String, OutOfMemory>
+    ensures { IfOk result (λ text. string_bytes text ≡ record_line (RecordFault.Line script error.now)) }
+{
+    let line = error.line;
+    let name = error.kind.name();
+    format!(in alloc; "script {script} line {line}: {name}")
 }
 
 /// Reads the scripts with these names, records them, and writes the trace. One script after another is opened, read whole and
@@ -143,3 +151,6 @@ fn write_out<W: Write>(alloc: Global, trace: &Trace, out: &mut W) -> Result<(), 
         Err(_) => Err(Fault::File),
     }
 }
+
+#[cfg(test)]
+mod tests;
