@@ -20,3 +20,4 @@ pub mod SourceLemmas
 pub mod TextLemmas
 pub mod EventLemmas
 pub mod WriteLemmas
+pub mod BoundLemmas
