@@ -1,0 +1,97 @@
+use clap::{Arg, ArgAction, Command};
+use std::alloc::{AllocError, Global};
+
+const WORKERS: &[&str] = &["1", "2", "4", "8", "16"];
+
+/// The words of the program and of its commands.
+pub fn commands<'a>(alloc: Global) -> Result<Command<'a>, AllocError> {
+    Command::new(alloc, "pmtrim")
+        .version("1.0.0")
+        .no_binary_name(true)
+        .bin_name("pmtrim")?
+        .override_usage(
+            "pmtrim < TRACE\n       pmtrim check [--workers N] [FILE]\n       pmtrim trim [--workers N] [--stream] [FILE]\n       pmtrim fronts FILE PLACE\n       pmtrim record SCRIPT..",
+        )
+        .disable_help_subcommand(true)
+        .about(
+            "Checks traces of persistent memory events, and trims the flushes and fences that no crash can show.{n}With no words it trims the trace on standard input.",
+        )
+        .after_help(
+            "A FILE that is not given is standard input. The answer goes to standard output, faults to standard error.{n}{n}Example: pmtrim < run.trace > trimmed.trace",
+        )
+        .subcommand(check(alloc)?)?
+        .subcommand(trim(alloc)?)?
+        .subcommand(fronts(alloc)?)?
+        .subcommand(record(alloc)?)
+}
+
+fn check<'a>(alloc: Global) -> Result<Command<'a>, AllocError> {
+    Command::new(alloc, "check")
+        .override_usage("pmtrim check [--workers N] [FILE]")
+        .about("Judges the assertions of a trace, and reports findings.")
+        .after_help(
+            "Writes the number of events and lines, an entry for each finding and each assertion, and how many events trim keeps.{n}Statuses: 0 done; 1 an assertion fails or a store is never persisted; 2 wrong words; 3 trace refused; 4 file fault; 5 out of memory{n}Example: pmtrim check --workers 4 run.trace",
+        )
+        .arg(workers(alloc))?
+        .arg(file(alloc))
+}
+
+fn trim<'a>(alloc: Global) -> Result<Command<'a>, AllocError> {
+    let stream = Arg::new(alloc, "stream")
+        .long("stream")
+        .action(ArgAction::SetTrue)
+        .help("Write the trace as it is read");
+    Command::new(alloc, "trim")
+        .override_usage("pmtrim trim [--workers N] [--stream] [FILE]")
+        .about("Writes the trace without the flushes and fences that no crash can show.")
+        .after_help(
+            "Statuses: 0 done; 2 wrong words; 3 trace refused; 4 file fault; 5 out of memory{n}Example: pmtrim trim run.trace > trimmed.trace",
+        )
+        .arg(workers(alloc))?
+        .arg(stream)?
+        .arg(file(alloc))
+}
+
+fn fronts<'a>(alloc: Global) -> Result<Command<'a>, AllocError> {
+    let place = Arg::new(alloc, "PLACE")
+        .required(true)
+        .help("After how many events, a decimal number");
+    Command::new(alloc, "fronts")
+        .override_usage("pmtrim fronts FILE PLACE")
+        .about(
+            "Writes, for each line of the trace at a place, how many of its stores are persisted for sure, and how many there are.",
+        )
+        .after_help(
+            "Statuses: 0 done; 2 wrong words, or the place lies past the end; 3 trace refused; 4 file fault; 5 out of memory{n}Example: pmtrim fronts run.trace 12",
+        )
+        .arg(Arg::new(alloc, "FILE").required(true).help("The trace"))?
+        .arg(place)
+}
+
+fn record<'a>(alloc: Global) -> Result<Command<'a>, AllocError> {
+    let scripts = Arg::new(alloc, "SCRIPT")
+        .required(true)
+        .action(ArgAction::Append)
+        .num_args(1..=256)
+        .help("The events of a thread, one a line; 1 to 256 scripts");
+    Command::new(alloc, "record")
+        .override_usage("pmtrim record SCRIPT..")
+        .about("Runs each script in a thread of its own, and writes the trace that they record.")
+        .after_help(
+            "Statuses: 0 done; 2 wrong words; 3 a script refused, or the trace is full; 4 file fault; 5 out of memory; 6 torn recorder{n}Example: pmtrim record first.script second.script > run.trace",
+        )
+        .arg(scripts)
+}
+
+fn workers<'a>(alloc: Global) -> Arg<'a> {
+    Arg::new(alloc, "workers")
+        .long("workers")
+        .value_name("N")
+        .value_parser(WORKERS)
+        .default_value("1")
+        .help("How many threads to use")
+}
+
+fn file<'a>(alloc: Global) -> Arg<'a> {
+    Arg::new(alloc, "FILE").help("The trace; standard input, if none is given")
+}

@@ -1,0 +1,96 @@
+ghost use Rattle.std.specs.Prelude.{◌≤◌};
+
+use crate::opener::OpenError;
+use pmt_model::OutOfMemory;
+use pmt_report::{RunError, fault_text};
+use std::alloc::{AllocError, Global};
+use std::io::Write;
+
+/// Why the program did not do what its words ask for.
+#[derive(Debug, Drop)]
+pub enum Fault {
+    /// The words are wrong; the text says how, and ends with LF.
+    Usage(String),
+    /// The run told this.
+    Run(RunError),
+    /// A file can't be opened, or the answer can't be written.
+    File,
+    /// A growth was refused.
+    OutOfMemory,
+}
+
+impl From<AllocError> for Fault {
+    fn from(_error: AllocError) -> Fault {
+        Fault::OutOfMemory
+    }
+}
+
+impl From<OpenError> for Fault {
+    fn from(error: OpenError) -> Fault {
+        match error {
+            OpenError::NoFile => Fault::File,
+            OpenError::OutOfMemory => Fault::OutOfMemory,
+        }
+    }
+}
+
+impl Fault {
+    /// A usage fault that says this.
+    pub fn usage(alloc: Global, message: &str) -> Result<Fault, OutOfMemory> {
+        let text = format!(in alloc; "error: {message}\n\nFor more information, try '--help'.\n")?;
+        Ok(Fault::Usage(text))
+    }
+
+    /// The exit status.
+    pub fn status(&self) -> u8
+        ensures { result ≤ 6 }
+    {
+        match self {
+            Fault::Usage(_) => 2,
+            Fault::Run(error) => status_of(error),
+            Fault::File => 4,
+            Fault::OutOfMemory => 5,
+        }
+    }
+
+    /// Writes what is wrong, and gives the exit status. A fault that can't be written leaves the status as it is.
+    pub fn tell<W: Write>(self, alloc: Global, faults: &mut W) -> u8
+        ensures { result ≤ 6 }
+    {
+        match self.text(alloc) {
+            Ok(text) => {
+                let _ = faults.write_all(text.as_bytes());
+                self.status()
+            }
+            Err(_) => {
+                let _ = faults.write_all(b"out of memory\n");
+                5
+            }
+        }
+    }
+
+    // The lines that say what is wrong.
+    fn text(&self, alloc: Global) -> Result<String, OutOfMemory> {
+        match self {
+            Fault::Usage(text) => text.clone(),
+            Fault::Run(error) => {
+                let mut line = fault_text(alloc, error)?;
+                line.push_str("\n")?;
+                Ok(line)
+            }
+            Fault::File => String::from_str(alloc, "file fault\n"),
+            Fault::OutOfMemory => String::from_str(alloc, "out of memory\n"),
+        }
+    }
+}
+
+fn status_of(error: &RunError) -> u8
+    ensures { result ≤ 6 }
+{
+    match error {
+        RunError::BadWorkers | RunError::PastEnd { events: _ } => 2,
+        RunError::Text(_) | RunError::TooMany => 3,
+        RunError::Read | RunError::Write { written: _ } => 4,
+        RunError::OutOfMemory => 5,
+    }
+}

@@ -1,0 +1,135 @@
+use crate::command::commands;
+use crate::fault::Fault;
+use clap::error::ErrorKind;
+use clap::{ArgMatches, Error};
+use std::alloc::{AllocError, Global};
+use std::convert::AsStr;
+
+/// What the words ask for.
+#[derive(Debug, Drop)]
+pub enum Request<'a> {
+    /// This text: help, or the version.
+    Show(String),
+    /// The report of a trace.
+    Check {
+        workers: usize,
+        file: Option<&'a str>,
+    },
+    /// The trimmed trace.
+    Trim {
+        workers: usize,
+        stream: bool,
+        file: Option<&'a str>,
+    },
+    /// The fronts of a trace at a place.
+    Fronts {
+        file: &'a str,
+        place: u64,
+    },
+    /// The trace that these scripts record.
+    Record {
+        scripts: Vec<&'a str>,
+    },
+}
+
+/// What these words, which stand after the program's name, ask for.
+///
+/// # Errors
+/// A usage fault, or `OutOfMemory`.
+pub fn request_of<'a, S: AsStr>(alloc: Global, words: &'a [S]) -> Result<Request<'a>, Fault> {
+    match commands(alloc)?.try_get_matches_from(words) {
+        Ok(matches) => asked(alloc, &matches),
+        Err(error) => shown(alloc, &error),
+    }
+}
+
+fn shown<'a>(alloc: Global, error: &Error) -> Result<Request<'a>, Fault> {
+    if error.kind() == ErrorKind::OutOfMemory {
+        return Err(Fault::OutOfMemory);
+    }
+    let text = format!(in alloc; "{error}")?;
+    if error.use_stderr() {
+        Err(Fault::Usage(text))
+    } else {
+        Ok(Request::Show(text))
+    }
+}
+
+fn asked<'a>(alloc: Global, matches: &ArgMatches<'a>) -> Result<Request<'a>, Fault> {
+    match matches.subcommand() {
+        Some(("check", given)) => Ok(Request::Check {
+            workers: workers_of(given),
+            file: given.get_str("FILE"),
+        }),
+        Some(("fronts", given)) => fronts(alloc, given),
+        Some(("record", given)) => record(alloc, given),
+        Some((_, given)) => Ok(Request::Trim {
+            workers: workers_of(given),
+            stream: given.get_flag("stream"),
+            file: given.get_str("FILE"),
+        }),
+        None => Ok(Request::Trim {
+            workers: 1,
+            stream: false,
+            file: None,
+        }),
+    }
+}
+
+// One of the texts 1, 2, 4, 8 and 16: the command takes no other.
+fn workers_of(given: &ArgMatches<'_>) -> usize {
+    match given.get_str("workers") {
+        Some("2") => 2,
+        Some("4") => 4,
+        Some("8") => 8,
+        Some("16") => 16,
+        _ => 1,
+    }
+}
+
+fn fronts<'a>(alloc: Global, given: &ArgMatches<'a>) -> Result<Request<'a>, Fault> {
+    let file = given.get_str("FILE").unwrap_or("");
+    let text = given.get_str("PLACE").unwrap_or("");
+    match place_of(text) {
+        Some(place) => Ok(Request::Fronts { file, place }),
+        None => Err(bad_place(alloc, text)?),
+    }
+}
+
+fn bad_place(alloc: Global, text: &str) -> Result<Fault, AllocError> {
+    let message = format!(in alloc;
+        "invalid value '{text}' for '<PLACE>': a decimal number without leading zeros, at most 18446744073709551615"
+    )?;
+    Fault::usage(alloc, message.as_str())
+}
+
+// The number, where the text is decimal without leading zeros and it is below 2^64.
+fn place_of(text: &str) -> Option<u64> {
+    let digits = text.as_bytes();
+    match digits {
+        [] => None,
+        [b'0'] => Some(0),
+        [b'0', ..] => None,
+        _ => {
+            let mut place: u64 = 0;
+            for digit in digits {
+                if *digit < b'0' || *digit > b'9' {
+                    return None;
+                }
+                place = place.checked_mul(10)?.checked_add((*digit - b'0') as u64)?;
+            }
+            Some(place)
+        }
+    }
+}
+
+fn record<'a>(alloc: Global, given: &ArgMatches<'a>) -> Result<Request<'a>, Fault> {
+    let mut scripts = Vec::new(alloc);
+    if let Some(names) = given.get_strs("SCRIPT") {
+        if names.len() > 256 {
+            return Err(Fault::usage(alloc, "more than 256 scripts")?);
+        }
+        scripts.extend_from_slice(names)?;
+    }
+    Ok(Request::Record { scripts })
+}
