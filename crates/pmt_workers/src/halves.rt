@@ -47,7 +47,7 @@ pub(crate) fn run_in_halves<R: Threads + Sync, G: ShardGate + Sync>(
 }
 
 // The answers of the front part and then those of the back part.
-fn joined(front: Vec<LineAnswer>, back: Vec<LineAnswer>) -> Result<Vec<LineAnswer>, OutOfMemory> 
+fn joined(front: Vec<LineAnswer>, back: Vec<LineAnswer>) -> Result<Vec<LineAnswer>, OutOfMemory>
     ensures { IfOk result (λ answers. answers.items ≡ front.items ++ back.items) }
 {
     let mut all = front;

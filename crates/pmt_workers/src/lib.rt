@@ -1,8 +1,8 @@
 //! The analysis of a trace by any number of workers: one answer, whatever their number.
 #![tactic(auto)]
 
-pub mod cut;
+mod cut;
 pub mod halves;
 pub mod shard;
 
-pub use crate::shard::{LineAnswer, ShardGate};
+pub use crate::shard::{LineAnswer, ShardGate, run_shard};
