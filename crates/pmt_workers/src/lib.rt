@@ -2,7 +2,7 @@
 #![tactic(auto)]
 
 mod cut;
-pub mod halves;
+mod halves;
 pub mod shard;
 
 pub use crate::shard::{LineAnswer, ShardGate, run_shard};
