@@ -6,3 +6,6 @@ mod halves;
 pub mod shard;
 
 pub use crate::shard::{LineAnswer, ShardGate, run_shard};
+
+#[cfg(test)]
+mod tests;
