@@ -1,8 +1,10 @@
 //! The analysis of a trace by any number of workers: one answer, whatever their number.
 #![tactic(auto)]
 
+pub mod analysis;
 pub mod cut;
 pub mod halves;
 pub mod shard;
 
+pub use crate::analysis::Analysis;
 pub use crate::shard::{LineAnswer, ShardGate};
