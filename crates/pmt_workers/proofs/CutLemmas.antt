@@ -42,7 +42,7 @@ better jobs i front best least total here old next so_far all gap lower = record
   so_far = so_far;
   within = omega arith;
   gap = gap_here jobs (i + 1) next total here so_far all gap;
-  fair = λ n h. at_most n h (cases_lt i n)
+  fair = λ n h. at_most n h (cases_lt i n);
 } where
   at_most : (n : ℕ) → n ≤ i + 1 → (i < n) ⊎ (n ≤ i) → here ≤ apart (steps_of (take n jobs)) (steps_of (drop n jobs))
   at_most n h (inr before) = omega (arith, old.fair n before)
@@ -57,7 +57,7 @@ no_better jobs i front best least total here old next so_far all gap higher = re
   so_far = so_far;
   within = omega (arith, old.within);
   gap = old.gap;
-  fair = λ n h. at_most n h (cases_lt i n)
+  fair = λ n h. at_most n h (cases_lt i n);
 } where
   at_most : (n : ℕ) → n ≤ i + 1 → (i < n) ⊎ (n ≤ i) → least ≤ apart (steps_of (take n jobs)) (steps_of (drop n jobs))
   at_most n h (inr before) = old.fair n before

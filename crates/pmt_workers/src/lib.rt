@@ -3,12 +3,15 @@
 
 pub mod analyse;
 pub mod analysis;
-pub mod cut;
-pub mod halves;
+mod cut;
+mod halves;
 mod judging;
 mod results;
 pub mod shard;
 
 pub use crate::analyse::{AnalyseError, analyse_with};
 pub use crate::analysis::Analysis;
-pub use crate::shard::{LineAnswer, ShardGate};
+pub use crate::shard::{LineAnswer, ShardGate, run_shard};
+
+#[cfg(test)]
+mod tests;

@@ -1,5 +1,5 @@
 use Rattle.std.proofs.Common.{◌≡◌, ℕ, ◌+◌, ◌-◌, ◌≤◌, length, ap, ◌∙◌, arith, take, get_or, Fits}
-use Rattle.std.proofs.Math.Facts.{Fits-le}
+use Rattle.std.proofs.Math.Facts.{Fits-le, Fits-of_lt}
 use Rattle.pmt_lines.specs.Steps.{LineWork}
 use Rattle.pmt_workers.specs.Halving.{steps_of, apart}
 use Rattle.pmt_workers.proofs.CutLemmas.{steps_of-more, steps_of-parts, better, no_better, IsBestSoFar}
@@ -13,7 +13,7 @@ overflow_sub-total c =
     omega (arith, steps_of-more c.args.jobs.now c.loop-i.i d c.loop-i-test.true, steps_of-parts c.args.jobs.now (c.loop-i.i + 1), c.loop-i.invariant.so_far, c.steps_in-total.ensures.total)
 
 pub overflow_add-front : goal.overflow_add-front
-overflow_add-front c = Fits-le (overflow_sub-total c) c.steps_in-total.type_inv
+overflow_add-front c = Fits-le (overflow_sub-total c) (Fits-of_lt c.steps_in-total.ensures.few)
 
 pub loop-i-preserved : goal.loop-i-preserved
 loop-i-preserved c =
@@ -23,6 +23,6 @@ loop-i-preserved c =
     let same : length c.steps.result.now ≡ length (get_or c.args.jobs.now i d).steps = ap length c.steps.ensures.value ∙ ap (λ (j : LineWork). length j.steps) c.index-jobs-i.is in
     let so_far : next ≡ steps_of (take (i + 1) c.args.jobs.now) = omega (arith, steps_of-more c.args.jobs.now i d c.loop-i-test.true, c.loop-i.invariant.so_far) in
     elim c.if-gap-least.branch [
-      then-gap-least w ↦ rw (w.best-is, w.least-is) (better c.args.jobs.now i c.loop-i.front c.loop-i.best c.loop-i.least c.steps_in-total.result c.gap_between-gap.result c.loop-i.invariant next so_far c.steps_in-total.ensures.total c.gap_between-gap.ensures w.if-gap-least.true)
-    | else-gap-least w ↦ rw (w.best-is, w.least-is) (no_better c.args.jobs.now i c.loop-i.front c.loop-i.best c.loop-i.least c.steps_in-total.result c.gap_between-gap.result c.loop-i.invariant next so_far c.steps_in-total.ensures.total c.gap_between-gap.ensures w.if-gap-least.false)
+      | then-gap-least w ↦ rw (w.best-is, w.least-is) (better c.args.jobs.now i c.loop-i.front c.loop-i.best c.loop-i.least c.steps_in-total.result c.gap_between-gap.result c.loop-i.invariant next so_far c.steps_in-total.ensures.total c.gap_between-gap.ensures w.if-gap-least.true)
+      | else-gap-least w ↦ rw (w.best-is, w.least-is) (no_better c.args.jobs.now i c.loop-i.front c.loop-i.best c.loop-i.least c.steps_in-total.result c.gap_between-gap.result c.loop-i.invariant next so_far c.steps_in-total.ensures.total c.gap_between-gap.ensures w.if-gap-least.false)
     ]

@@ -1,4 +1,4 @@
-use Rattle.std.proofs.Common.{◌≡◌, ℕ, ◌/◌, List, ◌++◌, take, drop, subst, sym, rules, IfOk}
+use Rattle.std.proofs.Common.{◌≡◌, ℕ, List, ◌++◌, take, drop, subst, sym, rules, IfOk}
 use Rattle.std.proofs.lemmas.Result.{IfOk-weaker}
 use Rattle.pmt_lines.specs.Steps.{LineWork}
 use Rattle.pmt_workers.specs.declared.shard.LineAnswer.{LineAnswer}
@@ -8,7 +8,7 @@ use Rattle.pmt_workers.proofs.halves.+fn-run_in_halves-join+arg2+fn-run_in_halve
 
 pub returns : goal.returns
 returns g t c =
-    let half : ℕ = c.len-at.result / 2 in
+    let half : ℕ = c.fair_cut-at.result in
     let jobs : List LineWork = c.args.jobs.items in
     let answered : IfOk c.join-answers.result.0 (λ answers. AreAnswersTo c.split_off.new.self.items answers.items) = search rules in
     let answered_later : IfOk c.join-answers.result.1 (λ answers. AreAnswersTo c.in_ok-back.back.items answers.items) = search rules in
