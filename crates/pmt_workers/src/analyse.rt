@@ -104,3 +104,6 @@ fn analysis_of<R: Threads + Wait + Sync, G: ShardGate + Sync>(
     let verdicts = judged(rt, alloc, results, &trace)?;
     Ok(Analysis::new(trace, touched, found, verdicts, selection))
 }
+
+#[cfg(test)]
+mod tests;

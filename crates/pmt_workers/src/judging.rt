@@ -6,11 +6,10 @@ ghost use Rattle.pmt_workers.specs.Results.{AreResultsOf, is_assertion as op_ass
 use pmt_lines::LineResult;
 use pmt_model::{Event, Op, OutOfMemory, Trace, Verdict};
 use std::alloc::{AllocError, Global};
-use std::sync::Wait;
 use std::thread::Threads;
 
 // The verdicts of all assertions of the trace, from the results of its jobs. Where it has none, no tables are made.
-pub(crate) fn judged<R: Threads + Wait + Sync>(
+pub(crate) fn judged<R: Threads + Sync>(
     _rt: &R,
     alloc: Global,
     _results: Vec<LineResult>,
@@ -38,6 +37,7 @@ fn is_assertion(op: Op) -> bool
 {
     match op {
         Op::IsPersist(_) | Op::IsOrderedBefore(_, _) => true,
-        Op::Store(_) | Op::Clwb(_) | Op::ClflushOpt(_) | Op::Clflush(_) | Op::Sfence | Op::Mfence => false,
+        Op::Store(_) | Op::Clwb(_) | Op::ClflushOpt(_) | Op::Clflush(_) | Op::Sfence | Op::Mfence =>
+            false,
     }
 }
