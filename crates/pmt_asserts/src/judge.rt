@@ -1,0 +1,168 @@
+ghost use Rattle.std.specs.Prelude.{◌≡◌, ◌≢◌, ℕ, ◌<◌, ◌≤◌, ◌^◌, ◌↔◌, IsTrue, IfOk, length, Option, None, Some};
+ghost use Rattle.pmt_model.specs.Values.{line_of};
+ghost use Rattle.pmt_model.specs.Traces.{history};
+ghost use Rattle.pmt_model.specs.Assertions.{InSpan, PersistPasses, OrderedPasses};
+ghost use Rattle.pmt_model.specs.Analyses.{IsVerdicts};
+ghost use Rattle.pmt_asserts.specs.Tables.{AreResultsOf};
+ghost use Rattle.pmt_asserts.specs.Judging.{IsEarliestOf, IsVerdictAt, IsLineOrdered, earlier_of};
+
+use crate::oldest::{Earliest, Oldest};
+use crate::part::{is_line_persisted, is_line_ranked, line_oldest};
+use crate::tables::Tables;
+use pmt_model::{Op, OutOfMemory, Range, Trace, Verdict};
+use rayon::prelude::*;
+use std::alloc::Global;
+use std::thread::Threads;
+
+/// The verdicts of all assertions of the trace, in event order.
+///
+/// # Errors
+/// Where memory was refused.
+pub fn verdicts(rt: &(impl Threads + Sync), alloc: Global, tables: &Tables, trace: &Trace) -> Result<Vec<Verdict>, OutOfMemory>
+    requires { AreResultsOf trace.now tables.now }
+    ensures { IfOk result (λ all. IsVerdicts trace.now all.items) }
+{
+    (0..trace.len())
+        .into_par_iter()
+        .filter_map(
+            |index: usize| -> Option<Verdict>
+                requires { AreResultsOf trace.now tables.now }
+                ensures { IsVerdictAt trace.entry.now (index + 1) result }
+            { verdict(tables, trace, index as u64 + 1) },
+        )
+        .collect(rt, alloc)
+}
+
+/// The verdict of the event with this number; none where it is no assertion.
+pub fn verdict(tables: &Tables, trace: &Trace, number: u64) -> Option<Verdict>
+    requires { AreResultsOf trace.now tables.now }
+    ensures { IsVerdictAt trace.now number result }
+{
+    let event = trace.get(number)?;
+    match event.op {
+        Op::IsPersist(range) => Some(Verdict {
+            event: number,
+            ordered: false,
+            pass: persists(tables, trace, number, range),
+        }),
+        Op::IsOrderedBefore(first, second) => Some(Verdict {
+            event: number,
+            ordered: true,
+            pass: is_ordered(tables, trace, number, first, second),
+        }),
+        _ => None,
+    }
+}
+
+// Whether isPersist passes after the event with this number.
+fn persists(tables: &Tables, trace: &Trace, number: u64, range: Range) -> bool
+    requires results { AreResultsOf trace.now tables.now }
+    requires within { number ≤ length trace.now.events }
+    ensures { IsTrue result ↔ PersistPasses (history trace.now number) range }
+{
+    let (first, end) = lines_of(trace, range);
+    for line in first..end {
+        if !is_line_persisted(tables, trace, range, line, number, number) {
+            return false;
+        }
+    }
+    true
+}
+
+// The first line of the range, and the one after its last.
+fn lines_of(trace: &Trace, range: Range) -> (u64, u64)
+    ensures lines { (b : ℕ) → InSpan range b → (result.0 ≤ line_of trace.now.format b) × (line_of trace.now.format b < result.1) }
+    ensures some { result.0 < result.1 }
+    ensures within { result.1 ≤ 2 ^ 48 }
+{
+    let size = trace.format().line_size();
+    let first = range.addr().get();
+    let last = first + range.len() - 1;
+    (first / size, last / size + 1)
+}
+
+// Of the last ones of the events up to this number that store to a byte of the range, the first, where those to one line may
+// be left out.
+fn earliest(tables: &Tables, trace: &Trace, number: u64, range: Range, skipped: Option<u64>) -> Option<Earliest>
+    requires { AreResultsOf trace.now tables.now }
+    ensures { IsEarliestOf trace.now number skipped range result }
+{
+    let (first, end) = lines_of(trace, range);
+    let mut earliest = None;
+    for line in first..end {
+        if skipped != Some(line) {
+            earliest = earlier(earliest, line, line_oldest(tables, trace, range, line, number));
+        }
+    }
+    earliest
+}
+
+// The earlier one of those of the lines before and that of this line.
+fn earlier(earliest: Option<Earliest>, line: u64, oldest: Option<Oldest>) -> Option<Earliest>
+    ensures { result ≡ earlier_of earliest line oldest }
+{
+    let Some(oldest) = oldest else {
+        return earliest;
+    };
+    match earliest {
+        Some(other) if other.number <= oldest.number => Some(other),
+        _ => Some(Earliest {
+            line,
+            number: oldest.number,
+        }),
+    }
+}
+
+// Whether isOrderedBefore passes after the event with this number.
+fn is_ordered(tables: &Tables, trace: &Trace, number: u64, first: Range, second: Range) -> bool
+    requires results { AreResultsOf trace.now tables.now }
+    requires within { number ≤ length trace.now.events }
+    ensures { IsTrue result ↔ OrderedPasses (history trace.now number) first second }
+{
+    let Some(found) = earliest(tables, trace, number, second, None) else {
+        return true;
+    };
+    let other = earliest(tables, trace, number, second, Some(found.line));
+    let (start, end) = lines_of(trace, first);
+    for line in start..end {
+        let by = if line == found.line {
+            match other {
+                None => None,
+                Some(next) => Some(next.number),
+            }
+        } else {
+            Some(found.number)
+        };
+        if !is_line_ordered(tables, trace, number, first, second, line, by) {
+            return false;
+        }
+    }
+    true
+}
+
+// Whether in this line the last stores to bytes of the first range come before those to bytes of the second, and are persisted
+// for sure by a place.
+fn is_line_ordered(
+    tables: &Tables,
+    trace: &Trace,
+    number: u64,
+    first: Range,
+    second: Range,
+    line: u64,
+    by: Option<u64>,
+) -> bool
+    requires results { AreResultsOf trace.now tables.now }
+    requires line { line < 2 ^ 48 }
+    requires by { ForSome by (λ place. place ≤ length trace.now.events) }
+    ensures { IsTrue result ↔ IsLineOrdered trace.now number first second line by }
+{
+    if let Some(oldest) = line_oldest(tables, trace, second, line, number) {
+        if !is_line_ranked(tables, trace, first, line, number, oldest.rank) {
+            return false;
+        }
+    }
+    match by {
+        None => true,
+        Some(place) => is_line_persisted(tables, trace, first, line, number, place),
+    }
+}
