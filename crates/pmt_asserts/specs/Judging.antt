@@ -53,9 +53,13 @@ earlier_of (Some e) line (Some o) = if nat_le e.number o.number then Some e else
 abbrev pub RanksBefore : Recording → ℕ → ℕ → ℕ → Type 0
 RanksBefore T i a b = IfSome (last_store b (history T i)) (λ y. RankedBy T i y.rank a)
 
--- In this line the last stores to bytes of A come before those to bytes of B, and they are persisted for sure by a place.
+-- In this line the last stores to bytes of A come before those to bytes of B.
+abbrev pub IsLineInOrder : Recording → ℕ → Span → Span → ℕ → Type 0
+IsLineInOrder T i A B line = EachIn T line A (λ a. EachIn T line B (RanksBefore T i a))
+
+-- It is so, and they are persisted for sure by a place.
 abbrev pub IsLineOrdered : Recording → ℕ → Span → Span → ℕ → Option ℕ → Type 0
-IsLineOrdered T i A B line by = EachIn T line A (λ a. EachIn T line B (RanksBefore T i a)) × IfSome by (λ n. EachIn T line A (PersistedBy T i n))
+IsLineOrdered T i A B line by = IsLineInOrder T i A B line × IfSome by (λ n. EachIn T line A (PersistedBy T i n))
 
 -- The place by which the stores to a line have to be persisted: that of the earliest store to another line.
 abbrev pub place_for : Earliest → Option Earliest → ℕ → Option ℕ

@@ -1,10 +1,10 @@
-ghost use Rattle.std.specs.Prelude.{◌≡◌, ◌≢◌, ℕ, ◌<◌, ◌≤◌, ◌^◌, ◌↔◌, IsTrue, IfOk, length, Option, None, Some};
+ghost use Rattle.std.specs.Prelude.{◌≡◌, ◌≢◌, ℕ, ◌+◌, ◌<◌, ◌≤◌, ◌^◌, ◌↔◌, IsTrue, IfOk, IfSome, length, Option, None, Some};
 ghost use Rattle.pmt_model.specs.Values.{line_of};
-ghost use Rattle.pmt_model.specs.Traces.{history};
+ghost use Rattle.pmt_model.specs.Traces.{IsTrace, history};
 ghost use Rattle.pmt_model.specs.Assertions.{InSpan, PersistPasses, OrderedPasses};
 ghost use Rattle.pmt_model.specs.Analyses.{IsVerdicts};
 ghost use Rattle.pmt_asserts.specs.Tables.{AreResultsOf};
-ghost use Rattle.pmt_asserts.specs.Judging.{IsEarliestOf, IsVerdictAt, IsLineOrdered, earlier_of};
+ghost use Rattle.pmt_asserts.specs.Judging.{IsEarliestOf, IsVerdictAt, IsLineInOrder, IsLineOrdered, earlier_of, place_for};
 
 use crate::oldest::{Earliest, Oldest};
 use crate::part::{is_line_persisted, is_line_ranked, line_oldest};
@@ -18,7 +18,12 @@ use std::thread::Threads;
 ///
 /// # Errors
 /// Where memory was refused.
-pub fn verdicts(rt: &(impl Threads + Sync), alloc: Global, tables: &Tables, trace: &Trace) -> Result<Vec<Verdict>, OutOfMemory>
+pub fn verdicts(
+    rt: &(impl Threads + Sync),
+    alloc: Global,
+    tables: &Tables,
+    trace: &Trace,
+) -> Result<Vec<Verdict>, OutOfMemory>
     requires { AreResultsOf trace.now tables.now }
     ensures { IfOk result (λ all. IsVerdicts trace.now all.items) }
 {
@@ -38,8 +43,8 @@ pub fn verdict(tables: &Tables, trace: &Trace, number: u64) -> Option<Verdict>
     requires { AreResultsOf trace.now tables.now }
     ensures { IsVerdictAt trace.now number result }
 {
-    let event = trace.get(number)?;
-    match event.op {
+    let op = trace.get(number)?.op;
+    match op {
         Op::IsPersist(range) => Some(Verdict {
             event: number,
             ordered: false,
@@ -74,6 +79,7 @@ fn lines_of(trace: &Trace, range: Range) -> (u64, u64)
     ensures lines { (b : ℕ) → InSpan range b → (result.0 ≤ line_of trace.now.format b) × (line_of trace.now.format b < result.1) }
     ensures some { result.0 < result.1 }
     ensures within { result.1 ≤ 2 ^ 48 }
+    ensures trace { IsTrace trace.now }
 {
     let size = trace.format().line_size();
     let first = range.addr().get();
@@ -83,7 +89,13 @@ fn lines_of(trace: &Trace, range: Range) -> (u64, u64)
 
 // Of the last ones of the events up to this number that store to a byte of the range, the first, where those to one line may
 // be left out.
-fn earliest(tables: &Tables, trace: &Trace, number: u64, range: Range, skipped: Option<u64>) -> Option<Earliest>
+fn earliest(
+    tables: &Tables,
+    trace: &Trace,
+    number: u64,
+    range: Range,
+    skipped: Option<u64>,
+) -> Option<Earliest>
     requires { AreResultsOf trace.now tables.now }
     ensures { IsEarliestOf trace.now number skipped range result }
 {
@@ -91,7 +103,11 @@ fn earliest(tables: &Tables, trace: &Trace, number: u64, range: Range, skipped: 
     let mut earliest = None;
     for line in first..end {
         if skipped != Some(line) {
-            earliest = earlier(earliest, line, line_oldest(tables, trace, range, line, number));
+            earliest = earlier(
+                earliest,
+                line,
+                line_oldest(tables, trace, range, line, number),
+            );
         }
     }
     earliest
@@ -125,19 +141,25 @@ fn is_ordered(tables: &Tables, trace: &Trace, number: u64, first: Range, second:
     let other = earliest(tables, trace, number, second, Some(found.line));
     let (start, end) = lines_of(trace, first);
     for line in start..end {
-        let by = if line == found.line {
-            match other {
-                None => None,
-                Some(next) => Some(next.number),
-            }
-        } else {
-            Some(found.number)
-        };
+        let by = place_by(found, other, line);
         if !is_line_ordered(tables, trace, number, first, second, line, by) {
             return false;
         }
     }
     true
+}
+
+// The place by which the stores to a line have to be persisted: that of the earliest store to another line.
+fn place_by(found: Earliest, other: Option<Earliest>, line: u64) -> Option<u64>
+    ensures { result ≡ place_for found other line }
+{
+    if line != found.line {
+        return Some(found.number);
+    }
+    match other {
+        None => None,
+        Some(next) => Some(next.number),
+    }
 }
 
 // Whether in this line the last stores to bytes of the first range come before those to bytes of the second, and are persisted
@@ -153,16 +175,33 @@ fn is_line_ordered(
 ) -> bool
     requires results { AreResultsOf trace.now tables.now }
     requires line { line < 2 ^ 48 }
-    requires by { ForSome by (λ place. place ≤ length trace.now.events) }
+    requires by { IfSome by (λ place. place ≤ length trace.now.events) }
     ensures { IsTrue result ↔ IsLineOrdered trace.now number first second line by }
 {
-    if let Some(oldest) = line_oldest(tables, trace, second, line, number) {
-        if !is_line_ranked(tables, trace, first, line, number, oldest.rank) {
-            return false;
-        }
+    if !is_line_in_order(tables, trace, number, first, second, line) {
+        return false;
     }
     match by {
         None => true,
         Some(place) => is_line_persisted(tables, trace, first, line, number, place),
+    }
+}
+
+// Whether in this line the last stores to bytes of the first range come before those to bytes of the second.
+fn is_line_in_order(
+    tables: &Tables,
+    trace: &Trace,
+    number: u64,
+    first: Range,
+    second: Range,
+    line: u64,
+) -> bool
+    requires results { AreResultsOf trace.now tables.now }
+    requires line { line < 2 ^ 48 }
+    ensures { IsTrue result ↔ IsLineInOrder trace.now number first second line }
+{
+    match line_oldest(tables, trace, second, line, number) {
+        None => true,
+        Some(oldest) => is_line_ranked(tables, trace, first, line, number, oldest.rank),
     }
 }
