@@ -1,0 +1,15 @@
+//! The verdicts of the assertions of a trace, from the results of its lines' jobs.
+//!
+//! The definitions stand in `specs/`.
+#![tactic(auto)]
+
+mod build;
+mod judge;
+mod oldest;
+mod part;
+mod put;
+mod table;
+mod tables;
+
+pub use crate::judge::{verdict, verdicts};
+pub use crate::tables::Tables;
