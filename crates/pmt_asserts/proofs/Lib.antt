@@ -9,3 +9,4 @@ pub mod PlacingLemmas
 pub mod PartLemmas
 pub mod JudgeLemmas
 pub mod EarliestLemmas
+pub mod VerdictLemmas

@@ -1,9 +1,13 @@
 -- How the verdicts come about from the tables.
-use Rattle.std.specs.Prelude.{◌≡◌, ◌≢◌, ℕ, ◌<◌, ◌≤◌, ◌⊎◌, Option, None, Some, MatchOption, IfSome, ◌==◌, nat_le, if◌then◌else◌}
+use Rattle.std.specs.Prelude.{◌≡◌, ◌≢◌, ℕ, Bool, true, false, List, ◌<◌, ◌≤◌, ◌⊎◌, Option, None, Some, MatchOption, IfSome, ◌==◌, nat_le, if◌then◌else◌}
 use Rattle.std.specs.Option.{option_map}
 use Rattle.pmt_model.specs.declared.finding.Verdict.{Verdict}
 use Rattle.pmt_model.specs.Values.{Span, line_of}
-use Rattle.pmt_model.specs.Traces.{Recording, history}
+use Rattle.pmt_model.specs.declared.event.Event.{Event}
+use Rattle.pmt_model.specs.declared.event.Op.{Op}
+use Rattle.pmt_model.specs.declared.event.Op.TheVariants.{Store, Clwb, ClflushOpt, Clflush, Sfence, Mfence, IsPersist, IsOrderedBefore}
+use Rattle.pmt_model.specs.Traces.{Recording, history, event}
+use Rattle.pmt_model.specs.Selections.{IsRising, Has}
 use Rattle.pmt_model.specs.Assertions.{InSpan, last_store, up_to_last}
 use Rattle.pmt_model.specs.Analyses.{IsVerdictOf}
 use Rattle.pmt_asserts.specs.declared.oldest.Oldest.{Oldest}
@@ -68,3 +72,20 @@ place_for e other line = if line == e.line then option_map (λ o. o.number) othe
 -- The verdict of the event with this number, if it is an assertion.
 abbrev pub IsVerdictAt : Recording → ℕ → Option Verdict → Type 0
 IsVerdictAt T number o = MatchOption o ((v : Verdict) → IsVerdictOf T v → v.event ≢ number) (λ v. (v.event ≡ number) × IsVerdictOf T v)
+
+-- The op is an assertion.
+abbrev pub asserts : Op → Bool
+asserts (Store w) = false
+asserts (Clwb a) = false
+asserts (ClflushOpt a) = false
+asserts (Clflush a) = false
+asserts Sfence = false
+asserts Mfence = false
+asserts (IsPersist r) = true
+asserts (IsOrderedBefore r q) = true
+
+-- Rising numbers, among them those of all assertions of the first n events, and none above n.
+pub record AreAssertions (T : Recording) (n : ℕ) (numbers : List ℕ) : Type 0 where
+  pub rising : IsRising 0 numbers
+  pub within : (k : ℕ) → Has numbers k → k ≤ n
+  pub all : (k : ℕ) (e : Event) → k ≤ n → event T k ≡ Some e → asserts e.op ≡ true → Has numbers k

@@ -4,7 +4,7 @@ ghost use Rattle.pmt_model.specs.Traces.{IsTrace, history};
 ghost use Rattle.pmt_model.specs.Assertions.{InSpan, PersistPasses, OrderedPasses};
 ghost use Rattle.pmt_model.specs.Analyses.{IsVerdicts};
 ghost use Rattle.pmt_asserts.specs.Tables.{AreResultsOf};
-ghost use Rattle.pmt_asserts.specs.Judging.{IsEarliestOf, IsVerdictAt, IsLineInOrder, IsLineOrdered, earlier_of, place_for};
+ghost use Rattle.pmt_asserts.specs.Judging.{AreAssertions, asserts, IsEarliestOf, IsVerdictAt, IsLineInOrder, IsLineOrdered, earlier_of, place_for};
 
 use crate::oldest::{Earliest, Oldest};
 use crate::part::{is_line_persisted, is_line_ranked, line_oldest};
@@ -14,7 +14,12 @@ use rayon::prelude::*;
 use std::alloc::Global;
 use std::thread::Threads;
 
-/// The verdicts of all assertions of the trace, in event order.
+// How few assertions are worth a thread of their own.
+const LEAST_SHARE: usize = 64;
+
+/// The verdicts of all assertions of the trace, in event order, judged by as many threads as there is work for.
+///
+/// The tables are those of the results of all jobs of one `split` of the trace.
 ///
 /// # Errors
 /// Where memory was refused.
@@ -27,18 +32,46 @@ pub fn verdicts(
     requires { AreResultsOf trace.now tables.now }
     ensures { IfOk result (λ all. IsVerdicts trace.now all.items) }
 {
-    (0..trace.len())
-        .into_par_iter()
+    let numbers = assertions(alloc, trace)?;
+    numbers
+        .par_iter()
+        .with_min_len(LEAST_SHARE)
         .filter_map(
-            |index: usize| -> Option<Verdict>
+            |number: &u64| -> Option<Verdict>
                 requires { AreResultsOf trace.now tables.now }
-                ensures { IsVerdictAt trace.entry.now (index + 1) result }
-            { verdict(tables, trace, index as u64 + 1) },
+                ensures { IsVerdictAt trace.entry.now number.now result }
+            { verdict(tables, trace, *number) },
         )
         .collect(rt, alloc)
 }
 
-/// The verdict of the event with this number; none where it is no assertion.
+// The numbers of the assertions of the trace.
+fn assertions(alloc: Global, trace: &Trace) -> Result<Vec<u64>, OutOfMemory>
+    ensures { IfOk result (λ numbers. AreAssertions trace.now (length trace.now.events) numbers.items) }
+{
+    let mut numbers = Vec::new(alloc);
+    for (index, event) in trace.events().iter().enumerate() {
+        if is_assertion(event.op) {
+            numbers.push(index as u64 + 1)?;
+        }
+    }
+    Ok(numbers)
+}
+
+// Whether the op is an assertion.
+fn is_assertion(op: Op) -> bool
+    ensures { result ≡ asserts op }
+{
+    match op {
+        Op::IsPersist(_) | Op::IsOrderedBefore(_, _) => true,
+        Op::Store(_) | Op::Clwb(_) | Op::ClflushOpt(_) | Op::Clflush(_) | Op::Sfence | Op::Mfence =>
+            false,
+    }
+}
+
+/// The verdict of the event with this number; none where it is no assertion or there is no such event.
+///
+/// The tables are those of the results of all jobs of one `split` of the trace.
 pub fn verdict(tables: &Tables, trace: &Trace, number: u64) -> Option<Verdict>
     requires { AreResultsOf trace.now tables.now }
     ensures { IsVerdictAt trace.now number result }
