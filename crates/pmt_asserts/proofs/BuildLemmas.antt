@@ -46,16 +46,19 @@ has-more old new rank low b h is w = (there, back)
   where
     there : Contains (new ++ record { byte = b; rank = rank } ∷ []) w → Contains old w ⊎ ((w.rank ≡ rank) × (low ≤ w.byte) × (w.byte < b + 1))
     there c =
-        elim (Contains-push_cases new (record { byte = b; rank = rank }) w c)
-        [ inl before ↦ elim ((is w).0 before) [ inl g ↦ inl g | inr g ↦ inr (g.0, g.1, omega (arith, g.2)) ]
-        | inr same ↦ let r : w.rank ≡ rank = ap (λ (v : Write). v.rank) (sym same) in let e : b ≡ w.byte = ap (λ (v : Write). v.byte) same in inr (r, omega (arith, e), omega (arith, e)) ]
+        elim (Contains-push_cases new (record { byte = b; rank = rank }) w c) [
+          | inl before ↦ elim ((is w).0 before) [ inl g ↦ inl g | inr g ↦ inr (g.0, g.1, omega (arith, g.2)) ]
+          | inr same ↦ let r : w.rank ≡ rank = ap (λ (v : Write). v.rank) (sym same) in let e : b ≡ w.byte = ap (λ (v : Write). v.byte) same in inr (r, omega (arith, e), omega (arith, e))
+        ]
+
     back : Contains old w ⊎ ((w.rank ≡ rank) × (low ≤ w.byte) × (w.byte < b + 1)) → Contains (new ++ record { byte = b; rank = rank } ∷ []) w
     back (inl g) = Contains-append_left new (record { byte = b; rank = rank } ∷ []) w ((is w).1 (inl g))
     back (inr g) =
-        elim (cases_lt w.byte b)
-        [ inl less ↦ Contains-append_left new (record { byte = b; rank = rank } ∷ []) w ((is w).1 (inr (g.0, g.1, less)))
-        | inr more ↦ let e : b ≡ w.byte = omega (arith, g.2) in let same : record { byte = b; rank = rank } ≡ w = ap (λ n. record { byte = n; rank = rank }) e ∙ ap (λ n. record { byte = w.byte; rank = n }) (sym g.0) in
-          subst (Contains (new ++ record { byte = b; rank = rank } ∷ [])) same (Contains-push new (record { byte = b; rank = rank })) ]
+        elim (cases_lt w.byte b) [
+          | inl less ↦ Contains-append_left new (record { byte = b; rank = rank } ∷ []) w ((is w).1 (inr (g.0, g.1, less)))
+          | inr more ↦ let e : b ≡ w.byte = omega (arith, g.2) in let same : record { byte = b; rank = rank } ≡ w = ap (λ n. record { byte = n; rank = rank }) e ∙ ap (λ n. record { byte = w.byte; rank = n }) (sym g.0) in
+              subst (Contains (new ++ record { byte = b; rank = rank } ∷ [])) same (Contains-push new (record { byte = b; rank = rank }))
+        ]
 
 -- what a store covers
 covers-range : (p : Put) (b : ℕ) → p.addr ≤ b → b < p.addr + p.len → covers p b ≡ true
@@ -71,9 +74,10 @@ range-covers p b h =
 -- all writes of the store
 pub has-all : (old new : List Write) (rank b : ℕ) (p : Put) → p.addr + p.len ≤ b → (p.addr ≤ p.addr + p.len → b ≤ p.addr + p.len) → HasUpTo old new rank p.addr b → (w : Write) → Contains new w ↔ (Contains old w ⊎ ((w.rank ≡ rank) × (covers p w.byte ≡ true)))
 has-all old new rank b p past fits is w =
-    let up = fits (omega arith) in
-    (λ c. elim ((is w).0 c) [ inl g ↦ inl g | inr g ↦ inr (g.0, covers-range p w.byte g.1 (omega (arith, g.2, up))) ],
-    λ h. elim h [ inl g ↦ (is w).1 (inl g) | inr g ↦ let r = range-covers p w.byte g.1 in (is w).1 (inr (g.0, r.0, omega (arith, r.1, past))) ])
+    let up = fits (omega arith) in (
+      λ c. elim ((is w).0 c) [ inl g ↦ inl g | inr g ↦ inr (g.0, covers-range p w.byte g.1 (omega (arith, g.2, up))) ],
+      λ h. elim h [ inl g ↦ (is w).1 (inl g) | inr g ↦ let r = range-covers p w.byte g.1 in (is w).1 (inr (g.0, r.0, omega (arith, r.1, past))) ],
+    )
 
 -- The list has the writes of the first i stores.
 abbrev pub HasWrites : List Put → List Write → ℕ → Type 0
@@ -89,21 +93,28 @@ writes-more puts old new i p h is added w = (there, back)
   where
     read : put_at puts i ≡ put_at puts i
     read = refl
+
     there : Contains new w → IsWriteOf puts w × (w.rank ≤ i + 1)
     there c =
-        elim ((added w).0 c)
-        [ inl g ↦ let r = (is w).0 g in (r.0, omega (arith, r.1))
-        | inr g ↦ let k : i ≡ w.rank - 1 = omega (arith, g.0) in (record {
-          some = omega (arith, g.0);
-          within = omega (arith, g.0, h);
-          writes = subst (λ n. covers (put_at puts n) w.byte ≡ true) k (subst (λ q. covers q w.byte ≡ true) read g.1);
-        }, omega (arith, g.0)) ]
+        elim ((added w).0 c) [
+          | inl g ↦ let r = (is w).0 g in (r.0, omega (arith, r.1))
+          | inr g ↦ let k : i ≡ w.rank - 1 = omega (arith, g.0) in (
+            record {
+              some = omega (arith, g.0);
+              within = omega (arith, g.0, h);
+              writes = subst (λ n. covers (put_at puts n) w.byte ≡ true) k (subst (λ q. covers q w.byte ≡ true) read g.1);
+            },
+            omega (arith, g.0),
+          )
+        ]
+
     back : IsWriteOf puts w × (w.rank ≤ i + 1) → Contains new w
     back g =
-        elim (cases_lt i w.rank)
-        [ inl last ↦ let r : w.rank ≡ i + 1 = omega (arith, g.1) in let k : w.rank - 1 ≡ i = omega (arith, r) in
-          (added w).1 (inr (r, subst (λ q. covers q w.byte ≡ true) (sym read) (subst (λ n. covers (put_at puts n) w.byte ≡ true) k g.0.writes)))
-        | inr before ↦ (added w).1 (inl ((is w).1 (g.0, before))) ]
+        elim (cases_lt i w.rank) [
+          | inl last ↦ let r : w.rank ≡ i + 1 = omega (arith, g.1) in let k : w.rank - 1 ≡ i = omega (arith, r) in
+              (added w).1 (inr (r, subst (λ q. covers q w.byte ≡ true) (sym read) (subst (λ n. covers (put_at puts n) w.byte ≡ true) k g.0.writes)))
+          | inr before ↦ (added w).1 (inl ((is w).1 (g.0, before)))
+        ]
 
 -- By byte and then by rank.
 abbrev pub compared : Write → Write → Ordering
@@ -112,13 +123,16 @@ compared v w = ordering_then (nat_cmp v.byte w.byte) (nat_cmp v.rank w.rank)
 -- what doesn't come before
 up_to-from : (v w : Write) → is_lt (compared w v) ≡ false → IsUpTo v w
 up_to-from v w h =
-    elim (cases_order v.byte w.byte)
-    [ inl same ↦ elim (cases_lt w.rank v.rank)
-      [ inl less ↦ absurd (both_ways (is_lt (compared w v)) h (let a = le-ltb w.byte v.byte (omega (arith, same)) in let b = eq-eqb w.byte v.byte (sym same) in let d = lt-ltb w.rank v.rank less in rw (a, b, d) refl))
-      | inr more ↦ inr (same, more) ]
-    | inr other ↦ elim other
-      [ inl less ↦ inl less
-      | inr more ↦ absurd (both_ways (is_lt (compared w v)) h (let a = lt-ltb w.byte v.byte more in rw a refl)) ] ]
+    elim (cases_order v.byte w.byte) [
+      | inl same ↦ elim (cases_lt w.rank v.rank) [
+        | inl less ↦ absurd (both_ways (is_lt (compared w v)) h (let a = le-ltb w.byte v.byte (omega (arith, same)) in let b = eq-eqb w.byte v.byte (sym same) in let d = lt-ltb w.rank v.rank less in rw (a, b, d) refl))
+        | inr more ↦ inr (same, more)
+      ]
+      | inr other ↦ elim other [
+        | inl less ↦ inl less
+        | inr more ↦ absurd (both_ways (is_lt (compared w v)) h (let a = lt-ltb w.byte v.byte more in rw a refl))
+      ]
+    ]
 
 up_to-refl : (w : Write) → IsUpTo w w
 up_to-refl w = inr (refl, omega arith)
@@ -148,6 +162,7 @@ puts-inside low steps are = All-from_recursion IsInside (puts_of steps) (each lo
     one n Flush ps is rest = rest
     one n Clflush ps is rest = rest
     one n Fence ps is rest = rest
+
     each : (from : ℕ) (ss : List Step) → AreSteps from ss → AllByRecursion IsInside (puts_of ss)
     each from [] a = tt
     each from (s ∷ ss) a = one s.number s.kind (puts_of ss) a.2 (each s.number ss a.3)

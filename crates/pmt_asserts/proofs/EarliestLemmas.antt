@@ -53,17 +53,18 @@ earliest-more T i line skipped A None (Some o) open' is oldest = record {
   reached = let r = oldest.reached in (r.0, o.rank, r.1, r.2, r.3);
 }
 earliest-more T i line skipped A (Some e) (Some o) open' is oldest =
-    elim (leb_tells e.number o.number)
-    [ inl before ↦ subst (λ t. EarliestOfBelow T i skipped A (line + 1) (if t then Some e else Some (record { line = line; number = o.number }))) (sym before.0) (record {
-      first = λ b j below taken. elim (cases_eq (line_of T.format b) line) [ inl own ↦ comes-earlier T i o.number e.number b before.1 (oldest-comes T i line A o oldest b j own) | inr other ↦ is.first b j (omega (arith, below, other)) taken ];
-      taken = is.taken;
-      reached = is.reached;
-    })
-    | inr after ↦ subst (λ t. EarliestOfBelow T i skipped A (line + 1) (if t then Some e else Some (record { line = line; number = o.number }))) (sym after.0) (record {
-      first = λ b j below taken. elim (cases_eq (line_of T.format b) line) [ inl own ↦ oldest-comes T i line A o oldest b j own | inr other ↦ comes-earlier T i e.number o.number b (omega (arith, after.1)) (is.first b j (omega (arith, below, other)) taken) ];
-      taken = open';
-      reached = let r = oldest.reached in (r.0, o.rank, r.1, r.2, r.3);
-    }) ]
+    elim (leb_tells e.number o.number) [
+      | inl before ↦ subst (λ t. EarliestOfBelow T i skipped A (line + 1) (if t then Some e else Some (record { line = line; number = o.number }))) (sym before.0) (record {
+        first = λ b j below taken. elim (cases_eq (line_of T.format b) line) [ inl own ↦ comes-earlier T i o.number e.number b before.1 (oldest-comes T i line A o oldest b j own) | inr other ↦ is.first b j (omega (arith, below, other)) taken ];
+        taken = is.taken;
+        reached = is.reached;
+      })
+      | inr after ↦ subst (λ t. EarliestOfBelow T i skipped A (line + 1) (if t then Some e else Some (record { line = line; number = o.number }))) (sym after.0) (record {
+        first = λ b j below taken. elim (cases_eq (line_of T.format b) line) [ inl own ↦ oldest-comes T i line A o oldest b j own | inr other ↦ comes-earlier T i e.number o.number b (omega (arith, after.1)) (is.first b j (omega (arith, below, other)) taken) ];
+        taken = open';
+        reached = let r = oldest.reached in (r.0, o.rank, r.1, r.2, r.3);
+      })
+    ]
 
 -- after the last line
 pub earliest-end : (T : Recording) (i end : ℕ) (skipped : Option ℕ) (A : Span) (o : Option Earliest) → ((b : ℕ) → InSpan A b → line_of T.format b < end) → EarliestOfBelow T i skipped A end o → IsEarliestOf T i skipped A o

@@ -37,24 +37,31 @@ next-between puts ws past i j n are at within same next far below = go (cases_lt
   where
     v : Write
     v = write_at ws i
+
     w : Write
     w = write_at ws j
+
     ranked : (x y : Write) → x.byte ≡ y.byte → IsUpTo x y → x.rank ≤ y.rank
     ranked x y e (inl less) = absurd (omega (arith, e, less))
     ranked x y e (inr by) = by.1
+
     bytes : (x y : Write) → IsUpTo x y → x.byte ≤ y.byte
     bytes x y (inl less) = omega arith
     bytes x y (inr by) = omega (arith, by.0)
+
     go : (i < j) ⊎ (j ≤ i) → w.rank ≤ v.rank
     go (inr before) = ranked w v same (are.sorted j i no_write before at)
     go (inl after) = later next
       where
         x : Write
         x = write_at ws (suc i)
+
         up : IsUpTo x w
         up = are.sorted (suc i) j no_write (omega arith) within
+
         own : x.byte ≡ v.byte
         own = omega (arith, bytes v x (are.sorted i (suc i) no_write (omega arith) (omega arith)), bytes x w up, same)
+
         later : IsNext ws past i n → w.rank ≤ v.rank
         later (Again inside e is) = absurd (omega (arith, ranked x w (own ∙ sym same) up, is, below))
         later (Never none is) = absurd (none (omega arith) own)
@@ -72,6 +79,7 @@ ends-none puts ws past = record { each = long (length puts); reached = λ r. inl
     long : (n : ℕ) → length {A = ℕ} (replicate n 0) ≡ n
     long zero = refl
     long (suc n) = ap suc (long n)
+
     blank : (n r : ℕ) → slice_index (replicate n 0) r ≡ 0
     blank zero r = refl
     blank (suc n) zero = refl
@@ -85,26 +93,34 @@ ends-more puts ws past i n k ends within is by next = record { each = length-set
   where
     old : ℕ
     old = slice_index ends k
+
     v : ℕ
     v = max n (slice_index ends k)
+
     new : List ℕ
     new = slice_set ends k (max n (slice_index ends k))
+
     here : slice_index new k ≡ v
     here = get_or-set_same ends k v 0 (omega (arith, by.each))
+
     reached : (r : ℕ) → (r ≡ k) ⊎ (r ≡ k → ⊥) → (slice_index new r ≡ 0) ⊎ ((j : ℕ) × (j < i + 1) × ((write_at ws j).rank ≡ suc r) × IsNext ws past j (slice_index new r))
     reached r (inr other) =
         let e : slice_index ends r ≡ slice_index new r = sym (get_or-set_other ends k r v 0 other) in
-        elim (by.reached r)
-        [ inl none ↦ inl (omega (arith, e, none))
-        | inr some ↦ inr (some.0, omega (arith, some.1), some.2, subst (IsNext ws past some.0) e some.3) ]
+        elim (by.reached r) [
+          | inl none ↦ inl (omega (arith, e, none))
+          | inr some ↦ inr (some.0, omega (arith, some.1), some.2, subst (IsNext ws past some.0) e some.3)
+        ]
     reached r (inl same) =
-        elim (cases_lt old n)
-        [ inl more ↦ let e : n ≡ slice_index new r = omega (arith, here, ap (slice_index new) same) in inr (i, omega arith, omega (arith, is, same), subst (IsNext ws past i) e next)
-        | inr less ↦
-          let e : slice_index ends r ≡ slice_index new r = omega (arith, here, ap (slice_index new) same, ap (slice_index ends) same) in
-          elim (by.reached r)
-          [ inl none ↦ inl (omega (arith, e, none))
-          | inr some ↦ inr (some.0, omega (arith, some.1), some.2, subst (IsNext ws past some.0) e some.3) ] ]
+        elim (cases_lt old n) [
+          | inl more ↦ let e : n ≡ slice_index new r = omega (arith, here, ap (slice_index new) same) in inr (i, omega arith, omega (arith, is, same), subst (IsNext ws past i) e next)
+          | inr less ↦
+              let e : slice_index ends r ≡ slice_index new r = omega (arith, here, ap (slice_index new) same, ap (slice_index ends) same) in
+              elim (by.reached r) [
+                | inl none ↦ inl (omega (arith, e, none))
+                | inr some ↦ inr (some.0, omega (arith, some.1), some.2, subst (IsNext ws past some.0) e some.3)
+              ]
+        ]
+
     bound : (j : ℕ) → j < i + 1 → ((write_at ws j).rank - 1 ≡ k) ⊎ ((write_at ws j).rank - 1 ≡ k → ⊥) → (j < i) ⊎ (i ≤ j) → (m : ℕ) × IsNext ws past j m × (m ≤ slice_index new ((write_at ws j).rank - 1))
     bound j h (inl same) (inl before) =
         let b = by.bound j before in
@@ -131,21 +147,24 @@ still-visible puts ws past i ends r c b (suc fuel) j are far whole by h within e
     ranked : (x y : Write) → y.byte ≡ x.byte → IsUpTo x y → x.rank ≤ y.rank
     ranked x y own (inl less) = absurd (omega (arith, own, less))
     ranked x y own (inr after) = after.1
+
     go : (m : ℕ) → IsNext ws past j m → m ≤ slice_index ends r → (suc j < length ws → (write_at ws (suc j)).byte ≡ b → (write_at ws (suc j)).rank ≡ suc r → c < slice_index ends r) → c < slice_index ends r
     go m (Never none is) up again = omega (arith, is, far, within, up)
     go m (Again inside own is) up again =
         let x = write_at ws (suc j) in
-        elim (cases_eq x.rank (suc r))
-        [ inl same ↦ again inside (own ∙ byte) same
-        | inr other ↦
-          elim (cases_lt c x.rank)
-          [ inl fine ↦ omega (arith, fine, is, up)
-          | inr short ↦
-            let hers = are.just x (Contains-get_or ws (suc j) no_write inside) in
-            let hit = subst (λ a. covers (put_at puts (x.rank - 1)) a ≡ true) (own ∙ byte) hers.writes in
-            let below = last_in-above puts b c (x.rank - 1) (omega (arith, hers.some, short)) hit in
-            let order = ranked (write_at ws j) x own (are.sorted j (suc j) no_write (omega arith) inside) in
-            absurd (other (omega (arith, below, e, order, rank, hers.some))) ] ]
+        elim (cases_eq x.rank (suc r)) [
+          | inl same ↦ again inside (own ∙ byte) same
+          | inr other ↦
+              elim (cases_lt c x.rank) [
+                | inl fine ↦ omega (arith, fine, is, up)
+                | inr short ↦
+                    let hers = are.just x (Contains-get_or ws (suc j) no_write inside) in
+                    let hit = subst (λ a. covers (put_at puts (x.rank - 1)) a ≡ true) (own ∙ byte) hers.writes in
+                    let below = last_in-above puts b c (x.rank - 1) (omega (arith, hers.some, short)) hit in
+                    let order = ranked (write_at ws j) x own (are.sorted j (suc j) no_write (omega arith) inside) in
+                    absurd (other (omega (arith, below, e, order, rank, hers.some)))
+              ]
+        ]
 
 -- a store that has not ended is the last one to some byte
 seen-visible :
@@ -155,11 +174,13 @@ seen-visible puts ws past r c j n are far h within at rank next below = exact (l
   where
     b : ℕ
     b = (write_at ws j).byte
+
     above : r < last_in puts (write_at ws j).byte c
     above =
         let is = are.just (write_at ws j) (Contains-get_or ws j no_write at) in
         let e : (write_at ws j).rank - 1 ≡ r = omega (arith, rank) in
         last_in-above puts b c r h (subst (λ k. covers (put_at puts k) b ≡ true) e is.writes)
+
     exact : (v : ℕ) → last_in puts (write_at ws j).byte c ≡ v → last_in puts (write_at ws j).byte c ≡ suc r
     exact zero e = absurd (omega (arith, above, e))
     exact (suc k) e =
@@ -176,6 +197,7 @@ ends-all puts ws past i ends are far whole fits by = record { each = by.each; un
     seen : (r c : ℕ) → r < c → c ≤ length puts → (slice_index ends r ≡ 0) ⊎ ((j : ℕ) × (j < i) × ((write_at ws j).rank ≡ suc r) × IsNext ws past j (slice_index ends r)) → c < slice_index ends r → (b : ℕ) × (last_in puts b c ≡ suc r)
     seen r c h within (inl none) below = absurd (omega (arith, none, below))
     seen r c h within (inr some) below = ((write_at ws some.0).byte, seen-visible puts ws past r c some.0 (slice_index ends r) are (omega (arith, far)) h within (omega (arith, some.1)) some.2 some.3 below)
+
     stays : (r c b : ℕ) → r < c → c ≤ length puts → last_in puts b c ≡ suc r → c < slice_index ends r
     stays r c b h within e =
         let w = last-write puts ws b c r are within e in
@@ -209,9 +231,10 @@ least-first puts ends k f are within up gone seen = record {
     bound : (b v : ℕ) → last_in puts b (suc k) ≡ v → (last_in puts b (suc k) ≡ 0) ⊎ (suc f ≤ last_in puts b (suc k))
     bound b zero e = inl e
     bound b (suc r) e =
-        elim (cases_lt r f)
-        [ inl less ↦ let h = (are.until r (suc k) (omega arith) (omega arith)).1 (b, e) in absurd (omega (arith, h, gone r less))
-        | inr more ↦ inr (omega (arith, e)) ]
+        elim (cases_lt r f) [
+          | inl less ↦ let h = (are.until r (suc k) (omega arith) (omega arith)).1 (b, e) in absurd (omega (arith, h, gone r less))
+          | inr more ↦ inr (omega (arith, e))
+        ]
 
 pub leasts-more :
     (puts : List Put) (ends : List ℕ) (k old first : ℕ) (leasts : List ℕ) → AreEnds puts ends → k < length puts → LeastsBy puts ends k old leasts → first ≤ k →
@@ -225,6 +248,7 @@ leasts-more puts ends k old first leasts are within by up passed seen = record {
   where
     gone : (r : ℕ) → r < first → slice_index ends r ≤ k + 1
     gone r h = elim (cases_lt r old) [ inl less ↦ omega (arith, by.gone r less) | inr more ↦ passed r more h ]
+
     least : (j : ℕ) → (j < k) ⊎ (k ≤ j) → j < k + 1 → IsLeast puts (suc j) (slice_index (leasts ++ (first + 1) ∷ []) j)
     least j (inl before) h = subst (IsLeast puts (suc j)) (sym (pushed-before leasts (first + 1) 0 j (omega (arith, by.each)))) (by.least j before)
     least j (inr last) h =
@@ -242,9 +266,10 @@ writes-between puts ws low high are from to k b within hit =
     let back : k ≡ suc k - 1 = omega arith in
     let w : Write = record { byte = b; rank = suc k } in
     let at = at-write ws w (are.all w (record { some = omega arith; within = omega arith; writes = subst (λ n. covers (put_at puts n) b ≡ true) back hit })) in
-    let byte : (write_at ws at.0).byte ≡ b = ap (λ (x : Write). x.byte) at.2 in
-    (omega (arith, from, byte, bytes (write_at ws 0) (write_at ws at.0) (are.sorted 0 at.0 no_write (omega arith) at.1)),
-    omega (arith, to, byte, bytes (write_at ws at.0) (write_at ws (length ws - 1)) (are.sorted at.0 (length ws - 1) no_write (omega (arith, at.1)) (omega (arith, at.1)))))
+    let byte : (write_at ws at.0).byte ≡ b = ap (λ (x : Write). x.byte) at.2 in (
+      omega (arith, from, byte, bytes (write_at ws 0) (write_at ws at.0) (are.sorted 0 at.0 no_write (omega arith) at.1)),
+      omega (arith, to, byte, bytes (write_at ws at.0) (write_at ws (length ws - 1)) (are.sorted at.0 (length ws - 1) no_write (omega (arith, at.1)) (omega (arith, at.1)))),
+    )
   where
     bytes : (x y : Write) → IsUpTo x y → x.byte ≤ y.byte
     bytes x y (inl less) = omega arith

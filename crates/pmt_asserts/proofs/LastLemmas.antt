@@ -67,21 +67,25 @@ last-next T l puts b n (Stores k w) trace are in_line is known = go (cases_eq l 
   where
     h : List Act
     h = history T n
+
     other : (l ≡ k → ⊥) → writes w b ≡ false
     other ne = elim (cases_Bool (writes w b)) [ inl hit ↦ absurd (ne (sym in_line ∙ writes-line T (suc n) k w b trace is hit)) | inr free ↦ free ]
+
     same : l ≡ k → LastIs T l puts b (suc n) (suc (count_at T l n)) (Stores k w ∷ h)
     same e =
         let is' : IsAct T (suc n) (Stores l w) = subst (λ j. IsAct T (suc n) (Stores j w)) (sym e) is in
         let there = covers-writes T l (suc n) (count_at T l n) puts w b are is' (count_at-store T l n w is') in
-        elim (cases_Bool (writes w b))
-        [ inl hit ↦
-          let last = (taken b k w h hit).0 in
-          LastAt (count_at T l n) (subst (λ j. last_store b (Stores k w ∷ h) ≡ Some (record { line = j; rank = suc (count j h) })) (sym e) last)
-          (last_in-takes puts b (count_at T l n) (there.2 ∙ hit)) there.0 (omega arith) (omega (arith, there.1))
-          ((taken b k w h hit).1 ∙ sym (history-act T n (Stores k w) is) ∙ ap (history T) (sym there.1))
-        | inr free ↦
-          let last = skipped b k w h free in
-          later-last T l puts b n (suc n) (count_at T l n) (suc (count_at T l n)) h (Stores k w ∷ h) (omega arith) (omega arith) (last_in-skips puts b (count_at T l n) (there.2 ∙ free)) last.0 last.1 known ]
+        elim (cases_Bool (writes w b)) [
+          | inl hit ↦
+              let last = (taken b k w h hit).0 in
+              LastAt (count_at T l n) (subst (λ j. last_store b (Stores k w ∷ h) ≡ Some (record { line = j; rank = suc (count j h) })) (sym e) last)
+              (last_in-takes puts b (count_at T l n) (there.2 ∙ hit)) there.0 (omega arith) (omega (arith, there.1))
+              ((taken b k w h hit).1 ∙ sym (history-act T n (Stores k w) is) ∙ ap (history T) (sym there.1))
+          | inr free ↦
+              let last = skipped b k w h free in
+              later-last T l puts b n (suc n) (count_at T l n) (suc (count_at T l n)) h (Stores k w ∷ h) (omega arith) (omega arith) (last_in-skips puts b (count_at T l n) (there.2 ∙ free)) last.0 last.1 known
+        ]
+
     go : (l ≡ k) ⊎ (l ≡ k → ⊥) → LastIs T l puts b (suc n) (count l (Stores k w ∷ h)) (Stores k w ∷ h)
     go (inl e) = subst (λ c. LastIs T l puts b (suc n) c (Stores k w ∷ h)) (sym (count-store l k w h e)) (same e)
     go (inr ne) =
@@ -98,7 +102,8 @@ pub last-is : (T : Recording) (l : ℕ) (puts : List Put) (b n : ℕ) → IsTrac
 last-is T l puts b zero trace are in_line = NoLast refl (last_in-zero puts b)
 last-is T l puts b (suc n) trace are in_line =
     let known = last-is T l puts b n trace are in_line in
-    elim (history-step T n)
-    [ inl x ↦ subst (λ g. LastIs T l puts b (suc n) (count l g) g) (sym (history-act T n x.0 x.1)) (last-next T l puts b n x.0 trace are in_line x.1 known)
-    | inr x ↦ subst (λ g. LastIs T l puts b (suc n) (count l g) g) (sym x.1)
-      (later-last T l puts b n (suc n) (count_at T l n) (count_at T l n) (history T n) (history T n) (omega arith) (omega arith) refl refl refl known) ]
+    elim (history-step T n) [
+      | inl x ↦ subst (λ g. LastIs T l puts b (suc n) (count l g) g) (sym (history-act T n x.0 x.1)) (last-next T l puts b n x.0 trace are in_line x.1 known)
+      | inr x ↦ subst (λ g. LastIs T l puts b (suc n) (count l g) g) (sym x.1)
+          (later-last T l puts b n (suc n) (count_at T l n) (count_at T l n) (history T n) (history T n) (omega arith) (omega arith) refl refl refl known)
+    ]

@@ -10,3 +10,4 @@ pub mod EndLemmas
 pub mod PartLemmas
 pub mod JudgeLemmas
 pub mod EarliestLemmas
+pub mod VerdictLemmas

@@ -25,14 +25,17 @@ part-is f A l is b = (there, back)
   where
     n : ℕ
     n = f.line_size
+
     some : 0 < f.line_size
     some = size-some f is
+
     there : (max A.addr (l * f.line_size) ≤ b) × (b < min (A.addr + A.len) (l * f.line_size + f.line_size)) → InSpan A b × (line_of f b ≡ l)
     there h =
         let low = le-div l b f.line_size some (omega (arith, h.0)) in
         let next : (l + 1) * f.line_size ≡ l * f.line_size + f.line_size = omega arith in
         let high = div_below b f.line_size (l + 1) some (omega (arith, h.1, next)) in
         ((omega (arith, h.0), omega (arith, h.1)), omega (arith, low, high))
+
     back : InSpan A b × (line_of f b ≡ l) → (max A.addr (l * f.line_size) ≤ b) × (b < min (A.addr + A.len) (l * f.line_size + f.line_size))
     back h =
         let e : b / f.line_size * f.line_size ≡ l * f.line_size = ap (λ q. q * f.line_size) h.1 in

@@ -33,6 +33,7 @@ placing-more results old new x is updated = record { found = λ l k e. at (cases
   where
     longer : length (results ++ x ∷ []) ≡ length results + 1
     longer = length-append results (x ∷ [])
+
     at : {l k : ℕ} → (x.job.line ≡ l) ⊎ (x.job.line ≡ l → ⊥) → new l ≡ Some k → (k < length (results ++ x ∷ [])) × ((d : LineFound) → (get_or (results ++ x ∷ []) k d).job.line ≡ l)
     at {l} {k} (inl same) e =
         let t = eq-eqb x.job.line l same in
@@ -44,6 +45,7 @@ placing-more results old new x is updated = record { found = λ l k e. at (cases
         let there : old l ≡ Some k = sym (updated l ∙ ap (λ b. cond b (Some (length results)) (old l)) t) ∙ e in
         let f = is.found l k there in
         (omega (arith, longer, f.0), λ d. ap line_in (pushed-before results x d k f.0) ∙ f.1 d)
+
     past : {l : ℕ} → (x.job.line ≡ l) ⊎ (x.job.line ≡ l → ⊥) → new l ≡ None → All (λ r. r.job.line ≢ l) (results ++ x ∷ [])
     past {l} (inl same) e =
         let t = eq-eqb x.job.line l same in
@@ -61,6 +63,7 @@ has-with l k ks h = go (has_line k ks)
     append : (xs : List ℕ) → has_line l xs ≡ true → has_line l (xs ++ k ∷ []) ≡ true
     append [] g = let never : false ≡ true = g in cc
     append (x ∷ xs) g = elim (cases_Bool (x == l)) [ inl t ↦ rw t refl | inr f ↦ rw f (append xs (rw f at g)) ]
+
     go : (b : Bool) → has_line l (if b then ks else ks ++ k ∷ []) ≡ true
     go true = h
     go false = append ks h
@@ -71,6 +74,7 @@ has-own l ks = go (has_line l ks) refl
     append : (xs : List ℕ) → has_line l (xs ++ l ∷ []) ≡ true
     append [] = rw (eq-eqb l l refl) refl
     append (x ∷ xs) = elim (cases_Bool (x == l)) [ inl t ↦ rw t refl | inr f ↦ rw f (append xs) ]
+
     go : (b : Bool) → has_line l ks ≡ b → has_line l (if b then ks else ks ++ l ∷ []) ≡ true
     go true e = e
     go false e = append ks
@@ -79,9 +83,10 @@ has-own l ks = go (has_line l ks) refl
 stored-has : (l : ℕ) (h : List Act) → 0 < count l h → has_line l (lines_of h) ≡ true
 stored-has l [] some = absurd (omega arith)
 stored-has l (Stores k w ∷ h) some =
-    elim (cases_eq k l)
-    [ inl same ↦ subst (λ j. has_line l (with_line j (lines_of h)) ≡ true) (sym same) (has-own l (lines_of h))
-    | inr other ↦ has-with l k (lines_of h) (stored-has l h (rw (ne_eqb k l other) at some)) ]
+    elim (cases_eq k l) [
+      | inl same ↦ subst (λ j. has_line l (with_line j (lines_of h)) ≡ true) (sym same) (has-own l (lines_of h))
+      | inr other ↦ has-with l k (lines_of h) (stored-has l h (rw (ne_eqb k l other) at some))
+    ]
 stored-has l (Flushes t k ∷ h) some = has-with l k (lines_of h) (stored-has l h some)
 stored-has l (FlushesNow k ∷ h) some = has-with l k (lines_of h) (stored-has l h some)
 stored-has l (Fences t ∷ h) some = stored-has l h some
@@ -98,9 +103,11 @@ unwritten-line T l results i b trace are none in_line = go (last-is T l [] b i t
   where
     counted : count_at T l (length T.events) ≡ 0
     counted =
-        elim (cases_lt 0 (count_at T l (length T.events)))
-        [ inl some ↦ absurd (none-has l results none (subst (λ ks. has_line l ks ≡ true) (sym are.covering) (stored-has l (history T (length T.events)) some)))
-        | inr zero' ↦ omega arith ]
+        elim (cases_lt 0 (count_at T l (length T.events))) [
+          | inl some ↦ absurd (none-has l results none (subst (λ ks. has_line l ks ≡ true) (sym are.covering) (stored-has l (history T (length T.events)) some)))
+          | inr zero' ↦ omega arith
+        ]
+
     go : LastIs T l [] b i (count_at T l i) (history T i) → IsUnwritten T i b
     go (NoLast unwritten rank) = unwritten
     go (LastAt r some rank within below by_now past) = absurd (omega arith)

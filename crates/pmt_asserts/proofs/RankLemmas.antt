@@ -29,9 +29,10 @@ last_in-above puts b (suc c) k h hit = go (covers (put_at puts c) b) refl (λ be
     go : (t : Bool) → covers (put_at puts c) b ≡ t → (k < c → k < last_in puts b c) → k < (if t then suc c else last_in puts b c)
     go true e earlier = h
     go false e earlier =
-        elim (cases_eq k c)
-        [ inl same ↦ absurd (both_ways (covers (put_at puts c) b) e (subst (λ j. covers (put_at puts j) b ≡ true) same hit))
-        | inr other ↦ earlier (omega arith) ]
+        elim (cases_eq k c) [
+          | inl same ↦ absurd (both_ways (covers (put_at puts c) b) e (subst (λ j. covers (put_at puts j) b ≡ true) same hit))
+          | inr other ↦ earlier (omega arith)
+        ]
 
 -- the last store writes the byte
 pub last_in-covers : (puts : List Put) (b c r : ℕ) → last_in puts b c ≡ suc r → (r < c) × (covers (put_at puts r) b ≡ true)
@@ -53,22 +54,27 @@ up_to-trans u v w (inr p) (inr q) = inr (omega (arith, p.0, q.0), omega (arith, 
 -- what the test tells
 pub tested : (b r : ℕ) (w : Write) → is_up_to b r w ≡ true → IsUpTo w (record { byte = b; rank = r })
 tested b r w h =
-    elim (ltb_tells w.byte b)
-    [ inl less ↦ inl (less.1)
-    | inr more ↦ elim (eqb_tells w.byte b)
-      [ inl same ↦ elim (leb_tells w.rank r)
-        [ inl by ↦ inr (same.1, by.1)
-        | inr past ↦ absurd (both_ways (is_up_to b r w) (rw (more.0, same.0, past.0) refl) h) ]
-      | inr other ↦ absurd (both_ways (is_up_to b r w) (rw (more.0, other.0) refl) h) ] ]
+    elim (ltb_tells w.byte b) [
+      | inl less ↦ inl (less.1)
+      | inr more ↦ elim (eqb_tells w.byte b) [
+        | inl same ↦ elim (leb_tells w.rank r) [
+          | inl by ↦ inr (same.1, by.1)
+          | inr past ↦ absurd (both_ways (is_up_to b r w) (rw (more.0, same.0, past.0) refl) h)
+        ]
+        | inr other ↦ absurd (both_ways (is_up_to b r w) (rw (more.0, other.0) refl) h)
+      ]
+    ]
 
 pub passes : (b r : ℕ) (w : Write) → IsUpTo w (record { byte = b; rank = r }) → is_up_to b r w ≡ true
 passes b r w (inl less) = elim (ltb_tells w.byte b) [ inl t ↦ rw (t.0) refl | inr t ↦ absurd (omega (arith, t.1, less)) ]
 passes b r w (inr there) =
-    elim (eqb_tells w.byte b)
-    [ inl same ↦ elim (leb_tells w.rank r)
-      [ inl by ↦ elim (cases_Bool (nat_lt w.byte b)) [ inl t ↦ rw t refl | inr t ↦ rw (t, same.0, by.0) refl ]
-      | inr past ↦ absurd (omega (arith, past.1, there.1)) ]
-    | inr other ↦ absurd (other.1 there.0) ]
+    elim (eqb_tells w.byte b) [
+      | inl same ↦ elim (leb_tells w.rank r) [
+        | inl by ↦ elim (cases_Bool (nat_lt w.byte b)) [ inl t ↦ rw t refl | inr t ↦ rw (t, same.0, by.0) refl ]
+        | inr past ↦ absurd (omega (arith, past.1, there.1))
+      ]
+      | inr other ↦ absurd (other.1 there.0)
+    ]
 
 -- the test can be searched by halving
 pub writes-partitioned : (puts : List Put) (writes : List Write) (b r : ℕ) → AreWritesOf puts writes → IsPartitionedBy (is_up_to b r) writes
@@ -92,6 +98,7 @@ last-before puts writes b c end k are within point e =
     get_or-any [] j d e h = absurd (omega arith)
     get_or-any (x ∷ xs) zero d e h = refl
     get_or-any (x ∷ xs) (suc j) d e h = get_or-any xs j d e (omega arith)
+
     before : (j : ℕ) → j < length writes → get_or writes j (record { byte = b; rank = suc k }) ≡ record { byte = b; rank = suc k } → (j < end) ⊎ (end ≤ j) → j < end
     before j inside is (inl fine) = fine
     before j inside is (inr past) =
@@ -132,12 +139,14 @@ found-last puts writes b c end d are within point inside some same = omega (arit
   where
     last : Write
     last = get_or writes (end - 1) d
+
     at_least : last.rank ≤ last_in puts b c
     at_least =
         let is = are.just last (Contains-get_or writes (end - 1) d (omega arith)) in
         let down = tested b c last (point.0 (end - 1) d (omega arith) (omega arith)) in
         let by : last.rank ≤ c = elim down [ inl p ↦ absurd (omega (arith, p, same)) | inr p ↦ p.1 ] in
         omega (arith, is.some, last_in-above puts b c (last.rank - 1) (omega (arith, by, is.some)) (subst (λ x. covers (put_at puts (last.rank - 1)) x ≡ true) same is.writes))
+
     at_most : (v : ℕ) → last_in puts b c ≡ v → last_in puts b c ≤ last.rank
     at_most zero e = omega (arith, e)
     at_most (suc k) e =
@@ -160,6 +169,7 @@ greatest-more puts c low b g h is = record { bound = bound; reached = reached (c
   where
     bound : (a : ℕ) → low ≤ a → a < b + 1 → last_in puts a c ≤ max (last_in puts b c) g
     bound a above below = elim (cases_eq a b) [ inl same ↦ rw same (omega arith) | inr other ↦ omega (arith, is.bound a above (omega arith)) ]
+
     reached : (g < last_in puts b c) ⊎ (last_in puts b c ≤ g) → (max (last_in puts b c) g ≡ 0) ⊎ ((a : ℕ) × (low ≤ a) × (a < b + 1) × (last_in puts a c ≡ max (last_in puts b c) g))
     reached (inl more) = inr (b, h, omega arith, omega arith)
     reached (inr less) = elim is.reached [ inl none ↦ inl (omega arith) | inr some ↦ inr (some.0, some.1, omega (arith, some.2), omega (arith, some.3)) ]
@@ -167,9 +177,10 @@ greatest-more puts c low b g h is = record { bound = bound; reached = reached (c
 -- a store writes its first byte
 pub covers-own : (p : Put) → 0 < p.len → covers p p.addr ≡ true
 covers-own p h =
-    elim (leb_tells p.addr p.addr)
-    [ inl a ↦ let e : p.addr - p.addr ≡ 0 = omega arith in elim (ltb_tells 0 p.len) [ inl b ↦ rw (a.0, e, b.0) refl | inr b ↦ absurd (omega (arith, b.1)) ]
-    | inr a ↦ absurd (omega (arith, a.1)) ]
+    elim (leb_tells p.addr p.addr) [
+      | inl a ↦ let e : p.addr - p.addr ≡ 0 = omega arith in elim (ltb_tells 0 p.len) [ inl b ↦ rw (a.0, e, b.0) refl | inr b ↦ absurd (omega (arith, b.1)) ]
+      | inr a ↦ absurd (omega (arith, a.1))
+    ]
 
 -- where the newest store writes one of the bytes
 pub greatest-newest : (puts : List Put) (c low high : ℕ) → 0 < c → 0 < (put_at puts (c - 1)).len → low ≤ (put_at puts (c - 1)).addr → (put_at puts (c - 1)).addr < high → IsGreatestIn puts c low high c

@@ -74,6 +74,7 @@ greatest-decides T l puts i low high g bound trace are lie is = (each, least is.
         go : LastIs T l puts b i (count_at T l i) (history T i) → IfSome (last_store b (history T i)) (λ x. x.rank ≤ bound x.line)
         go (NoLast none rank) = subst (λ o. IfSome o (λ x. x.rank ≤ bound x.line)) (sym none) tt
         go (LastAt r some rank w m n past) = subst (λ o. IfSome o (λ x. x.rank ≤ bound x.line)) (sym some) (omega (arith, rank, is.bound b above below, h))
+
     least : (g ≡ 0) ⊎ ((b : ℕ) × (low ≤ b) × (b < high) × (last_in puts b (count_at T l i) ≡ g)) → EachFrom low high (λ b. IfSome (last_store b (history T i)) (λ x. x.rank ≤ bound x.line)) → g ≤ bound l
     least (inl none) f = omega (arith, none)
     least (inr there) f = go (last-is T l puts there.0 i trace are (lie there.0 there.1 there.2))
@@ -102,10 +103,13 @@ oldest-found T l steps i low high m trace job lie is = record { first = first; r
   where
     puts : List Put
     puts = puts_of steps
+
     are : ArePuts T l 0 (puts_of steps)
     are = job-puts T l steps job
+
     place : ℕ
     place = (put_at (puts_of steps) (m - 1)).number
+
     first : EachFrom low high (ComesFrom T i m place)
     first b above below = go (last-is T l puts b i trace are (lie b above below)) (is.bound b above below)
       where
@@ -115,6 +119,7 @@ oldest-found T l steps i low high m trace job lie is = record { first = first; r
         go (LastAt r some rank w below' n past) (inr more) =
             subst (λ o. IfSome o (λ y. (m ≤ y.rank) × ((n : ℕ) × (place ≤ n) × (up_to_last b (history T i) ≡ history T n)))) (sym some)
             (omega (arith, rank, more), ((put_at puts r).number, numbers-rise T l puts are (m - 1) r (omega (arith, rank, more)) w, past))
+
     reached : (b : ℕ) × (low ≤ b) × (b < high) × (last_in puts b (count_at T l i) ≡ m) → (b : ℕ) × (low ≤ b) × (b < high) × IsLastAt T i l m place b
     reached there = (there.0, there.1, there.2, go (last-is T l puts there.0 i trace are (lie there.0 there.1 there.2)))
       where

@@ -52,9 +52,10 @@ count_at-untouched T l n untouched =
 count_at-over : (T : Recording) (l low n : ℕ) → low ≤ n → ((k : ℕ) → low < k → k ≤ n → ¬ Touches T l k) → count_at T l n ≡ count_at T l low
 count_at-over T l low zero h untouched = let e : low ≡ 0 = omega arith in ap (count_at T l) (sym e)
 count_at-over T l low (suc n) h untouched =
-    elim (cases_lt n low)
-    [ inl past ↦ let e : low ≡ suc n = omega arith in ap (count_at T l) (sym e)
-    | inr more ↦ count_at-untouched T l n (untouched (suc n) (omega arith) (omega arith)) ∙ count_at-over T l low n more (λ k a b. untouched k a (omega arith)) ]
+    elim (cases_lt n low) [
+      | inl past ↦ let e : low ≡ suc n = omega arith in ap (count_at T l) (sym e)
+      | inr more ↦ count_at-untouched T l n (untouched (suc n) (omega arith) (omega arith)) ∙ count_at-over T l low n more (λ k a b. untouched k a (omega arith))
+    ]
 
 -- the count before the next step of a walk
 count_at-next : (T : Recording) (l low n : ℕ) → low < n → ((k : ℕ) → low < k → k < n → ¬ Touches T l k) → count_at T l (n - 1) ≡ count_at T l low
@@ -79,6 +80,7 @@ walk-puts T l low c (s ∷ steps) within walk counted =
   where
     before : count_at T l (s.number - 1) ≡ c
     before = count_at-next T l low s.number walk.0 walk.2 ∙ counted
+
     go : (k : StepKind) → IsKind T l s.number s.thread k → ((c' : ℕ) → count_at T l s.number ≡ c' → ArePuts T l c' (puts_of steps)) → ArePuts T l c (with_put s.number k (puts_of steps))
     go (Store addr len) is rest =
         let counts : count_at T l s.number ≡ suc c = count_at-before T l s.number is.0 is.1 ∙ ap (λ m. suc m) before in
@@ -109,28 +111,33 @@ puts-length T l c (p ∷ puts) are = puts-length T l (suc c) puts are.2 ∙ omeg
 -- two stores to a line with the same rank are the same event
 pub same-store : (T : Recording) (l m n : ℕ) (v w : Written) → IsAct T m (Stores l v) → IsAct T n (Stores l w) → count_at T l m ≡ count_at T l n → m ≡ n
 same-store T l m n v w a b e =
-    elim (cases_order m n)
-    [ inl same ↦ same
-    | inr other ↦ elim other
-      [ inl less ↦ absurd (omega (arith, count-mono T l m (n - 1) (omega arith), count_at-before T l n w b))
-      | inr more ↦ absurd (omega (arith, count-mono T l n (m - 1) (omega arith), count_at-before T l m v a)) ] ]
+    elim (cases_order m n) [
+      | inl same ↦ same
+      | inr other ↦ elim other [
+        | inl less ↦ absurd (omega (arith, count-mono T l m (n - 1) (omega arith), count_at-before T l n w b))
+        | inr more ↦ absurd (omega (arith, count-mono T l n (m - 1) (omega arith), count_at-before T l m v a))
+      ]
+    ]
 
 -- no more stores have come at a place than come in all
 pub count_at-le_length : (T : Recording) (l n : ℕ) → count_at T l n ≤ count_at T l (length T.events)
 count_at-le_length T l n =
-    elim (cases_lt (length T.events) n)
-    [ inl past ↦ let e = count_at-over-end n past in omega (arith, e)
-    | inr within ↦ count-mono T l n (length T.events) within ]
+    elim (cases_lt (length T.events) n) [
+      | inl past ↦ let e = count_at-over-end n past in omega (arith, e)
+      | inr within ↦ count-mono T l n (length T.events) within
+    ]
   where
     count_at-over-end : (m : ℕ) → length T.events < m → count_at T l m ≤ count_at T l (length T.events)
     count_at-over-end zero h = absurd (omega arith)
     count_at-over-end (suc m) h =
-        elim (history-step T m)
-        [ inl x ↦ absurd (omega (arith, (act-within T (suc m) x.0 x.1).1))
-        | inr x ↦ let e : count_at T l (suc m) ≡ count_at T l m = ap (count l) x.1 in
-          elim (cases_lt (length T.events) m)
-          [ inl past ↦ omega (arith, e, count_at-over-end m past)
-          | inr within ↦ omega (arith, e, count-mono T l m (length T.events) within) ] ]
+        elim (history-step T m) [
+          | inl x ↦ absurd (omega (arith, (act-within T (suc m) x.0 x.1).1))
+          | inr x ↦ let e : count_at T l (suc m) ≡ count_at T l m = ap (count l) x.1 in
+              elim (cases_lt (length T.events) m) [
+                | inl past ↦ omega (arith, e, count_at-over-end m past)
+                | inr within ↦ omega (arith, e, count-mono T l m (length T.events) within)
+              ]
+        ]
 
 -- how many stores have come by a place, from their numbers
 pub counted : (T : Recording) (l n i : ℕ) (puts : List Put) → ArePuts T l 0 puts → i ≤ length puts → ((k : ℕ) → k < i → (put_at puts k).number ≤ n) → ((k : ℕ) → i ≤ k → k < length puts → n < (put_at puts k).number) → count_at T l n ≡ i
@@ -141,6 +148,7 @@ counted T l n i puts are within by_now later = omega (arith, at_least i within b
     at_least (suc j) h f =
         let p = put-at T l 0 puts are j (omega arith) in
         omega (arith, p.1, count-mono T l (put_at puts j).number n (f j (omega arith)))
+
     at_most : (i < length puts) ⊎ (length puts ≤ i) → count_at T l n ≤ i
     at_most (inl more) =
         let p = put-at T l 0 puts are i more in
@@ -151,11 +159,12 @@ counted T l n i puts are within by_now later = omega (arith, at_least i within b
 -- the numbers of the stores rise
 pub numbers-rise : (T : Recording) (l : ℕ) (puts : List Put) → ArePuts T l 0 puts → (j k : ℕ) → j ≤ k → k < length puts → (put_at puts j).number ≤ (put_at puts k).number
 numbers-rise T l puts are j k h within =
-    elim (cases_lt (put_at puts k).number (put_at puts j).number)
-    [ inl less ↦
-      let a = put-at T l 0 puts are j (omega arith) in
-      let b = put-at T l 0 puts are k within in
-      let p = (put_at puts j).number in
-      let q = (put_at puts k).number in
-      absurd (omega (arith, a.1, b.1, count_at-before T l p (a.0).what (a.0).is, count-mono T l q (p - 1) (omega arith)))
-    | inr fine ↦ fine ]
+    elim (cases_lt (put_at puts k).number (put_at puts j).number) [
+      | inl less ↦
+          let a = put-at T l 0 puts are j (omega arith) in
+          let b = put-at T l 0 puts are k within in
+          let p = (put_at puts j).number in
+          let q = (put_at puts k).number in
+          absurd (omega (arith, a.1, b.1, count_at-before T l p (a.0).what (a.0).is, count-mono T l q (p - 1) (omega arith)))
+      | inr fine ↦ fine
+    ]

@@ -32,13 +32,16 @@ eq_from m n h = elim (eqb_tells m n) [ inl e ↦ e.1 | inr e ↦ let never : fal
 pub size-of : (f : Layout) → IsFormat f → IsSize f.line_size
 size-of f h =
     let n = f.line_size in
-    elim (or_parts ((f.version == 1) && (n == 64)) ((f.version == 2) && is_line_size n) h)
-    [ inl first ↦ Of64 (eq_from n 64 (and_parts (f.version == 1) (n == 64) first).1)
-    | inr second ↦ elim (or_parts ((n == 32) || (n == 64) || (n == 128)) (n == 256) (and_parts (f.version == 2) (is_line_size n) second).1)
-      [ inl three ↦ elim (or_parts ((n == 32) || (n == 64)) (n == 128) three)
-        [ inl two ↦ elim (or_parts (n == 32) (n == 64) two) [ inl a ↦ Of32 (eq_from n 32 a) | inr b ↦ Of64 (eq_from n 64 b) ]
-        | inr c ↦ Of128 (eq_from n 128 c) ]
-      | inr d ↦ Of256 (eq_from n 256 d) ] ]
+    elim (or_parts ((f.version == 1) && (n == 64)) ((f.version == 2) && is_line_size n) h) [
+      | inl first ↦ Of64 (eq_from n 64 (and_parts (f.version == 1) (n == 64) first).1)
+      | inr second ↦ elim (or_parts ((n == 32) || (n == 64) || (n == 128)) (n == 256) (and_parts (f.version == 2) (is_line_size n) second).1) [
+        | inl three ↦ elim (or_parts ((n == 32) || (n == 64)) (n == 128) three) [
+          | inl two ↦ elim (or_parts (n == 32) (n == 64) two) [ inl a ↦ Of32 (eq_from n 32 a) | inr b ↦ Of64 (eq_from n 64 b) ]
+          | inr c ↦ Of128 (eq_from n 128 c)
+        ]
+        | inr d ↦ Of256 (eq_from n 256 d)
+      ]
+    ]
 
 -- a line has bytes
 pub size-some : (f : Layout) → IsFormat f → 0 < f.line_size

@@ -1,9 +1,13 @@
 -- How the verdicts come about from the tables.
-use Rattle.std.specs.Prelude.{◌≡◌, ◌≢◌, ℕ, ◌<◌, ◌≤◌, ◌⊎◌, Option, None, Some, MatchOption, IfSome, ◌==◌, nat_le, if◌then◌else◌}
+use Rattle.std.specs.Prelude.{◌≡◌, ◌≢◌, ℕ, Bool, true, false, List, ◌<◌, ◌≤◌, ◌⊎◌, Option, None, Some, MatchOption, IfSome, ◌==◌, nat_le, if◌then◌else◌}
 use Rattle.std.specs.Option.{option_map}
 use Rattle.pmt_model.specs.declared.finding.Verdict.{Verdict}
 use Rattle.pmt_model.specs.Values.{Span, line_of}
-use Rattle.pmt_model.specs.Traces.{Recording, history}
+use Rattle.pmt_model.specs.declared.event.Event.{Event}
+use Rattle.pmt_model.specs.declared.event.Op.{Op}
+use Rattle.pmt_model.specs.declared.event.Op.TheVariants.{Store, Clwb, ClflushOpt, Clflush, Sfence, Mfence, IsPersist, IsOrderedBefore}
+use Rattle.pmt_model.specs.Traces.{Recording, history, event}
+use Rattle.pmt_model.specs.Selections.{IsRising, Has}
 use Rattle.pmt_model.specs.Assertions.{InSpan, last_store, up_to_last}
 use Rattle.pmt_model.specs.Analyses.{IsVerdictOf}
 use Rattle.pmt_asserts.specs.declared.oldest.Oldest.{Oldest}
@@ -53,9 +57,13 @@ earlier_of (Some e) line (Some o) = if nat_le e.number o.number then Some e else
 abbrev pub RanksBefore : Recording → ℕ → ℕ → ℕ → Type 0
 RanksBefore T i a b = IfSome (last_store b (history T i)) (λ y. RankedBy T i y.rank a)
 
--- In this line the last stores to bytes of A come before those to bytes of B, and they are persisted for sure by a place.
+-- In this line the last stores to bytes of A come before those to bytes of B.
+abbrev pub IsLineInOrder : Recording → ℕ → Span → Span → ℕ → Type 0
+IsLineInOrder T i A B line = EachIn T line A (λ a. EachIn T line B (RanksBefore T i a))
+
+-- It is so, and they are persisted for sure by a place.
 abbrev pub IsLineOrdered : Recording → ℕ → Span → Span → ℕ → Option ℕ → Type 0
-IsLineOrdered T i A B line by = EachIn T line A (λ a. EachIn T line B (RanksBefore T i a)) × IfSome by (λ n. EachIn T line A (PersistedBy T i n))
+IsLineOrdered T i A B line by = IsLineInOrder T i A B line × IfSome by (λ n. EachIn T line A (PersistedBy T i n))
 
 -- The place by which the stores to a line have to be persisted: that of the earliest store to another line.
 abbrev pub place_for : Earliest → Option Earliest → ℕ → Option ℕ
@@ -64,3 +72,20 @@ place_for e other line = if line == e.line then option_map (λ o. o.number) othe
 -- The verdict of the event with this number, if it is an assertion.
 abbrev pub IsVerdictAt : Recording → ℕ → Option Verdict → Type 0
 IsVerdictAt T number o = MatchOption o ((v : Verdict) → IsVerdictOf T v → v.event ≢ number) (λ v. (v.event ≡ number) × IsVerdictOf T v)
+
+-- The op is an assertion.
+abbrev pub asserts : Op → Bool
+asserts (Store w) = false
+asserts (Clwb a) = false
+asserts (ClflushOpt a) = false
+asserts (Clflush a) = false
+asserts Sfence = false
+asserts Mfence = false
+asserts (IsPersist r) = true
+asserts (IsOrderedBefore r q) = true
+
+-- Rising numbers, among them those of all assertions of the first n events, and none above n.
+pub record AreAssertions (T : Recording) (n : ℕ) (numbers : List ℕ) : Type 0 where
+  pub rising : IsRising 0 numbers
+  pub within : (k : ℕ) → Has numbers k → k ≤ n
+  pub all : (k : ℕ) (e : Event) → k ≤ n → event T k ≡ Some e → asserts e.op ≡ true → Has numbers k

@@ -28,7 +28,11 @@ fn next_rank(writes: &[Write], index: usize, past: u64) -> u64
         return past;
     }
     let next = writes[index + 1];
-    if next.byte == writes[index].byte { next.rank } else { past }
+    if next.byte == writes[index].byte {
+        next.rank
+    } else {
+        past
+    }
 }
 
 // After each number of stores, the least rank of a last store to a byte.

@@ -24,7 +24,14 @@ pub fn part_of(format: Format, range: Range, line: u64) -> Part
 
 // Whether by place `by` the last one of the events up to `place` that stores to a byte of the range in this line is persisted
 // for sure, for each such byte.
-pub fn is_line_persisted(tables: &Tables, trace: &Trace, range: Range, line: u64, place: u64, by: u64) -> bool
+pub fn is_line_persisted(
+    tables: &Tables,
+    trace: &Trace,
+    range: Range,
+    line: u64,
+    place: u64,
+    by: u64,
+) -> bool
     requires results { AreResultsOf trace.now tables.now }
     requires line { line < 2 ^ 48 }
     requires by { by ≤ length trace.now.events }
@@ -39,7 +46,14 @@ pub fn is_line_persisted(tables: &Tables, trace: &Trace, range: Range, line: u64
 
 // Whether the last one of the events up to `place` that stores to a byte of the range in this line has at most this rank, for
 // each such byte.
-pub fn is_line_ranked(tables: &Tables, trace: &Trace, range: Range, line: u64, place: u64, rank: u64) -> bool
+pub fn is_line_ranked(
+    tables: &Tables,
+    trace: &Trace,
+    range: Range,
+    line: u64,
+    place: u64,
+    rank: u64,
+) -> bool
     requires results { AreResultsOf trace.now tables.now }
     requires line { line < 2 ^ 48 }
     ensures { IsTrue result ↔ EachIn trace.now line range (RankedBy trace.now place rank) }
@@ -52,7 +66,13 @@ pub fn is_line_ranked(tables: &Tables, trace: &Trace, range: Range, line: u64, p
 }
 
 // Of the last ones of the events up to `place` that store to a byte of the range in this line, the first.
-pub fn line_oldest(tables: &Tables, trace: &Trace, range: Range, line: u64, place: u64) -> Option<Oldest>
+pub fn line_oldest(
+    tables: &Tables,
+    trace: &Trace,
+    range: Range,
+    line: u64,
+    place: u64,
+) -> Option<Oldest>
     requires results { AreResultsOf trace.now tables.now }
     requires line { line < 2 ^ 48 }
     ensures { IsOldestOfLine trace.now place line range result }

@@ -7,9 +7,11 @@ use Rattle.pmt_asserts.proofs.part.is_line_persisted.Goals as goal
 
 pub returns-in-None : goal.returns-in-None
 returns-in-None c =
-    let T = c.args.trace.now in
-    (λ t b j own. subst (λ o. IfSome o (λ (x : Placed). x.rank ≤ front_at T x.line c.args.by))
-    (sym (unwritten-line T c.args.line c.args.tables.now c.args.place b c.format.ensures.is_trace c.requires.results (c.in-None.ensures {u = tt}) own)) tt, λ f. refl)
+    let T = c.args.trace.now in (
+      λ t b j own. subst (λ o. IfSome o (λ (x : Placed). x.rank ≤ front_at T x.line c.args.by))
+          (sym (unwritten-line T c.args.line c.args.tables.now c.args.place b c.format.ensures.is_trace c.requires.results (c.in-None.ensures {u = tt}) own)) tt,
+      λ f. refl,
+    )
 
 pub returns-in-Some : goal.returns-in-Some
 returns-in-Some c =

@@ -10,9 +10,11 @@ pub loop-byte-preserved : goal.loop-byte-preserved
 loop-byte-preserved c =
     let puts = puts_of c.args.self.now.job.steps in
     let low = c.loop-byte.auto.byte in
-    let below = c.loop-byte-test.true in
-    (least-more puts c.args.count c.args.low c.loop-byte.byte c.loop-byte.least c.lesser-least.result low c.loop-byte.invariant.0
-    (subst (λ r. IsLesser c.loop-byte.least r c.lesser-least.result) c.last.ensures c.lesser-least.ensures), λ h. absurd (omega (arith, h, low, below)))
+    let below = c.loop-byte-test.true in (
+      least-more puts c.args.count c.args.low c.loop-byte.byte c.loop-byte.least c.lesser-least.result low c.loop-byte.invariant.0
+          (subst (λ r. IsLesser c.loop-byte.least r c.lesser-least.result) c.last.ensures c.lesser-least.ensures),
+      λ h. absurd (omega (arith, h, low, below)),
+    )
 
 pub returns : goal.returns
 returns c =

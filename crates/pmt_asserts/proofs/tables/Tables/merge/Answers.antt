@@ -16,6 +16,7 @@ loop-found-preserved c =
     let line : c.line.result ≡ x.job.line = c.line.ensures ∙ ap (λ (w : LineWork). w.line) c.job.ensures.value in
     let place : c.len-in-loop-found.result ≡ length old = c.len-in-loop-found.ensures ∙ c.loop-found.lines.ok.0 in
     let updated : (q : ℕ) → after q ≡ cond (nat_eq x.job.line q) (Some (length old)) (before q) =
-    (λ q. c.in_ok-insert.ensures.updates.0 q ∙ ap (λ (l : ℕ). cond (nat_eq l q) (Some c.len-in-loop-found.result) (before q)) line ∙ ap (λ (n : ℕ). cond (nat_eq x.job.line q) (Some n) (before q)) place) in
-    (items ∙ ap (λ (ys : List LineFound). ys ++ x ∷ []) c.loop-found.invariant.0,
-    subst (λ (ys : List LineFound). IsPlacing ys after) (sym items) (placing-more old before after x c.loop-found.invariant.1 updated))
+    (λ q. c.in_ok-insert.ensures.updates.0 q ∙ ap (λ (l : ℕ). cond (nat_eq l q) (Some c.len-in-loop-found.result) (before q)) line ∙ ap (λ (n : ℕ). cond (nat_eq x.job.line q) (Some n) (before q)) place) in (
+      items ∙ ap (λ (ys : List LineFound). ys ++ x ∷ []) c.loop-found.invariant.0,
+      subst (λ (ys : List LineFound). IsPlacing ys after) (sym items) (placing-more old before after x c.loop-found.invariant.1 updated),
+    )
