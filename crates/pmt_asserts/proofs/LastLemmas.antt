@@ -25,7 +25,7 @@ unfolding last_in
 last_in-skips puts b c h = rw h refl
 
 -- one more store that writes it
-last_in-takes : (puts : List Put) (b c : ℕ) → covers (put_at puts c) b ≡ true → last_in puts b (suc c) ≡ suc c
+pub last_in-takes : (puts : List Put) (b c : ℕ) → covers (put_at puts c) b ≡ true → last_in puts b (suc c) ≡ suc c
 unfolding last_in
 last_in-takes puts b c h = rw h refl
 

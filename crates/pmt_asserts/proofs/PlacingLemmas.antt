@@ -16,12 +16,12 @@ use Rattle.pmt_asserts.proofs.TraceLemmas.{ArePuts, count_at-le_length}
 use Rattle.pmt_asserts.proofs.LastLemmas.{LastIs, NoLast, LastAt, last-is}
 
 -- an element that stays, and the one that is added
-pushed-before : {X : Type 0} (xs : List X) (x d : X) (k : ℕ) → k < length xs → get_or (xs ++ x ∷ []) k d ≡ get_or xs k d
+pub pushed-before : {X : Type 0} (xs : List X) (x d : X) (k : ℕ) → k < length xs → get_or (xs ++ x ∷ []) k d ≡ get_or xs k d
 pushed-before [] x d k h = absurd (omega arith)
 pushed-before (y ∷ xs) x d zero h = refl
 pushed-before (y ∷ xs) x d (suc k) h = pushed-before xs x d k (omega arith)
 
-pushed-last : {X : Type 0} (xs : List X) (x d : X) → get_or (xs ++ x ∷ []) (length xs) d ≡ x
+pub pushed-last : {X : Type 0} (xs : List X) (x d : X) → get_or (xs ++ x ∷ []) (length xs) d ≡ x
 pushed-last [] x d = refl
 pushed-last (y ∷ xs) x d = pushed-last xs x d
 
