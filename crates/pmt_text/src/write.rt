@@ -145,9 +145,12 @@ fn glyph(digit: u64) -> u8
     }
 }
 
-/// Adds the number in the base, with no leading zero.
+/// Adds the number in base 10 or 16, with no leading zero.
+///
+/// # Errors
+/// `OutOfMemory`: the text may then have some of the digits or none.
 #[inline]
-fn push_number(text: &mut Vec<u8>, base: u64, number: u64) -> Result<(), OutOfMemory>
+pub fn push_number(text: &mut Vec<u8>, base: u64, number: u64) -> Result<(), OutOfMemory>
     requires { IsBase base }
     ensures { OnOk result (text.new.items ≡ text.old.items ++ numeral base number) }
 {

@@ -1,0 +1,88 @@
+-- Runs: what was taken from the source, and the answer that was written.
+use Rattle.std.proofs.Common.{◌≡◌, ℕ, ◌*◌, ◌≤◌, ◌<◌, inl, inr, List, ◌++◌, length, map, reverse, Option, Some, None, Result, Ok, Err, refl, sym, ap, ◌∙◌, subst, arith, length-append}
+use Rattle.std.specs.List.{flat_map}
+use Rattle.std.proofs.lemmas.List.{take-append-le}
+use Rattle.pmt_model.specs.declared.event.Event.{Event}
+use Rattle.pmt_model.specs.Values.{Layout}
+use Rattle.pmt_model.specs.Machine.{Act, count}
+use Rattle.pmt_model.specs.Traces.{Recording, history, lines_of, act}
+use Rattle.pmt_model.specs.Fronts.{front}
+use Rattle.pmt_text.specs.Coming.{Coming}
+use Rattle.pmt_text.specs.Sources.{Gives, HasFormat}
+use Rattle.pmt_text.specs.TextLaws.{whole}
+use Rattle.pmt_text.specs.declared.source.SourceState.{SourceState}
+use Rattle.pmt_report.specs.Reports.{fronts_head, front_entry, fronts_text}
+use Rattle.pmt_report.specs.Taking.{IsAllOf, EndsAfter, TakesFirst}
+use Rattle.pmt_report.specs.declared.fault.RunError.{RunError}
+use Rattle.pmt_report.specs.declared.fault.RunError.TheVariants.{BadWorkers, Text, TooMany, Read, PastEnd, OutOfMemory, Write}
+use Rattle.pmt_report.specs.Runs.{IsComputed, IsFrontsAt, WritesText, Runs}
+
+-- a trace with more events at its end
+abbrev longer : Recording → List Event → Recording
+longer P es = record { format = P.format; events = P.events ++ es }
+
+-- the fronts after this history
+abbrev fronts_after : Layout → ℕ → List Act → List ℕ
+fronts_after f n h =
+    fronts_head n (length (lines_of h)) ++ flat_map (λ l. front_entry (l * f.line_size) (front l h) (count l h)) (lines_of h)
+
+fronts-history : (T : Recording) (n : ℕ) → fronts_text T n ≡ fronts_after T.format n (history T n)
+unfolding fronts_text
+fronts-history T n = refl
+
+history-longer : (P : Recording) (es : List Event) → history (longer P es) (length P.events) ≡ history P (length P.events)
+history-longer P es =
+    ap (λ (xs : List Event). reverse (map (act P.format) xs)) (take-append-le (length P.events) P.events es (omega arith))
+
+-- later events leave the fronts at a place
+fronts-longer : (P : Recording) (es : List Event) → fronts_text P (length P.events) ≡ fronts_text (longer P es) (length P.events)
+fronts-longer P es =
+    fronts-history P (length P.events)
+    ∙ ap (λ (h : List Act). fronts_after P.format (length P.events) h) (sym (history-longer P es))
+    ∙ sym (fronts-history (longer P es) (length P.events))
+
+coming-parts : (c : Coming) (T : Recording) → c.format ≡ Some T.format → c.events ≡ T.events → c.fault ≡ None → c ≡ whole T
+coming-parts c T f e d = λ i. record { format = f i; events = e i; fault = d i }
+
+-- the first events and the others are all that comes
+all-from_parts : (a b : Option Coming) (P : Recording) (es : List Event) → HasFormat a (Some P.format) → Gives a P.events b → EndsAfter b es → IsAllOf a (longer P es)
+all-from_parts None b P es f given ends = tt
+all-from_parts (Some c) b P es f given ends =
+    let left : EndsAfter (Some (record { format = c.format; events = given.0; fault = c.fault })) es = subst (λ (o : Option Coming). EndsAfter o es) given.2 ends in
+    coming-parts c (longer P es) f (given.1 ∙ ap (λ (l : List Event). P.events ++ l) left.0) left.1
+
+-- the first events reach the place
+reached : (most : ℕ) (a b : Option Coming) (P : Recording) (s : SourceState) → TakesFirst most a P b s → most ≤ length P.events → length P.events ≡ most
+reached most a b P s taken h = elim taken.few [ inl fewer ↦ absurd (omega (arith, fewer.0)) | inr full ↦ full.0 ]
+
+-- the fronts of the first events are those of all that comes
+pub fronts-computed : (place : ℕ) (a b : Option Coming) (P : Recording) (s : SourceState) (es : List Event) (text : List ℕ) → TakesFirst place a P b s → place ≤ length P.events → EndsAfter b es →
+    text ≡ fronts_text P (length P.events) → IsComputed (IsFrontsAt place) a text
+fronts-computed place a b P s es text taken enough ends is =
+    let at : length P.events ≡ place = reached place a b P s taken enough in
+    record {
+      trace = longer P es;
+      all = all-from_parts a b P es taken.format taken.events ends;
+      answer = record {
+        within = omega (arith, length-append P.events es);
+        fronts = is ∙ fronts-longer P es ∙ ap (fronts_text (longer P es)) at;
+      };
+    }
+
+-- where fewer events came than were asked for, they are all
+pub all-taken : (most : ℕ) (a b : Option Coming) (P : Recording) (s : SourceState) → TakesFirst most a P b s → length P.events < most → IsAllOf a P
+all-taken most None b P s taken few = tt
+all-taken most (Some c) b P s taken few =
+    elim taken.few [ inl fewer ↦ coming-parts c P taken.format fewer.1.0 fewer.1.1 | inr full ↦ absurd (omega (arith, full.0)) ]
+
+-- an answer that was computed and then written
+pub runs-written : (IsAnswer : Recording → List ℕ → Type 0) (IsFault : Option Coming → RunError → Type 0) (coming : Option Coming) (old new : Option (List ℕ)) (text : List ℕ)
+    (result : Result (Unit {0}) RunError) → IsComputed IsAnswer coming text → WritesText old new text result → Runs IsAnswer IsFault coming old new result
+runs-written IsAnswer IsFault coming old new text (Ok u) computed writes = (text, computed, writes)
+runs-written IsAnswer IsFault coming old new text (Err (Write written)) computed writes = (text, computed, writes.0, writes.1)
+runs-written IsAnswer IsFault coming old new text (Err BadWorkers) computed writes = absurd writes
+runs-written IsAnswer IsFault coming old new text (Err (Text f)) computed writes = absurd writes
+runs-written IsAnswer IsFault coming old new text (Err TooMany) computed writes = absurd writes
+runs-written IsAnswer IsFault coming old new text (Err Read) computed writes = absurd writes
+runs-written IsAnswer IsFault coming old new text (Err (PastEnd events)) computed writes = absurd writes
+runs-written IsAnswer IsFault coming old new text (Err OutOfMemory) computed writes = absurd writes

@@ -1,0 +1,25 @@
+-- The fault lines of runs, without their LF.
+use Rattle.std.specs.Prelude.{ℕ, List, ◌++◌, codes}
+use Rattle.pmt_text.specs.Spelling.{numeral}
+use Rattle.pmt_text.specs.Kinds.{name_of}
+use Rattle.pmt_text.specs.declared.kind.SourceError.{SourceError}
+use Rattle.pmt_text.specs.declared.kind.SourceError.TheVariants as sources
+use Rattle.pmt_report.specs.declared.fault.RunError.{RunError}
+use Rattle.pmt_report.specs.declared.fault.RunError.TheVariants.{BadWorkers, Text, TooMany, Read, PastEnd, OutOfMemory, Write}
+
+abbrev pub fault_line : RunError → List ℕ
+fault_line BadWorkers = codes "bad workers"
+fault_line (Text fault) = codes "trace line " ++ numeral 10 fault.line ++ codes ": " ++ name_of fault.kind
+fault_line TooMany = codes "trace too long"
+fault_line Read = codes "file fault"
+fault_line (PastEnd events) = codes "place past end " ++ numeral 10 events
+fault_line OutOfMemory = codes "out of memory"
+fault_line (Write written) = codes "file fault"
+
+-- What a run tells where its source told this fault; a source that failed before is not run.
+abbrev pub run_fault : SourceError → RunError
+run_fault (sources.Text fault) = Text fault
+run_fault sources.TooMany = TooMany
+run_fault sources.Read = Read
+run_fault sources.OutOfMemory = OutOfMemory
+run_fault sources.Failed = Read

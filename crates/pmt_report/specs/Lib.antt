@@ -1,0 +1,6 @@
+pub mod Faults
+pub mod Entries
+pub mod Reports
+pub mod Taking
+pub mod Runs
+pub mod FrontsOf

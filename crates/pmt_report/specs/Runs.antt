@@ -1,0 +1,147 @@
+-- What a run did, by its answer: what was written, and which calls of its devices failed.
+use Rattle.std.specs.Prelude.{◌≡◌, ℕ, ◌+◌, ◌<◌, ◌≤◌, List, length, take, Option, Some, None, IfSome, Result, Ok, Err, Bool, true, false, ◌==◌, ◌||◌}
+use Rattle.std.specs.Option.{option_map}
+use Rattle.std.specs.Io.KnownBytes.{Keeps, Appends}
+use Rattle.pmt_model.specs.Traces.{Recording}
+use Rattle.pmt_text.specs.declared.kind.SourceError.TheVariants as sources
+use Rattle.pmt_text.specs.Coming.{Coming, judged_within}
+use Rattle.pmt_text.specs.Spelling.{spelling}
+use Rattle.pmt_trim.specs.Headline.{IsTrimmed}
+use Rattle.pmt_report.specs.declared.fault.RunError.{RunError}
+use Rattle.pmt_report.specs.declared.fault.RunError.TheVariants.{BadWorkers, Text, TooMany, Read, PastEnd, OutOfMemory, Write}
+use Rattle.pmt_report.specs.Reports.{fronts_text}
+use Rattle.pmt_report.specs.Taking.{IsAllOf}
+
+-- ---- What is written
+
+-- The text is out whole, or its first bytes, and then a write or the last flush failed.
+abbrev pub WritesText : Option (List ℕ) → Option (List ℕ) → List ℕ → Result (Unit {0}) RunError → Type 0
+WritesText old new text (Ok u) = Appends old new text
+WritesText old new text (Err (Write written)) = Appends old new (take written text) × (written ≤ length text)
+WritesText old new text (Err BadWorkers) = ⊥
+WritesText old new text (Err (Text f)) = ⊥
+WritesText old new text (Err TooMany) = ⊥
+WritesText old new text (Err Read) = ⊥
+WritesText old new text (Err (PastEnd events)) = ⊥
+WritesText old new text (Err OutOfMemory) = ⊥
+
+-- How many writes and flushes failed.
+abbrev pub write_faults : {A : Type 0} → Result A RunError → ℕ
+write_faults (Ok x) = 0
+write_faults (Err (Write written)) = 1
+write_faults (Err BadWorkers) = 0
+write_faults (Err (Text f)) = 0
+write_faults (Err TooMany) = 0
+write_faults (Err Read) = 0
+write_faults (Err (PastEnd events)) = 0
+write_faults (Err OutOfMemory) = 0
+
+-- How many reads failed.
+abbrev pub read_faults : {A : Type 0} → Result A RunError → ℕ
+read_faults (Ok x) = 0
+read_faults (Err Read) = 1
+read_faults (Err BadWorkers) = 0
+read_faults (Err (Text f)) = 0
+read_faults (Err TooMany) = 0
+read_faults (Err (PastEnd events)) = 0
+read_faults (Err OutOfMemory) = 0
+read_faults (Err (Write written)) = 0
+
+-- The answer is that the number of workers is bad.
+abbrev pub tells_workers : {A : Type 0} → Result A RunError → Bool
+tells_workers (Ok x) = false
+tells_workers (Err BadWorkers) = true
+tells_workers (Err (Text f)) = false
+tells_workers (Err TooMany) = false
+tells_workers (Err Read) = false
+tells_workers (Err (PastEnd events)) = false
+tells_workers (Err OutOfMemory) = false
+tells_workers (Err (Write written)) = false
+
+-- ---- What is read
+
+-- Of a text so many bytes are judged.
+abbrev pub byte_limit : ℕ
+byte_limit = 67108864
+
+-- What comes from the bytes, where they are known.
+abbrev pub coming_from : Option (List ℕ) → Option Coming
+coming_from bytes = option_map (judged_within byte_limit) bytes
+
+-- ---- What a run computes from what comes, before it writes
+
+-- The text is an answer on the trace that comes.
+pub record IsComputed (IsAnswer : Recording → List ℕ → Type 0) (coming : Option Coming) (text : List ℕ) : Type 0 where
+  pub trace : Recording
+  pub all : IsAllOf coming trace
+  pub answer : IsAnswer trace text
+
+-- The place lies past the events of the trace that comes.
+pub record IsPast (place : ℕ) (coming : Option Coming) (events : ℕ) : Type 0 where
+  pub trace : Recording
+  pub all : IsAllOf coming trace
+  pub many : length trace.events ≡ events
+  pub past : events < place
+
+-- The fault comes, or a read failed or memory was refused.
+abbrev pub IsComingFault : Option Coming → RunError → Type 0
+IsComingFault coming BadWorkers = ⊥
+IsComingFault coming (Text f) = IfSome coming (λ c. c.fault ≡ Some (sources.Text f))
+IsComingFault coming TooMany = IfSome coming (λ c. c.fault ≡ Some sources.TooMany)
+IsComingFault coming Read = Unit {0}
+IsComingFault coming (PastEnd events) = ⊥
+IsComingFault coming OutOfMemory = Unit {0}
+IsComingFault coming (Write written) = ⊥
+
+abbrev pub IsTrimFault : Option Coming → RunError → Type 0
+IsTrimFault coming BadWorkers = Unit {0}
+IsTrimFault coming (Text f) = IsComingFault coming (Text f)
+IsTrimFault coming TooMany = IsComingFault coming TooMany
+IsTrimFault coming Read = Unit {0}
+IsTrimFault coming (PastEnd events) = ⊥
+IsTrimFault coming OutOfMemory = Unit {0}
+IsTrimFault coming (Write written) = ⊥
+
+abbrev pub IsFrontsFault : ℕ → Option Coming → RunError → Type 0
+IsFrontsFault place coming BadWorkers = ⊥
+IsFrontsFault place coming (Text f) = IsComingFault coming (Text f)
+IsFrontsFault place coming TooMany = IsComingFault coming TooMany
+IsFrontsFault place coming Read = Unit {0}
+IsFrontsFault place coming (PastEnd events) = IsPast place coming events
+IsFrontsFault place coming OutOfMemory = Unit {0}
+IsFrontsFault place coming (Write written) = ⊥
+
+-- The text has the fronts of the trace at the place, which is no later than the end.
+pub record IsFrontsAt (place : ℕ) (T : Recording) (text : List ℕ) : Type 0 where
+  pub within : place ≤ length T.events
+  pub fronts : text ≡ fronts_text T place
+
+-- A read fault is told exactly where the count of failed reads rises, which it does by one; None: there is no count.
+abbrev pub CountsRuns : {A : Type 0} → Option ℕ → Result A RunError → Option ℕ → Type 0
+CountsRuns None result new = Unit {0}
+CountsRuns (Some n) result new = new ≡ Some (n + read_faults result)
+
+-- The text is that of the trimmed trace.
+pub record IsTrimmedText (T : Recording) (text : List ℕ) : Type 0 where
+  pub selection : List ℕ
+  pub trimmed : Recording
+  pub trim : IsTrimmed T selection trimmed
+  pub spelled : text ≡ spelling trimmed
+
+-- The numbers of workers that are allowed.
+abbrev pub is_workers : ℕ → Bool
+is_workers n = (n == 1) || (n == 2) || (n == 4) || (n == 8) || (n == 16)
+
+-- ---- What a run tells
+
+-- An answer on the trace that came is out, whole or its first bytes; or nothing is, and the fault is such a one.
+abbrev pub Runs : (Recording → List ℕ → Type 0) → (Option Coming → RunError → Type 0) → Option Coming → Option (List ℕ) → Option (List ℕ) → Result (Unit {0}) RunError → Type 0
+Runs IsAnswer IsFault coming old new (Ok u) = (text : List ℕ) × IsComputed IsAnswer coming text × Appends old new text
+Runs IsAnswer IsFault coming old new (Err (Write written)) =
+    (text : List ℕ) × IsComputed IsAnswer coming text × Appends old new (take written text) × (written ≤ length text)
+Runs IsAnswer IsFault coming old new (Err BadWorkers) = IsFault coming BadWorkers × Keeps old new
+Runs IsAnswer IsFault coming old new (Err (Text f)) = IsFault coming (Text f) × Keeps old new
+Runs IsAnswer IsFault coming old new (Err TooMany) = IsFault coming TooMany × Keeps old new
+Runs IsAnswer IsFault coming old new (Err Read) = IsFault coming Read × Keeps old new
+Runs IsAnswer IsFault coming old new (Err (PastEnd events)) = IsFault coming (PastEnd events) × Keeps old new
+Runs IsAnswer IsFault coming old new (Err OutOfMemory) = IsFault coming OutOfMemory × Keeps old new
