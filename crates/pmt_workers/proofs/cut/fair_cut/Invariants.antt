@@ -1,0 +1,7 @@
+use Rattle.std.proofs.Common.{◌≡◌, ◌≤◌, ℕ, take, drop, length}
+use Rattle.pmt_workers.specs.Halving.{steps_of, apart}
+use Rattle.pmt_workers.proofs.CutLemmas.{IsBestSoFar}
+use Rattle.pmt_workers.proofs.cut.fair_cut.Given as goal
+
+abbrev pub invariant-loop-i : goal.invariant-loop-i
+invariant-loop-i l = IsBestSoFar l.jobs l.i l.front l.best l.least
