@@ -1,10 +1,12 @@
 //! The analysis of a trace by any number of workers: one answer, whatever their number.
 #![tactic(auto)]
 
+pub mod analysis;
 mod cut;
 mod halves;
 pub mod shard;
 
+pub use crate::analysis::Analysis;
 pub use crate::shard::{LineAnswer, ShardGate, run_shard};
 
 #[cfg(test)]
