@@ -1,12 +1,14 @@
 -- What a check tells of a trace.
-use Rattle.std.specs.Prelude.{◌≡◌, ℕ, ◌||◌, not, Bool, true, false, List, length, Result, Ok, Err}
+use Rattle.std.specs.Prelude.{◌≡◌, ℕ, ◌||◌, not, Bool, true, false, List, length, Option, Result, Ok, Err}
 use Rattle.std.specs.List.{list_any}
 use Rattle.pmt_model.specs.declared.finding.Finding.{Finding}
 use Rattle.pmt_model.specs.declared.finding.Finding.TheVariants.{Overwritten, NeverPersisted, RedundantFlush, FenceWithoutFlush}
 use Rattle.pmt_model.specs.declared.finding.Verdict.{Verdict}
 use Rattle.pmt_model.specs.Traces.{Recording}
+use Rattle.pmt_text.specs.Coming.{Coming}
 use Rattle.pmt_workers.specs.Analysing.{Analysed, IsAnalysed}
 use Rattle.pmt_report.specs.Reports.{report}
+use Rattle.pmt_report.specs.Taking.{IsAllOf}
 
 -- The report of an analysis.
 abbrev pub report_for : Analysed → List ℕ
@@ -38,3 +40,14 @@ pub record IsJudged (T : Recording) (failed : Bool) : Type 0 where
   pub right : IsAnalysed analysis
   pub of_trace : analysis.trace ≡ T
   pub judged : failed ≡ has_failed analysis
+
+-- What comes is a trace, whose analysis has failed or has not.
+pub record IsJudgedAs (coming : Option Coming) (failed : Bool) : Type 0 where
+  pub trace : Recording
+  pub all : IsAllOf coming trace
+  pub judged : IsJudged trace failed
+
+-- The result without its answer.
+abbrev pub unanswered : {A E : Type 0} → Result A E → Result (Unit {0}) E
+unanswered (Ok x) = Ok tt
+unanswered (Err e) = Err e
