@@ -3,7 +3,8 @@
 
 Without KIND all kinds of traces.py are run. Traces and the plain Rust program are made in bench/out/ on first use. Of each run the
 table gives seconds, events and megabytes of trace text per second, the peak of memory, and that peak by events (a peak of some 15 MB
-or less is this script's own, and says nothing).
+or less is this script's own, and says nothing), and how many times what the plain program takes for the same that is: for a command,
+for reading and writing.
 """
 import argparse
 import os
@@ -14,6 +15,8 @@ import time
 
 BENCH = pathlib.Path(__file__).resolve().parent
 OUT = BENCH / "out"
+TEXT_BENCH = BENCH.parent / "crates" / "text_bench" / "out" / "text_bench"
+WANTED_BYTES = {"log_appends": 400, "many_lines": 700}
 COMMANDS = (["check"], ["trim"], ["trim", "--workers", "4"])
 
 
@@ -38,58 +41,68 @@ def made_traces(kinds, events):
     return files
 
 
-def timed(words):
-    """The status, seconds, peak bytes and output of a run. The output is read once the run has ended, from a file."""
+def timed(words, text=None):
+    """The status, seconds, peak bytes and output of a run, whose input is the file `text`."""
     answer = OUT / "answer"
-    with open(answer, "wb") as out:
+    with open(answer, "wb") as out, open(text or os.devnull, "rb") as given:
         start = time.perf_counter()
-        process = subprocess.Popen(words, stdout=out, stderr=subprocess.DEVNULL)
+        process = subprocess.Popen(words, stdin=given, stdout=out, stderr=subprocess.DEVNULL)
         _, status, used = os.wait4(process.pid, 0)
         seconds = time.perf_counter() - start
     process.returncode = os.waitstatus_to_exitcode(status)
     return process.returncode, seconds, used.ru_maxrss * 1024, answer
 
 
+def read_and_write(words, text=None):
+    """The seconds of reading and of writing that a run tells as `read SECONDS write SECONDS`, and its peak bytes."""
+    status, _, peak, answer = timed(words, text)
+    told = answer.read_text().split()
+    if status != 0 or len(told) != 4:
+        sys.exit(f"{words[0]} does not read {text or words[-1]}")
+    return float(told[1]), float(told[3]), peak
+
+
 def row(kind, what, seconds, size, events, peak, floor):
     """A line of the table; floor is the seconds that the plain program took to read and write."""
+    seconds = max(seconds, 1e-6)
     by_floor = f"{seconds / floor:8.1f}" if floor else ""
     print(f"{kind:18} {what:18} {seconds:8.3f} {events / seconds / 1e6:9.2f} {size / seconds / 1e6:8.0f} {peak / 1e6:8.0f} {peak / events:9.0f} {by_floor}", flush=True)
 
 
 def run_kind(kind, trace, events, plain, program):
-    size = trace.stat().st_size
+    """Prints the lines of a kind, and gives the peak bytes of trim by event, if it is there."""
+    size, peak_of_trim = trace.stat().st_size, None
     _, seconds, peak, _ = timed(["wc", "-l", trace])
     row(kind, "wc -l", seconds, size, events, peak, None)
-    status, _, peak, answer = timed([plain, trace])
-    told = answer.read_text().split()
-    if status != 0 or len(told) != 4:
-        sys.exit(f"{kind}: the plain program does not read this trace")
-    read, write = float(told[1]), float(told[3])
+    read, write, peak = read_and_write([plain, trace])
     row(kind, "plain read", read, size, events, peak, None)
     row(kind, "plain write", write, size, events, peak, None)
+    if TEXT_BENCH.exists():
+        text_read, text_write, peak = read_and_write([TEXT_BENCH, "time"], trace)
+        row(kind, "pmt_text read", text_read / 1e9, size, events, peak, read)
+        row(kind, "pmt_text write", text_write / 1e9, size, events, peak, write)
     for command in COMMANDS:
         status, seconds, peak, _ = timed([program, *command, trace])
         if status in (0, 1):
             row(kind, " ".join(command), seconds, size, events, peak, read + write)
+            if command == ["trim"]:
+                peak_of_trim = peak / events
         else:
             print(f"{kind:18} {' '.join(command):18} {'not there yet' if status == 2 else f'status {status}'}", flush=True)
-    return trace, read
+    return peak_of_trim
 
 
-def compare_reading(trace):
-    """Reading a text from memory: the crate text_bench beside the plain program, one after the other, the best of five each."""
-    bench = BENCH.parent / "crates" / "text_bench" / "out" / "text_bench"
-    if not bench.exists():
+def compare_reading(plain, trace):
+    """Reading a text from memory: the crate pmt_text beside the plain program, in turn, the best of five each."""
+    if not TEXT_BENCH.exists():
         print("reading from memory: crates/text_bench is not built (bench/run.sh builds it)")
         return
     ours, floor = [], []
     for _ in range(5):
-        with open(trace, "rb") as text:
-            told = subprocess.run([bench, "time"], stdin=text, capture_output=True, check=True).stdout.split()
-        ours.append(int(told[1]) / 1e9)
-        told = subprocess.run([OUT / "plain", trace], capture_output=True, check=True).stdout.split()
-        floor.append(float(told[1]))
-    print(f"reading from memory: {min(ours):.3f} s, plain Rust {min(floor):.3f} s, ratio {min(ours) / min(floor):.2f} (wanted: at most 1.5)")
+        ours.append(read_and_write([TEXT_BENCH, "time"], trace)[0] / 1e9)
+        floor.append(read_and_write([plain, trace])[0])
+    megabytes = trace.stat().st_size / 1e6
+    print(f"reading {megabytes:.0f} MB from memory: {min(ours):.3f} s, plain Rust {min(floor):.3f} s, ratio {min(ours) / min(floor):.2f} (wanted: at most 1.5)")
 
 
 def main():
@@ -109,9 +122,11 @@ def main():
     print(f"{asked.events} events")
     print(f"{'trace':18} {'what':18} {'seconds':>8} {'Mevent/s':>9} {'MB/s':>8} {'peak MB':>8} {'byte/ev':>9} {'x plain':>8}")
     start = time.perf_counter()
-    for kind, trace in traces.items():
-        run_kind(kind, trace, asked.events, plain, asked.program)
-    compare_reading(next(iter(traces.values())))
+    peaks = {kind: run_kind(kind, trace, asked.events, plain, asked.program) for kind, trace in traces.items()}
+    compare_reading(plain, traces.get("tree_inserts", next(iter(traces.values()))))
+    for kind, wanted in WANTED_BYTES.items():
+        if peaks.get(kind):
+            print(f"memory of trim, {kind}: {peaks[kind]:.0f} bytes an event (wanted: at most {wanted})")
     print(f"measured in {time.perf_counter() - start:.0f} seconds")
 
 

@@ -3,7 +3,9 @@
 set -eu
 cd "$(dirname "$0")/.."
 ./pmtrim --version > /dev/null
-if [ ! -x crates/text_bench/out/text_bench ]; then
+built=crates/text_bench/out/text_bench
+if [ ! -x $built ] || [ -n "$(find crates/text_bench/src crates/pmt_text/src crates/pmt_model/src -name '*.rt' -newer $built)" ]; then
+  echo "bench: building text_bench" >&2
   (cd crates/text_bench && rt run < stdin > /dev/null)
 fi
 exec python3 bench/run.py "$@"
