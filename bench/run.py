@@ -7,6 +7,7 @@ or less is this script's own, and says nothing), and how many times what the pla
 for reading and writing.
 """
 import argparse
+import hashlib
 import os
 import pathlib
 import subprocess
@@ -53,6 +54,12 @@ def timed(words, text=None):
     return process.returncode, seconds, used.ru_maxrss * 1024, answer
 
 
+def digest(file):
+    """Stands for the bytes of the file, which are not held: the memory of this script would count for the runs that it starts."""
+    with open(file, "rb") as bytes_of:
+        return hashlib.file_digest(bytes_of, "sha256").digest()
+
+
 def read_and_write(words, text=None):
     """The seconds of reading and of writing that a run tells as `read SECONDS write SECONDS`, and its peak bytes."""
     status, _, peak, answer = timed(words, text)
@@ -81,12 +88,16 @@ def run_kind(kind, trace, events, plain, program):
         text_read, text_write, peak = read_and_write([TEXT_BENCH, "time"], trace)
         row(kind, "pmt_text read", text_read / 1e9, size, events, peak, read)
         row(kind, "pmt_text write", text_write / 1e9, size, events, peak, write)
+    trimmed = None
     for command in COMMANDS:
-        status, seconds, peak, _ = timed([program, *command, trace])
+        status, seconds, peak, answer = timed([program, *command, trace])
         if status in (0, 1):
             row(kind, " ".join(command), seconds, size, events, peak, read + write)
             if command == ["trim"]:
                 peak_of_trim = peak / events
+                trimmed = digest(answer)
+            elif trimmed is not None and digest(answer) != trimmed:
+                sys.exit(f"{kind}: {' '.join(command)} wrote other bytes than trim")
         else:
             print(f"{kind:18} {' '.join(command):18} {'not there yet' if status == 2 else f'status {status}'}", flush=True)
     return peak_of_trim
