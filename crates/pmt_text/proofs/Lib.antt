@@ -21,3 +21,4 @@ pub mod TextLemmas
 pub mod EventLemmas
 pub mod WriteLemmas
 pub mod BoundLemmas
+pub mod InputLemmas

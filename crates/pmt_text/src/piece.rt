@@ -1,5 +1,5 @@
-ghost use Rattle.std.specs.Prelude.{◌≡◌, ◌+◌, ◌-◌, ◌^◌, ◌<◌, ◌≤◌, [], length, take, drop, IfOk};
-ghost use Rattle.std.specs.Io.KnownBytes.{Consumes, IsAtEnd};
+ghost use Rattle.std.specs.Prelude.{◌≡◌, ◌+◌, ◌-◌, ◌^◌, ◌<◌, ◌≤◌, [], length, take, drop, IfOk, OnErr};
+ghost use Rattle.std.specs.Io.KnownBytes.{Consumes, Keeps, IsAtEnd};
 ghost use Rattle.pmt_text.specs.Counting.{inner_device, failure_count, failed_call};
 
 use crate::counted::Counted;
@@ -58,6 +58,7 @@ impl Piece {
         ensures most { IfOk result (λ n. n ≤ most) }
         ensures bytes { IfOk result (λ n. Consumes (R.remaining (inner_device input.old)) (R.remaining (inner_device input.new)) (unread self.new)) }
         ensures end { IfOk result (λ n. n ≡ 0 → IsAtEnd (R.remaining (inner_device input.new))) }
+        ensures kept { OnErr result (Keeps (R.remaining (inner_device input.old)) (R.remaining (inner_device input.new))) }
         ensures failures { failure_count input.new ≡ failure_count input.old + failed_call result }
     {
         let count = read_front(input, &mut self.bytes, most)?;
@@ -76,6 +77,7 @@ fn read_front<R: Read>(input: &mut Counted<R>, buf: &mut [u8], most: usize) -> i
     ensures most { IfOk result (λ n. n ≤ most) }
     ensures bytes { IfOk result (λ n. Consumes (R.remaining (inner_device input.old)) (R.remaining (inner_device input.new)) (take n buf.new)) }
     ensures end { IfOk result (λ n. n ≡ 0 → IsAtEnd (R.remaining (inner_device input.new))) }
+    ensures kept { OnErr result (Keeps (R.remaining (inner_device input.old)) (R.remaining (inner_device input.new))) }
     ensures failures { failure_count input.new ≡ failure_count input.old + failed_call result }
 {
     let most = most.min(buf.len());

@@ -46,7 +46,7 @@ pub fn read_script(alloc: Global, text: &[u8]) -> Result<Vec<Op>, ReadError>
 
 /// The first line without its LF, and what stands after the LF; none where there is no LF.
 #[inline]
-fn split_line(text: &[u8]) -> Option<(&[u8], &[u8])>
+pub(crate) fn split_line(text: &[u8]) -> Option<(&[u8], &[u8])>
     ensures { SplitsLine result text.now }
 {
     let end = text.find_byte(b'\n')?;

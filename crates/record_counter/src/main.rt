@@ -1,0 +1,114 @@
+//! How an engine's tests record a run: two threads of the engine increment counters in persistent memory, each by a tape of its own.
+//! The session is sealed, and its trace is judged and trimmed. Only what every schedule gives is printed.
+#![tactic(auto)]
+
+ghost use Rattle.std.specs.Prelude.{◌≡◌};
+ghost use Rattle.pmt_model.specs.Formats.{first_version};
+
+use anyhow::{Error, Result, bail};
+use pmt_model::{Op, Range, Trace};
+use pmt_recorder::{Roll, Session, Tape};
+use pmt_trim::trim;
+use std::alloc::Global;
+use std::marker::Brand;
+use std::sync::Wait;
+use std::sync::ledger::Blank;
+use std::thread;
+use std::thread::Threads;
+
+const INCREMENTS: u8 = 20;
+
+// The counter of a thread has a cache line of its own.
+fn counter_of(thread: u8) -> u64 {
+    0x1000 + 64 * thread as u64
+}
+
+// One increment by the engine, recorded as it happens: the store of the new value, its flush and a fence, and the engine's claim that
+// the value is persisted now. The fence after it is one too many.
+fn increment<L: Roll, R: Wait>(
+    rt: &R,
+    session: &Session<L>,
+    tape: &mut Tape<L>,
+    value: u8,
+) -> Result<()> {
+    let counter = counter_of(tape.thread());
+    session.append(rt, tape, Op::store(counter, &[value])?)?;
+    session.append(rt, tape, Op::clwb(counter)?)?;
+    session.append(rt, tape, Op::Sfence)?;
+    session.append(rt, tape, Op::IsPersist(Range::new(counter, 1)?))?;
+    session.append(rt, tape, Op::Sfence)?;
+    Ok(())
+}
+
+// Whether the counter's value is persisted for sure, whatever the other thread does.
+fn is_persisted<L: Roll, R: Wait>(rt: &R, session: &Session<L>, tape: &Tape<L>) -> Result<bool> {
+    let counter = Range::new(counter_of(tape.thread()), 1)?;
+    let snapshot = session.snapshot(rt, tape)?;
+    Ok(snapshot.book().persisted(counter))
+}
+
+// What one thread does: its increments, each of which it looks at in a snapshot. It hands its tape back.
+fn work<L: Roll, R: Wait>(rt: &R, session: &Session<L>, tape: Tape<L>) -> Result<Tape<L>> {
+    let mut tape = tape;
+    for value in 0..INCREMENTS {
+        increment(rt, session, &mut tape, value)?;
+        if !is_persisted(rt, session, &tape)? {
+            bail!("increment {value} is not persisted");
+        }
+    }
+    Ok(tape)
+}
+
+// Records the two threads, in the session that L names.
+fn record<L: Roll + Send + Sync, R: Threads + Wait + Sync>(
+    rt: &R,
+    alloc: Global,
+    blank: Blank,
+) -> Result<Trace>
+    requires name { blank.name ≡ L.name }
+    requires parts { (blank.parts ≡ L.parts) × (blank.parts ≡ 256) }
+    requires tapes { 2 ≡ L.tapes }
+    requires format { first_version ≡ L.format }
+{
+    let (session, mut tapes) = Session::<L>::start(alloc, blank, 2)?;
+    let (Some(second), Some(first)) = (tapes.pop(), tapes.pop()) else {
+        bail!("two tapes were asked for");
+    };
+    let shared = &session;
+    let (first, second) = thread::join(
+        rt,
+        move || work(rt, shared, first),
+        move || work(rt, shared, second),
+    );
+    tapes.push(first?)?;
+    tapes.push(second?)?;
+    match session.seal(tapes) {
+        Ok(trace) => Ok(trace),
+        Err(fault) => Err(Error::from(fault.kind)),
+    }
+}
+
+// How many assertions the trace has.
+fn claims(trace: &Trace) -> usize {
+    trace
+        .events()
+        .iter()
+        .filter(|event| matches!(event.op, Op::IsPersist(_)))
+        .count()
+}
+
+fn main(rt: HostRuntime) -> Result<()> {
+    let trace = record::<Brand, HostRuntime>(&rt, rt.alloc(), Blank::new(256))?;
+    println!(rt;
+        "recorded {} events, {} of them claims",
+        trace.len(),
+        claims(&trace)
+    )?;
+    let (trimmed, _) = trim(rt.alloc(), &trace)?;
+    println!(rt;
+        "the trimmed trace has {} events, {} of them claims",
+        trimmed.len(),
+        claims(&trimmed)
+    )?;
+    Ok(())
+}
