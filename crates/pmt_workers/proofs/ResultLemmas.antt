@@ -9,7 +9,8 @@ use Rattle.pmt_findings.specs.Merging.{job_in}
 use Rattle.pmt_trim.specs.Kept.{IsJob, AreLinesKept}
 use Rattle.pmt_workers.specs.declared.shard.LineAnswer.{LineAnswer}
 use Rattle.pmt_workers.specs.Answering.{AreAnswersTo}
-use Rattle.pmt_workers.specs.Results.{result_in, kept_in, line_found, IsOfJob, AreResultsOf}
+use Rattle.pmt_asserts.specs.Tables.{line_in as line_found, IsOfJob, AreResultsOf}
+use Rattle.pmt_workers.specs.Results.{result_in, kept_in}
 
 -- the results have the jobs that were answered
 pub jobs-same : (jobs : List LineWork) (answers : List LineAnswer) → AreAnswersTo jobs answers → map job_in (map result_in answers) ≡ jobs

@@ -1,39 +1,44 @@
 ghost use Rattle.std.specs.Prelude.{◌≡◌, IfOk};
 ghost use Rattle.std.specs.List.{list_any};
 ghost use Rattle.pmt_model.specs.Analyses.{IsVerdicts};
-ghost use Rattle.pmt_workers.specs.Results.{AreResultsOf, is_assertion as op_asserts, asserts};
+ghost use Rattle.pmt_asserts.specs.Tables.{AreResultsOf};
+ghost use Rattle.pmt_asserts.specs.Judging.{asserts};
+ghost use Rattle.pmt_workers.specs.Results.{event_asserts};
 
+use pmt_asserts::{Tables, verdicts};
 use pmt_lines::LineResult;
 use pmt_model::{Event, Op, OutOfMemory, Trace, Verdict};
-use std::alloc::{AllocError, Global};
+use std::alloc::Global;
 use std::thread::Threads;
 
 // The verdicts of all assertions of the trace, from the results of its jobs. Where it has none, no tables are made.
 pub(crate) fn judged<R: Threads + Sync>(
-    _rt: &R,
+    rt: &R,
     alloc: Global,
-    _results: Vec<LineResult>,
+    results: Vec<LineResult>,
     trace: &Trace,
 ) -> Result<Vec<Verdict>, OutOfMemory>
-    requires { AreResultsOf trace.now _results.items }
+    requires { AreResultsOf trace.now results.items }
     ensures { IfOk result (λ verdicts. IsVerdicts trace.now verdicts.items) }
 {
     if !has_assertion(trace.events()) {
         return Ok(Vec::new(alloc));
     }
-    Err(AllocError)
+    let tables = Tables::merge(alloc, results)?;
+    let all = verdicts(rt, alloc, &tables, trace)?;
+    Ok(all)
 }
 
 // Whether one of the events is an assertion.
 fn has_assertion(events: &[Event]) -> bool
-    ensures { result ≡ list_any asserts events.now }
+    ensures { result ≡ list_any event_asserts events.now }
 {
     events.iter().any(|event| is_assertion(event.op))
 }
 
 // Whether the op is an assertion.
 fn is_assertion(op: Op) -> bool
-    ensures { result ≡ op_asserts op }
+    ensures { result ≡ asserts op }
 {
     match op {
         Op::IsPersist(_) | Op::IsOrderedBefore(_, _) => true,

@@ -10,7 +10,8 @@ use Rattle.pmt_lines.specs.Raises.{LineFound}
 use Rattle.pmt_lines.specs.Splitting.{line_in, IsSplit}
 use Rattle.pmt_findings.specs.Merging.{job_in, FindsAll}
 use Rattle.pmt_trim.specs.Kept.{AreLinesKept, AreAllKept}
-use Rattle.pmt_workers.specs.Results.{result_in, kept_in, AreResultsOf}
+use Rattle.pmt_asserts.specs.Tables.{AreResultsOf}
+use Rattle.pmt_workers.specs.Results.{result_in, kept_in}
 use Rattle.pmt_workers.proofs.ResultLemmas.{jobs-same, lists-kept, results-of}
 use Rattle.pmt_workers.proofs.analyse.analysis_of.Goals as goal
 
