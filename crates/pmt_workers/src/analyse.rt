@@ -1,7 +1,9 @@
 ghost use Rattle.std.specs.Prelude.{◌≡◌, ◌↔◌, IfOk, IfErr, IfSome, IsTrue, IsFalse, IsErrOf};
+ghost use Rattle.pmt_model.specs.Selections.{cut};
 ghost use Rattle.pmt_text.specs.Sources.{CountsReads};
 ghost use Rattle.pmt_lines.specs.Splitting.{IsSplit};
 ghost use Rattle.pmt_lines.specs.Sourcing.{IsWhole, IsFaultOf, TellsWhole};
+ghost use Rattle.pmt_trim.specs.Headline.{IsTrimmed};
 ghost use Rattle.pmt_workers.specs.Analysing.{IsAnalysed};
 ghost use Rattle.pmt_workers.specs.Asking.{told_by};
 ghost use Rattle.pmt_workers.specs.Halving.{is_count};
@@ -17,7 +19,6 @@ use pmt_model::OutOfMemory;
 use pmt_text::{EventSource, SourceError};
 use pmt_trim::liveness;
 use std::alloc::Global;
-use std::sync::Wait;
 use std::thread::Threads;
 use thiserror::Error;
 
@@ -42,7 +43,7 @@ pub enum AnalyseError {
 /// `BadWorkers` unless there are 1, 2, 4, 8 or 16 workers; the source is unchanged then. `Source` with the fault that the source
 /// told, or with `OutOfMemory` where memory was refused before it told its end; `Source(Failed)` only where it had told a fault
 /// before. `OutOfMemory` where memory was refused after its end. The source stands past the events that were taken.
-pub fn analyse_with<R: Threads + Wait + Sync, S: EventSource, G: ShardGate + Sync>(
+pub fn analyse_with<R: Threads + Sync, S: EventSource, G: ShardGate + Sync>(
     rt: &R,
     alloc: Global,
     gate: &G,
@@ -52,6 +53,7 @@ pub fn analyse_with<R: Threads + Wait + Sync, S: EventSource, G: ShardGate + Syn
     ensures workers { IsErrOf result AnalyseError.BadWorkers ↔ IsFalse (is_count workers) }
     ensures unasked { IsErrOf result AnalyseError.BadWorkers → source.new ≡ source.old }
     ensures right { IfOk result IsAnalysed }
+    ensures trimmed { IfOk result (λ a. IsTrimmed a.trace a.selection (cut a.trace a.selection)) }
     ensures whole { IfOk result (λ a. IfSome (S.coming source.old) (λ c. IsWhole c a.trace)) }
     ensures fault { IfSome (told_by result) (λ told. IfErr told (λ e. IfSome (S.coming source.old) (λ c. IsFaultOf c e))) }
     ensures told { IfSome (told_by result) (λ told. TellsWhole (S.state source.old) told (S.state source.new)) }
@@ -78,7 +80,7 @@ fn is_allowed(workers: usize) -> bool
 }
 
 // The analysis of the trace that was taken apart into these jobs.
-fn analysis_of<R: Threads + Wait + Sync, G: ShardGate + Sync>(
+fn analysis_of<R: Threads + Sync, G: ShardGate + Sync>(
     rt: &R,
     alloc: Global,
     gate: &G,

@@ -1,16 +1,15 @@
 use crate::{AnalyseError, Analysis, analyse_with};
-use pmt_model::{Finding, NoGate};
+use pmt_model::{Finding, NoGate, Verdict};
 use pmt_text::devices::PieceReader;
 use pmt_text::{Counted, SourceError, TextSource};
 use std::alloc::Global;
-use std::sync::Wait;
 use std::test::Fail;
 use std::thread::Threads;
 
 const ONE_PERSIST: &[u8] = b"pmtrace 1\nstore 0 0x1000 01\nclwb 0 0x1000\nsfence 0\n";
 
 // The analysis of this text by this many workers.
-fn analysis_of_text<R: Threads + Wait + Sync>(
+fn analysis_of_text<R: Threads + Sync>(
     rt: &R,
     alloc: Global,
     text: &[u8],
@@ -34,21 +33,31 @@ fn one_line_by_sixteen_workers(rt: HostRuntime) -> Result<(), Fail> {
 }
 
 #[test]
-fn double_flush_by_any_number(rt: HostRuntime) -> Result<(), Fail> {
-    let text = b"pmtrace 1\nstore 0 0x1000 01\nclwb 0 0x1000\nclwb 0 0x1000\nsfence 0\n";
+fn fence_of_another_thread_by_any_number(rt: HostRuntime) -> Result<(), Fail> {
+    let text = b"pmtrace 1\nstore 0 0x1000 01\nclwb 0 0x1000\nsfence 1\nisPersist 0 0x1000 1\n";
+    let never = Finding::NeverPersisted {
+        event: 1,
+        flushed: true,
+    };
+    let fails = Verdict {
+        event: 4,
+        ordered: false,
+        pass: false,
+    };
     for workers in [1, 2, 4, 8, 16] {
         let analysis = analysis_of_text(&rt, rt.alloc(), text.as_slice(), workers)?;
         assert_eq!(rt;
             analysis.findings(),
-            [Finding::RedundantFlush { event: 3 }].as_slice(),
+            [never, Finding::FenceWithoutFlush { event: 3 }].as_slice(),
             "{workers} workers"
         );
+        assert_eq!(rt; analysis.verdicts(), [fails].as_slice(), "{workers} workers");
         assert_eq!(rt;
             analysis.selection().numbers(),
-            [1, 3, 4].as_slice(),
+            [1, 4].as_slice(),
             "{workers} workers"
         );
-        assert_eq!(rt; analysis.trimmed()?.len(), 3, "{workers} workers");
+        assert_eq!(rt; analysis.trimmed()?.len(), 2, "{workers} workers");
     }
     Ok(())
 }
