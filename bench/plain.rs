@@ -251,5 +251,5 @@ fn main() {
     let out = write(&trace);
     let write_seconds = start.elapsed().as_secs_f64();
     assert!(out == text, "the text is written as it was read");
-    println!("read {read_seconds:.3} write {write_seconds:.3}");
+    println!("read {read_seconds:.6} write {write_seconds:.6}");
 }

@@ -78,6 +78,14 @@ def one_line(count):
         value += 1
 
 
+def one_line_stores(count):
+    """A million stores to one line, and nothing else."""
+    value = 0
+    while True:
+        yield store(0, BASE + 8 * (value % 8), value)
+        value += 1
+
+
 def many_lines(count):
     """One store to each line."""
     value = 0
@@ -112,7 +120,7 @@ def long_intervals(count):
 
 KINDS = {
     kind.__name__: kind
-    for kind in (log_appends, tree_inserts, redundant_flushes, many_assertions, one_line, many_lines, threads_256, long_intervals)
+    for kind in (log_appends, tree_inserts, redundant_flushes, many_assertions, one_line, one_line_stores, many_lines, threads_256, long_intervals)
 }
 
 

@@ -12,3 +12,6 @@ mod sparing;
 
 pub use crate::book::Book;
 pub use crate::fault::BookError;
+
+#[cfg(test)]
+mod tests;

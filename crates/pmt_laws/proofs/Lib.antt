@@ -29,3 +29,4 @@ pub mod ByteAssertions
 pub mod WorkedLemmas
 pub mod WorkedTraces
 pub mod WorkedFindingLemmas
+pub mod AnalysisLemmas

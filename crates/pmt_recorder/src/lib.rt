@@ -18,3 +18,6 @@ pub use crate::scripts::record_scripts;
 pub use crate::session::{SealFault, Session};
 pub use crate::shelf::{Shelf, Snapshot};
 pub use crate::tape::Tape;
+
+#[cfg(test)]
+mod tests;

@@ -2,5 +2,6 @@ pub mod Faults
 pub mod Entries
 pub mod Reports
 pub mod Taking
+pub mod Checks
 pub mod Runs
 pub mod FrontsOf

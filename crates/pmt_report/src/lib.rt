@@ -3,6 +3,8 @@
 //! The definitions stand in `specs/`: the text of each answer and the line of each fault.
 #![tactic(auto)]
 
+mod analysed;
+pub mod check;
 pub mod fault;
 mod fronts;
 mod output;
@@ -10,6 +12,9 @@ mod report;
 pub mod run;
 mod taking;
 mod texts;
+pub mod trim;
 
+pub use crate::check::{failed, report_text, run_check};
 pub use crate::fault::{RunError, fault_text};
-pub use crate::run::{run_fronts, run_trim};
+pub use crate::run::run_fronts;
+pub use crate::trim::run_trim;

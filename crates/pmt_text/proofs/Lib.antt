@@ -20,4 +20,5 @@ pub mod SourceLemmas
 pub mod TextLemmas
 pub mod EventLemmas
 pub mod WriteLemmas
+pub mod BoundLemmas
 pub mod InputLemmas

@@ -68,3 +68,15 @@ ScriptsAreSpelled =
 -- A text of no more bytes than the bound is judged whole.
 abbrev pub WithinBound : Type 0
 WithinBound = (bound : ℕ) (text : List ℕ) → length text ≤ bound → judged_within bound text ≡ judged text
+
+-- The longest text of a trace: a header of 14 bytes, and a million lines of 60.
+abbrev pub longest_text : ℕ
+longest_text = 60000014
+
+-- The spelling of a trace has no more bytes.
+abbrev pub SpelledIsShort : Type 0
+SpelledIsShort = (T : Recording) → IsTrace T → length (spelling T) ≤ longest_text
+
+-- So a reader whose bound is no less judges it whole, as the trace.
+abbrev pub SpelledComesWhole : Type 0
+SpelledComesWhole = (bound : ℕ) (T : Recording) → IsTrace T → longest_text ≤ bound → judged_within bound (spelling T) ≡ whole T

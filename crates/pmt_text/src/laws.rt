@@ -1,6 +1,6 @@
 //! Theorems about the definitions of texts. Each function does nothing; its contract is the theorem.
 
-ghost use Rattle.pmt_text.specs.TextLaws.{FirstVersionStays, NewWordsAreBad, OneTextOfTrace, OneTraceOfText, ReadIsSpelled, ScriptsAreSpelled, SpelledIsRead, WithinBound};
+ghost use Rattle.pmt_text.specs.TextLaws.{FirstVersionStays, NewWordsAreBad, OneTextOfTrace, OneTraceOfText, ReadIsSpelled, ScriptsAreSpelled, SpelledComesWhole, SpelledIsRead, SpelledIsShort, WithinBound};
 
 /// The spelling of each trace is read as the trace.
 pub fn spelled_is_read()
@@ -40,4 +40,14 @@ pub fn scripts_are_spelled()
 /// A text within the bound of a reader is judged whole.
 pub fn within_bound()
     ensures { WithinBound }
+{}
+
+/// The spelling of a trace has at most 60,000,014 bytes.
+pub fn spelled_is_short()
+    ensures { SpelledIsShort }
+{}
+
+/// A reader whose bound is no less judges the spelling of each trace whole, as the trace.
+pub fn spelled_comes_whole()
+    ensures { SpelledComesWhole }
 {}

@@ -12,6 +12,7 @@ use Rattle.pmt_laws.proofs.StayLemmas.{verdicts_stay, never_persisted_stays}
 use Rattle.pmt_laws.proofs.ShortestLemmas.{keep_shortest}
 use Rattle.pmt_laws.proofs.NoWaste.{no_waste}
 use Rattle.pmt_laws.proofs.WholeSelections.{trimmed_same}
+use Rattle.pmt_model.specs.Shortest.{HasSameVectors}
 use Rattle.pmt_trim.specs.Headline.{IsTrimmed}
 
 -- a selected event stands at its matching place
@@ -43,3 +44,7 @@ cut-is-trimmed T K keep =
 -- the trace cut to what is kept is trimmed
 pub keep-is-trimmed : (T : Recording) (K : List ℕ) (trimmed : Recording) → IsKeep T K → trimmed ≡ cut T K → IsTrimmed T K trimmed
 keep-is-trimmed T K trimmed keep is = let P : Recording → Type 0 = λ R. IsTrimmed T K R in subst P (sym is) (cut-is-trimmed T K keep)
+
+-- what is trimmed leaves the counts of persisted stores
+pub same_counts : (T : Recording) (K : List ℕ) (trimmed : Recording) → IsTrimmed T K trimmed → HasSameVectors T K
+same_counts T K trimmed is n within v = (is.faithful n within).vectors v

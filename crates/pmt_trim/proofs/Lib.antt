@@ -6,3 +6,4 @@ pub mod MarkingLemmas
 pub mod LineLemmas
 pub mod JoinLemmas
 pub mod TrimmingLemmas
+pub mod AllEvents

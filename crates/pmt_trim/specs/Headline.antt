@@ -9,6 +9,10 @@ use Rattle.pmt_model.specs.Assertions.{PersistPasses, OrderedPasses}
 use Rattle.pmt_model.specs.Findings.{IsNeverPersisted}
 use Rattle.pmt_model.specs.Shortest.{HasSameVectors, HasNoWaste}
 
+-- No selection of the trace with the same counts of persisted stores at every place has fewer events than K.
+abbrev pub IsShortest : Recording → List ℕ → Type 0
+IsShortest T K = (S : List ℕ) → IsSelection T S → HasSameVectors T S → length K ≤ length S
+
 -- K selects from the trace what the trimmed trace has.
 pub record IsTrimmed (T : Recording) (K : List ℕ) (trimmed : Recording) : Type 0 where
   -- K is a rising list of event numbers, among them those of all stores and assertions.
@@ -32,8 +36,8 @@ pub record IsTrimmed (T : Recording) (K : List ℕ) (trimmed : Recording) : Type
   -- A store is never persisted exactly if the matching one is.
   pub never_persisted_stays : (l i : ℕ) (w : Written) → IsAct T i (Stores l w) →
       IsNeverPersisted T l i ↔ IsNeverPersisted trimmed l (matching_place K i)
-  -- No selection of the trace with the same counts of persisted stores at every place is shorter.
-  pub shortest : (S : List ℕ) → IsSelection T S → HasSameVectors T S → length K ≤ length S
+  -- None that leaves the same counts of persisted stores at every place is shorter.
+  pub shortest : IsShortest T K
   -- The trimmed trace has no redundant flush, and no fence without flush.
   pub no_waste : HasNoWaste trimmed
   -- Trimming it again drops nothing.

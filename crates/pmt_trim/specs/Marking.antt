@@ -1,5 +1,6 @@
 -- Events that are marked by their numbers.
-use Rattle.std.specs.Prelude.{◌≡◌, ℕ, zero, suc, ◌⊎◌, ◌↔◌, Bool, true, false, List, slice_index_or}
+use Rattle.std.specs.Prelude.{◌≡◌, ℕ, zero, suc, ◌⊎◌, ◌↔◌, Bool, true, false, List, map, slice_index_or}
+use Rattle.pmt_model.specs.declared.event.Event.{Event}
 use Rattle.pmt_model.specs.declared.event.Op.{Op}
 use Rattle.pmt_model.specs.declared.event.Op.TheVariants.{Store, Clwb, ClflushOpt, Clflush, Sfence, Mfence, IsPersist, IsOrderedBefore}
 use Rattle.pmt_model.specs.Selections.{Has}
@@ -14,6 +15,10 @@ op_stays Sfence = false
 op_stays Mfence = false
 op_stays (IsPersist r) = true
 op_stays (IsOrderedBefore r q) = true
+
+-- A mark for each event.
+abbrev pub all_marks : List Event → List Bool
+all_marks events = map (λ (e : Event). true) events
 
 -- Event n is marked, the first one having the number 1.
 abbrev pub is_marked : List Bool → ℕ → Bool

@@ -54,7 +54,7 @@ fn mark_all(marked: &mut [bool], numbers: &[u64])
 }
 
 // The numbers that are marked.
-fn marked_numbers(alloc: Global, marked: &[bool]) -> Result<Selection, OutOfMemory>
+pub(crate) fn marked_numbers(alloc: Global, marked: &[bool]) -> Result<Selection, OutOfMemory>
     ensures rising { IfOk result (IsRising 0) }
     ensures just { IfOk result (λ numbers. (n : ℕ) → Has numbers n ↔ (is_marked marked.now n ≡ true)) }
 {

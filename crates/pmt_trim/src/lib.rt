@@ -6,8 +6,12 @@
 pub mod join;
 pub mod kept;
 pub mod laws;
+pub mod shortest;
+#[cfg(test)]
+mod tests;
 pub mod trimming;
 
 pub use crate::join::liveness;
 pub use crate::kept::line_kept;
+pub use crate::shortest::{all_events, shortest_selection};
 pub use crate::trimming::trim;

@@ -1,10 +1,10 @@
-ghost use Rattle.std.specs.Prelude.{◌≤◌};
+ghost use Rattle.std.specs.Prelude.{◌≤◌, IfOk};
 
 use crate::fault::Fault;
 use crate::opener::Opener;
 use crate::record::record;
 use crate::request::{Request, request_of};
-use pmt_report::{RunError, run_fronts, run_trim};
+use pmt_report::{RunError, run_check, run_fronts, run_trim};
 use pmt_text::Counted;
 use std::alloc::Global;
 use std::convert::AsStr;
@@ -37,7 +37,7 @@ where
         Err(fault) => Err(fault),
     };
     match done {
-        Ok(()) => 0,
+        Ok(status) => status,
         Err(fault) => fault.tell(alloc, faults),
     }
 }
@@ -48,21 +48,26 @@ fn answer<T, O, I, W>(
     files: &O,
     input: I,
     out: &mut W,
-) -> Result<(), Fault>
+) -> Result<u8, Fault>
 where
     T: AllocGlobal + Threads + Wait + Sync,
     O: Opener,
     I: Read + Drop,
     W: Write,
+    ensures { IfOk result (λ status. status ≤ 1) }
 {
     let alloc = rt.alloc();
     match request {
         Request::Show(text) => show(out, text.as_str()),
         Request::Fronts { file, place } => fronts(alloc, place, files.open(file)?, out),
         Request::Check {
-            workers: _,
-            file: _,
-        } => not_yet(alloc, "the command 'check'"),
+            workers,
+            file: Some(name),
+        } => check(rt, workers, files.open(name)?, out),
+        Request::Check {
+            workers,
+            file: None,
+        } => check(rt, workers, input, out),
         Request::Trim {
             workers: _,
             stream: true,
@@ -83,9 +88,11 @@ where
 }
 
 // Help, or the version.
-fn show<W: Write>(out: &mut W, text: &str) -> Result<(), Fault> {
+fn show<W: Write>(out: &mut W, text: &str) -> Result<u8, Fault>
+    ensures { IfOk result (λ status. status ≤ 1) }
+{
     match out.write_all(text.as_bytes()) {
-        Ok(()) => Ok(()),
+        Ok(()) => Ok(0),
         Err(_) => Err(Fault::File),
     }
 }
@@ -95,31 +102,55 @@ fn fronts<R: Read + Drop, W: Write>(
     place: u64,
     reader: R,
     out: &mut W,
-) -> Result<(), Fault> {
+) -> Result<u8, Fault>
+    ensures { IfOk result (λ status. status ≤ 1) }
+{
     let mut writer = Counted::new(out);
     let (_reader, done) = run_fronts(alloc, place, Counted::new(reader), &mut writer);
     told(done)
 }
 
-fn trim<T, R, W>(rt: &T, workers: usize, reader: R, out: &mut W) -> Result<(), Fault>
+fn trim<T, R, W>(rt: &T, workers: usize, reader: R, out: &mut W) -> Result<u8, Fault>
 where
     T: AllocGlobal + Threads + Wait + Sync,
     R: Read + Drop,
     W: Write,
+    ensures { IfOk result (λ status. status ≤ 1) }
 {
     let mut writer = Counted::new(out);
     let (_reader, done) = run_trim(rt, rt.alloc(), workers, Counted::new(reader), &mut writer);
     told(done)
 }
 
-fn told(done: Result<(), RunError>) -> Result<(), Fault> {
+// The status is 1 where an assertion fails or a store is never persisted.
+fn check<T, R, W>(rt: &T, workers: usize, reader: R, out: &mut W) -> Result<u8, Fault>
+where
+    T: AllocGlobal + Threads + Wait + Sync,
+    R: Read + Drop,
+    W: Write,
+    ensures { IfOk result (λ status. status ≤ 1) }
+{
+    let mut writer = Counted::new(out);
+    let (_reader, done) = run_check(rt, rt.alloc(), workers, Counted::new(reader), &mut writer);
     match done {
-        Ok(()) => Ok(()),
+        Ok(true) => Ok(1),
+        Ok(false) => Ok(0),
         Err(error) => Err(Fault::Run(error)),
     }
 }
 
-fn not_yet(alloc: Global, what: &str) -> Result<(), Fault> {
+fn told(done: Result<(), RunError>) -> Result<u8, Fault>
+    ensures { IfOk result (λ status. status ≤ 1) }
+{
+    match done {
+        Ok(()) => Ok(0),
+        Err(error) => Err(Fault::Run(error)),
+    }
+}
+
+fn not_yet(alloc: Global, what: &str) -> Result<u8, Fault>
+    ensures { IfOk result (λ status. status ≤ 1) }
+{
     let message = format!(in alloc; "{what} is not there yet")?;
     Err(Fault::usage(alloc, message.as_str())?)
 }

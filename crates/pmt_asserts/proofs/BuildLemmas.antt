@@ -1,0 +1,168 @@
+-- How the table of a line is made.
+use Rattle.std.proofs.Common.{◌≡◌, ℕ, zero, suc, ◌+◌, ◌-◌, ◌<◌, ◌≤◌, ◌⊎◌, ◌↔◌, inl, inr, true, false, List, [], ◌∷◌, ◌++◌, length, get_or, take, refl, sym, ap, subst, ◌∙◌, arith}
+use Rattle.std.specs.Prelude.{Contains, All, nat_le, nat_lt}
+use Rattle.std.proofs.lemmas.Bool.{cases_lt, cases_order, both_ways, le-ltb, eq-eqb, leb-true, ltb-true, le-leb, lt-ltb, and_parts, and_from}
+use Rattle.std.proofs.lemmas.List.{take_more}
+use Rattle.std.proofs.lemmas.List.Elements.{Contains-append_left, Contains-push, Contains-push_cases, All-from_recursion}
+use Rattle.pmt_lines.specs.declared.step.StepKind.{StepKind}
+use Rattle.pmt_lines.specs.declared.step.StepKind.TheVariants.{Store, Flush, Clflush, Fence}
+use Rattle.pmt_lines.specs.declared.step.Step.{Step}
+use Rattle.pmt_asserts.specs.declared.put.Put.{Put}
+use Rattle.pmt_asserts.specs.declared.put.Write.{Write}
+use Rattle.pmt_asserts.specs.Puts.{covers, with_put, puts_of, put_at, IsUpTo, IsWriteOf, AreWritesOf, IsInside}
+use Rattle.pmt_asserts.proofs.RankLemmas.{up_to-trans}
+use Rattle.std.specs.declared.cmp.Ordering.{Ordering}
+use Rattle.std.specs.Ordering.{is_lt, nat_cmp, ordering_then}
+use Rattle.std.specs.List.{AllByRecursion}
+use Rattle.std.specs.List.Sorted.{IsSorted, IsPermutation}
+use Rattle.std.proofs.lemmas.List.Sorted.{IsPermutation-sym, Contains-permutation}
+use Rattle.pmt_lines.specs.Steps.{AreSteps, IsStepKind}
+
+-- one store, if it is one, before others
+with_put-append : (n : ℕ) (k : StepKind) (ps qs : List Put) → with_put n k (ps ++ qs) ≡ with_put n k ps ++ qs
+with_put-append n (Store addr len) ps qs = refl
+with_put-append n Flush ps qs = refl
+with_put-append n Clflush ps qs = refl
+with_put-append n Fence ps qs = refl
+
+-- the stores of two lists of steps
+puts_of-append : (xs ys : List Step) → puts_of (xs ++ ys) ≡ puts_of xs ++ puts_of ys
+puts_of-append [] ys = refl
+puts_of-append (s ∷ xs) ys = ap (with_put s.number s.kind) (puts_of-append xs ys) ∙ with_put-append s.number s.kind (puts_of xs) (puts_of ys)
+
+-- one more step
+pub puts_of-more : (steps : List Step) (i : ℕ) (d s : Step) → i < length steps → s ≡ get_or steps i d → puts_of (take (i + 1) steps) ≡ puts_of (take i steps) ++ puts_of (s ∷ [])
+puts_of-more steps i d s h e = ap puts_of (take_more steps i d h) ∙ puts_of-append (take i steps) (get_or steps i d ∷ []) ∙ ap (λ x. puts_of (take i steps) ++ puts_of (x ∷ [])) (sym e)
+
+-- What the list of writes has: those before, and those of one store below a byte.
+abbrev pub HasUpTo : List Write → List Write → ℕ → ℕ → ℕ → Type 0
+HasUpTo old new rank low b = (w : Write) → Contains new w ↔ (Contains old w ⊎ ((w.rank ≡ rank) × (low ≤ w.byte) × (w.byte < b)))
+
+pub has-none : (xs : List Write) (rank low : ℕ) → HasUpTo xs xs rank low low
+has-none xs rank low w = (λ h. inl h, λ h. elim h [ inl g ↦ g | inr g ↦ absurd (omega (arith, g.1, g.2)) ])
+
+pub has-more : (old new : List Write) (rank low b : ℕ) → low ≤ b → HasUpTo old new rank low b → HasUpTo old (new ++ record { byte = b; rank = rank } ∷ []) rank low (b + 1)
+has-more old new rank low b h is w = (there, back)
+  where
+    there : Contains (new ++ record { byte = b; rank = rank } ∷ []) w → Contains old w ⊎ ((w.rank ≡ rank) × (low ≤ w.byte) × (w.byte < b + 1))
+    there c =
+        elim (Contains-push_cases new (record { byte = b; rank = rank }) w c) [
+          | inl before ↦ elim ((is w).0 before) [ inl g ↦ inl g | inr g ↦ inr (g.0, g.1, omega (arith, g.2)) ]
+          | inr same ↦ let r : w.rank ≡ rank = ap (λ (v : Write). v.rank) (sym same) in let e : b ≡ w.byte = ap (λ (v : Write). v.byte) same in inr (r, omega (arith, e), omega (arith, e))
+        ]
+
+    back : Contains old w ⊎ ((w.rank ≡ rank) × (low ≤ w.byte) × (w.byte < b + 1)) → Contains (new ++ record { byte = b; rank = rank } ∷ []) w
+    back (inl g) = Contains-append_left new (record { byte = b; rank = rank } ∷ []) w ((is w).1 (inl g))
+    back (inr g) =
+        elim (cases_lt w.byte b) [
+          | inl less ↦ Contains-append_left new (record { byte = b; rank = rank } ∷ []) w ((is w).1 (inr (g.0, g.1, less)))
+          | inr more ↦ let e : b ≡ w.byte = omega (arith, g.2) in let same : record { byte = b; rank = rank } ≡ w = ap (λ n. record { byte = n; rank = rank }) e ∙ ap (λ n. record { byte = w.byte; rank = n }) (sym g.0) in
+              subst (Contains (new ++ record { byte = b; rank = rank } ∷ [])) same (Contains-push new (record { byte = b; rank = rank }))
+        ]
+
+-- what a store covers
+covers-range : (p : Put) (b : ℕ) → p.addr ≤ b → b < p.addr + p.len → covers p b ≡ true
+covers-range p b low high = and_from (nat_le p.addr b) (nat_lt (b - p.addr) p.len) (le-leb p.addr b low) (lt-ltb (b - p.addr) p.len (omega (arith, low, high)))
+
+range-covers : (p : Put) (b : ℕ) → covers p b ≡ true → (p.addr ≤ b) × (b < p.addr + p.len)
+range-covers p b h =
+    let both = and_parts (nat_le p.addr b) (nat_lt (b - p.addr) p.len) h in
+    let low = leb-true p.addr b both.0 in
+    let high = ltb-true (b - p.addr) p.len both.1 in
+    (low, omega (arith, low, high))
+
+-- all writes of the store
+pub has-all : (old new : List Write) (rank b : ℕ) (p : Put) → p.addr + p.len ≤ b → (p.addr ≤ p.addr + p.len → b ≤ p.addr + p.len) → HasUpTo old new rank p.addr b → (w : Write) → Contains new w ↔ (Contains old w ⊎ ((w.rank ≡ rank) × (covers p w.byte ≡ true)))
+has-all old new rank b p past fits is w =
+    let up = fits (omega arith) in (
+      λ c. elim ((is w).0 c) [ inl g ↦ inl g | inr g ↦ inr (g.0, covers-range p w.byte g.1 (omega (arith, g.2, up))) ],
+      λ h. elim h [ inl g ↦ (is w).1 (inl g) | inr g ↦ let r = range-covers p w.byte g.1 in (is w).1 (inr (g.0, r.0, omega (arith, r.1, past))) ],
+    )
+
+-- The list has the writes of the first i stores.
+abbrev pub HasWrites : List Put → List Write → ℕ → Type 0
+HasWrites puts writes i = (w : Write) → Contains writes w ↔ (IsWriteOf puts w × (w.rank ≤ i))
+
+pub writes-none : (puts : List Put) → HasWrites puts [] 0
+writes-none puts w = (λ c. absurd (omega (arith, c.1)), λ h. absurd (omega (arith, h.0.some, h.1)))
+
+pub writes-more :
+    (puts : List Put) (old new : List Write) (i : ℕ) (p : Put) → i < length puts → HasWrites puts old i →
+    ((w : Write) → Contains new w ↔ (Contains old w ⊎ ((w.rank ≡ i + 1) × (covers (put_at puts i) w.byte ≡ true)))) → HasWrites puts new (i + 1)
+writes-more puts old new i p h is added w = (there, back)
+  where
+    read : put_at puts i ≡ put_at puts i
+    read = refl
+
+    there : Contains new w → IsWriteOf puts w × (w.rank ≤ i + 1)
+    there c =
+        elim ((added w).0 c) [
+          | inl g ↦ let r = (is w).0 g in (r.0, omega (arith, r.1))
+          | inr g ↦ let k : i ≡ w.rank - 1 = omega (arith, g.0) in (
+            record {
+              some = omega (arith, g.0);
+              within = omega (arith, g.0, h);
+              writes = subst (λ n. covers (put_at puts n) w.byte ≡ true) k (subst (λ q. covers q w.byte ≡ true) read g.1);
+            },
+            omega (arith, g.0),
+          )
+        ]
+
+    back : IsWriteOf puts w × (w.rank ≤ i + 1) → Contains new w
+    back g =
+        elim (cases_lt i w.rank) [
+          | inl last ↦ let r : w.rank ≡ i + 1 = omega (arith, g.1) in let k : w.rank - 1 ≡ i = omega (arith, r) in
+              (added w).1 (inr (r, subst (λ q. covers q w.byte ≡ true) (sym read) (subst (λ n. covers (put_at puts n) w.byte ≡ true) k g.0.writes)))
+          | inr before ↦ (added w).1 (inl ((is w).1 (g.0, before)))
+        ]
+
+-- By byte and then by rank.
+abbrev pub compared : Write → Write → Ordering
+compared v w = ordering_then (nat_cmp v.byte w.byte) (nat_cmp v.rank w.rank)
+
+-- what doesn't come before
+up_to-from : (v w : Write) → is_lt (compared w v) ≡ false → IsUpTo v w
+up_to-from v w h =
+    elim (cases_order v.byte w.byte) [
+      | inl same ↦ elim (cases_lt w.rank v.rank) [
+        | inl less ↦ absurd (both_ways (is_lt (compared w v)) h (let a = le-ltb w.byte v.byte (omega (arith, same)) in let b = eq-eqb w.byte v.byte (sym same) in let d = lt-ltb w.rank v.rank less in rw (a, b, d) refl))
+        | inr more ↦ inr (same, more)
+      ]
+      | inr other ↦ elim other [
+        | inl less ↦ inl less
+        | inr more ↦ absurd (both_ways (is_lt (compared w v)) h (let a = lt-ltb w.byte v.byte more in rw a refl))
+      ]
+    ]
+
+up_to-refl : (w : Write) → IsUpTo w w
+up_to-refl w = inr (refl, omega arith)
+
+-- sorted writes
+sorted-far : (ws : List Write) → IsSorted compared ws → (i n : ℕ) (d : Write) → i + n < length ws → IsUpTo (get_or ws i d) (get_or ws (i + n) d)
+sorted-far ws sorted i zero d h = let e : i ≡ i + 0 = omega arith in subst (λ k. IsUpTo (get_or ws i d) (get_or ws k d)) e (up_to-refl (get_or ws i d))
+sorted-far ws sorted i (suc n) d h =
+    let e : (i + n) + 1 ≡ i + suc n = omega arith in
+    let next = up_to-from (get_or ws (i + n) d) (get_or ws ((i + n) + 1) d) (sorted (i + n) d (omega arith) (omega arith)) in
+    subst (λ k. IsUpTo (get_or ws i d) (get_or ws k d)) e (up_to-trans (get_or ws i d) (get_or ws (i + n) d) (get_or ws ((i + n) + 1) d) (sorted-far ws sorted i n d (omega arith)) next)
+
+-- the writes are all there, in order
+pub writes-sorted : (puts : List Put) (old new : List Write) (i : ℕ) → length puts ≤ i → HasWrites puts old i → IsPermutation old new → IsSorted compared new → AreWritesOf puts new
+writes-sorted puts old new i past has moved sorted = record {
+  sorted = λ j k d h within. let e : j + (k - j) ≡ k = omega arith in subst (λ n. IsUpTo (get_or new j d) (get_or new n d)) e (sorted-far new sorted j (k - j) d (omega (arith, e)));
+  just = λ w c. ((has w).0 (Contains-permutation new old w (IsPermutation-sym old new moved) c)).0;
+  all = λ w is. Contains-permutation old new w moved ((has w).1 (is, omega (arith, is.within)));
+}
+
+-- the stores of a job have bytes within the addresses
+pub puts-inside : (low : ℕ) (steps : List Step) → AreSteps low steps → All IsInside (puts_of steps)
+puts-inside low steps are = All-from_recursion IsInside (puts_of steps) (each low steps are)
+  where
+    one : (n : ℕ) (k : StepKind) (ps : List Put) → IsStepKind k → AllByRecursion IsInside ps → AllByRecursion IsInside (with_put n k ps)
+    one n (Store addr len) ps is rest = (record { some = omega (arith, is.1); within = omega (arith, is.0, is.2) }, rest)
+    one n Flush ps is rest = rest
+    one n Clflush ps is rest = rest
+    one n Fence ps is rest = rest
+
+    each : (from : ℕ) (ss : List Step) → AreSteps from ss → AllByRecursion IsInside (puts_of ss)
+    each from [] a = tt
+    each from (s ∷ ss) a = one s.number s.kind (puts_of ss) a.2 (each s.number ss a.3)

@@ -1,0 +1,14 @@
+use Rattle.std.proofs.Common.{◌≤◌, subst, sym}
+use Rattle.std.proofs.lemmas.Bool.{leb-true, le-leb}
+use Rattle.pmt_asserts.specs.Puts.{puts_of, IsGreatestIn}
+use Rattle.pmt_asserts.proofs.TableLemmas.{persisted-by}
+use Rattle.pmt_asserts.proofs.table.LineTable.is_persisted_by.Goals as goal
+
+pub returns : goal.returns
+returns c = λ T trace job by_end lie.
+    let f = c.args.self.now in
+    let g = c.greatest.result in
+    let count = c.count_at.ensures.value T trace job in
+    let front = c.front_at.ensures T trace job by_end in
+    let d = persisted-by T f.job.line f.job.steps c.args.place c.args.by c.args.low c.args.high g trace job lie (subst (λ k. IsGreatestIn (puts_of f.job.steps) k c.args.low c.args.high g) (sym count) c.greatest.ensures) in
+    (λ t. d.0 (subst (λ k. g ≤ k) (sym front) (leb-true g c.front_at.result t)), λ each. le-leb g c.front_at.result (subst (λ k. g ≤ k) front (d.1 each)))

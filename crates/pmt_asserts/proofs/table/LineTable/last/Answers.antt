@@ -1,0 +1,47 @@
+use Rattle.std.proofs.Common.{◌≡◌, ◌≤◌, ◌<◌, ap, subst, sym, ◌∙◌, length, true, false, get_or, ◌-◌, arith, rules}
+use Rattle.std.specs.List.Sorted.{IsPartitionPoint}
+use Rattle.std.proofs.lemmas.List.Sorted.{IsPartitionPoint-from_clause}
+use Rattle.pmt_lines.specs.Raises.{LineFound}
+use Rattle.pmt_asserts.specs.declared.put.Write.{Write}
+use Rattle.pmt_asserts.specs.Puts.{puts_of, AreWritesOf, is_up_to}
+use Rattle.pmt_asserts.proofs.RankLemmas.{writes-partitioned, found-none, found-other, found-last}
+use Rattle.pmt_asserts.proofs.table.LineTable.last.Goals as goal
+use Rattle.pmt_asserts.proofs.table.LineTable.last.Goals.{After-partition_point-end}
+
+-- the writes are those of the line's stores
+are : (c : After-partition_point-end) → AreWritesOf (puts_of c.args.self.now.job.steps) c.self.inside.writes.items
+are c =
+    subst (λ ps. AreWritesOf ps c.self.inside.writes.items) (c.self.invariant.stores ∙ ap (λ (g : LineFound). puts_of g.job.steps) c.self.view_is)
+    c.self.invariant.written
+
+-- where the search ended
+point : (c : After-partition_point-end) → IsPartitionPoint (λ w. is_up_to c.args.byte c.args.count w ≡ true) (λ w. is_up_to c.args.byte c.args.count w ≡ false) c.self.inside.writes.items c.partition_point-end.result
+point c =
+    let same : c.deref.result.now ≡ c.self.inside.writes.items = c.deref.ensures.value in
+    subst (λ ws. IsPartitionPoint (λ w. is_up_to c.args.byte c.args.count w ≡ true) (λ w. is_up_to c.args.byte c.args.count w ≡ false) ws c.partition_point-end.result) same
+    (IsPartitionPoint-from_clause (is_up_to c.args.byte c.args.count) c.deref.result.now c.partition_point-end.result c.partition_point-end.ensures.partitioned
+    (writes-partitioned (puts_of c.args.self.now.job.steps) c.deref.result.now c.args.byte c.args.count (subst (AreWritesOf (puts_of c.args.self.now.job.steps)) (sym same) (are c))) (λ a r g q. search rules))
+
+-- and that it did so within the writes
+inside : (c : After-partition_point-end) → c.partition_point-end.result ≤ length c.self.inside.writes.items
+inside c = subst (λ ws. c.partition_point-end.result ≤ length ws) c.deref.ensures.value c.partition_point-end.ensures.bound
+
+pub returns-then-end-eq0 : goal.returns-then-end-eq0
+returns-then-end-eq0 c =
+    let p = (goal.at.returns-then-end-eq0 c).After-partition_point-end in
+    sym (found-none (puts_of c.args.self.now.job.steps) c.self.inside.writes.items c.args.byte c.args.count (are p) c.requires
+    (subst (IsPartitionPoint (λ w. is_up_to c.args.byte c.args.count w ≡ true) (λ w. is_up_to c.args.byte c.args.count w ≡ false) c.self.inside.writes.items) c.if-end-eq0.true (point p)))
+
+pub returns-then-last-byte : goal.returns-then-last-byte
+returns-then-last-byte c =
+    let p = (goal.at.returns-then-last-byte c).After-partition_point-end in
+    let some : 0 < c.partition_point-end.result = omega (arith, c.if-end-eq0.false) in
+    let same : (get_or c.self.inside.writes.items (c.partition_point-end.result - 1) c.index-last.result.now).byte ≡ c.args.byte = ap (λ (w : Write). w.byte) (sym c.index-last.ensures) ∙ c.if-last-byte.true in
+    ap (λ (w : Write). w.rank) c.index-last.ensures
+    ∙ sym (found-last (puts_of c.args.self.now.job.steps) c.self.inside.writes.items c.args.byte c.args.count c.partition_point-end.result c.index-last.result.now (are p) c.requires (point p) (inside p) some same)
+
+pub returns-else-last-byte : goal.returns-else-last-byte
+returns-else-last-byte c =
+    let p = (goal.at.returns-else-last-byte c).After-partition_point-end in
+    sym (found-other (puts_of c.args.self.now.job.steps) c.self.inside.writes.items c.args.byte c.args.count c.partition_point-end.result c.index-last.result.now (are p) c.requires (point p) (inside p)
+    (λ e. c.if-last-byte.false (ap (λ (w : Write). w.byte) c.index-last.ensures ∙ e)))

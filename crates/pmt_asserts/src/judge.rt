@@ -1,0 +1,240 @@
+ghost use Rattle.std.specs.Prelude.{◌≡◌, ◌≢◌, ℕ, ◌+◌, ◌<◌, ◌≤◌, ◌^◌, ◌↔◌, IsTrue, IfOk, IfSome, length, Option, None, Some};
+ghost use Rattle.pmt_model.specs.Values.{line_of};
+ghost use Rattle.pmt_model.specs.Traces.{IsTrace, history};
+ghost use Rattle.pmt_model.specs.Assertions.{InSpan, PersistPasses, OrderedPasses};
+ghost use Rattle.pmt_model.specs.Analyses.{IsVerdicts};
+ghost use Rattle.pmt_asserts.specs.Tables.{AreResultsOf};
+ghost use Rattle.pmt_asserts.specs.Judging.{AreAssertions, asserts, IsEarliestOf, IsVerdictAt, IsLineInOrder, IsLineOrdered, earlier_of, place_for};
+
+use crate::oldest::{Earliest, Oldest};
+use crate::part::{is_line_persisted, is_line_ranked, line_oldest};
+use crate::tables::Tables;
+use pmt_model::{Op, OutOfMemory, Range, Trace, Verdict};
+use rayon::prelude::*;
+use std::alloc::Global;
+use std::thread::Threads;
+
+// How few assertions are worth a thread of their own.
+const LEAST_SHARE: usize = 64;
+
+/// The verdicts of all assertions of the trace, in event order, judged by as many threads as there is work for.
+///
+/// The tables are those of the results of all jobs of one `split` of the trace.
+///
+/// # Errors
+/// Where memory was refused.
+pub fn verdicts(
+    rt: &(impl Threads + Sync),
+    alloc: Global,
+    tables: &Tables,
+    trace: &Trace,
+) -> Result<Vec<Verdict>, OutOfMemory>
+    requires { AreResultsOf trace.now tables.now }
+    ensures { IfOk result (λ all. IsVerdicts trace.now all.items) }
+{
+    let numbers = assertions(alloc, trace)?;
+    numbers
+        .par_iter()
+        .with_min_len(LEAST_SHARE)
+        .filter_map(
+            |number: &u64| -> Option<Verdict>
+                requires { AreResultsOf trace.now tables.now }
+                ensures { IsVerdictAt trace.entry.now number.now result }
+            { verdict(tables, trace, *number) },
+        )
+        .collect(rt, alloc)
+}
+
+// The numbers of the assertions of the trace.
+fn assertions(alloc: Global, trace: &Trace) -> Result<Vec<u64>, OutOfMemory>
+    ensures { IfOk result (λ numbers. AreAssertions trace.now (length trace.now.events) numbers.items) }
+{
+    let mut numbers = Vec::new(alloc);
+    for (index, event) in trace.events().iter().enumerate() {
+        if is_assertion(event.op) {
+            numbers.push(index as u64 + 1)?;
+        }
+    }
+    Ok(numbers)
+}
+
+// Whether the op is an assertion.
+fn is_assertion(op: Op) -> bool
+    ensures { result ≡ asserts op }
+{
+    match op {
+        Op::IsPersist(_) | Op::IsOrderedBefore(_, _) => true,
+        Op::Store(_) | Op::Clwb(_) | Op::ClflushOpt(_) | Op::Clflush(_) | Op::Sfence | Op::Mfence =>
+            false,
+    }
+}
+
+/// The verdict of the event with this number; none where it is no assertion or there is no such event.
+///
+/// The tables are those of the results of all jobs of one `split` of the trace.
+pub fn verdict(tables: &Tables, trace: &Trace, number: u64) -> Option<Verdict>
+    requires { AreResultsOf trace.now tables.now }
+    ensures { IsVerdictAt trace.now number result }
+{
+    let op = trace.get(number)?.op;
+    match op {
+        Op::IsPersist(range) => Some(Verdict {
+            event: number,
+            ordered: false,
+            pass: persists(tables, trace, number, range),
+        }),
+        Op::IsOrderedBefore(first, second) => Some(Verdict {
+            event: number,
+            ordered: true,
+            pass: is_ordered(tables, trace, number, first, second),
+        }),
+        _ => None,
+    }
+}
+
+// Whether isPersist passes after the event with this number.
+fn persists(tables: &Tables, trace: &Trace, number: u64, range: Range) -> bool
+    requires results { AreResultsOf trace.now tables.now }
+    requires within { number ≤ length trace.now.events }
+    ensures { IsTrue result ↔ PersistPasses (history trace.now number) range }
+{
+    let (first, end) = lines_of(trace, range);
+    for line in first..end {
+        if !is_line_persisted(tables, trace, range, line, number, number) {
+            return false;
+        }
+    }
+    true
+}
+
+// The first line of the range, and the one after its last.
+fn lines_of(trace: &Trace, range: Range) -> (u64, u64)
+    ensures lines { (b : ℕ) → InSpan range b → (result.0 ≤ line_of trace.now.format b) × (line_of trace.now.format b < result.1) }
+    ensures some { result.0 < result.1 }
+    ensures within { result.1 ≤ 2 ^ 48 }
+    ensures trace { IsTrace trace.now }
+{
+    let size = trace.format().line_size();
+    let first = range.addr().get();
+    let last = first + range.len() - 1;
+    (first / size, last / size + 1)
+}
+
+// Of the last ones of the events up to this number that store to a byte of the range, the first, where those to one line may
+// be left out.
+fn earliest(
+    tables: &Tables,
+    trace: &Trace,
+    number: u64,
+    range: Range,
+    skipped: Option<u64>,
+) -> Option<Earliest>
+    requires { AreResultsOf trace.now tables.now }
+    ensures { IsEarliestOf trace.now number skipped range result }
+{
+    let (first, end) = lines_of(trace, range);
+    let mut earliest = None;
+    for line in first..end {
+        if skipped != Some(line) {
+            earliest = earlier(
+                earliest,
+                line,
+                line_oldest(tables, trace, range, line, number),
+            );
+        }
+    }
+    earliest
+}
+
+// The earlier one of those of the lines before and that of this line.
+fn earlier(earliest: Option<Earliest>, line: u64, oldest: Option<Oldest>) -> Option<Earliest>
+    ensures { result ≡ earlier_of earliest line oldest }
+{
+    let Some(oldest) = oldest else {
+        return earliest;
+    };
+    match earliest {
+        Some(other) if other.number <= oldest.number => Some(other),
+        _ => Some(Earliest {
+            line,
+            number: oldest.number,
+        }),
+    }
+}
+
+// Whether isOrderedBefore passes after the event with this number.
+fn is_ordered(tables: &Tables, trace: &Trace, number: u64, first: Range, second: Range) -> bool
+    requires results { AreResultsOf trace.now tables.now }
+    requires within { number ≤ length trace.now.events }
+    ensures { IsTrue result ↔ OrderedPasses (history trace.now number) first second }
+{
+    let Some(found) = earliest(tables, trace, number, second, None) else {
+        return true;
+    };
+    let other = earliest(tables, trace, number, second, Some(found.line));
+    let (start, end) = lines_of(trace, first);
+    for line in start..end {
+        let by = place_by(found, other, line);
+        if !is_line_ordered(tables, trace, number, first, second, line, by) {
+            return false;
+        }
+    }
+    true
+}
+
+// The place by which the stores to a line have to be persisted: that of the earliest store to another line.
+fn place_by(found: Earliest, other: Option<Earliest>, line: u64) -> Option<u64>
+    ensures { result ≡ place_for found other line }
+{
+    if line != found.line {
+        return Some(found.number);
+    }
+    match other {
+        None => None,
+        Some(next) => Some(next.number),
+    }
+}
+
+// Whether in this line the last stores to bytes of the first range come before those to bytes of the second, and are persisted
+// for sure by a place.
+fn is_line_ordered(
+    tables: &Tables,
+    trace: &Trace,
+    number: u64,
+    first: Range,
+    second: Range,
+    line: u64,
+    by: Option<u64>,
+) -> bool
+    requires results { AreResultsOf trace.now tables.now }
+    requires line { line < 2 ^ 48 }
+    requires by { IfSome by (λ place. place ≤ length trace.now.events) }
+    ensures { IsTrue result ↔ IsLineOrdered trace.now number first second line by }
+{
+    if !is_line_in_order(tables, trace, number, first, second, line) {
+        return false;
+    }
+    match by {
+        None => true,
+        Some(place) => is_line_persisted(tables, trace, first, line, number, place),
+    }
+}
+
+// Whether in this line the last stores to bytes of the first range come before those to bytes of the second.
+fn is_line_in_order(
+    tables: &Tables,
+    trace: &Trace,
+    number: u64,
+    first: Range,
+    second: Range,
+    line: u64,
+) -> bool
+    requires results { AreResultsOf trace.now tables.now }
+    requires line { line < 2 ^ 48 }
+    ensures { IsTrue result ↔ IsLineInOrder trace.now number first second line }
+{
+    match line_oldest(tables, trace, second, line, number) {
+        None => true,
+        Some(oldest) => is_line_ranked(tables, trace, first, line, number, oldest.rank),
+    }
+}

@@ -1,0 +1,19 @@
+//! The verdicts of the assertions of a trace, from the results of its lines' jobs.
+//!
+//! The definitions stand in `specs/`.
+#![tactic(auto)]
+
+mod build;
+mod ends;
+mod judge;
+mod oldest;
+mod part;
+mod put;
+mod table;
+mod tables;
+
+pub use crate::judge::{verdict, verdicts};
+pub use crate::tables::Tables;
+
+#[cfg(test)]
+mod tests;

@@ -1,0 +1,20 @@
+/// The first one of some stores to a line: its rank among the line's stores and its event's number.
+#[derive(Clone, Copy, Debug, PartialEq, Eq)]
+pub struct Oldest {
+    pub rank: u64,
+    pub number: u64,
+}
+
+/// The first one of some stores: its line and its event's number.
+#[derive(Clone, Copy, Debug, PartialEq, Eq)]
+pub struct Earliest {
+    pub line: u64,
+    pub number: u64,
+}
+
+/// The addresses from `low` on, below `high`.
+#[derive(Clone, Copy, Debug, PartialEq, Eq)]
+pub struct Part {
+    pub low: u64,
+    pub high: u64,
+}

@@ -1,0 +1,192 @@
+ghost use Rattle.std.specs.Prelude.{◌≡◌, ◌≤◌, ◌↔◌, IsTrue, IfOk, length};
+ghost use Rattle.pmt_model.specs.Traces.{count_at as stores_by};
+ghost use Rattle.pmt_model.specs.Fronts.{front_at as front_by};
+ghost use Rattle.pmt_asserts.specs.Puts.{puts_of, last_in, LieBetween, IsGreatestIn, IsLeastOf, IsLesser, is_up_to};
+ghost use Rattle.pmt_asserts.specs.Tables.{OfEachTrace, LieIn, EachFrom, PersistedBy, RankedBy, IsOldestOf};
+
+use crate::build::{collect_puts, collect_writes};
+use crate::ends::{collect_ends, collect_oldest};
+use crate::oldest::Oldest;
+use crate::put::{Put, Write};
+use pmt_lines::LineResult;
+use pmt_model::OutOfMemory;
+use std::alloc::Global;
+use std::marker::Model;
+
+/// A line's result, made ready for searches by place and by byte.
+#[derive(Drop)]
+pub struct LineTable {
+    found: LineResult,
+    puts: Vec<Put>,
+    writes: Vec<Write>,
+    // After each number of stores, the least rank of a last store to a byte.
+    oldest: Vec<u64>,
+}
+
+impl Model for LineTable {
+    ghost use Rattle.pmt_lines.specs.Raises.{LineFound};
+    ghost use Rattle.pmt_asserts.specs.Puts.{IsTableOf};
+
+    ghost Value = { LineFound };
+
+    ghost view = { λ t. t.found };
+
+    ghost invariant = { λ t. IsTableOf t.found.job.steps t.puts.items t.writes.items t.oldest.items };
+}
+
+impl LineTable {
+    pub fn new(alloc: Global, found: LineResult) -> Result<Self, OutOfMemory>
+        ensures { IfOk result (λ table. table ≡ found) }
+    {
+        let puts = collect_puts(alloc, found.job().steps())?;
+        let writes = collect_writes(alloc, &puts)?;
+        let ends = collect_ends(alloc, &puts, &writes)?;
+        let oldest = collect_oldest(alloc, &puts, &ends)?;
+        Ok(LineTable {
+            found,
+            puts,
+            writes,
+            oldest,
+        })
+    }
+
+    // How many stores come by the place.
+    fn count_at(&self, place: u64) -> usize
+        ensures value { OfEachTrace self.now (λ T l. stores_by T l place ≡ result) }
+        ensures within { result ≤ length (puts_of self.now.job.steps) }
+    {
+        self.puts.partition_point(|put| put.number <= place)
+    }
+
+    // The front at the place.
+    fn front_at(&self, place: u64) -> u64
+        ensures { OfEachTrace self.now (λ T l. place ≤ length T.events → front_by T l place ≡ result) }
+    {
+        let raises = self.found.raises();
+        let count = raises.partition_point(|raise| raise.place <= place);
+        if count == 0 {
+            0
+        } else {
+            raises[count - 1].front
+        }
+    }
+
+    // The rank of the last one of the first `count` stores that writes the byte, or 0.
+    fn last(&self, byte: u64, count: usize) -> u64
+        requires { count ≤ length (puts_of self.now.job.steps) }
+        ensures { result ≡ last_in (puts_of self.now.job.steps) byte count }
+    {
+        let rank = count as u64;
+        let end = self.writes.partition_point(
+            |write: &Write| -> bool
+                ensures { result ≡ is_up_to byte rank write.now }
+            { write.byte < byte || (write.byte == byte && write.rank <= rank) },
+        );
+        if end == 0 {
+            return 0;
+        }
+        let last = self.writes[end - 1];
+        if last.byte == byte { last.rank } else { 0 }
+    }
+
+    // The greatest rank of a last one of the first `count` stores to a byte from `low` to `high`, or 0.
+    fn greatest(&self, low: u64, high: u64, count: usize) -> u64
+        requires { count ≤ length (puts_of self.now.job.steps) }
+        ensures { IsGreatestIn (puts_of self.now.job.steps) count low high result }
+    {
+        if count == 0 {
+            return 0;
+        }
+        let newest = self.puts[count - 1];
+        if low <= newest.addr && newest.addr < high {
+            return count as u64;
+        }
+        let mut greatest = 0;
+        for byte in low..high {
+            greatest = self.last(byte, count).max(greatest);
+        }
+        greatest
+    }
+
+    // The least rank of a last one of the first `count` stores to a byte from `low` to `high`.
+    fn least(&self, low: u64, high: u64, count: usize) -> Option<u64>
+        requires { count ≤ length (puts_of self.now.job.steps) }
+        ensures { IsLeastOf (puts_of self.now.job.steps) count low high result }
+    {
+        if count == 0 {
+            return None;
+        }
+        if self.lies_between(low, high) {
+            return Some(self.oldest[count - 1]);
+        }
+        self.least_by_byte(low, high, count)
+    }
+
+    // Whether the stores write bytes from `low` to `high` alone; where there are none, this isn't told.
+    fn lies_between(&self, low: u64, high: u64) -> bool
+        ensures { IsTrue result → LieBetween (puts_of self.now.job.steps) low high }
+    {
+        let count = self.writes.len();
+        if count == 0 {
+            return false;
+        }
+        if self.writes[0].byte < low {
+            return false;
+        }
+        self.writes[count - 1].byte < high
+    }
+
+    // The same rank, byte by byte.
+    fn least_by_byte(&self, low: u64, high: u64, count: usize) -> Option<u64>
+        requires { count ≤ length (puts_of self.now.job.steps) }
+        ensures { IsLeastOf (puts_of self.now.job.steps) count low high result }
+    {
+        let mut least = None;
+        for byte in low..high {
+            least = lesser(least, self.last(byte, count));
+        }
+        least
+    }
+
+    /// Whether by place `by` the last one of the events up to `place` that stores to a byte is persisted for sure, for each
+    /// byte from `low` to `high`.
+    pub fn is_persisted_by(&self, low: u64, high: u64, place: u64, by: u64) -> bool
+        ensures { OfEachTrace self.now (λ T l. by ≤ length T.events → LieIn T l low high → IsTrue result ↔ EachFrom low high (PersistedBy T place by)) }
+    {
+        self.greatest(low, high, self.count_at(place)) <= self.front_at(by)
+    }
+
+    /// Whether the last one of the events up to `place` that stores to a byte has at most this rank, for each byte from `low`
+    /// to `high`.
+    pub fn is_ranked_by(&self, low: u64, high: u64, place: u64, rank: u64) -> bool
+        ensures { OfEachTrace self.now (λ T l. LieIn T l low high → IsTrue result ↔ EachFrom low high (RankedBy T place rank)) }
+    {
+        self.greatest(low, high, self.count_at(place)) <= rank
+    }
+
+    /// Of the last ones of the events up to `place` that store to a byte from `low` to `high`, the first.
+    pub fn oldest(&self, low: u64, high: u64, place: u64) -> Option<Oldest>
+        ensures { OfEachTrace self.now (λ T l. LieIn T l low high → IsOldestOf T place l low high result) }
+    {
+        match self.least(low, high, self.count_at(place)) {
+            None => None,
+            Some(rank) => {
+                let number = self.puts[rank as usize - 1].number;
+                Some(Oldest { rank, number })
+            }
+        }
+    }
+}
+
+// The lesser one of two ranks, 0 being none.
+fn lesser(least: Option<u64>, rank: u64) -> Option<u64>
+    ensures { IsLesser least rank result }
+{
+    if rank == 0 {
+        return least;
+    }
+    match least {
+        Some(other) if other <= rank => Some(other),
+        _ => Some(rank),
+    }
+}

@@ -1,0 +1,41 @@
+//! The analysis of the trace that a reader gives.
+ghost use Rattle.std.specs.Prelude.{◌≡◌, ◌+◌, ◌-◌, ◌^◌, ◌<◌, IfOk, IfErr, true, not};
+ghost use Rattle.pmt_text.specs.Counting.{failure_count, inner_device};
+ghost use Rattle.pmt_workers.specs.Analysing.{IsAnalysed};
+ghost use Rattle.pmt_report.specs.Taking.{IsAllOf};
+ghost use Rattle.pmt_report.specs.Runs.{IsTrimFault, coming_from, is_workers, read_faults, tells_workers};
+
+use crate::fault::{RunError, run_error};
+use pmt_model::NoGate;
+use pmt_text::{Counted, TextSource};
+use pmt_workers::{AnalyseError, Analysis, analyse_with};
+use std::alloc::Global;
+use std::io::Read;
+use std::sync::Wait;
+use std::thread::Threads;
+
+// The analysis of the trace whose text the reader gives, by this many workers. The reader is handed back.
+pub(crate) fn analysed<T: Threads + Wait + Sync, R: Read>(
+    rt: &T,
+    alloc: Global,
+    workers: usize,
+    reader: Counted<R>,
+) -> (Counted<R>, Result<Analysis, RunError>)
+    requires reads { failure_count reader < 2 ^ 64 - 1 }
+    ensures workers { tells_workers result.1 ≡ not (is_workers workers) }
+    ensures unread { tells_workers result.1 ≡ true → result.0 ≡ reader }
+    ensures right { IfOk result.1 IsAnalysed }
+    ensures all { IfOk result.1 (λ a. IsAllOf (coming_from (R.remaining (inner_device reader))) a.trace) }
+    ensures fault { IfErr result.1 (IsTrimFault (coming_from (R.remaining (inner_device reader)))) }
+    ensures read_failures { failure_count result.0 ≡ failure_count reader + read_faults result.1 }
+{
+    let mut source = TextSource::new(alloc, reader);
+    let found = analyse_with(rt, alloc, &NoGate, &mut source, workers);
+    let reader = source.into_input();
+    match found {
+        Ok(analysis) => (reader, Ok(analysis)),
+        Err(AnalyseError::BadWorkers) => (reader, Err(RunError::BadWorkers)),
+        Err(AnalyseError::Source(fault)) => (reader, Err(run_error(fault))),
+        Err(AnalyseError::OutOfMemory) => (reader, Err(RunError::OutOfMemory)),
+    }
+}

@@ -1,0 +1,121 @@
+//! The run that checks a trace, and what it tells of the analysis.
+ghost use Rattle.std.specs.Prelude.{◌≡◌, ◌+◌, ◌-◌, ◌^◌, ◌<◌, true, not, IfOk};
+ghost use Rattle.std.specs.List.{list_any};
+ghost use Rattle.pmt_text.specs.Counting.{failure_count, inner_device};
+ghost use Rattle.pmt_report.specs.Checks.{IsJudgedAs, IsReportOf, has_failed, is_failure, is_loss, report_for, unanswered};
+ghost use Rattle.pmt_report.specs.Runs.{IsTrimFault, Runs, coming_from, is_workers, read_faults, tells_workers, write_faults};
+
+use crate::analysed::analysed;
+use crate::fault::RunError;
+use crate::output::write_answer;
+use crate::report::report_of;
+use pmt_model::{Finding, OutOfMemory, Verdict};
+use pmt_text::Counted;
+use pmt_workers::Analysis;
+use std::alloc::Global;
+use std::io::{Read, Write};
+use std::sync::Wait;
+use std::thread::Threads;
+
+/// Writes the report of the trace whose text the reader gives, by this many workers, and tells whether a verdict fails or a store is
+/// never persisted. The reader is handed back.
+///
+/// # Errors
+/// In this order: `BadWorkers` unless there are 1, 2, 4, 8 or 16, in which case nothing is read; `Text`, `TooMany` and `Read` as
+/// the bytes come, `OutOfMemory`; nothing is written then. `Write` where a write or the last flush failed.
+pub fn run_check<T: Threads + Wait + Sync, R: Read, W: Write>(
+    rt: &T,
+    alloc: Global,
+    workers: usize,
+    reader: Counted<R>,
+    writer: &mut Counted<W>,
+) -> (Counted<R>, Result<bool, RunError>)
+    requires reads { failure_count reader < 2 ^ 64 - 1 }
+    requires writes { failure_count writer.old < 2 ^ 64 - 1 }
+    ensures workers { tells_workers result.1 ≡ not (is_workers workers) }
+    ensures unread { tells_workers result.1 ≡ true → result.0 ≡ reader }
+    ensures runs { Runs IsReportOf IsTrimFault (coming_from (R.remaining (inner_device reader))) (W.contents (inner_device writer.old)) (W.contents (inner_device writer.new)) (unanswered result.1) }
+    ensures judged { IfOk result.1 (IsJudgedAs (coming_from (R.remaining (inner_device reader)))) }
+    ensures read_failures { failure_count result.0 ≡ failure_count reader + read_faults result.1 }
+    ensures write_failures { failure_count writer.new ≡ failure_count writer.old + write_faults result.1 }
+{
+    let (reader, found) = analysed(rt, alloc, workers, reader);
+    match found {
+        Ok(analysis) => match report_text(alloc, &analysis) {
+            Ok(text) => {
+                let done = write_answer(writer, text.as_slice());
+                (reader, answered(done, failed(&analysis)))
+            }
+            Err(_) => (reader, Err(RunError::OutOfMemory)),
+        },
+        Err(error) => (reader, Err(error)),
+    }
+}
+
+// The answer, where all went well.
+fn answered(done: Result<(), RunError>, failed: bool) -> Result<bool, RunError>
+    ensures same { unanswered result ≡ done }
+    ensures answer { IfOk result (λ answer. answer ≡ failed) }
+{
+    match done {
+        Ok(()) => Ok(failed),
+        Err(error) => Err(error),
+    }
+}
+
+/// The report of the analysis: how many events and lines there are, an entry for each finding and each verdict by event number, and
+/// how many events are kept.
+///
+/// # Errors
+/// Where memory was refused.
+pub fn report_text(alloc: Global, analysis: &Analysis) -> Result<Vec<u8>, OutOfMemory>
+    ensures { IfOk result (λ text. text.items ≡ report_for analysis.now) }
+{
+    report_of(
+        alloc,
+        analysis.trace().len() as u64,
+        analysis.lines() as u64,
+        analysis.findings(),
+        analysis.verdicts(),
+        analysis.selection().len() as u64,
+    )
+}
+
+/// Whether a verdict of the analysis fails or a store is never persisted.
+pub fn failed(analysis: &Analysis) -> bool
+    ensures { result ≡ has_failed analysis.now }
+{
+    some_fails(analysis.verdicts()) || some_is_lost(analysis.findings())
+}
+
+// Whether one of the verdicts fails.
+fn some_fails(verdicts: &[Verdict]) -> bool
+    ensures { result ≡ list_any is_failure verdicts.now }
+{
+    verdicts.iter().any(|verdict| !verdict.pass)
+}
+
+// Whether one of the findings is a store that is never persisted.
+fn some_is_lost(findings: &[Finding]) -> bool
+    ensures { result ≡ list_any is_loss findings.now }
+{
+    findings.iter().any(|finding| is_lost(*finding))
+}
+
+// Whether the finding is a store that is never persisted.
+fn is_lost(finding: Finding) -> bool
+    ensures { result ≡ is_loss finding }
+{
+    match finding {
+        Finding::NeverPersisted {
+            event: _,
+            flushed: _,
+        } => true,
+        Finding::Overwritten {
+            earlier: _,
+            later: _,
+        } => false,
+        Finding::RedundantFlush { event: _ } => false,
+        Finding::FenceWithoutFlush { event: _ } => false,
+    }
+}

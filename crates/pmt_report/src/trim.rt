@@ -1,0 +1,53 @@
+//! The run that trims a trace.
+ghost use Rattle.std.specs.Prelude.{◌≡◌, ◌+◌, ◌-◌, ◌^◌, ◌<◌, true, not, IfOk};
+ghost use Rattle.pmt_text.specs.Counting.{failure_count, inner_device};
+ghost use Rattle.pmt_report.specs.Runs.{IsTrimFault, IsTrimmedText, Runs, coming_from, is_workers, read_faults, tells_workers, write_faults};
+
+use crate::analysed::analysed;
+use crate::fault::RunError;
+use crate::output::write_answer;
+use pmt_model::OutOfMemory;
+use pmt_text::{Counted, write_trace};
+use pmt_workers::Analysis;
+use std::alloc::Global;
+use std::io::{Read, Write};
+use std::sync::Wait;
+use std::thread::Threads;
+
+/// Writes the trimmed trace of the trace whose text the reader gives, by this many workers. The reader is handed back.
+///
+/// # Errors
+/// In this order: `BadWorkers` unless there are 1, 2, 4, 8 or 16, in which case nothing is read; `Text`, `TooMany` and `Read` as
+/// the bytes come, `OutOfMemory`; nothing is written then. `Write` where a write or the last flush failed.
+pub fn run_trim<T: Threads + Wait + Sync, R: Read, W: Write>(
+    rt: &T,
+    alloc: Global,
+    workers: usize,
+    reader: Counted<R>,
+    writer: &mut Counted<W>,
+) -> (Counted<R>, Result<(), RunError>)
+    requires reads { failure_count reader < 2 ^ 64 - 1 }
+    requires writes { failure_count writer.old < 2 ^ 64 - 1 }
+    ensures workers { tells_workers result.1 ≡ not (is_workers workers) }
+    ensures unread { tells_workers result.1 ≡ true → result.0 ≡ reader }
+    ensures runs { Runs IsTrimmedText IsTrimFault (coming_from (R.remaining (inner_device reader))) (W.contents (inner_device writer.old)) (W.contents (inner_device writer.new)) result.1 }
+    ensures read_failures { failure_count result.0 ≡ failure_count reader + read_faults result.1 }
+    ensures write_failures { failure_count writer.new ≡ failure_count writer.old + write_faults result.1 }
+{
+    let (reader, found) = analysed(rt, alloc, workers, reader);
+    match found {
+        Ok(analysis) => match trimmed_text(alloc, &analysis) {
+            Ok(text) => (reader, write_answer(writer, text.as_slice())),
+            Err(_) => (reader, Err(RunError::OutOfMemory)),
+        },
+        Err(error) => (reader, Err(error)),
+    }
+}
+
+// The text of the trimmed trace.
+fn trimmed_text(alloc: Global, analysis: &Analysis) -> Result<Vec<u8>, OutOfMemory>
+    ensures { IfOk result (λ text. IsTrimmedText analysis.now.trace text.items) }
+{
+    let trimmed = analysis.trimmed()?;
+    write_trace(alloc, &trimmed)
+}

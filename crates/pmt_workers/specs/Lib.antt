@@ -1,0 +1,5 @@
+pub mod Answering
+pub mod Halving
+pub mod Analysing
+pub mod Results
+pub mod Asking

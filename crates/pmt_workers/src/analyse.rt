@@ -1,0 +1,111 @@
+ghost use Rattle.std.specs.Prelude.{◌≡◌, ◌↔◌, IfOk, IfErr, IfSome, IsTrue, IsFalse, IsErrOf};
+ghost use Rattle.pmt_model.specs.Selections.{cut};
+ghost use Rattle.pmt_text.specs.Sources.{CountsReads};
+ghost use Rattle.pmt_lines.specs.Splitting.{IsSplit};
+ghost use Rattle.pmt_lines.specs.Sourcing.{IsWhole, IsFaultOf, TellsWhole};
+ghost use Rattle.pmt_trim.specs.Headline.{IsTrimmed};
+ghost use Rattle.pmt_workers.specs.Analysing.{IsAnalysed};
+ghost use Rattle.pmt_workers.specs.Asking.{told_by};
+ghost use Rattle.pmt_workers.specs.Halving.{is_count};
+
+use crate::analysis::Analysis;
+use crate::halves::run_in_halves;
+use crate::judging::judged;
+use crate::results::taken_apart;
+use crate::shard::ShardGate;
+use pmt_findings::findings;
+use pmt_lines::{Jobs, run_fences, split};
+use pmt_model::OutOfMemory;
+use pmt_text::{EventSource, SourceError};
+use pmt_trim::liveness;
+use std::alloc::Global;
+use std::thread::Threads;
+use thiserror::Error;
+
+/// Why a source was not analysed.
+#[derive(Clone, Copy, Debug, PartialEq, Eq, Error)]
+pub enum AnalyseError {
+    /// There are 1, 2, 4, 8 or 16 workers.
+    #[error("there are 1, 2, 4, 8 or 16 workers")]
+    BadWorkers,
+    /// The source told this fault.
+    #[error("{0}")]
+    Source(SourceError),
+    /// Memory was refused.
+    #[error("out of memory")]
+    OutOfMemory,
+}
+
+/// The analysis of the trace whose events the source has still to give, by this many workers. It is the same for every number of
+/// workers and every gate.
+///
+/// # Errors
+/// `BadWorkers` unless there are 1, 2, 4, 8 or 16 workers; the source is unchanged then. `Source` with the fault that the source
+/// told, or with `OutOfMemory` where memory was refused before it told its end; `Source(Failed)` only where it had told a fault
+/// before. `OutOfMemory` where memory was refused after its end. The source stands past the events that were taken.
+pub fn analyse_with<R: Threads + Sync, S: EventSource, G: ShardGate + Sync>(
+    rt: &R,
+    alloc: Global,
+    gate: &G,
+    source: &mut S,
+    workers: usize,
+) -> Result<Analysis, AnalyseError>
+    ensures workers { IsErrOf result AnalyseError.BadWorkers ↔ IsFalse (is_count workers) }
+    ensures unasked { IsErrOf result AnalyseError.BadWorkers → source.new ≡ source.old }
+    ensures right { IfOk result IsAnalysed }
+    ensures trimmed { IfOk result (λ a. IsTrimmed a.trace a.selection (cut a.trace a.selection)) }
+    ensures whole { IfOk result (λ a. IfSome (S.coming source.old) (λ c. IsWhole c a.trace)) }
+    ensures fault { IfSome (told_by result) (λ told. IfErr told (λ e. IfSome (S.coming source.old) (λ c. IsFaultOf c e))) }
+    ensures told { IfSome (told_by result) (λ told. TellsWhole (S.state source.old) told (S.state source.new)) }
+    ensures failures { IfSome (told_by result) (λ told. CountsReads (S.failures source.old) told (S.failures source.new)) }
+{
+    if !is_allowed(workers) {
+        return Err(AnalyseError::BadWorkers);
+    }
+    let jobs = match split(alloc, source) {
+        Ok(jobs) => jobs,
+        Err(fault) => return Err(AnalyseError::Source(fault)),
+    };
+    match analysis_of(rt, alloc, gate, jobs, workers) {
+        Ok(analysis) => Ok(analysis),
+        Err(_) => Err(AnalyseError::OutOfMemory),
+    }
+}
+
+// Whether there may be this many workers.
+fn is_allowed(workers: usize) -> bool
+    ensures { result ≡ is_count workers }
+{
+    matches!(workers, 1 | 2 | 4 | 8 | 16)
+}
+
+// The analysis of the trace that was taken apart into these jobs.
+fn analysis_of<R: Threads + Sync, G: ShardGate + Sync>(
+    rt: &R,
+    alloc: Global,
+    gate: &G,
+    jobs: Jobs,
+    workers: usize,
+) -> Result<Analysis, OutOfMemory>
+    requires count { IsTrue (is_count workers) }
+    requires apart { IsSplit jobs.trace jobs.lines.items jobs.fences }
+    ensures trace { IfOk result (λ a. a.trace ≡ jobs.trace) }
+    ensures right { IfOk result IsAnalysed }
+{
+    let Jobs {
+        trace,
+        lines,
+        fences,
+    } = jobs;
+    let touched = lines.len();
+    let answers = run_in_halves(rt, alloc, gate, 0, workers, lines)?;
+    let (results, lists) = taken_apart(alloc, answers)?;
+    let selection = liveness(alloc, &trace, lists.as_slice())?;
+    let threads = run_fences(alloc, fences)?;
+    let found = findings(alloc, results.as_slice(), &threads)?;
+    let verdicts = judged(rt, alloc, results, &trace)?;
+    Ok(Analysis::new(trace, touched, found, verdicts, selection))
+}
+
+#[cfg(test)]
+mod tests;

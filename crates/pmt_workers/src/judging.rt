@@ -1,0 +1,48 @@
+ghost use Rattle.std.specs.Prelude.{◌≡◌, IfOk};
+ghost use Rattle.std.specs.List.{list_any};
+ghost use Rattle.pmt_model.specs.Analyses.{IsVerdicts};
+ghost use Rattle.pmt_asserts.specs.Tables.{AreResultsOf};
+ghost use Rattle.pmt_asserts.specs.Judging.{asserts};
+ghost use Rattle.pmt_workers.specs.Results.{event_asserts};
+
+use pmt_asserts::{Tables, verdicts};
+use pmt_lines::LineResult;
+use pmt_model::{Event, Op, OutOfMemory, Trace, Verdict};
+use std::alloc::Global;
+use std::thread::Threads;
+
+// The verdicts of all assertions of the trace, from the results of its jobs. Where it has none, no tables are made.
+pub(crate) fn judged<R: Threads + Sync>(
+    rt: &R,
+    alloc: Global,
+    results: Vec<LineResult>,
+    trace: &Trace,
+) -> Result<Vec<Verdict>, OutOfMemory>
+    requires { AreResultsOf trace.now results.items }
+    ensures { IfOk result (λ verdicts. IsVerdicts trace.now verdicts.items) }
+{
+    if !has_assertion(trace.events()) {
+        return Ok(Vec::new(alloc));
+    }
+    let tables = Tables::merge(alloc, results)?;
+    let all = verdicts(rt, alloc, &tables, trace)?;
+    Ok(all)
+}
+
+// Whether one of the events is an assertion.
+fn has_assertion(events: &[Event]) -> bool
+    ensures { result ≡ list_any event_asserts events.now }
+{
+    events.iter().any(|event| is_assertion(event.op))
+}
+
+// Whether the op is an assertion.
+fn is_assertion(op: Op) -> bool
+    ensures { result ≡ asserts op }
+{
+    match op {
+        Op::IsPersist(_) | Op::IsOrderedBefore(_, _) => true,
+        Op::Store(_) | Op::Clwb(_) | Op::ClflushOpt(_) | Op::Clflush(_) | Op::Sfence | Op::Mfence =>
+            false,
+    }
+}

@@ -1,0 +1,17 @@
+//! The analysis of a trace by any number of workers: one answer, whatever their number.
+#![tactic(auto)]
+
+pub mod analyse;
+pub mod analysis;
+mod cut;
+mod halves;
+mod judging;
+mod results;
+pub mod shard;
+
+pub use crate::analyse::{AnalyseError, analyse_with};
+pub use crate::analysis::Analysis;
+pub use crate::shard::{LineAnswer, ShardGate, run_shard};
+
+#[cfg(test)]
+mod tests;

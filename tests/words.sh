@@ -1,0 +1,71 @@
+#!/usr/bin/env bash
+# Words, statuses and files: what the documents do not show. Last line: 'N passed, M failed'.
+set -u
+cd "$(dirname "$0")/.." || exit 1
+. tests/lib/program.sh
+folder=$(mktemp -d) || exit 1
+trap 'rm -rf "$folder"' EXIT
+passed=0
+failed=0
+
+# expect STATUS TEXT WORD ..: the program's status with these words, and a part of what it writes to both streams
+expect() {
+  local status=$1 text=$2 told
+  shift 2
+  told=$("$program" "$@" 2>&1 < /dev/null)
+  judge "$*" "$?" "$status" "$told" "$text"
+}
+
+# judge NAME STATUS WANTED TOLD PART
+judge() {
+  if [ "$2" -eq "$3" ] && [[ $4 == *"$5"* ]]; then
+    passed=$((passed + 1))
+  else
+    failed=$((failed + 1))
+    echo "$1: status $2, wanted $3; it wrote '$4', wanted '$5' in it"
+  fi
+}
+
+for command in '' check trim fronts record; do
+  expect 0 'Statuses: ' ${command:+"$command"} --help
+  expect 0 'Example: pmtrim' ${command:+"$command"} --help
+done
+expect 0 'pmtrim ' --version
+
+# A usage fault names the bad word and what is allowed.
+expect 2 "'frob'" frob
+expect 2 "'--frob'" trim --frob
+expect 2 "'3'" trim --workers 3
+expect 2 '1, 2, 4, 8, 16' trim --workers 3
+expect 2 "'04'" check --workers 04
+expect 2 "'01'" fronts examples/one_persist.trace 01
+expect 2 'a decimal number' fronts examples/one_persist.trace 01
+expect 2 "'18446744073709551616'" fronts examples/one_persist.trace 18446744073709551616
+expect 2 "'+1'" fronts examples/one_persist.trace +1
+expect 2 'PLACE' fronts examples/one_persist.trace
+expect 2 "'b'" trim a b
+expect 2 'SCRIPT' record
+expect 2 '' record $(printf 'x%s ' {1..257})
+
+# Usage comes before files, files before what stands in them.
+expect 2 "'3'" trim --workers 3 "$folder/none"
+expect 2 "'x'" fronts "$folder/none" x
+expect 4 'file fault' trim "$folder/none"
+expect 4 'file fault' fronts "$folder/none" 1
+expect 4 'file fault' trim "$folder"
+expect 2 'place past end 3' fronts examples/one_persist.trace 18446744073709551615
+
+told=$("$program" trim examples/one_persist.trace 2>&1 > /dev/full)
+judge 'a full device' "$?" 4 "$told" 'file fault'
+told=$("$program" trim "$folder/none" 2> /dev/full)
+judge 'a fault that can not be written' "$?" 4 "$told" ''
+told=$("$program" trim examples/one_persist.trace 2>&1 <&-)
+judge 'no standard input, and none needed' "$?" 0 "$told" 'sfence 0'
+cp examples/one_persist.trace "$folder/-"
+told=$(cd "$folder" && "$program" trim - 2>&1 < /dev/null)
+judge 'a dash is a file name' "$?" 0 "$told" 'sfence 0'
+told=$("$program" trim --workers=4 2>&1 < examples/one_persist.trace)
+judge 'a value after the equals sign' "$?" 0 "$told" 'sfence 0'
+
+echo "$passed passed, $failed failed"
+[ "$failed" -eq 0 ]
