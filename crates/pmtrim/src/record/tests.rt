@@ -70,7 +70,7 @@ where
 }
 
 #[test]
-fn scripts(rt: HostRuntime) {
+fn scripts_that_are_recorded(rt: HostRuntime) {
     told(&rt, &["record", "good"], 0, RECORDED, b"");
     told(&rt, &["record", "empty"], 0, b"pmtrace 1\n", b"");
     told(
@@ -96,7 +96,7 @@ fn scripts_that_are_not_read(rt: HostRuntime) {
 }
 
 #[test]
-fn scripts_with_too_much(rt: HostRuntime) {
+fn a_script_too_long(rt: HostRuntime) {
     told(
         &rt,
         &["record", "good", "long"],
@@ -104,6 +104,10 @@ fn scripts_with_too_much(rt: HostRuntime) {
         b"",
         b"script 2 too long\n",
     );
+}
+
+#[test]
+fn a_trace_too_long(rt: HostRuntime) {
     told(&rt, &["record", "full", "good"], 3, b"", b"trace full\n");
 }
 
