@@ -1,8 +1,8 @@
 -- The events and the states of lines of a book, copied one by one.
 use Rattle.std.proofs.Common.{◌≡◌, ℕ, ◌+◌, ◌<◌, ◌≤◌, ◌⊎◌, inl, inr, Bool, true, false, List, length, take, Option, Some, None, slice_get, refl, sym, ap, subst, ◌∙◌, arith}
-use Rattle.std.specs.Prelude.{◌==◌, IsSome, unwrap_or, nat_eq}
+use Rattle.std.specs.Prelude.{IsSome, unwrap_or, nat_eq}
 use Rattle.indexmap.specs.IndexMap.{get, Updates}
-use Rattle.std.proofs.lemmas.Bool.{eqb-true, cases_eq}
+use Rattle.std.proofs.lemmas.Bool.{eqb-true}
 use Rattle.std.proofs.lemmas.Option.{slice_get_within}
 use Rattle.std.proofs.lemmas.Map.Entries.{place_from_lookup}
 use Rattle.pmt_model.specs.declared.event.Event.{Event}

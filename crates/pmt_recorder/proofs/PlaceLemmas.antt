@@ -1,5 +1,5 @@
 -- The tape of a thread at its place, and its entries one event on.
-use Rattle.std.proofs.Common.{◌≡◌, ℕ, suc, ◌+◌, ◌<◌, ◌≤◌, Bool, true, false, ◌==◌, cond, List, [], ◌∷◌, length, drop, get_or, Option, Some, slice_get, refl, sym, ap, ◌∙◌, subst, arith, eq-eqb, eqb-true, ne_eqb, add-one, get_or-set_same, get_or-set_other, zero, replicate}
+use Rattle.std.proofs.Common.{◌≡◌, ℕ, suc, ◌+◌, ◌<◌, ◌≤◌, Bool, true, false, ◌==◌, List, ◌∷◌, length, drop, get_or, Some, slice_get, refl, sym, ap, ◌∙◌, subst, arith, eq-eqb, eqb-true, ne_eqb, add-one, get_or-set_same, get_or-set_other, zero, replicate}
 use Rattle.std.proofs.lemmas.Option.{slice_get_read, slice_get_within, get_or_from_slice_get}
 use Rattle.std.proofs.Math.ListN.{set}
 use Rattle.std.proofs.Math.Seq.{drop-cons}
@@ -7,7 +7,7 @@ use Rattle.std.proofs.lemmas.List.{drop_all}
 use Rattle.std.proofs.lemmas.Bool.{eqb-false}
 use Rattle.pmt_model.specs.declared.event.Event.{Event}
 use Rattle.pmt_model.specs.declared.event.Op.{Op}
-use Rattle.pmt_model.specs.Interleavings.{part, part_from}
+use Rattle.pmt_model.specs.Interleavings.{part_from}
 use Rattle.pmt_recorder.specs.Strips.{Strip, entries_of}
 use Rattle.pmt_recorder.specs.Places.{IsPlaceOf, HasEntry, HasLength}
 

@@ -1,9 +1,8 @@
 //! A script from a reader.
-ghost use Rattle.std.specs.Prelude.{◌≡◌, ◌≢◌, ◌+◌, ◌-◌, ◌^◌, ◌<◌, true, [], Some, OnErr, IfErr};
-ghost use Rattle.std.specs.Io.KnownBytes.{Keeps};
+ghost use Rattle.std.specs.Prelude.{◌≡◌, ◌≢◌, ◌+◌, ◌-◌, ◌^◌, ◌<◌, true, [], Some, IfErr};
 ghost use Rattle.pmt_text.specs.Coming.{script_coming};
 ghost use Rattle.pmt_text.specs.Counting.{inner_device, failure_count};
-ghost use Rattle.pmt_text.specs.ScriptInputs.{script_within, GivesOps, GivesScript, ReadsWithin, ReadsText, long_fault};
+ghost use Rattle.pmt_text.specs.ScriptInputs.{GivesOps, GivesScript, ReadsWithin, ReadsText, long_fault};
 ghost use Rattle.pmt_text.specs.Sources.{read_faults};
 ghost use Rattle.pmt_text.specs.Texts.{error_at};
 

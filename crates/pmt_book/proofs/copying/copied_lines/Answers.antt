@@ -1,4 +1,4 @@
-use Rattle.std.proofs.Common.{arith, rules}
+use Rattle.std.proofs.Common.{arith}
 use Rattle.pmt_book.proofs.CopyLemmas.{copies-line, copies-all}
 use Rattle.pmt_book.proofs.copying.copied_lines.Goals as goal
 

@@ -1,4 +1,4 @@
-use Rattle.std.proofs.Common.{◌≡◌, ℕ, List, map, take}
+use Rattle.std.proofs.Common.{◌≡◌, map, take}
 use Rattle.pmt_book.proofs.pending.Pending.copy.Given as goal
 
 abbrev pub invariant-loop-list : goal.invariant-loop-list
