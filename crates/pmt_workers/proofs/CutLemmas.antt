@@ -1,11 +1,11 @@
 -- The steps of jobs that are cut in two.
-use Rattle.std.proofs.Common.{◌≡◌, ℕ, zero, suc, ◌+◌, ◌-◌, ◌*◌, ◌<◌, ◌≤◌, List, [], ◌∷◌, ◌++◌, length, take, drop, get_or, arith, refl, ap, ◌∙◌, ◌⊎◌, inl, inr}
+use Rattle.std.proofs.Common.{◌≡◌, ℕ, ◌+◌, ◌-◌, ◌<◌, ◌≤◌, List, [], ◌∷◌, ◌++◌, length, take, drop, get_or, arith, ap, ◌⊎◌, inl, inr}
 use Rattle.std.proofs.lemmas.Bool.{cases_lt}
 use Rattle.std.proofs.lemmas.List.{take_more, take-append-drop}
 use Rattle.pmt_model.specs.Traces.{event_limit}
 use Rattle.pmt_lines.specs.declared.step.Step.{Step}
 use Rattle.pmt_lines.specs.Steps.{LineWork, AreSteps}
-use Rattle.pmt_workers.specs.Halving.{steps_of, apart, IsFairCut}
+use Rattle.pmt_workers.specs.Halving.{steps_of, apart}
 
 -- The steps of jobs one after another.
 pub steps_of-append : (js ks : List LineWork) → steps_of (js ++ ks) ≡ steps_of js + steps_of ks

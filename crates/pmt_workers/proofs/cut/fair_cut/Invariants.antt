@@ -1,5 +1,3 @@
-use Rattle.std.proofs.Common.{◌≡◌, ◌≤◌, ℕ, take, drop, length}
-use Rattle.pmt_workers.specs.Halving.{steps_of, apart}
 use Rattle.pmt_workers.proofs.CutLemmas.{IsBestSoFar}
 use Rattle.pmt_workers.proofs.cut.fair_cut.Given as goal
 

@@ -1,4 +1,4 @@
-use Rattle.std.proofs.Common.{◌≡◌, ℕ, List, ◌++◌, take, drop, subst, sym, rules, IfOk}
+use Rattle.std.proofs.Common.{ℕ, List, ◌++◌, take, drop, subst, sym, rules, IfOk}
 use Rattle.std.proofs.lemmas.Result.{IfOk-weaker}
 use Rattle.pmt_lines.specs.Steps.{LineWork}
 use Rattle.pmt_workers.specs.declared.shard.LineAnswer.{LineAnswer}
