@@ -13,3 +13,6 @@ mod tables;
 
 pub use crate::judge::{verdict, verdicts};
 pub use crate::tables::Tables;
+
+#[cfg(test)]
+mod tests;
