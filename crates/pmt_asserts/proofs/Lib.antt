@@ -6,6 +6,7 @@ pub mod RankLemmas
 pub mod TableLemmas
 pub mod BuildLemmas
 pub mod PlacingLemmas
+pub mod EndLemmas
 pub mod PartLemmas
 pub mod JudgeLemmas
 pub mod EarliestLemmas

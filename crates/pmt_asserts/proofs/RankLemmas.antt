@@ -1,14 +1,13 @@
 -- Last stores to bytes, by their ranks: what a search finds, and what a walk over the bytes adds up.
-use Rattle.std.proofs.Common.{◌≡◌, ◌≢◌, ℕ, zero, suc, ◌+◌, ◌-◌, ◌<◌, ◌≤◌, ◌⊎◌, inl, inr, Bool, true, false, List, [], ◌∷◌, length, get_or, Option, Some, None, refl, sym, ap, subst, ◌∙◌, arith}
-use Rattle.std.specs.Prelude.{if◌then◌else◌, ◌&&◌, ◌||◌, ◌==◌, nat_le, nat_lt, Contains, All, max, min}
-use Rattle.std.specs.List.{AllWithin}
+use Rattle.std.proofs.Common.{◌≡◌, ℕ, zero, suc, ◌+◌, ◌-◌, ◌<◌, ◌≤◌, ◌⊎◌, inl, inr, Bool, true, false, List, [], ◌∷◌, length, get_or, Option, Some, None, refl, sym, ap, subst, ◌∙◌, arith}
+use Rattle.std.specs.Prelude.{if◌then◌else◌, ◌==◌, nat_lt, All, max, min}
 use Rattle.std.specs.List.Sorted.{IsPartitionPoint, IsPartitionedBy}
-use Rattle.std.proofs.lemmas.Bool.{cases_lt, cases_order, cases_Bool, cases_eq, both_ways, ne_eqb, ltb-true, ltb-false}
+use Rattle.std.proofs.lemmas.Bool.{cases_lt, cases_Bool, cases_eq, both_ways, ne_eqb, ltb-true, ltb-false}
 use Rattle.std.proofs.lemmas.Bool.Decides.{eqb_tells, leb_tells}
 use Rattle.std.proofs.lemmas.List.Elements.{Contains-get_or}
 use Rattle.pmt_asserts.specs.declared.put.Put.{Put}
 use Rattle.pmt_asserts.specs.declared.put.Write.{Write}
-use Rattle.pmt_asserts.specs.Puts.{covers, no_put, put_at, last_in, IsGreatestIn, IsLeastIn, IsLeastOf, IsUpTo, is_up_to, IsWriteOf, AreWritesOf, IsInside, IsLesser}
+use Rattle.pmt_asserts.specs.Puts.{covers, no_put, put_at, last_in, IsGreatestIn, IsLeastIn, IsLeastOf, IsUpTo, is_up_to, AreWritesOf, IsInside, IsLesser}
 
 -- what a test of an order tells
 ltb_tells : (a b : ℕ) → ((nat_lt a b ≡ true) × (a < b)) ⊎ ((nat_lt a b ≡ false) × (b ≤ a))
@@ -174,22 +173,23 @@ greatest-more puts c low b g h is = record { bound = bound; reached = reached (c
     reached (inl more) = inr (b, h, omega arith, omega arith)
     reached (inr less) = elim is.reached [ inl none ↦ inl (omega arith) | inr some ↦ inr (some.0, some.1, omega (arith, some.2), omega (arith, some.3)) ]
 
+-- a store writes its first byte
+pub covers-own : (p : Put) → 0 < p.len → covers p p.addr ≡ true
+covers-own p h =
+    elim (leb_tells p.addr p.addr) [
+      | inl a ↦ let e : p.addr - p.addr ≡ 0 = omega arith in elim (ltb_tells 0 p.len) [ inl b ↦ rw (a.0, e, b.0) refl | inr b ↦ absurd (omega (arith, b.1)) ]
+      | inr a ↦ absurd (omega (arith, a.1))
+    ]
+
 -- where the newest store writes one of the bytes
 pub greatest-newest : (puts : List Put) (c low high : ℕ) → 0 < c → 0 < (put_at puts (c - 1)).len → low ≤ (put_at puts (c - 1)).addr → (put_at puts (c - 1)).addr < high → IsGreatestIn puts c low high c
 greatest-newest puts c low high some wide above below =
     let p = put_at puts (c - 1) in
-    let hit : covers p p.addr ≡ true = own p wide in
+    let hit : covers p p.addr ≡ true = covers-own p wide in
     record {
       bound = λ b a z. last_in-le puts b c;
       reached = inr (p.addr, above, below, omega (arith, last_in-le puts p.addr c, last_in-above puts p.addr c (c - 1) (omega arith) hit));
     }
-  where
-    own : (p : Put) → 0 < p.len → covers p p.addr ≡ true
-    own p h =
-        elim (leb_tells p.addr p.addr) [
-          | inl a ↦ let e : p.addr - p.addr ≡ 0 = omega arith in elim (ltb_tells 0 p.len) [ inl b ↦ rw (a.0, e, b.0) refl | inr b ↦ absurd (omega (arith, b.1)) ]
-          | inr a ↦ absurd (omega (arith, a.1))
-        ]
 
 -- one more byte
 pub least-more : (puts : List Put) (c low b : ℕ) (old new : Option ℕ) → low ≤ b → IsLeastOf puts c low b old → IsLesser old (last_in puts b c) new → IsLeastOf puts c low (b + 1) new

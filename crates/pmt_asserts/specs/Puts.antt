@@ -1,5 +1,5 @@
 -- The stores of a line's job, and which of them wrote a byte last.
-use Rattle.std.specs.Prelude.{◌≡◌, ℕ, zero, suc, ◌+◌, ◌-◌, ◌^◌, ◌<◌, ◌≤◌, ◌⊎◌, ◌&&◌, nat_le, nat_lt, Bool, true, if◌then◌else◌, List, [], ◌∷◌, length, Option, MatchOption, Contains, All, None, Some, min, ◌==◌, ◌||◌, slice_index_or}
+use Rattle.std.specs.Prelude.{◌≡◌, ◌≢◌, ◌↔◌, ℕ, zero, suc, ◌+◌, ◌-◌, ◌^◌, ◌<◌, ◌≤◌, ◌⊎◌, ◌&&◌, nat_le, nat_lt, Bool, true, if◌then◌else◌, List, [], ◌∷◌, length, Option, MatchOption, Contains, All, None, Some, min, ◌==◌, ◌||◌, slice_index, slice_index_or}
 use Rattle.pmt_lines.specs.declared.step.StepKind.{StepKind}
 use Rattle.pmt_lines.specs.declared.step.StepKind.TheVariants.{Store, Flush, Clflush, Fence}
 use Rattle.pmt_lines.specs.declared.step.Step.{Step}
@@ -48,6 +48,26 @@ pub record IsLeastIn (puts : List Put) (c low high m : ℕ) : Type 0 where
 abbrev pub IsLeastOf : List Put → ℕ → ℕ → ℕ → Option ℕ → Type 0
 IsLeastOf puts c low high o = MatchOption o ((b : ℕ) → low ≤ b → b < high → last_in puts b c ≡ 0) (IsLeastIn puts c low high)
 
+-- m is the least rank of a last store to any byte, of the first c stores.
+pub record IsLeast (puts : List Put) (c m : ℕ) : Type 0 where
+  pub some : 0 < m
+  pub bound : (b : ℕ) → (last_in puts b c ≡ 0) ⊎ (m ≤ last_in puts b c)
+  pub reached : (b : ℕ) × (last_in puts b c ≡ m)
+
+-- After each number of stores, this is the least rank.
+pub record AreLeasts (puts : List Put) (leasts : List ℕ) : Type 0 where
+  pub each : length leasts ≡ length puts
+  pub least : (k : ℕ) → k < length puts → IsLeast puts (suc k) (slice_index leasts k)
+
+-- Below these numbers of stores, and not from there on, each store is the last one to some byte.
+pub record AreEnds (puts : List Put) (ends : List ℕ) : Type 0 where
+  pub each : length ends ≡ length puts
+  pub until : (r c : ℕ) → r < c → c ≤ length puts → (c < slice_index ends r) ↔ ((b : ℕ) × (last_in puts b c ≡ suc r))
+
+-- The stores write bytes from low to high alone.
+abbrev pub LieBetween : List Put → ℕ → ℕ → Type 0
+LieBetween puts low high = (k b : ℕ) → k < length puts → covers (put_at puts k) b ≡ true → (low ≤ b) × (b < high)
+
 -- By byte, and then by rank.
 abbrev pub IsUpTo : Write → Write → Type 0
 IsUpTo v w = (v.byte < w.byte) ⊎ ((v.byte ≡ w.byte) × (v.rank ≤ w.rank))
@@ -72,11 +92,24 @@ pub record AreWritesOf (puts : List Put) (writes : List Write) : Type 0 where
   pub just : (w : Write) → Contains writes w → IsWriteOf puts w
   pub all : (w : Write) → IsWriteOf puts w → Contains writes w
 
+abbrev pub no_write : Write
+no_write = record { byte = 0; rank = 0 }
+
+-- The write with this place in the list, from 0.
+abbrev pub write_at : List Write → ℕ → Write
+write_at writes i = slice_index_or writes i no_write
+
+-- n is the rank of the next store to the byte of the write with place i in the list, or past where there is none.
+pub data IsNext (writes : List Write) (past i n : ℕ) : Type 0 where
+  Again : suc i < length writes → (write_at writes (suc i)).byte ≡ (write_at writes i).byte → (write_at writes (suc i)).rank ≡ n → IsNext writes past i n
+  Never : (suc i < length writes → (write_at writes (suc i)).byte ≢ (write_at writes i).byte) → past ≡ n → IsNext writes past i n
+
 -- What every table of a line keeps.
-pub record IsTableOf (steps : List Step) (puts : List Put) (writes : List Write) : Type 0 where
+pub record IsTableOf (steps : List Step) (puts : List Put) (writes : List Write) (oldest : List ℕ) : Type 0 where
   pub stores : puts ≡ puts_of steps
   pub inside : All IsInside puts
   pub written : AreWritesOf puts writes
+  pub leasts : AreLeasts puts oldest
 
 -- The lesser one of two ranks, 0 being none.
 abbrev pub IsLesser : Option ℕ → ℕ → Option ℕ → Type 0

@@ -4,6 +4,7 @@
 #![tactic(auto)]
 
 mod build;
+mod ends;
 mod judge;
 mod oldest;
 mod part;

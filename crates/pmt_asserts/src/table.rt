@@ -1,10 +1,11 @@
 ghost use Rattle.std.specs.Prelude.{◌≡◌, ◌≤◌, ◌↔◌, IsTrue, IfOk, length};
 ghost use Rattle.pmt_model.specs.Traces.{count_at as stores_by};
 ghost use Rattle.pmt_model.specs.Fronts.{front_at as front_by};
-ghost use Rattle.pmt_asserts.specs.Puts.{puts_of, last_in, IsGreatestIn, IsLeastOf, IsLesser, is_up_to};
+ghost use Rattle.pmt_asserts.specs.Puts.{puts_of, last_in, LieBetween, IsGreatestIn, IsLeastOf, IsLesser, is_up_to};
 ghost use Rattle.pmt_asserts.specs.Tables.{OfEachTrace, LieIn, EachFrom, PersistedBy, RankedBy, IsOldestOf};
 
 use crate::build::{collect_puts, collect_writes};
+use crate::ends::{collect_ends, collect_oldest};
 use crate::oldest::Oldest;
 use crate::put::{Put, Write};
 use pmt_lines::LineResult;
@@ -18,6 +19,8 @@ pub struct LineTable {
     found: LineResult,
     puts: Vec<Put>,
     writes: Vec<Write>,
+    // After each number of stores, the least rank of a last store to a byte.
+    oldest: Vec<u64>,
 }
 
 impl Model for LineTable {
@@ -28,7 +31,7 @@ impl Model for LineTable {
 
     ghost view = { λ t. t.found };
 
-    ghost invariant = { λ t. IsTableOf t.found.job.steps t.puts.items t.writes.items };
+    ghost invariant = { λ t. IsTableOf t.found.job.steps t.puts.items t.writes.items t.oldest.items };
 }
 
 impl LineTable {
@@ -37,10 +40,13 @@ impl LineTable {
     {
         let puts = collect_puts(alloc, found.job().steps())?;
         let writes = collect_writes(alloc, &puts)?;
+        let ends = collect_ends(alloc, &puts, &writes)?;
+        let oldest = collect_oldest(alloc, &puts, &ends)?;
         Ok(LineTable {
             found,
             puts,
             writes,
+            oldest,
         })
     }
 
@@ -104,6 +110,34 @@ impl LineTable {
 
     // The least rank of a last one of the first `count` stores to a byte from `low` to `high`.
     fn least(&self, low: u64, high: u64, count: usize) -> Option<u64>
+        requires { count ≤ length (puts_of self.now.job.steps) }
+        ensures { IsLeastOf (puts_of self.now.job.steps) count low high result }
+    {
+        if count == 0 {
+            return None;
+        }
+        if self.lies_between(low, high) {
+            return Some(self.oldest[count - 1]);
+        }
+        self.least_by_byte(low, high, count)
+    }
+
+    // Whether the stores write bytes from `low` to `high` alone; where there are none, this isn't told.
+    fn lies_between(&self, low: u64, high: u64) -> bool
+        ensures { IsTrue result → LieBetween (puts_of self.now.job.steps) low high }
+    {
+        let count = self.writes.len();
+        if count == 0 {
+            return false;
+        }
+        if self.writes[0].byte < low {
+            return false;
+        }
+        self.writes[count - 1].byte < high
+    }
+
+    // The same rank, byte by byte.
+    fn least_by_byte(&self, low: u64, high: u64, count: usize) -> Option<u64>
         requires { count ≤ length (puts_of self.now.job.steps) }
         ensures { IsLeastOf (puts_of self.now.job.steps) count low high result }
     {

@@ -1,6 +1,6 @@
-use Rattle.std.proofs.Common.{◌≡◌, ◌≤◌, length, IfSome, refl, sym, subst, ◌∙◌, arith}
+use Rattle.std.proofs.Common.{◌≤◌, length, IfSome, refl, sym, subst, arith}
 use Rattle.pmt_asserts.specs.Judging.{IsLineOrdered}
-use Rattle.pmt_asserts.proofs.JudgeLemmas.{ordered-from, lines-from, ordered-unwritten, place-within}
+use Rattle.pmt_asserts.proofs.JudgeLemmas.{ordered-from, lines-from, place-within}
 use Rattle.pmt_asserts.proofs.judge.is_ordered.Goals as goal
 
 pub is_line_ordered-requires-clause-by : goal.is_line_ordered-requires-clause-by
