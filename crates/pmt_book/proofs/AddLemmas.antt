@@ -1,12 +1,11 @@
 -- What adding an event leaves.
-use Rattle.std.proofs.Common.{◌≡◌, ℕ, ◌+◌, ◌<◌, ◌≤◌, true, false, List, [], ◌∷◌, ◌++◌, length, get_or, take, refl, sym, ap, ◌∙◌, Result, Ok, Err, is_err, arith}
+use Rattle.std.proofs.Common.{◌≡◌, ℕ, ◌+◌, ◌<◌, ◌≤◌, false, List, [], ◌∷◌, ◌++◌, length, get_or, take, sym, ap, ◌∙◌, Result, Ok, Err, is_err}
 use Rattle.std.proofs.lemmas.List.{take_more, take_all}
 use Rattle.pmt_model.specs.declared.event.Event.{Event}
 use Rattle.pmt_model.specs.Values.{Layout}
 use Rattle.pmt_model.specs.Traces.{Recording}
 use Rattle.pmt_model.specs.Pushing.{with_event}
 use Rattle.pmt_book.specs.declared.fault.BookError.{BookError}
-use Rattle.pmt_book.specs.declared.fault.BookError.TheVariants.{NotInFormat, Full, OutOfMemory}
 use Rattle.pmt_book.specs.Adding.{AddsEvent}
 
 -- the first n events, in this format
