@@ -1,3 +1,4 @@
 pub mod AppendLemmas
 pub mod SealLemmas
 pub mod RecordLemmas
+pub mod PlaceLemmas

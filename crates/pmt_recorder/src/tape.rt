@@ -1,4 +1,4 @@
-ghost use Rattle.std.specs.Prelude.{◌≡◌, ℕ, ◌-◌, ◌<◌, [], length, slice_get, IsTrue, ◌↔◌};
+ghost use Rattle.std.specs.Prelude.{◌≡◌, ℕ, ◌-◌, ◌<◌, [], length, slice_get, Some, true, IsTrue, ◌↔◌};
 ghost use Rattle.pmt_recorder.specs.Strips.{strip, IsPart};
 
 use crate::roll::Roll;
@@ -93,6 +93,16 @@ impl<L: Roll> Tape<L> {
         ensures { result ≡ slice_get self.now.entries place }
     {
         self.entries.get(place).copied()
+    }
+
+    // Whether its entry at this place, from 0, is this one.
+    pub(crate) fn has_entry(&self, place: usize, number: u64, op: &Op) -> bool
+        ensures { result ≡ true → slice_get self.now.entries place ≡ Some (number, op.now) }
+    {
+        match self.entries.get(place) {
+            Some(entry) => entry.0 == number && same_op(&entry.1, op),
+            None => false,
+        }
     }
 
     // Whether the tape is its thread's part of the events.

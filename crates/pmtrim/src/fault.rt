@@ -1,6 +1,7 @@
 ghost use Rattle.std.specs.Prelude.{◌≤◌};
 
 use crate::opener::OpenError;
+use crate::record::RecordFault;
 use pmt_model::OutOfMemory;
 use pmt_report::{RunError, fault_text};
 use std::alloc::{AllocError, Global};
@@ -13,6 +14,8 @@ pub enum Fault {
     Usage(String),
     /// The run told this.
     Run(RunError),
+    /// The scripts were not recorded.
+    Record(RecordFault),
     /// A file can't be opened, or the answer can't be written.
     File,
     /// A growth was refused.
@@ -48,6 +51,7 @@ impl Fault {
         match self {
             Fault::Usage(_) => 2,
             Fault::Run(error) => status_of(error),
+            Fault::Record(fault) => fault.status(),
             Fault::File => 4,
             Fault::OutOfMemory => 5,
         }
@@ -75,6 +79,11 @@ impl Fault {
             Fault::Usage(text) => text.clone(),
             Fault::Run(error) => {
                 let mut line = fault_text(alloc, error)?;
+                line.push_str("\n")?;
+                Ok(line)
+            }
+            Fault::Record(fault) => {
+                let mut line = fault.line(alloc)?;
                 line.push_str("\n")?;
                 Ok(line)
             }

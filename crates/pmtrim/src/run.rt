@@ -2,6 +2,7 @@ ghost use Rattle.std.specs.Prelude.{◌≤◌, IfOk};
 
 use crate::fault::Fault;
 use crate::opener::Opener;
+use crate::record::record;
 use crate::request::{Request, request_of};
 use pmt_report::{RunError, run_check, run_fronts, run_trim};
 use pmt_text::Counted;
@@ -82,7 +83,7 @@ where
             stream: false,
             file: None,
         } => trim(rt, workers, input, out),
-        Request::Record { scripts: _ } => not_yet(alloc, "the command 'record'"),
+        Request::Record { scripts } => record(rt, files, scripts.as_slice(), out),
     }
 }
 

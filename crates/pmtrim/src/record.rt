@@ -1,0 +1,156 @@
+//! Recording scripts: each is run in a thread of its own, and the trace that they record is written.
+
+ghost use Rattle.std.specs.Prelude.{◌≡◌, IfOk, string_bytes};
+ghost use Rattle.pmtrim.specs.RecordFaults.{record_line, record_status};
+
+use crate::fault::Fault;
+use crate::opener::Opener;
+use pmt_model::{NoGate, Op, OutOfMemory, Trace};
+use pmt_recorder::{RecordError, record_scripts};
+use pmt_text::{Counted, SourceError, TextError, read_script_from, write_all_counted, write_trace};
+use std::alloc::Global;
+use std::io::Write;
+use std::sync::Wait;
+use std::thread::Threads;
+
+/// Why scripts were not recorded.
+#[derive(Clone, Copy, Debug, PartialEq, Eq)]
+pub enum RecordFault {
+    /// A line of a script is faulty.
+    Line {
+        /// The number of the script, from 1.
+        script: u64,
+        error: TextError,
+    },
+    /// More bytes come of a script than are judged, and no complete line among those is faulty.
+    TooLong {
+        /// The number of the script, from 1.
+        script: u64,
+    },
+    /// The scripts have more events than a trace can have.
+    Full,
+    /// What a recorder noted is not its part of the trace.
+    Torn {
+        /// The number of the recorder, from 0.
+        recorder: u8,
+    },
+}
+
+impl RecordFault {
+    /// The exit status.
+    pub fn status(&self) -> u8
+        ensures { result ≡ record_status self.now }
+    {
+        match self {
+            RecordFault::Line {
+                script: _,
+                error: _,
+            } => 3,
+            RecordFault::TooLong { script: _ } => 3,
+            RecordFault::Full => 3,
+            RecordFault::Torn { recorder: _ } => 6,
+        }
+    }
+
+    /// The fault line, without its LF.
+    ///
+    /// # Errors
+    /// `OutOfMemory`.
+    pub fn line(&self, alloc: Global) -> Result<String, OutOfMemory>
+        ensures { IfOk result (λ text. string_bytes text ≡ record_line self.now) }
+    {
+        match *self {
+            RecordFault::Line { script, error } => line_fault(alloc, script, &error),
+            RecordFault::TooLong { script } => format!(in alloc; "script {script} too long"),
+            RecordFault::Full => String::from_str(alloc, "trace full"),
+            RecordFault::Torn { recorder } => format!(in alloc; "torn recorder {recorder}"),
+        }
+    }
+}
+
+fn line_fault(alloc: Global, script: u64, error: &TextError) -> Result<String, OutOfMemory>
+    ensures { IfOk result (λ text. string_bytes text ≡ record_line (RecordFault.Line script error.now)) }
+{
+    let line = error.line;
+    let name = error.kind.name();
+    format!(in alloc; "script {script} line {line}: {name}")
+}
+
+/// Reads the scripts with these names, records them, and writes the trace. One script after another is opened, read whole and
+/// judged, in the order of the names. Nothing is written unless the trace is there.
+///
+/// # Errors
+/// The first script's that can't be opened, whose read fails, or which is refused; then that of the recording; then that of the
+/// write; `OutOfMemory`.
+pub fn record<T, O, W>(rt: &T, files: &O, names: &[&str], out: &mut W) -> Result<(), Fault>
+where
+    T: AllocGlobal + Threads + Wait + Sync,
+    O: Opener,
+    W: Write,
+{
+    let alloc = rt.alloc();
+    let mut scripts = Vec::new(alloc);
+    for (place, name) in names.iter().enumerate() {
+        let script = read_one(alloc, files, place as u64 + 1, name)?;
+        if scripts.push(script).is_err() {
+            return Err(Fault::OutOfMemory);
+        }
+    }
+    let trace = recorded(rt, scripts)?;
+    write_out(alloc, &trace, out)
+}
+
+// The script with this number and name.
+fn read_one<O: Opener>(
+    alloc: Global,
+    files: &O,
+    script: u64,
+    name: &str,
+) -> Result<Vec<Op>, Fault> {
+    let mut input = Counted::new(files.open(name)?);
+    match read_script_from(alloc, &mut input) {
+        Ok(ops) => Ok(ops),
+        Err(SourceError::Text(error)) => Err(Fault::Record(RecordFault::Line { script, error })),
+        Err(SourceError::TooMany) => Err(Fault::Record(RecordFault::TooLong { script })),
+        Err(SourceError::Read) => Err(Fault::File),
+        Err(SourceError::OutOfMemory) => Err(Fault::OutOfMemory),
+        Err(SourceError::Failed) => unreachable!(),
+    }
+}
+
+// The trace that the scripts record.
+fn recorded<T>(rt: &T, scripts: Vec<Vec<Op>>) -> Result<Trace, Fault>
+where
+    T: AllocGlobal + Threads + Wait + Sync,
+{
+    let alloc = rt.alloc();
+    match record_scripts(rt, alloc, &NoGate, scripts) {
+        Ok(trace) => Ok(trace),
+        Err(RecordError::BadCount) => Err(Fault::usage(alloc, "1 to 256 scripts are recorded")?),
+        Err(RecordError::NotInFormat { recorder: _ }) => Err(Fault::Record(RecordFault::Full)),
+        Err(
+            RecordError::Full {
+                recorder: _,
+                events: _,
+            },
+        ) => Err(Fault::Record(RecordFault::Full)),
+        Err(RecordError::OutOfMemory) => Err(Fault::OutOfMemory),
+        Err(RecordError::Torn { recorder }) => Err(Fault::Record(RecordFault::Torn { recorder })),
+    }
+}
+
+// Writes the text of the trace, and flushes once.
+fn write_out<W: Write>(alloc: Global, trace: &Trace, out: &mut W) -> Result<(), Fault> {
+    let text = write_trace(alloc, trace)?;
+    let mut writer = Counted::new(out);
+    if write_all_counted(&mut writer, text.as_slice()).is_err() {
+        return Err(Fault::File);
+    }
+    match writer.flush() {
+        Ok(()) => Ok(()),
+        Err(_) => Err(Fault::File),
+    }
+}
+
+#[cfg(test)]
+mod tests;
