@@ -6,9 +6,11 @@ ghost use Rattle.std.specs.Prelude.{◌≡◌};
 ghost use Rattle.pmt_model.specs.Formats.{first_version};
 
 use anyhow::{Error, Result, bail};
-use pmt_model::{Op, Range, Trace};
+use pmt_model::{NoGate, Op, Range, Trace};
 use pmt_recorder::{Roll, Session, Tape};
-use pmt_trim::trim;
+use pmt_report::failed;
+use pmt_text::ListSource;
+use pmt_workers::analyse_with;
 use std::alloc::Global;
 use std::marker::Brand;
 use std::sync::Wait;
@@ -104,7 +106,15 @@ fn main(rt: HostRuntime) -> Result<()> {
         trace.len(),
         claims(&trace)
     )?;
-    let (trimmed, _) = trim(rt.alloc(), &trace)?;
+    let mut source = ListSource::new(&trace);
+    let analysis = analyse_with(&rt, rt.alloc(), &NoGate, &mut source, 2)?;
+    println!(rt;
+        "{} verdicts, {} findings, failed: {}",
+        analysis.verdicts().len(),
+        analysis.findings().len(),
+        failed(&analysis)
+    )?;
+    let trimmed = analysis.trimmed()?;
     println!(rt;
         "the trimmed trace has {} events, {} of them claims",
         trimmed.len(),
