@@ -123,6 +123,8 @@ def compare_workers(traces):
         print("workers: crates/worker_bench is not built (bench/run.sh builds it)")
         return
     print(f"\nThe lines of a trace by 1 and by 4 workers, on {os.cpu_count()} cores (wanted with 4 cores: at most 0.40 of the time of 1).")
+    if os.getloadavg()[0] > 2:
+        print(f"The load is {os.getloadavg()[0]:.1f}: where other programs keep the cores busy, the times of 4 workers say nothing.")
     print("A worker's time is that of the one that takes longest. Splitting, joining, findings and verdicts stand around it; reading and")
     print("writing the texts, in the table above, are serial too.")
     print(f"{'trace':18} {'1 worker':>10} {'4 workers':>10} {'ratio':>7} {'around, 1':>10} {'around, 4':>10}")
