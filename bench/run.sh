@@ -3,9 +3,15 @@
 set -eu
 cd "$(dirname "$0")/.."
 ./pmtrim --version > /dev/null
-built=crates/text_bench/out/text_bench
-if [ ! -x $built ] || [ -n "$(find crates/text_bench/src crates/pmt_text/src crates/pmt_model/src -name '*.rt' -newer $built)" ]; then
-  echo "bench: building text_bench" >&2
-  (cd crates/text_bench && rt run < stdin > /dev/null)
-fi
+# build NAME BASE ..: builds the program crate, if it or a crate that it stands on is newer than its program
+build() {
+  local name=$1 built=crates/$1/out/$1
+  if [ ! -x "$built" ] || [ -n "$(find "${@/#/crates/}" -name '*.rt' -newer "$built")" ]; then
+    echo "bench: building $name" >&2
+    (cd "crates/$name" && rt run < stdin > /dev/null)
+  fi
+}
+
+build text_bench pmt_text pmt_model
+build worker_bench pmt_workers pmt_trim pmt_asserts pmt_findings pmt_lines pmt_marks pmt_text pmt_model
 exec python3 bench/run.py "$@"
