@@ -158,30 +158,37 @@ fn failing_reads(rt: HostRuntime) {
     }
 }
 
-// The first bytes are out, and a failing flush leaves all of them out.
+// A file fault is told, and so many bytes of the answer are out: its first ones.
+fn expect_first<T>(rt: &T, out: LimitedWriter, word: &str, answer: &str, written: usize)
+where
+    T: AllocGlobal + Threads + Wait + Sync + Abort,
+{
+    let input = PieceReader::new(ONE_PERSIST.as_bytes(), 4096);
+    let outcome = told_to(rt, &[word], "", input, out);
+    assert_eq!(rt; outcome.status, 4, "{word}");
+    assert_eq!(rt; outcome.faults.kept(), b"file fault\n".as_slice(), "{word}");
+    assert_eq!(rt;
+        Some(outcome.out.kept()),
+        answer.as_bytes().get(..written),
+        "{word}"
+    );
+}
+
+// A failing flush leaves all bytes out.
 #[test]
 fn failing_writer(rt: HostRuntime) {
     for (word, answer) in [
         ("trim", ONE_PERSIST),
         ("check", "events 3 lines 1\nkept 3 dropped 0\n"),
     ] {
-        for (out, written) in [
-            (LimitedWriter::failing_after(rt.alloc(), 4, 2), 8),
-            (LimitedWriter::failing_after(rt.alloc(), 4, 0), 0),
-            (LimitedWriter::failing_after(rt.alloc(), 1, 30), 30),
-            (LimitedWriter::new(rt.alloc(), 0), 0),
-            (LimitedWriter::failing_flush(rt.alloc(), 4096), answer.len()),
-        ] {
-            let input = PieceReader::new(ONE_PERSIST.as_bytes(), 4096);
-            let told = told_to(&rt, &[word], "", input, out);
-            assert_eq!(rt; told.status, 4, "{word}");
-            assert_eq!(rt; told.faults.kept(), b"file fault\n".as_slice(), "{word}");
-            assert_eq!(rt;
-                Some(told.out.kept()),
-                answer.as_bytes().get(..written),
-                "{word}"
-            );
+        for (most, writes, written) in [(4, 2, 8), (4, 0, 0), (1, 30, 30)] {
+            let out = LimitedWriter::failing_after(rt.alloc(), most, writes);
+            expect_first(&rt, out, word, answer, written);
         }
+        let out = LimitedWriter::new(rt.alloc(), 0);
+        expect_first(&rt, out, word, answer, 0);
+        let out = LimitedWriter::failing_flush(rt.alloc(), 4096);
+        expect_first(&rt, out, word, answer, answer.len());
     }
 }
 
@@ -248,6 +255,14 @@ fn named_files(rt: HostRuntime) {
     }
 }
 
+// Whether the word stands in the text.
+fn names(text: &[u8], word: &[u8]) -> bool {
+    if word.is_empty() {
+        return false;
+    }
+    text.windows(word.len()).any(|part| part == word)
+}
+
 // A usage fault has status 2, writes no answer and names the wrong word.
 #[test]
 fn wrong_words(rt: HostRuntime) {
@@ -259,14 +274,7 @@ fn wrong_words(rt: HostRuntime) {
         (["check", "--stream", "t"], "'--stream'"),
     ] {
         let told = told(&rt, &words, ONE_PERSIST, 4096);
-        let name = wrong.as_bytes();
-        assert!(rt;
-            told.faults
-                .kept()
-                .windows(name.len())
-                .any(|part| part == name),
-            "{wrong}"
-        );
+        assert!(rt; names(told.faults.kept(), wrong.as_bytes()), "{wrong}");
         assert_eq!(rt; told.out.kept(), b"".as_slice(), "{wrong}");
         assert_eq!(rt; told.status, 2, "{wrong}");
     }
