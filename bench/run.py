@@ -19,6 +19,7 @@ OUT = BENCH / "out"
 TEXT_BENCH = BENCH.parent / "crates" / "text_bench" / "out" / "text_bench"
 WORKER_BENCH = BENCH.parent / "crates" / "worker_bench" / "out" / "worker_bench"
 WANTED_BYTES = {"log_appends": 400, "many_lines": 700}
+SHARED_KINDS = ("tree_inserts", "many_lines", "long_intervals")
 COMMANDS = (["check"], ["trim"], ["trim", "--workers", "4"])
 
 
@@ -128,7 +129,8 @@ def compare_workers(traces):
     print("A worker's time is that of the one that takes longest. Splitting, joining, findings and verdicts stand around it; reading and")
     print("writing the texts, in the table above, are serial too.")
     print(f"{'trace':18} {'1 worker':>10} {'4 workers':>10} {'ratio':>7} {'around, 1':>10} {'around, 4':>10}")
-    for kind, trace in traces.items():
+    shared = {kind: trace for kind, trace in traces.items() if kind in SHARED_KINDS}
+    for kind, trace in (shared or traces).items():
         runs = [shared_and_around(trace) for _ in range(3)]
         one, four = min(run[1][0] for run in runs), min(run[4][0] for run in runs)
         around = [min(run[workers][1] for run in runs) for workers in (1, 4)]
