@@ -1,7 +1,7 @@
-pub mod AddLemmas
 pub mod LiveLemmas
 pub mod HistoryLemmas
 pub mod BookLemmas
 pub mod StoreBytes
 pub mod SparingLemmas
 pub mod PersistLemmas
+pub mod CopyLemmas

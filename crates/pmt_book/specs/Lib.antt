@@ -2,3 +2,4 @@ pub mod Adding
 pub mod Ends
 pub mod Live
 pub mod Sparing
+pub mod Copying

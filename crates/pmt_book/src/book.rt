@@ -7,6 +7,7 @@ ghost use Rattle.pmt_model.specs.Values.{line_of as line_in};
 ghost use Rattle.pmt_book.specs.Adding.{AddsEvent, event_by};
 ghost use Rattle.pmt_book.specs.Ends.{last_front, last_count, PassesNow};
 
+use crate::copying::{copied_lines, copied_trace};
 use crate::fault::BookError;
 use crate::lines::{Lines, clflush_at, count_at, flushed, front_at, put, reach, store_at};
 use crate::pending::Pending;
@@ -254,13 +255,15 @@ impl Book {
     pub fn copy(&self) -> Result<Book, OutOfMemory>
         ensures { IfOk result (λ copy. copy ≡ self.now) }
     {
-        let mut copy = Book::new_with(self.alloc, self.trace.format());
-        for event in self.trace.events() {
-            if copy.push_event(*event).is_err() {
-                return Err(AllocError);
-            }
-        }
-        Ok(copy)
+        let trace = copied_trace(self.alloc, &self.trace)?;
+        let lines = copied_lines(self.alloc, &self.lines)?;
+        let pending = self.pending.copy()?;
+        Ok(Book {
+            trace,
+            lines,
+            pending,
+            alloc: self.alloc,
+        })
     }
 
     /// Its events as a trace of the same format.

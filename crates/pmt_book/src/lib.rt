@@ -4,6 +4,7 @@
 #![tactic(auto)]
 
 pub mod book;
+mod copying;
 pub mod fault;
 pub mod laws;
 mod lines;

@@ -1,4 +1,4 @@
-ghost use Rattle.std.specs.Prelude.{◌≡◌, ◌≢◌, ℕ, ◌<◌, true, [], length, OnOk};
+ghost use Rattle.std.specs.Prelude.{◌≡◌, ◌≢◌, ℕ, ◌<◌, true, [], length, IfOk, OnOk};
 ghost use Rattle.pmt_model.specs.Traces.{has_line};
 ghost use Rattle.pmt_book.specs.Live.{list_at, KeepsLists, IsOnList, TellsFence};
 
@@ -79,5 +79,21 @@ impl Pending {
         if (thread as usize) < self.lists.len() {
             fence_lines(lines, &mut self.lists[thread as usize], thread);
         }
+    }
+
+    // The same lists.
+    pub(crate) fn copy(&self) -> Result<Pending, OutOfMemory>
+        ensures { IfOk result (λ copy. copy ≡ self.now) }
+    {
+        let mut lists = Vec::new(self.alloc);
+        for list in &self.lists {
+            let mut copy = Vec::new(self.alloc);
+            copy.extend_from_slice(list.as_slice())?;
+            lists.push(copy)?;
+        }
+        Ok(Pending {
+            lists,
+            alloc: self.alloc,
+        })
     }
 }

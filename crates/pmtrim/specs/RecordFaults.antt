@@ -6,8 +6,8 @@ use Rattle.pmtrim.specs.declared.record.RecordFault.{RecordFault}
 use Rattle.pmtrim.specs.declared.record.RecordFault.TheVariants.{Line, TooLong, Full, Torn}
 
 abbrev pub record_line : RecordFault → List ℕ
-record_line (Line script error) = codes "script " ++ decimal script ++ codes " line " ++ decimal error.line ++ codes ": " ++ name_of error.kind
-record_line (TooLong script) = codes "script " ++ decimal script ++ codes " too long"
+record_line (Line script error) = codes "script " ++ (decimal script ++ (codes " line " ++ (decimal error.line ++ (codes ": " ++ name_of error.kind))))
+record_line (TooLong script) = codes "script " ++ (decimal script ++ codes " too long")
 record_line Full = codes "trace full"
 record_line (Torn recorder) = codes "torn recorder " ++ decimal recorder
 

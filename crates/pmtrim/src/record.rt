@@ -77,16 +77,17 @@ fn line_fault(alloc: Global, script: u64, error: &TextError) -> Result<String, O
 }
 
 /// Reads the scripts with these names, records them, and writes the trace. One script after another is opened, read whole and
-/// judged, in the order of the names. Nothing is written unless the trace is there.
+/// judged, in the order of the names. Nothing is written unless the trace is there. The status is 0.
 ///
 /// # Errors
 /// The first script's that can't be opened, whose read fails, or which is refused; then that of the recording; then that of the
 /// write; `OutOfMemory`.
-pub fn record<T, O, W>(rt: &T, files: &O, names: &[&str], out: &mut W) -> Result<(), Fault>
+pub fn record<T, O, W>(rt: &T, files: &O, names: &[&str], out: &mut W) -> Result<u8, Fault>
 where
     T: AllocGlobal + Threads + Wait + Sync,
     O: Opener,
     W: Write,
+    ensures { IfOk result (λ status. status ≡ 0) }
 {
     let alloc = rt.alloc();
     let mut scripts = Vec::new(alloc);
@@ -97,7 +98,8 @@ where
         }
     }
     let trace = recorded(rt, scripts)?;
-    write_out(alloc, &trace, out)
+    write_out(alloc, &trace, out)?;
+    Ok(0)
 }
 
 // The script with this number and name.

@@ -1,5 +1,5 @@
 //! How an engine's tests record a run: two threads of the engine increment counters in persistent memory, each by a tape of its own.
-//! The session is sealed, and its trace is judged and trimmed. Only what every schedule gives is printed.
+//! The session is sealed, and its trace is checked and trimmed. Only what every schedule gives is printed.
 #![tactic(auto)]
 
 ghost use Rattle.std.specs.Prelude.{◌≡◌};
@@ -8,9 +8,8 @@ ghost use Rattle.pmt_model.specs.Formats.{first_version};
 use anyhow::{Error, Result, bail};
 use pmt_model::{NoGate, Op, Range, Trace};
 use pmt_recorder::{Roll, Session, Tape};
-use pmt_report::failed;
 use pmt_text::ListSource;
-use pmt_workers::analyse_with;
+use pmt_workers::{Analysis, analyse_with};
 use std::alloc::Global;
 use std::marker::Brand;
 use std::sync::Wait;
@@ -90,35 +89,28 @@ fn record<L: Roll + Send + Sync, R: Threads + Wait + Sync>(
     }
 }
 
-// How many assertions the trace has.
-fn claims(trace: &Trace) -> usize {
-    trace
-        .events()
+// How many claims pass.
+fn passed(analysis: &Analysis) -> usize {
+    analysis
+        .verdicts()
         .iter()
-        .filter(|event| matches!(event.op, Op::IsPersist(_)))
+        .filter(|verdict| verdict.pass)
         .count()
 }
 
 fn main(rt: HostRuntime) -> Result<()> {
     let trace = record::<Brand, HostRuntime>(&rt, rt.alloc(), Blank::new(256))?;
+    println!(rt; "recorded {} events", trace.len())?;
+    let analysis = analyse_with(&rt, rt.alloc(), &NoGate, &mut ListSource::new(&trace), 2)?;
     println!(rt;
-        "recorded {} events, {} of them claims",
-        trace.len(),
-        claims(&trace)
-    )?;
-    let mut source = ListSource::new(&trace);
-    let analysis = analyse_with(&rt, rt.alloc(), &NoGate, &mut source, 2)?;
-    println!(rt;
-        "{} verdicts, {} findings, failed: {}",
+        "{} claims, of which {} pass; {} findings",
         analysis.verdicts().len(),
-        analysis.findings().len(),
-        failed(&analysis)
+        passed(&analysis),
+        analysis.findings().len()
     )?;
-    let trimmed = analysis.trimmed()?;
     println!(rt;
-        "the trimmed trace has {} events, {} of them claims",
-        trimmed.len(),
-        claims(&trimmed)
+        "the trimmed trace has {} events",
+        analysis.trimmed()?.len()
     )?;
     Ok(())
 }
