@@ -1,7 +1,7 @@
 -- How the table of a line is made.
-use Rattle.std.proofs.Common.{◌≡◌, ℕ, zero, suc, ◌+◌, ◌-◌, ◌<◌, ◌≤◌, ◌⊎◌, ◌↔◌, inl, inr, Bool, true, false, List, [], ◌∷◌, ◌++◌, length, get_or, take, drop, refl, sym, ap, subst, ◌∙◌, append_assoc, arith}
-use Rattle.std.specs.Prelude.{Contains, All, ◌&&◌, nat_le, nat_lt}
-use Rattle.std.proofs.lemmas.Bool.{cases_lt, cases_eq, cases_order, both_ways, le-ltb, eq-eqb, leb-true, ltb-true, le-leb, lt-ltb, and_parts, and_from}
+use Rattle.std.proofs.Common.{◌≡◌, ℕ, zero, suc, ◌+◌, ◌-◌, ◌<◌, ◌≤◌, ◌⊎◌, ◌↔◌, inl, inr, true, false, List, [], ◌∷◌, ◌++◌, length, get_or, take, refl, sym, ap, subst, ◌∙◌, arith}
+use Rattle.std.specs.Prelude.{Contains, All, nat_le, nat_lt}
+use Rattle.std.proofs.lemmas.Bool.{cases_lt, cases_order, both_ways, le-ltb, eq-eqb, leb-true, ltb-true, le-leb, lt-ltb, and_parts, and_from}
 use Rattle.std.proofs.lemmas.List.{take_more}
 use Rattle.std.proofs.lemmas.List.Elements.{Contains-append_left, Contains-push, Contains-push_cases, All-from_recursion}
 use Rattle.pmt_lines.specs.declared.step.StepKind.{StepKind}
@@ -9,8 +9,8 @@ use Rattle.pmt_lines.specs.declared.step.StepKind.TheVariants.{Store, Flush, Clf
 use Rattle.pmt_lines.specs.declared.step.Step.{Step}
 use Rattle.pmt_asserts.specs.declared.put.Put.{Put}
 use Rattle.pmt_asserts.specs.declared.put.Write.{Write}
-use Rattle.pmt_asserts.specs.Puts.{covers, with_put, puts_of, no_put, put_at, IsUpTo, IsWriteOf, AreWritesOf, IsInside}
-use Rattle.pmt_asserts.proofs.RankLemmas.{put-read, up_to-trans}
+use Rattle.pmt_asserts.specs.Puts.{covers, with_put, puts_of, put_at, IsUpTo, IsWriteOf, AreWritesOf, IsInside}
+use Rattle.pmt_asserts.proofs.RankLemmas.{up_to-trans}
 use Rattle.std.specs.declared.cmp.Ordering.{Ordering}
 use Rattle.std.specs.Ordering.{is_lt, nat_cmp, ordering_then}
 use Rattle.std.specs.List.{AllByRecursion}

@@ -1,6 +1,6 @@
 -- The earliest of the last stores to the bytes of a range, line by line.
-use Rattle.std.proofs.Common.{◌≡◌, ◌≢◌, ℕ, ◌+◌, ◌<◌, ◌≤◌, ◌⊎◌, inl, inr, Bool, true, false, Option, Some, None, IfSome, refl, sym, subst, ◌∙◌, arith}
-use Rattle.std.specs.Prelude.{if◌then◌else◌, nat_le, MatchOption}
+use Rattle.std.proofs.Common.{◌≡◌, ℕ, ◌+◌, ◌<◌, ◌≤◌, inl, inr, Option, Some, None, IfSome, sym, subst, arith}
+use Rattle.std.specs.Prelude.{if◌then◌else◌, MatchOption}
 use Rattle.std.proofs.lemmas.Bool.{cases_eq}
 use Rattle.std.proofs.lemmas.Bool.Decides.{leb_tells}
 use Rattle.std.proofs.lemmas.Option.{IfSome_then}
@@ -10,7 +10,7 @@ use Rattle.pmt_model.specs.Assertions.{last_store, up_to_last, InSpan}
 use Rattle.pmt_asserts.specs.declared.oldest.Oldest.{Oldest}
 use Rattle.pmt_asserts.specs.declared.oldest.Earliest.{Earliest}
 use Rattle.pmt_asserts.specs.Tables.{IsUnwritten, IsLastAt}
-use Rattle.pmt_asserts.specs.Judging.{IsOldestIn, IsOldestOfLine, IsTaken, ComesNoEarlier, IsEarliest, IsEarliestOf, earlier_of}
+use Rattle.pmt_asserts.specs.Judging.{IsOldestIn, IsOldestOfLine, IsTaken, ComesNoEarlier, IsEarliestOf, earlier_of}
 
 -- The earliest of those in the lines below end.
 pub record EarliestBelow (T : Recording) (i : ℕ) (skipped : Option ℕ) (A : Span) (end : ℕ) (e : Earliest) : Type 0 where

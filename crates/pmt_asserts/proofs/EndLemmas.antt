@@ -1,13 +1,13 @@
 -- How long each store stays the last one to some byte, and which is the oldest of these stores.
-use Rattle.std.proofs.Common.{◌≡◌, ◌≢◌, ℕ, zero, suc, ◌+◌, ◌-◌, ◌<◌, ◌≤◌, ◌⊎◌, ◌↔◌, inl, inr, Bool, true, false, List, [], ◌∷◌, ◌++◌, length, get_or, Option, Some, None, refl, sym, ap, subst, ◌∙◌, length-append, arith}
-use Rattle.std.specs.Prelude.{◌&&◌, nat_le, nat_lt, Contains, All, max, slice_index, slice_set, replicate}
-use Rattle.std.proofs.lemmas.Bool.{cases_lt, cases_order, cases_eq}
+use Rattle.std.proofs.Common.{◌≡◌, ℕ, zero, suc, ◌+◌, ◌-◌, ◌<◌, ◌≤◌, ◌⊎◌, inl, inr, true, List, [], ◌∷◌, ◌++◌, length, get_or, refl, sym, ap, subst, ◌∙◌, length-append, arith}
+use Rattle.std.specs.Prelude.{Contains, All, max, slice_index, slice_set, replicate}
+use Rattle.std.proofs.lemmas.Bool.{cases_lt, cases_eq}
 use Rattle.std.proofs.lemmas.List.{get_or-set_same, get_or-set_other, get_or_read}
 use Rattle.std.proofs.Math.ListN.{length-set}
 use Rattle.std.proofs.lemmas.List.Elements.{Contains-get_or}
 use Rattle.pmt_asserts.specs.declared.put.Put.{Put}
 use Rattle.pmt_asserts.specs.declared.put.Write.{Write}
-use Rattle.pmt_asserts.specs.Puts.{covers, no_put, put_at, last_in, no_write, write_at, IsUpTo, IsWriteOf, AreWritesOf, IsInside, IsNext, Again, Never, IsLeast, IsLeastIn, AreLeasts, AreEnds, LieBetween}
+use Rattle.pmt_asserts.specs.Puts.{covers, no_put, put_at, last_in, no_write, write_at, IsUpTo, AreWritesOf, IsInside, IsNext, Again, Never, IsLeast, IsLeastIn, AreLeasts, AreEnds, LieBetween}
 use Rattle.pmt_asserts.proofs.RankLemmas.{last_in-le, last_in-above, last_in-covers, covers-own}
 use Rattle.pmt_asserts.proofs.LastLemmas.{last_in-takes}
 use Rattle.pmt_asserts.proofs.PlacingLemmas.{pushed-before, pushed-last}

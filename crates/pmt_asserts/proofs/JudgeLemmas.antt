@@ -1,11 +1,11 @@
 -- The verdicts, from what the tables tell line by line.
-use Rattle.std.proofs.Common.{◌≡◌, ◌≢◌, ℕ, zero, suc, length, ◌<◌, ◌≤◌, ◌⊎◌, ◌↔◌, inl, inr, Bool, true, false, List, [], ◌∷◌, Option, Some, None, IfSome, refl, sym, ap, subst, ◌∙◌, le_trans, arith}
+use Rattle.std.proofs.Common.{◌≡◌, ◌≢◌, ℕ, zero, suc, length, ◌≤◌, ◌⊎◌, ◌↔◌, inl, inr, Bool, true, false, List, ◌∷◌, Option, Some, None, IfSome, refl, sym, ap, subst, ◌∙◌, le_trans, arith}
 use Rattle.std.specs.Prelude.{if◌then◌else◌, ◌==◌}
 use Rattle.std.specs.Option.{option_map}
-use Rattle.std.proofs.lemmas.Bool.{cases_eq, cases_Bool, eq-eqb, ne_eqb, eqb-true}
+use Rattle.std.proofs.lemmas.Bool.{cases_eq}
 use Rattle.std.proofs.lemmas.Bool.Decides.{eqb_tells}
 use Rattle.std.proofs.lemmas.Option.{IfSome_then}
-use Rattle.pmt_model.specs.Values.{Span, Written, line_of}
+use Rattle.pmt_model.specs.Values.{Span, line_of}
 use Rattle.pmt_model.specs.Machine.{Act, Stores, Flushes, FlushesNow, Fences, Asserts, count, writes}
 use Rattle.pmt_model.specs.Traces.{Recording, IsTrace, IsAct, history}
 use Rattle.pmt_model.specs.Fronts.{front, front_at}
@@ -15,7 +15,7 @@ use Rattle.pmt_laws.proofs.AssertLemmas.{persist_by_fronts, ordered_by_fronts, l
 use Rattle.pmt_asserts.specs.declared.oldest.Oldest.{Oldest}
 use Rattle.pmt_asserts.specs.declared.oldest.Earliest.{Earliest}
 use Rattle.pmt_asserts.specs.Tables.{PersistedBy, RankedBy, IsUnwritten, IsLastAt}
-use Rattle.pmt_asserts.specs.Judging.{EachIn, IsOldestIn, IsTaken, EachApart, ComesNoEarlier, IsEarliest, IsEarliestOf, RanksBefore, IsLineInOrder, IsLineOrdered, place_for}
+use Rattle.pmt_asserts.specs.Judging.{EachIn, IsOldestIn, EachApart, ComesNoEarlier, IsEarliest, IsEarliestOf, RanksBefore, IsLineInOrder, IsLineOrdered, place_for}
 use Rattle.pmt_asserts.proofs.WordLemmas.{writes-line}
 
 -- The last store to a byte is to the byte's line.

@@ -1,16 +1,16 @@
 -- The last store to a byte, from the stores of the byte's line.
-use Rattle.std.proofs.Common.{◌≡◌, ◌≢◌, ℕ, zero, suc, ◌+◌, ◌-◌, ◌<◌, ◌≤◌, ◌⊎◌, inl, inr, Bool, true, false, List, [], ◌∷◌, length, get_or, Option, Some, None, refl, sym, ap, subst, ◌∙◌, arith}
-use Rattle.std.specs.Prelude.{if◌then◌else◌, ◌&&◌, nat_le, nat_lt}
-use Rattle.std.proofs.lemmas.Bool.{cases_lt, cases_order, cases_Bool, cases_eq}
-use Rattle.pmt_model.specs.Values.{Written, Layout, line_of}
+use Rattle.std.proofs.Common.{◌≡◌, ℕ, zero, suc, ◌-◌, ◌<◌, ◌≤◌, ◌⊎◌, inl, inr, true, false, List, ◌∷◌, length, Some, None, refl, sym, ap, subst, ◌∙◌, arith}
+use Rattle.std.specs.Prelude.{◌&&◌, nat_le, nat_lt}
+use Rattle.std.proofs.lemmas.Bool.{cases_Bool, cases_eq}
+use Rattle.pmt_model.specs.Values.{Written, line_of}
 use Rattle.pmt_model.specs.Machine.{Act, Stores, Flushes, FlushesNow, Fences, Asserts, count, writes}
-use Rattle.pmt_model.specs.Traces.{Recording, IsTrace, IsAct, act, history, count_at}
-use Rattle.pmt_model.specs.Assertions.{Placed, last_store, up_to_last}
-use Rattle.pmt_laws.proofs.Histories.{history-act, history-step, act-within, act-unique, count-mono}
+use Rattle.pmt_model.specs.Traces.{Recording, IsTrace, IsAct, history, count_at}
+use Rattle.pmt_model.specs.Assertions.{last_store, up_to_last}
+use Rattle.pmt_laws.proofs.Histories.{history-act, history-step, act-unique}
 use Rattle.pmt_laws.proofs.BoxLemmas.{count-store, count-store_other}
 use Rattle.pmt_asserts.specs.declared.put.Put.{Put}
-use Rattle.pmt_asserts.specs.Puts.{covers, puts_of, no_put, put_at, last_in}
-use Rattle.pmt_asserts.proofs.TraceLemmas.{IsPut, ArePuts, put-at, puts-length, same-store, count_at-le_length, count_at-store}
+use Rattle.pmt_asserts.specs.Puts.{covers, put_at, last_in}
+use Rattle.pmt_asserts.proofs.TraceLemmas.{ArePuts, put-at, puts-length, same-store, count_at-le_length, count_at-store}
 use Rattle.pmt_asserts.proofs.WordLemmas.{writes-line}
 
 -- What the first c stores of line l tell of the last one to the byte at b after a history, at the latest at place n.

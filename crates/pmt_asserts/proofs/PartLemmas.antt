@@ -1,7 +1,7 @@
 -- The bytes of a range in a line.
-use Rattle.std.proofs.Common.{◌≡◌, ℕ, zero, suc, ◌+◌, ◌-◌, ◌*◌, ◌/◌, ◌<◌, ◌≤◌, ◌↔◌, refl, sym, ap, subst, ◌∙◌, ◌^◌, arith}
+use Rattle.std.proofs.Common.{◌≡◌, ℕ, ◌+◌, ◌*◌, ◌/◌, ◌<◌, ◌≤◌, ◌↔◌, ap, subst, ◌^◌, arith}
 use Rattle.std.specs.Prelude.{max, min, Option, None, Some}
-use Rattle.std.proofs.lemmas.Nat.{div_below, le-div, div-add-mod'}
+use Rattle.std.proofs.lemmas.Nat.{div_below, le-div}
 use Rattle.std.proofs.Math.Nat.{lt-div-mul-add, div-mul-le_self}
 use Rattle.pmt_model.specs.Values.{Layout, Span, line_of}
 use Rattle.pmt_model.specs.Formats.{IsFormat}
@@ -11,7 +11,7 @@ use Rattle.pmt_asserts.specs.declared.oldest.Oldest.{Oldest}
 use Rattle.pmt_asserts.specs.declared.oldest.Part.{Part}
 use Rattle.pmt_asserts.specs.Tables.{IsOldestOf}
 use Rattle.pmt_asserts.specs.Judging.{IsOldestOfLine}
-use Rattle.pmt_asserts.proofs.WordLemmas.{IsSize, Of32, Of64, Of128, Of256, size-of, size-some}
+use Rattle.pmt_asserts.proofs.WordLemmas.{Of32, Of64, Of128, Of256, size-of, size-some}
 
 -- the bytes of a line lie within the addresses
 pub line-fits : (f : Layout) (l : ℕ) → IsFormat f → l < 2 ^ 48 → l * f.line_size + f.line_size < 2 ^ 60

@@ -1,18 +1,15 @@
 -- The tables of the lines, and the lines that have none.
-use Rattle.std.proofs.Common.{◌≡◌, ◌≢◌, ℕ, zero, suc, ◌+◌, ◌-◌, ◌<◌, ◌≤◌, ◌⊎◌, inl, inr, Bool, true, false, cond, List, [], ◌∷◌, ◌++◌, length, get_or, map, Option, Some, None, refl, sym, ap, subst, ◌∙◌, length-append, arith}
-use Rattle.std.specs.Prelude.{All, Contains, if◌then◌else◌, ◌==◌, ◌||◌, nat_eq}
-use Rattle.std.specs.List.{AllByRecursion}
-use Rattle.std.proofs.lemmas.Bool.{cases_eq, cases_lt, cases_Bool, eqb-true, eq-eqb, ne_eqb}
+use Rattle.std.proofs.Common.{◌≡◌, ◌≢◌, ℕ, zero, suc, ◌+◌, ◌<◌, ◌⊎◌, inl, inr, Bool, true, false, cond, List, [], ◌∷◌, ◌++◌, length, get_or, map, Option, Some, None, refl, sym, ap, subst, ◌∙◌, length-append, arith}
+use Rattle.std.specs.Prelude.{All, Contains, if◌then◌else◌, ◌==◌, nat_eq}
+use Rattle.std.proofs.lemmas.Bool.{cases_eq, cases_lt, cases_Bool, eq-eqb, ne_eqb}
 use Rattle.std.proofs.lemmas.Option.{same_Some}
 use Rattle.std.proofs.lemmas.List.Elements.{All-push, All-from_recursion, All-contains}
 use Rattle.pmt_model.specs.Values.{line_of}
 use Rattle.pmt_model.specs.Machine.{Act, Stores, Flushes, FlushesNow, Fences, Asserts, count}
 use Rattle.pmt_model.specs.Traces.{Recording, IsTrace, history, count_at, lines_of, has_line, with_line}
-use Rattle.pmt_model.specs.Assertions.{last_store}
 use Rattle.pmt_lines.specs.Raises.{LineFound}
 use Rattle.pmt_asserts.specs.Tables.{line_in, IsOfJob, AreResultsOf, IsUnwritten}
 use Rattle.pmt_asserts.specs.Placing.{IsPlacing}
-use Rattle.pmt_asserts.proofs.TraceLemmas.{ArePuts, count_at-le_length}
 use Rattle.pmt_asserts.proofs.LastLemmas.{LastIs, NoLast, LastAt, last-is}
 
 -- an element that stays, and the one that is added

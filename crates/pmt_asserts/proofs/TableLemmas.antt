@@ -1,22 +1,20 @@
 -- What a line's table tells of a trace.
-use Rattle.std.proofs.Common.{◌≡◌, ◌≢◌, ℕ, zero, suc, ◌+◌, ◌-◌, ◌<◌, ◌≤◌, ◌⊎◌, ◌↔◌, inl, inr, Bool, true, false, List, [], ◌∷◌, length, get_or, Option, Some, None, IfSome, refl, sym, ap, subst, ◌∙◌, arith}
-use Rattle.std.specs.Prelude.{if◌then◌else◌, nat_le}
+use Rattle.std.proofs.Common.{◌≡◌, ℕ, zero, suc, ◌-◌, ◌<◌, ◌≤◌, ◌⊎◌, ◌↔◌, inl, inr, true, false, List, length, get_or, Some, IfSome, sym, ap, subst, ◌∙◌, arith}
+use Rattle.std.specs.Prelude.{nat_le}
 use Rattle.std.specs.List.Sorted.{IsPartitionPoint, IsPartitionedBy}
-use Rattle.std.proofs.lemmas.Bool.{leb-true, cases_lt}
+use Rattle.std.proofs.lemmas.Bool.{leb-true}
 use Rattle.std.proofs.lemmas.Bool.Decides.{leb_tells}
 use Rattle.std.proofs.lemmas.List.Sorted.{IsPartitionedBy-leb, IsNonDecreasingBy-from_default}
-use Rattle.pmt_model.specs.Values.{line_of}
 use Rattle.pmt_model.specs.Traces.{Recording, IsTrace, history, count_at}
 use Rattle.pmt_model.specs.Fronts.{front_at}
-use Rattle.pmt_model.specs.Assertions.{Placed, last_store, up_to_last}
+use Rattle.pmt_model.specs.Assertions.{last_store, up_to_last}
 use Rattle.pmt_lines.specs.declared.step.Step.{Step}
 use Rattle.pmt_lines.specs.declared.raises.Raise.{Raise}
 use Rattle.pmt_lines.specs.Jobs.{IsJobOf}
 use Rattle.pmt_lines.specs.Raises.{LineFound, IsLineResult, RaisesBetween}
 use Rattle.pmt_asserts.specs.declared.put.Put.{Put}
-use Rattle.pmt_asserts.specs.declared.oldest.Oldest.{Oldest}
-use Rattle.pmt_asserts.specs.Puts.{puts_of, no_put, put_at, last_in, IsGreatestIn, IsLeastIn, IsLeastOf}
-use Rattle.pmt_asserts.specs.Tables.{IsOfJob, LieIn, EachFrom, PersistedBy, RankedBy, ComesFrom, IsLastAt, IsOldest, IsUnwritten, IsOldestOf}
+use Rattle.pmt_asserts.specs.Puts.{puts_of, no_put, put_at, last_in, IsGreatestIn, IsLeastIn}
+use Rattle.pmt_asserts.specs.Tables.{IsOfJob, LieIn, EachFrom, PersistedBy, RankedBy, ComesFrom, IsLastAt, IsOldest, IsUnwritten}
 use Rattle.pmt_asserts.proofs.TraceLemmas.{ArePuts, job-puts, counted, numbers-rise}
 use Rattle.pmt_asserts.proofs.RaiseLemmas.{no_raise, front_after, front-raised, places-rise}
 use Rattle.pmt_asserts.proofs.LastLemmas.{LastIs, NoLast, LastAt, last-is}

@@ -1,19 +1,17 @@
 -- What the stores of a line's job tell of the trace.
-use Rattle.std.proofs.Common.{◌≡◌, ◌≢◌, ℕ, zero, suc, ◌+◌, ◌-◌, ◌*◌, ◌/◌, ◌%◌, ◌<◌, ◌≤◌, ◌⊎◌, inl, inr, Bool, true, false, List, [], ◌∷◌, length, get_or, Option, Some, None, refl, sym, ap, subst, ◌∙◌, arith}
-use Rattle.std.specs.Prelude.{if◌then◌else◌, ◌&&◌, nat_le, nat_lt}
-use Rattle.std.proofs.lemmas.Bool.{cases_lt, cases_order, cases_Bool, cases_eq}
-use Rattle.pmt_model.specs.Values.{Written, Layout, line_of}
-use Rattle.pmt_model.specs.Machine.{Act, Stores, Flushes, FlushesNow, Fences, Asserts, count, writes}
-use Rattle.pmt_model.specs.Traces.{Recording, IsTrace, IsAct, act, history, count_at}
-use Rattle.pmt_model.specs.Assertions.{Placed, last_store, up_to_last}
-use Rattle.pmt_laws.proofs.Histories.{history-act, history-step, act-within, act-unique, count-mono}
+use Rattle.std.proofs.Common.{◌≡◌, ℕ, zero, suc, ◌+◌, ◌-◌, ◌<◌, ◌≤◌, ◌⊎◌, inl, inr, List, [], ◌∷◌, length, refl, sym, ap, subst, ◌∙◌, arith}
+use Rattle.std.proofs.lemmas.Bool.{cases_lt, cases_order}
+use Rattle.pmt_model.specs.Values.{Written}
+use Rattle.pmt_model.specs.Machine.{Act, Stores, Flushes, FlushesNow, Fences, Asserts, count}
+use Rattle.pmt_model.specs.Traces.{Recording, IsAct, act, history, count_at}
+use Rattle.pmt_laws.proofs.Histories.{history-act, history-step, act-within, count-mono}
 use Rattle.pmt_laws.proofs.BoxLemmas.{count-store, count-store_other}
 use Rattle.pmt_lines.specs.declared.step.StepKind.{StepKind}
 use Rattle.pmt_lines.specs.declared.step.StepKind.TheVariants.{Store, Flush, Clflush, Fence}
 use Rattle.pmt_lines.specs.declared.step.Step.{Step}
 use Rattle.pmt_lines.specs.Jobs.{IsKind, IsStepOf, Touches, ByStore, IsWalkFrom, IsJobOf}
 use Rattle.pmt_asserts.specs.declared.put.Put.{Put}
-use Rattle.pmt_asserts.specs.Puts.{covers, with_put, puts_of, no_put, put_at, last_in}
+use Rattle.pmt_asserts.specs.Puts.{with_put, puts_of, put_at}
 
 -- The store is the one of an event of the trace, to line l.
 pub record IsPut (T : Recording) (l : ℕ) (p : Put) : Type 0 where

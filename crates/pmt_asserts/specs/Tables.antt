@@ -1,10 +1,10 @@
 -- What the tables are made of, and what a table of a line tells of a trace.
-use Rattle.std.specs.Prelude.{◌≡◌, ℕ, ◌<◌, ◌≤◌, List, length, map, Option, None, Some, IfSome, IfNone, MatchOption}
+use Rattle.std.specs.Prelude.{◌≡◌, ℕ, ◌<◌, ◌≤◌, List, length, map, Option, None, Some, IfSome, MatchOption}
 use Rattle.std.specs.List.{AllByRecursion}
 use Rattle.pmt_model.specs.Values.{line_of}
 use Rattle.pmt_model.specs.Traces.{Recording, IsTrace, history, lines_of}
-use Rattle.pmt_model.specs.Fronts.{front, front_at}
-use Rattle.pmt_model.specs.Assertions.{Placed, last_store, up_to_last}
+use Rattle.pmt_model.specs.Fronts.{front_at}
+use Rattle.pmt_model.specs.Assertions.{last_store, up_to_last}
 use Rattle.pmt_lines.specs.Jobs.{IsJobOf}
 use Rattle.pmt_lines.specs.Raises.{LineFound}
 use Rattle.pmt_asserts.specs.declared.oldest.Oldest.{Oldest}

@@ -1,4 +1,4 @@
-use Rattle.std.proofs.Common.{◌∙◌, ◌++◌, ◌∷◌, [], ap, sym, arith, refl, get_or}
+use Rattle.std.proofs.Common.{◌∙◌, ◌++◌, ◌∷◌, [], ap, sym, refl, get_or}
 use Rattle.pmt_lines.specs.declared.step.StepKind.TheVariants.{Store}
 use Rattle.pmt_lines.specs.declared.step.Step.{Step}
 use Rattle.pmt_asserts.specs.Puts.{puts_of}

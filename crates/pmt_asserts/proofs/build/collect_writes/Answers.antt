@@ -1,6 +1,5 @@
-use Rattle.std.proofs.Common.{subst, sym, refl, get_or}
-use Rattle.pmt_asserts.specs.Puts.{IsWriteOf, put_at, no_put}
-use Rattle.pmt_asserts.proofs.BuildLemmas.{HasWrites, writes-none, writes-more, writes-sorted}
+use Rattle.pmt_asserts.specs.Puts.{put_at}
+use Rattle.pmt_asserts.proofs.BuildLemmas.{writes-more, writes-sorted}
 use Rattle.pmt_asserts.proofs.build.collect_writes.Goals as goal
 
 pub loop-index-preserved : goal.loop-index-preserved

@@ -1,8 +1,8 @@
-use Rattle.std.proofs.Common.{◌≡◌, ◌+◌, ◌-◌, ◌<◌, ◌≤◌, ◌∙◌, ap, subst, sym, length, refl, arith}
+use Rattle.std.proofs.Common.{◌≡◌, ◌+◌, ◌-◌, ◌∙◌, ap, subst, sym, length, refl, arith}
 use Rattle.std.specs.Prelude.{max, slice_index, slice_set}
 use Rattle.std.proofs.lemmas.List.{get_or_read}
 use Rattle.std.proofs.lemmas.List.Elements.{Contains-get_or}
-use Rattle.pmt_asserts.specs.Puts.{IsNext, no_write, write_at}
+use Rattle.pmt_asserts.specs.Puts.{no_write, write_at}
 use Rattle.pmt_asserts.proofs.EndLemmas.{EndsBy, ends-more, ends-all}
 use Rattle.pmt_asserts.proofs.ends.collect_ends.Goals as goal
 

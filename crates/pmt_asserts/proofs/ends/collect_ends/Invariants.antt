@@ -1,4 +1,3 @@
-use Rattle.std.proofs.Common.{◌≡◌, ◌+◌, length}
 use Rattle.pmt_asserts.proofs.EndLemmas.{EndsBy}
 use Rattle.pmt_asserts.proofs.ends.collect_ends.Given as goal
 

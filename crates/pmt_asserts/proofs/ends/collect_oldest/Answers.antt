@@ -1,4 +1,4 @@
-use Rattle.std.proofs.Common.{◌≡◌, ◌+◌, ◌++◌, ◌∷◌, [], ap, subst, sym, length}
+use Rattle.std.proofs.Common.{◌+◌, subst, sym}
 use Rattle.pmt_asserts.proofs.EndLemmas.{LeastsBy, newest-visible, leasts-more}
 use Rattle.pmt_asserts.proofs.ends.collect_oldest.Goals as goal
 

@@ -1,4 +1,4 @@
-use Rattle.std.proofs.Common.{◌≡◌, refl, sym, ◌∙◌}
+use Rattle.std.proofs.Common.{refl}
 use Rattle.pmt_asserts.proofs.JudgeLemmas.{ranked-line, unwritten-line}
 use Rattle.pmt_asserts.proofs.judge.is_line_in_order.Goals as goal
 

@@ -1,4 +1,4 @@
-use Rattle.std.proofs.Common.{◌≡◌, ℕ, IfSome, refl, sym, subst, ◌∙◌}
+use Rattle.std.proofs.Common.{ℕ, IfSome, refl, sym, subst}
 use Rattle.pmt_asserts.specs.Tables.{PersistedBy}
 use Rattle.pmt_asserts.specs.Judging.{EachIn}
 use Rattle.pmt_asserts.proofs.judge.is_line_ordered.Goals as goal

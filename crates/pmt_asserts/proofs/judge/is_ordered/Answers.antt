@@ -1,6 +1,6 @@
-use Rattle.std.proofs.Common.{◌≡◌, ◌≤◌, length, IfSome, refl, sym, subst, ◌∙◌, arith}
+use Rattle.std.proofs.Common.{◌≤◌, length, IfSome, refl, sym, subst, arith}
 use Rattle.pmt_asserts.specs.Judging.{IsLineOrdered}
-use Rattle.pmt_asserts.proofs.JudgeLemmas.{ordered-from, lines-from, ordered-unwritten, place-within}
+use Rattle.pmt_asserts.proofs.JudgeLemmas.{ordered-from, lines-from, place-within}
 use Rattle.pmt_asserts.proofs.judge.is_ordered.Goals as goal
 
 pub is_line_ordered-requires-clause-by : goal.is_line_ordered-requires-clause-by
@@ -18,7 +18,7 @@ returns-then-not-is_line_ordered c =
       λ t. absurd cc,
       λ passes. absurd (
           let each = lines-from T c.args.number c.args.first c.args.second c.in-Some.found c.next_earliest-other.result c.lines_of-start.ensures.trace (c.in-Some.ensures {u = tt}) passes line
-              (λ own. c.next_earliest-other.ensures (omega (arith, own, c.loop-line.auto.line)) (omega (arith, own, c.loop-line-test.true))) in
+          (λ own. c.next_earliest-other.ensures (omega (arith, own, c.loop-line.auto.line)) (omega (arith, own, c.loop-line-test.true))) in
           let told = c.is_line_ordered.ensures.1 (subst (IsLineOrdered T c.args.number c.args.first c.args.second line) (sym c.place_by-by.ensures) each) in
           cc),
     )

@@ -1,4 +1,4 @@
-use Rattle.std.proofs.Common.{◌≡◌, refl, sym, ◌∙◌, arith}
+use Rattle.std.proofs.Common.{refl, arith}
 use Rattle.pmt_asserts.proofs.JudgeLemmas.{persist-by}
 use Rattle.pmt_asserts.proofs.judge.persists.Goals as goal
 

@@ -1,4 +1,4 @@
-use Rattle.std.proofs.Common.{◌≡◌, refl, sym, ◌∙◌}
+use Rattle.std.proofs.Common.{refl, sym, ◌∙◌}
 use Rattle.pmt_model.specs.Analyses.{OfPersist, OfOrdered}
 use Rattle.pmt_asserts.proofs.judge.verdict.Goals as goal
 

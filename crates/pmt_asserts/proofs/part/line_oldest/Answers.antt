@@ -1,4 +1,4 @@
-use Rattle.std.proofs.Common.{◌≡◌, subst, sym, ◌∙◌}
+use Rattle.std.proofs.Common.{subst, sym, ◌∙◌}
 use Rattle.pmt_asserts.specs.Tables.{IsOldestOf}
 use Rattle.pmt_asserts.proofs.PlacingLemmas.{unwritten-line, of-job}
 use Rattle.pmt_asserts.proofs.PartLemmas.{part-moved, oldest-in-part}

@@ -1,4 +1,4 @@
-use Rattle.std.proofs.Common.{◌≡◌, ◌*◌, ◌∙◌, arith, ap}
+use Rattle.std.proofs.Common.{◌≡◌, ◌*◌, arith, ap}
 use Rattle.pmt_asserts.proofs.PartLemmas.{part-is}
 use Rattle.pmt_asserts.proofs.part.part_of.Goals as goal
 

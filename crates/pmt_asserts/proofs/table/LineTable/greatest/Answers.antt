@@ -1,4 +1,4 @@
-use Rattle.std.proofs.Common.{◌≡◌, ◌∙◌, ◌+◌, ap, subst, sym, arith, refl}
+use Rattle.std.proofs.Common.{◌∙◌, ◌+◌, ap, subst, sym, arith, refl}
 use Rattle.std.specs.Prelude.{max}
 use Rattle.pmt_lines.specs.Raises.{LineFound}
 use Rattle.pmt_asserts.specs.Puts.{puts_of, IsGreatestIn}

@@ -1,4 +1,4 @@
-use Rattle.std.proofs.Common.{◌≡◌, ◌≤◌, subst, sym}
+use Rattle.std.proofs.Common.{subst, sym}
 use Rattle.std.proofs.lemmas.Bool.{leb-true, le-leb}
 use Rattle.pmt_asserts.specs.Puts.{puts_of, IsGreatestIn}
 use Rattle.pmt_asserts.proofs.TableLemmas.{ranked-by}

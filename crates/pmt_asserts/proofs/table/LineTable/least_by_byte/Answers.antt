@@ -1,5 +1,5 @@
-use Rattle.std.proofs.Common.{◌≡◌, ◌∙◌, ◌+◌, ap, subst, sym, arith, refl}
-use Rattle.pmt_asserts.specs.Puts.{puts_of, IsLeastOf, IsLesser}
+use Rattle.std.proofs.Common.{subst, arith, refl}
+use Rattle.pmt_asserts.specs.Puts.{puts_of, IsLesser}
 use Rattle.pmt_asserts.proofs.RankLemmas.{least-none, least-more, least-end}
 use Rattle.pmt_asserts.proofs.table.LineTable.least_by_byte.Goals as goal
 

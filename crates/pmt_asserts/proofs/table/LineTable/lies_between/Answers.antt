@@ -1,4 +1,4 @@
-use Rattle.std.proofs.Common.{◌≡◌, ◌≤◌, ◌<◌, ◌∙◌, ap, length, arith}
+use Rattle.std.proofs.Common.{◌∙◌, ap}
 use Rattle.std.proofs.lemmas.Bool.{ltb-true}
 use Rattle.pmt_lines.specs.Raises.{LineFound}
 use Rattle.pmt_asserts.specs.Puts.{puts_of}

@@ -1,7 +1,6 @@
-use Rattle.std.proofs.Common.{◌≡◌, ◌∙◌, ap, subst, sym, length}
+use Rattle.std.proofs.Common.{◌≡◌, ◌∙◌, ap, subst, sym}
 use Rattle.std.specs.Prelude.{All}
-use Rattle.pmt_lines.specs.Raises.{LineFound}
-use Rattle.pmt_lines.specs.Steps.{LineWork, AreSteps}
+use Rattle.pmt_lines.specs.Steps.{LineWork}
 use Rattle.pmt_asserts.specs.Puts.{puts_of, IsInside, AreWritesOf, AreLeasts}
 use Rattle.pmt_asserts.proofs.BuildLemmas.{puts-inside}
 use Rattle.pmt_asserts.proofs.table.LineTable.new.Goals as goal

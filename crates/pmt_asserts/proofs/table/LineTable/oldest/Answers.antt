@@ -1,7 +1,7 @@
-use Rattle.std.proofs.Common.{◌≡◌, ◌≤◌, ◌<◌, ◌-◌, ◌∙◌, ap, length, subst, sym, arith, rules, None, Some}
+use Rattle.std.proofs.Common.{◌-◌, ◌∙◌, ap, length, subst, sym, arith, rules}
 use Rattle.pmt_lines.specs.Raises.{LineFound}
 use Rattle.pmt_asserts.specs.declared.put.Put.{Put}
-use Rattle.pmt_asserts.specs.Puts.{puts_of, last_in, IsLeastIn, IsLeastOf}
+use Rattle.pmt_asserts.specs.Puts.{puts_of, last_in, IsLeastIn}
 use Rattle.pmt_asserts.specs.Tables.{IsOldest}
 use Rattle.pmt_asserts.proofs.RankLemmas.{least-within, put-read}
 use Rattle.pmt_asserts.proofs.TableLemmas.{oldest-found, oldest-none}
