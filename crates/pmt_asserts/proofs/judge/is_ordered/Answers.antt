@@ -18,7 +18,7 @@ returns-then-not-is_line_ordered c =
       λ t. absurd cc,
       λ passes. absurd (
           let each = lines-from T c.args.number c.args.first c.args.second c.in-Some.found c.next_earliest-other.result c.lines_of-start.ensures.trace (c.in-Some.ensures {u = tt}) passes line
-              (λ own. c.next_earliest-other.ensures (omega (arith, own, c.loop-line.auto.line)) (omega (arith, own, c.loop-line-test.true))) in
+          (λ own. c.next_earliest-other.ensures (omega (arith, own, c.loop-line.auto.line)) (omega (arith, own, c.loop-line-test.true))) in
           let told = c.is_line_ordered.ensures.1 (subst (IsLineOrdered T c.args.number c.args.first c.args.second line) (sym c.place_by-by.ensures) each) in
           cc),
     )
