@@ -1,7 +1,6 @@
 use crate::opener::{OpenError, Opener};
 use crate::run::run_words;
 use pmt_text::devices::{EndlessReader, LimitedWriter, PieceReader};
-use std::io;
 use std::io::{Read, Take};
 use std::process::Abort;
 use std::sync::Wait;
@@ -11,100 +10,92 @@ const SCRIPT: &[u8] = b"store 0x1000 01\nclwb 0x1000\nsfence\n";
 
 const RECORDED: &[u8] = b"pmtrace 1\nstore 0 0x1000 01\nclwb 0 0x1000\nsfence 0\n";
 
-// Scripts in memory, by name.
+// Scripts in memory, by name: the first bytes of an endless text.
 #[derive(Drop)]
 struct Scripts {}
 
-#[derive(Drop)]
-enum Script {
-    Text(PieceReader<'static>),
-    Long(Take<EndlessReader<'static>>),
-}
-
-impl Read for Script {
-    fn read(&mut self, buf: &mut [u8]) -> io::Result<usize> {
-        match self {
-            Script::Text(text) => text.read(buf),
-            Script::Long(text) => text.read(buf),
-        }
-    }
-}
-
 impl Opener for Scripts {
-    type Reader = Script;
+    type Reader = Take<EndlessReader<'static>>;
 
-    fn open(&self, name: &str) -> Result<Script, OpenError> {
+    fn open(&self, name: &str) -> Result<Take<EndlessReader<'static>>, OpenError> {
         match name {
-            "good" => Ok(Script::Text(PieceReader::new(SCRIPT, 7))),
-            "empty" => Ok(Script::Text(PieceReader::new(b"", 1))),
-            "bad" => Ok(Script::Text(PieceReader::new(b"sfence 0\n", 4096))),
-            "failing" => {
-                let reader = PieceReader::failing_after(b"sfence 0\n", 4096, 1);
-                Ok(Script::Text(reader))
-            }
-            "full" => {
-                let reader = EndlessReader::new(b"", b"sfence\n");
-                Ok(Script::Long(reader.take(7_000_000)))
-            }
-            "long" => {
-                let reader = EndlessReader::new(b"sfence\n", b"a");
-                Ok(Script::Long(reader.take(67_108_865)))
-            }
+            "good" => Ok(EndlessReader::new(SCRIPT, b"a").take(35)),
+            "empty" => Ok(EndlessReader::new(b"", b"a").take(0)),
+            "bad" => Ok(EndlessReader::new(b"sfence 0\n", b"a").take(9)),
+            "full" => Ok(EndlessReader::new(b"", b"sfence\n").take(7_000_000)),
+            "long" => Ok(EndlessReader::new(b"sfence\n", b"a").take(67_108_865)),
             _ => Err(OpenError::NoFile),
         }
     }
 }
 
-// Runs the words, and compares the status, what was written, and the fault line.
-fn told<R>(rt: &R, words: &[&str], status: u8, written: &[u8], fault: &[u8])
+// A script with a faulty line, whose second read fails.
+#[derive(Drop)]
+struct FailingScript {}
+
+impl Opener for FailingScript {
+    type Reader = PieceReader<'static>;
+
+    fn open(&self, _name: &str) -> Result<PieceReader<'static>, OpenError> {
+        Ok(PieceReader::failing_after(b"sfence 0\n", 4096, 1))
+    }
+}
+
+// Runs the words over these files, and compares the status, what was written, and the fault line.
+fn told<R, O>(rt: &R, files: &O, words: &[&str], status: u8, written: &[u8], fault: &[u8])
 where
     R: AllocGlobal + Threads + Wait + Abort + Sync,
+    O: Opener,
 {
     let mut out = LimitedWriter::new(rt.alloc(), 4096);
     let mut faults = LimitedWriter::new(rt.alloc(), 4096);
     let input = PieceReader::new(b"", 1);
-    let ended = run_words(rt, words, &Scripts {}, input, &mut out, &mut faults);
+    let ended = run_words(rt, words, files, input, &mut out, &mut faults);
     assert_eq!(rt; ended, status);
     assert_eq!(rt; out.kept(), written);
     assert_eq!(rt; faults.kept(), fault);
 }
 
 #[test]
-fn scripts(rt: HostRuntime) {
-    told(&rt, &["record", "good"], 0, RECORDED, b"");
-    told(&rt, &["record", "empty"], 0, b"pmtrace 1\n", b"");
+fn scripts_that_are_recorded(rt: HostRuntime) {
+    told(&rt, &Scripts {}, &["record", "good"], 0, RECORDED, b"");
     told(
         &rt,
-        &["record", "good", "bad", "missing"],
+        &Scripts {},
+        &["record", "empty"],
+        0,
+        b"pmtrace 1\n",
+        b"",
+    );
+}
+
+#[test]
+fn scripts_that_are_refused(rt: HostRuntime) {
+    let words = ["record", "good", "bad", "missing"];
+    told(
+        &rt,
+        &Scripts {},
+        &words,
         3,
         b"",
         b"script 2 line 1: bad-field\n",
     );
+    let words = ["record", "good", "missing", "bad"];
+    told(&rt, &Scripts {}, &words, 4, b"", b"file fault\n");
+    let words = ["record", "failing"];
+    told(&rt, &FailingScript {}, &words, 4, b"", b"file fault\n");
 }
 
 #[test]
-fn scripts_that_are_not_read(rt: HostRuntime) {
-    told(&rt, &["record", "missing"], 4, b"", b"file fault\n");
-    told(&rt, &["record", "failing"], 4, b"", b"file fault\n");
-    told(
-        &rt,
-        &["record", "bad", "missing"],
-        3,
-        b"",
-        b"script 1 line 1: bad-field\n",
-    );
+fn a_script_too_long(rt: HostRuntime) {
+    let words = ["record", "good", "long"];
+    told(&rt, &Scripts {}, &words, 3, b"", b"script 2 too long\n");
 }
 
 #[test]
-fn scripts_with_too_much(rt: HostRuntime) {
-    told(
-        &rt,
-        &["record", "good", "long"],
-        3,
-        b"",
-        b"script 2 too long\n",
-    );
-    told(&rt, &["record", "full", "good"], 3, b"", b"trace full\n");
+fn a_trace_too_long(rt: HostRuntime) {
+    let words = ["record", "full", "good"];
+    told(&rt, &Scripts {}, &words, 3, b"", b"trace full\n");
 }
 
 #[test]
