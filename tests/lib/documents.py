@@ -51,8 +51,8 @@ def main():
     for name in sys.argv[2:]:
         with tempfile.TemporaryDirectory() as folder:
             pathlib.Path(folder, "pmtrim").symlink_to(pathlib.Path(sys.argv[1]).resolve())
-            for name in ("examples", "crates"):
-                pathlib.Path(folder, name).symlink_to(TOP / name)
+            for shown in ("examples", "crates"):
+                pathlib.Path(folder, shown).symlink_to(TOP / shown)
             counts = run_document(TOP / name, folder)
         if counts == (0, 0):
             print(f"{name}: shows no command")
