@@ -30,7 +30,7 @@ def timed(program, count):
         done = subprocess.run([program, "record", *names], capture_output=True, check=True)
         took = time.perf_counter() - start
     events = done.stdout.count(b"\n") - 1
-    print(f"{count} scripts, {events} events: {took:.2f} s")
+    print(f"recorded by {count} threads: {events} events, {took:.2f} s, {took / events * 1e9:.0f} ns an event")
 
 
 def main():

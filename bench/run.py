@@ -4,7 +4,7 @@
 Without KIND all kinds of traces.py are run. Traces and the plain Rust program are made in bench/out/ on first use. Of each run the
 table gives seconds, events and megabytes of trace text per second, the peak of memory, and that peak by events (a peak of some 15 MB
 or less is this script's own, and says nothing), and how many times what the plain program takes for the same that is: for a command,
-for reading and writing.
+for reading and writing. Beside it stand the times of reading from memory, and those of the part that workers share, with 1 and with 4.
 """
 import argparse
 import hashlib
@@ -17,7 +17,9 @@ import time
 BENCH = pathlib.Path(__file__).resolve().parent
 OUT = BENCH / "out"
 TEXT_BENCH = BENCH.parent / "crates" / "text_bench" / "out" / "text_bench"
+WORKER_BENCH = BENCH.parent / "crates" / "worker_bench" / "out" / "worker_bench"
 WANTED_BYTES = {"log_appends": 400, "many_lines": 700}
+SHARED_KINDS = ("tree_inserts", "many_lines", "long_intervals")
 COMMANDS = (["check"], ["trim"], ["trim", "--workers", "4"])
 
 
@@ -116,6 +118,34 @@ def compare_reading(plain, trace):
     print(f"reading {megabytes:.0f} MB from memory: {min(ours):.3f} s, plain Rust {min(floor):.3f} s, ratio {min(ours) / min(floor):.2f} (wanted: at most 1.5)")
 
 
+def compare_workers(traces):
+    """The part that workers share, by 1 and by 4 of them, and what stays serial around it, the best of three runs each."""
+    if not WORKER_BENCH.exists():
+        print("workers: crates/worker_bench is not built (bench/run.sh builds it)")
+        return
+    print(f"\nThe lines of a trace by 1 and by 4 workers, on {os.cpu_count()} cores (wanted with 4 cores: at most 0.40 of the time of 1).")
+    if os.getloadavg()[0] > 2:
+        print(f"The load is {os.getloadavg()[0]:.1f}: where other programs keep the cores busy, the times of 4 workers say nothing.")
+    print("A worker's time is that of the one that takes longest. Splitting, joining, findings and verdicts stand around it; reading and")
+    print("writing the texts, in the table above, are serial too.")
+    print(f"{'trace':18} {'1 worker':>10} {'4 workers':>10} {'ratio':>7} {'around, 1':>10} {'around, 4':>10}")
+    shared = {kind: trace for kind, trace in traces.items() if kind in SHARED_KINDS}
+    for kind, trace in (shared or traces).items():
+        runs = [shared_and_around(trace) for _ in range(3)]
+        one, four = min(run[1][0] for run in runs), min(run[4][0] for run in runs)
+        around = [min(run[workers][1] for run in runs) for workers in (1, 4)]
+        print(f"{kind:18} {one:10.3f} {four:10.3f} {four / one:7.2f} {around[0]:10.3f} {around[1]:10.3f}", flush=True)
+
+
+def shared_and_around(trace):
+    """For 1 and for 4 workers the seconds of the slowest worker, and those of the rest of the analysis."""
+    status, _, _, answer = timed([WORKER_BENCH, "time"], trace)
+    lines = [line.split() for line in answer.read_text().splitlines()]
+    if status != 0 or [line[1] for line in lines] != ["1", "4"]:
+        sys.exit(f"{WORKER_BENCH} does not analyse {trace}")
+    return {int(line[1]): (int(line[3]) / 1e9, (int(line[5]) - int(line[3])) / 1e9) for line in lines}
+
+
 def main():
     listed = subprocess.run([sys.executable, BENCH / "traces.py"], capture_output=True, text=True, check=True).stdout
     known = [line.split("\t")[0] for line in listed.splitlines()]
@@ -135,6 +165,7 @@ def main():
     start = time.perf_counter()
     peaks = {kind: run_kind(kind, trace, asked.events, plain, asked.program) for kind, trace in traces.items()}
     compare_reading(plain, traces.get("tree_inserts", next(iter(traces.values()))))
+    compare_workers(traces)
     for kind, wanted in WANTED_BYTES.items():
         if peaks.get(kind):
             print(f"memory of trim, {kind}: {peaks[kind]:.0f} bytes an event (wanted: at most {wanted})")

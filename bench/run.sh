@@ -1,11 +1,18 @@
 #!/usr/bin/env bash
-# Builds what is measured, where that is needed, and prints the table of run.py: bench/run.sh [--events N] [KIND ..]
+# Builds what is measured, where that is needed, and prints the table of run.py and the times of recording.py: bench/run.sh [--events N] [KIND ..]
 set -eu
 cd "$(dirname "$0")/.."
 ./pmtrim --version > /dev/null
-built=crates/text_bench/out/text_bench
-if [ ! -x $built ] || [ -n "$(find crates/text_bench/src crates/pmt_text/src crates/pmt_model/src -name '*.rt' -newer $built)" ]; then
-  echo "bench: building text_bench" >&2
-  (cd crates/text_bench && rt run < stdin > /dev/null)
-fi
-exec python3 bench/run.py "$@"
+# build NAME BASE ..: builds the program crate, if it or a crate that it stands on is newer than its program
+build() {
+  local name=$1 built=crates/$1/out/$1
+  if [ ! -x "$built" ] || [ -n "$(find "${@/#/crates/}" -name '*.rt' -newer "$built")" ]; then
+    echo "bench: building $name" >&2
+    (cd "crates/$name" && rt run < stdin > /dev/null)
+  fi
+}
+
+build text_bench pmt_text pmt_model
+build worker_bench pmt_workers pmt_trim pmt_asserts pmt_findings pmt_lines pmt_marks pmt_text pmt_model
+python3 bench/run.py "$@"
+python3 bench/recording.py crates/pmtrim/out/pmtrim

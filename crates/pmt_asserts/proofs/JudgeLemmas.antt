@@ -110,7 +110,7 @@ before-persisted T i l rank place a b trace other last f =
     go x (inr p) own = subst (λ g. x.rank ≤ front x.line g) last.past p
 
 -- where the lines are in order, isOrderedBefore passes
-pub ordered-from : (T : Recording) (i : ℕ) (A B : Span) (e : Earliest) (o : Option Earliest) → IsTrace T → IsEarliest T i None B e → IsEarliestOf T i (Some e.line) B o → ((b : ℕ) → InSpan A b → IsLineOrdered T i A B (line_of T.format b) (place_for e o (line_of T.format b))) → OrderedPasses (history T i) A B
+pub ordered-from : (T : Recording) (i : ℕ) (A B : Span) (e : Earliest) (o : Option Earliest) → IsTrace T → IsEarliest T i None B e → ((a : ℕ) → InSpan A a → line_of T.format a ≡ e.line → IsEarliestOf T i (Some e.line) B o) → ((b : ℕ) → InSpan A b → IsLineOrdered T i A B (line_of T.format b) (place_for e o (line_of T.format b))) → OrderedPasses (history T i) A B
 ordered-from T i A B e o trace is apart lines = (ordered-by T i A B).0 (λ b j a k. go b j a k (cases_eq (line_of T.format a) (line_of T.format b)))
   where
     other : (c : Option Earliest) (b : ℕ) → IsEarliestOf T i (Some e.line) B c → InSpan B b → line_of T.format b ≢ e.line → (a : ℕ) → InSpan A a → line_of T.format a ≡ e.line → IfSome (option_map (λ d. d.number) c) (λ n. EachIn T (line_of T.format a) A (PersistedBy T i n)) → IsNoLater T i a b
@@ -121,13 +121,13 @@ ordered-from T i A B e o trace is apart lines = (ordered-by T i A B).0 (λ b j a
     go b j a k (inl same) = ranked-before T i a b trace same ((lines a k).0 a k refl b j (sym same))
     go b j a k (inr apart') =
         elim (eqb_tells (line_of T.format a) e.line) [
-          | inl own ↦ other o b apart j (λ eq. apart' (own.1 ∙ sym eq)) a k own.1 (subst (λ t. IfSome (if t then option_map (λ d. d.number) o else Some e.number) (λ n. EachIn T (line_of T.format a) A (PersistedBy T i n))) own.0 (lines a k).1)
+          | inl own ↦ other o b (apart a k own.1) j (λ eq. apart' (own.1 ∙ sym eq)) a k own.1 (subst (λ t. IfSome (if t then option_map (λ d. d.number) o else Some e.number) (λ n. EachIn T (line_of T.format a) A (PersistedBy T i n))) own.0 (lines a k).1)
           | inr free ↦ persisted-later T i e.number a b ((subst (λ t. IfSome (if t then option_map (λ d. d.number) o else Some e.number) (λ n. EachIn T (line_of T.format a) A (PersistedBy T i n))) free.0 (lines a k).1) a k refl) (is.first b j tt)
         ]
 
 -- where isOrderedBefore passes, the lines are in order
-pub lines-from : (T : Recording) (i : ℕ) (A B : Span) (e : Earliest) (o : Option Earliest) → IsTrace T → IsEarliest T i None B e → IsEarliestOf T i (Some e.line) B o → OrderedPasses (history T i) A B → (line : ℕ) → IsLineOrdered T i A B line (place_for e o line)
-lines-from T i A B e o trace is apart passes line = (ranks, go (eqb_tells line e.line) o apart)
+pub lines-from : (T : Recording) (i : ℕ) (A B : Span) (e : Earliest) (o : Option Earliest) → IsTrace T → IsEarliest T i None B e → OrderedPasses (history T i) A B → (line : ℕ) → (line ≡ e.line → IsEarliestOf T i (Some e.line) B o) → IsLineOrdered T i A B line (place_for e o line)
+lines-from T i A B e o trace is passes line apart = (ranks, go (eqb_tells line e.line) o apart)
   where
     each : (b : ℕ) → InSpan B b → (a : ℕ) → InSpan A a → IsNoLater T i a b
     each = (ordered-by T i A B).1 passes
@@ -135,11 +135,11 @@ lines-from T i A B e o trace is apart passes line = (ranks, go (eqb_tells line e
     ranks : EachIn T line A (λ a. EachIn T line B (RanksBefore T i a))
     ranks a k own b j same = before-ranked T i a b trace (own ∙ sym same) (each b j a k)
 
-    go : ((line == e.line) ≡ true × (line ≡ e.line)) ⊎ ((line == e.line) ≡ false × (line ≢ e.line)) → (c : Option Earliest) → IsEarliestOf T i (Some e.line) B c → IfSome (place_for e c line) (λ n. EachIn T line A (PersistedBy T i n))
+    go : ((line == e.line) ≡ true × (line ≡ e.line)) ⊎ ((line == e.line) ≡ false × (line ≢ e.line)) → (c : Option Earliest) → (line ≡ e.line → IsEarliestOf T i (Some e.line) B c) → IfSome (place_for e c line) (λ n. EachIn T line A (PersistedBy T i n))
     go (inl own) None none = subst (λ t. IfSome (if t then None else Some e.number) (λ n. EachIn T line A (PersistedBy T i n))) (sym own.0) tt
     go (inl own) (Some d) first =
         subst (λ t. IfSome (if t then Some d.number else Some e.number) (λ n. EachIn T line A (PersistedBy T i n))) (sym own.0)
-        (λ a k same. let r = first.reached in before-persisted T i d.line r.1 d.number a r.0 trace (λ eq. first.taken (sym eq ∙ same ∙ own.1)) r.4 (each r.0 r.2 a k))
+        (λ a k same. let f : IsEarliest T i (Some e.line) B d = first own.1 in let r = f.reached in before-persisted T i d.line r.1 d.number a r.0 trace (λ eq. f.taken (sym eq ∙ same ∙ own.1)) r.4 (each r.0 r.2 a k))
     go (inr free) c known =
         subst (λ t. IfSome (if t then option_map (λ d. d.number) c else Some e.number) (λ n. EachIn T line A (PersistedBy T i n))) (sym free.0)
         (λ a k same. let r = is.reached in before-persisted T i e.line r.1 e.number a r.0 trace (λ eq. free.1 (sym same ∙ eq)) r.4 (each r.0 r.2 a k))
@@ -164,11 +164,15 @@ unwritten-line T i line A B none a k own b j same = subst (λ p. IfSome p (λ y.
 
 -- the place by which a line has to be persisted has come
 pub place-within :
-    (T : Recording) (i line : ℕ) (B : Span) (e : Earliest) (o : Option Earliest) → IsEarliest T i None B e → IsEarliestOf T i (Some e.line) B o → i ≤ length T.events →
+    (T : Recording) (i line : ℕ) (B : Span) (e : Earliest) (o : Option Earliest) → IsEarliest T i None B e → (line ≡ e.line → IsEarliestOf T i (Some e.line) B o) → i ≤ length T.events →
     IfSome (place_for e o line) (λ n. n ≤ length T.events)
-place-within T i line B e o is apart within = go (line == e.line) o apart
+place-within T i line B e o is apart within = go (eqb_tells line e.line) o apart
   where
-    go : (t : Bool) (c : Option Earliest) → IsEarliestOf T i (Some e.line) B c → IfSome (if t then option_map (λ d. d.number) c else Some e.number) (λ n. n ≤ length T.events)
-    go true None none = tt
-    go true (Some d) first = let r = first.reached in le_trans (r.4).by_now within
-    go false c first = let r = is.reached in le_trans (r.4).by_now within
+    go : ((line == e.line) ≡ true × (line ≡ e.line)) ⊎ ((line == e.line) ≡ false × (line ≢ e.line)) → (c : Option Earliest) → (line ≡ e.line → IsEarliestOf T i (Some e.line) B c) → IfSome (place_for e c line) (λ n. n ≤ length T.events)
+    go (inl own) None none = subst (λ t. IfSome (if t then None else Some e.number) (λ n. n ≤ length T.events)) (sym own.0) tt
+    go (inl own) (Some d) first =
+        subst (λ t. IfSome (if t then Some d.number else Some e.number) (λ n. n ≤ length T.events)) (sym own.0)
+        (let f : IsEarliest T i (Some e.line) B d = first own.1 in let r = f.reached in le_trans (r.4).by_now within)
+    go (inr free) c first =
+        subst (λ t. IfSome (if t then option_map (λ d. d.number) c else Some e.number) (λ n. n ≤ length T.events)) (sym free.0)
+        (let r = is.reached in le_trans (r.4).by_now within)

@@ -11,11 +11,19 @@ use std::alloc::Global;
 pub fn collect_puts(alloc: Global, steps: &[Step]) -> Result<Vec<Put>, OutOfMemory>
     ensures { IfOk result (λ puts. puts.items ≡ puts_of steps.now) }
 {
-    let mut puts = Vec::new(alloc);
+    let mut puts = Vec::with_capacity(alloc, stores_in(steps))?;
     for step in steps {
         push_put(&mut puts, *step)?;
     }
     Ok(puts)
+}
+
+// How many of the steps are stores: the room to ask for, of which nothing is promised.
+fn stores_in(steps: &[Step]) -> usize {
+    steps
+        .iter()
+        .filter(|step| matches!(step.kind, StepKind::Store { .. }))
+        .count()
 }
 
 // Adds the step, if it is a store.
@@ -39,12 +47,21 @@ pub fn collect_writes(alloc: Global, puts: &[Put]) -> Result<Vec<Write>, OutOfMe
     requires { All IsInside puts.now }
     ensures { IfOk result (λ writes. AreWritesOf puts.now writes.items) }
 {
-    let mut writes = Vec::new(alloc);
+    let mut writes = Vec::with_capacity(alloc, bytes_in(puts))?;
     for (index, put) in puts.iter().enumerate() {
         add_writes(&mut writes, put, index as u64 + 1)?;
     }
     writes.sort_unstable();
     Ok(writes)
+}
+
+// How many bytes the stores write: the room to ask for, of which nothing is promised.
+fn bytes_in(puts: &[Put]) -> usize {
+    let mut bytes: usize = 0;
+    for put in puts {
+        bytes = bytes.saturating_add(put.len as usize);
+    }
+    bytes
 }
 
 // Adds the bytes that the store with this rank writes.

@@ -162,6 +162,27 @@ fn earlier(earliest: Option<Earliest>, line: u64, oldest: Option<Oldest>) -> Opt
     }
 }
 
+// Of the last ones of the events up to this number that store to a byte of the range, the first to another line than that of the
+// earliest. It is looked for only where that line is one of the lines from `start` on, below `end`.
+fn next_earliest(
+    tables: &Tables,
+    trace: &Trace,
+    number: u64,
+    range: Range,
+    found: Earliest,
+    start: u64,
+    end: u64,
+) -> Option<Earliest>
+    requires { AreResultsOf trace.now tables.now }
+    ensures { start ≤ found.line → found.line < end → IsEarliestOf trace.now number (Some found.line) range result }
+{
+    if start <= found.line && found.line < end {
+        earliest(tables, trace, number, range, Some(found.line))
+    } else {
+        None
+    }
+}
+
 // Whether isOrderedBefore passes after the event with this number.
 fn is_ordered(tables: &Tables, trace: &Trace, number: u64, first: Range, second: Range) -> bool
     requires results { AreResultsOf trace.now tables.now }
@@ -171,8 +192,8 @@ fn is_ordered(tables: &Tables, trace: &Trace, number: u64, first: Range, second:
     let Some(found) = earliest(tables, trace, number, second, None) else {
         return true;
     };
-    let other = earliest(tables, trace, number, second, Some(found.line));
     let (start, end) = lines_of(trace, first);
+    let other = next_earliest(tables, trace, number, second, found, start, end);
     for line in start..end {
         let by = place_by(found, other, line);
         if !is_line_ordered(tables, trace, number, first, second, line, by) {

@@ -1,5 +1,5 @@
 -- What a book keeps goes on from event to event.
-use Rattle.std.proofs.Common.{◌≡◌, ◌≢◌, ℕ, ◌<◌, ◌≤◌, ◌⊎◌, inl, inr, Bool, true, false, List, [], ◌∷◌, length, Option, Some, None, refl, sym, ap, subst, ◌∙◌, arith}
+use Rattle.std.proofs.Common.{◌≡◌, ◌≢◌, ℕ, ◌<◌, inl, inr, Bool, true, false, List, [], ◌∷◌, length, Option, Some, None, refl, sym, ap, subst, ◌∙◌, arith}
 use Rattle.std.specs.Prelude.{◌==◌, ◌&&◌, if◌then◌else◌, IsSome, unwrap_or, nat_eq}
 use Rattle.std.proofs.lemmas.Bool.{eqb-true, eqb-false}
 use Rattle.std.specs.Map.{lookup}
@@ -7,13 +7,13 @@ use Rattle.indexmap.specs.IndexMap.{IsEmpty}
 use Rattle.pmt_model.specs.declared.event.Event.{Event}
 use Rattle.pmt_model.specs.Values.{Written}
 use Rattle.pmt_model.specs.Machine.{Act, Stores, Flushes, FlushesNow, Fences, Asserts, count}
-use Rattle.pmt_model.specs.Fronts.{front, open_mark}
+use Rattle.pmt_model.specs.Fronts.{open_mark}
 use Rattle.pmt_model.specs.Traces.{Recording, act, has_line, event_limit}
 use Rattle.pmt_model.specs.Pushing.{with_event}
-use Rattle.pmt_marks.specs.Lines.{Line, Follows, mark_in}
+use Rattle.pmt_marks.specs.Lines.{Line, Follows}
 use Rattle.pmt_marks.proofs.FollowLemmas.{others_leave, follows-start}
 use Rattle.pmt_book.specs.Ends.{whole_history}
-use Rattle.pmt_book.specs.Live.{Lines, fresh, line_at, list_at, FollowAll, TellsLine, TellsFence, IsNoted, IsLive, IsOnList, KeepsLists}
+use Rattle.pmt_book.specs.Live.{Lines, fresh, line_at, list_at, TellsLine, TellsFence, IsLive, IsOnList, KeepsLists}
 use Rattle.pmt_book.proofs.HistoryLemmas.{whole_history-with_event, count-le-events}
 use Rattle.pmt_book.proofs.LiveLemmas.{tell_line}
 

@@ -1,9 +1,9 @@
 -- How the states of the lines go on, act by act.
 use Rattle.std.proofs.Common.{◌≡◌, ◌≢◌, ℕ, suc, ◌<◌, ◌≤◌, ◌⊎◌, inl, inr, Bool, true, false, List, [], ◌∷◌, ◌++◌, length, map, set, get_or, zero, Option, Some, None, refl, sym, ap, subst, ◌∙◌, arith}
-use Rattle.std.specs.Prelude.{◌==◌, ◌||◌, IsSome, if◌then◌else◌, unwrap_or, nat_eq}
+use Rattle.std.specs.Prelude.{◌==◌, ◌||◌, IsSome, unwrap_or, nat_eq}
 use Rattle.indexmap.specs.IndexMap.{get}
-use Rattle.std.proofs.lemmas.Bool.{eq-eqb, ne_eqb, eqb-true, cases_eq}
-use Rattle.pmt_model.specs.Machine.{Act, Stores, Flushes, FlushesNow, Fences, Asserts, count}
+use Rattle.std.proofs.lemmas.Bool.{eq-eqb, eqb-true, cases_eq}
+use Rattle.pmt_model.specs.Machine.{Act, Fences}
 use Rattle.pmt_model.specs.Fronts.{open_mark}
 use Rattle.pmt_model.specs.Traces.{has_line}
 use Rattle.pmt_marks.specs.Lines.{Line, Follows, mark_in}

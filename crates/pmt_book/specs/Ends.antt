@@ -1,5 +1,5 @@
 -- The fronts and counts of a book, and what runs of its events end with.
-use Rattle.std.specs.Prelude.{◌≡◌, ℕ, ◌≤◌, ◌↔◌, length, List}
+use Rattle.std.specs.Prelude.{ℕ, ◌≤◌, ◌↔◌, length, List}
 use Rattle.pmt_model.specs.Machine.{Act}
 use Rattle.pmt_model.specs.Values.{Span}
 use Rattle.pmt_model.specs.Traces.{Recording, history, count_at, VectorsAt}

@@ -92,7 +92,7 @@ fn not_in_format(rt: HostRuntime) -> Result<(), Fail> {
 }
 
 #[test]
-fn a_full_book(rt: HostRuntime) -> Result<(), Fail> {
+fn million_events(rt: HostRuntime) -> Result<(), Fail> {
     let mut book = Book::new(rt.alloc());
     for _ in 0..Trace::LIMIT {
         add(&mut book, &[(0, Op::Sfence)])?;

@@ -1,6 +1,6 @@
 -- What the recorders of all scripts have done.
-use Rattle.std.proofs.Common.{◌≡◌, ℕ, zero, suc, ◌+◌, ◌-◌, ◌<◌, ◌≤◌, ◌⊎◌, inl, inr, Bool, true, false, List, [], ◌∷◌, ◌++◌, length, map, get_or, slice_get, Option, Some, None, Result, Ok, Err, OnOk, refl, sym, ap, subst, subst₂, ◌∙◌, arith}
-use Rattle.std.specs.Prelude.{◌==◌, ◌||◌, if◌then◌else◌}
+use Rattle.std.proofs.Common.{◌≡◌, ℕ, zero, suc, ◌+◌, ◌<◌, ◌≤◌, ◌⊎◌, inl, inr, Bool, true, false, List, [], ◌∷◌, ◌++◌, length, map, get_or, slice_get, Some, None, Result, Ok, Err, OnOk, refl, sym, ap, subst, ◌∙◌, arith}
+use Rattle.std.specs.Prelude.{◌==◌, ◌||◌}
 use Rattle.std.specs.List.{AllByRecursion}
 use Rattle.std.proofs.lemmas.List.{length-append, length-map}
 use Rattle.std.proofs.lemmas.Bool.{eq-eqb, ne_eqb, eqb-false}
@@ -12,11 +12,11 @@ use Rattle.pmt_model.specs.Traces.{Recording}
 use Rattle.pmt_model.specs.Interleavings.{part}
 use Rattle.pmt_book.specs.declared.fault.BookError.{BookError}
 use Rattle.pmt_book.specs.declared.fault.BookError.TheVariants.{NotInFormat, Full, OutOfMemory}
-use Rattle.pmt_recorder.specs.Strips.{Strip, strip, empty_tapes, has_thread, IsOneOfEach, entries_of, by_thread, ops_of}
+use Rattle.pmt_recorder.specs.Strips.{Strip, strip, empty_tapes, has_thread, IsOneOfEach, entries_of, ops_of}
 use Rattle.pmt_recorder.specs.Sealing.{IsSealed}
-use Rattle.pmt_recorder.specs.Scripts.{IsRecorded, Stops, Plays, PlaysEach, AtScript, HasStranger, first_fault, RecordFails}
+use Rattle.pmt_recorder.specs.Scripts.{IsRecorded, Plays, PlaysEach, AtScript, first_fault, RecordFails}
 use Rattle.pmt_recorder.specs.declared.fault.RecordError.{RecordError}
-use Rattle.pmt_recorder.specs.declared.fault.RecordError.TheVariants.{BadCount, NotInFormat as StrangeOp, Full as FullAt, OutOfMemory as NoMemory, Torn}
+use Rattle.pmt_recorder.specs.declared.fault.RecordError.TheVariants.{NotInFormat as StrangeOp, Full as FullAt, OutOfMemory as NoMemory}
 use Rattle.pmt_recorder.proofs.SealLemmas.{length-by_thread, slice_get-by_thread}
 
 -- What a recorder hands back.

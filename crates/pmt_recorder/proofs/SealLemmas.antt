@@ -1,12 +1,11 @@
 -- Tapes that are their parts of a book make it an interleaving.
-use Rattle.std.proofs.Common.{◌≡◌, ℕ, zero, suc, ◌+◌, ◌<◌, ◌≤◌, ◌⊎◌, inl, inr, List, [], ◌∷◌, ◌++◌, length, Some, slice_get, take, drop, refl, sym, ap, subst, subst₂, ◌∙◌, arith}
+use Rattle.std.proofs.Common.{◌≡◌, ℕ, zero, suc, ◌<◌, ◌⊎◌, inl, inr, List, [], ◌∷◌, ◌++◌, length, Some, slice_get, take, drop, refl, sym, ap, subst, subst₂, ◌∙◌, arith}
 use Rattle.std.specs.List.{AllByRecursion}
 use Rattle.std.proofs.lemmas.List.{length-append, take_at}
 use Rattle.pmt_model.specs.declared.event.Event.{Event}
-use Rattle.pmt_model.specs.declared.event.Op.{Op}
 use Rattle.pmt_model.specs.Values.{Layout}
 use Rattle.pmt_model.specs.Traces.{Recording}
-use Rattle.pmt_model.specs.Interleavings.{part, IsInterleaving}
+use Rattle.pmt_model.specs.Interleavings.{part}
 use Rattle.pmt_recorder.specs.Strips.{Strip, IsOneOfEach, entries_of, by_thread, total_length}
 use Rattle.pmt_recorder.specs.Sealing.{IsSealed, SealFails}
 use Rattle.pmt_recorder.specs.declared.fault.SealKind.TheVariants.{Torn}

@@ -3,9 +3,8 @@ use Rattle.std.proofs.Common.{◌≡◌, ℕ, zero, suc, ◌<◌, ◌≤◌, Boo
 use Rattle.std.specs.Prelude.{◌↔◌, IfOk}
 use Rattle.std.proofs.lemmas.Bool.{false≢true}
 use Rattle.pmt_model.specs.declared.event.Event.{Event}
-use Rattle.pmt_model.specs.Machine.{Act}
-use Rattle.pmt_model.specs.Traces.{Recording, IsAct, VectorsAt}
-use Rattle.pmt_model.specs.Selections.{IsRising, Has, always_stays, IsSelection, cut, matching_place}
+use Rattle.pmt_model.specs.Traces.{Recording, VectorsAt}
+use Rattle.pmt_model.specs.Selections.{IsRising, Has, IsSelection, cut, matching_place}
 use Rattle.pmt_model.specs.Shortest.{HasSameVectors}
 use Rattle.pmt_laws.proofs.Histories.{act-within}
 use Rattle.pmt_laws.proofs.CutLemmas.{place-low, place-kept}

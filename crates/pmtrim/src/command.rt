@@ -17,7 +17,7 @@ pub fn commands<'a>(alloc: Global) -> Result<Command<'a>, AllocError> {
             "Checks traces of persistent memory events, and trims the flushes and fences that no crash can show.{n}With no words it trims the trace on standard input.",
         )
         .after_help(
-            "A FILE that is not given is standard input. The answer goes to standard output, faults to standard error.{n}{n}Example: pmtrim < run.trace > trimmed.trace",
+            "A FILE that is not given is standard input. The answer goes to standard output, faults to standard error.{n}Statuses: 0 done; 1 check: an assertion fails or a store is never persisted; 2 wrong words; 3 trace or script refused; 4 file fault; 5 out of memory; 6 torn recorder{n}{n}Example: pmtrim < run.trace > trimmed.trace",
         )
         .subcommand(check(alloc)?)?
         .subcommand(trim(alloc)?)?

@@ -51,7 +51,11 @@ fn fence_of_another_thread_by_any_number(rt: HostRuntime) -> Result<(), Fail> {
             [never, Finding::FenceWithoutFlush { event: 3 }].as_slice(),
             "{workers} workers"
         );
-        assert_eq!(rt; analysis.verdicts(), [fails].as_slice(), "{workers} workers");
+        assert_eq!(rt;
+            analysis.verdicts(),
+            [fails].as_slice(),
+            "{workers} workers"
+        );
         assert_eq!(rt;
             analysis.selection().numbers(),
             [1, 4].as_slice(),

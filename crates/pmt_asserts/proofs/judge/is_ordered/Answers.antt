@@ -7,7 +7,9 @@ pub is_line_ordered-requires-clause-by : goal.is_line_ordered-requires-clause-by
 is_line_ordered-requires-clause-by c =
     let T = c.args.trace.now in
     subst (λ o. IfSome o (λ n. n ≤ length T.events)) (sym c.place_by-by.ensures)
-    (place-within T c.args.number c.loop-line.line c.args.second c.in-Some.found c.earliest-other.result (c.in-Some.ensures {u = tt}) c.earliest-other.ensures c.requires.within)
+    (place-within T c.args.number c.loop-line.line c.args.second c.in-Some.found c.next_earliest-other.result (c.in-Some.ensures {u = tt})
+    (λ own. c.next_earliest-other.ensures (omega (arith, own, c.loop-line.auto.line)) (omega (arith, own, c.loop-line-test.true)))
+    c.requires.within)
 
 pub returns-then-not-is_line_ordered : goal.returns-then-not-is_line_ordered
 returns-then-not-is_line_ordered c =
@@ -15,15 +17,18 @@ returns-then-not-is_line_ordered c =
     let line = c.loop-line.line in (
       λ t. absurd cc,
       λ passes. absurd (
-          let each = lines-from T c.args.number c.args.first c.args.second c.in-Some.found c.earliest-other.result c.lines_of-start.ensures.trace (c.in-Some.ensures {u = tt}) c.earliest-other.ensures passes line in
+          let each = lines-from T c.args.number c.args.first c.args.second c.in-Some.found c.next_earliest-other.result c.lines_of-start.ensures.trace (c.in-Some.ensures {u = tt}) passes line
+          (λ own. c.next_earliest-other.ensures (omega (arith, own, c.loop-line.auto.line)) (omega (arith, own, c.loop-line-test.true))) in
           let told = c.is_line_ordered.ensures.1 (subst (IsLineOrdered T c.args.number c.args.first c.args.second line) (sym c.place_by-by.ensures) each) in
           cc),
     )
 
 pub returns : goal.returns
 returns c =
-    let T = c.args.trace.now in (
-      λ t. ordered-from T c.args.number c.args.first c.args.second c.in-Some.found c.earliest-other.result c.lines_of-start.ensures.trace (c.in-Some.ensures {u = tt}) c.earliest-other.ensures
-          (λ b j. c.loop-line.invariant b j (omega (arith, (c.lines_of-start.ensures.lines b j).1, c.loop-line-test.false))),
+    let T = c.args.trace.now in
+    let lines = c.lines_of-start.ensures.lines in (
+      λ t. ordered-from T c.args.number c.args.first c.args.second c.in-Some.found c.next_earliest-other.result c.lines_of-start.ensures.trace (c.in-Some.ensures {u = tt})
+          (λ a k own. c.next_earliest-other.ensures (omega (arith, own, (lines a k).0)) (omega (arith, own, (lines a k).1)))
+          (λ b j. c.loop-line.invariant b j (omega (arith, (lines b j).1, c.loop-line-test.false))),
       λ passes. refl,
     )

@@ -1,4 +1,4 @@
-use Rattle.std.proofs.Common.{◌≡◌, [], refl, rules, length, subst, ℕ, List}
+use Rattle.std.proofs.Common.{◌≡◌, [], rules, subst, ℕ, List}
 use Rattle.pmt_book.proofs.LiveLemmas.{IsFenced, fenced-first, fenced-next, fenced-last, empty-from_length}
 use Rattle.pmt_book.proofs.lines.fence_lines.Goals as goal
 

@@ -1,4 +1,4 @@
-use Rattle.std.proofs.Common.{◌≡◌, ◌<◌, ℕ, length, map, get_or, vec_len, rules, arith, ap, sym, ◌∙◌}
+use Rattle.std.proofs.Common.{◌≡◌, ◌<◌, length, map, get_or, vec_len, rules, arith, ap, sym, ◌∙◌}
 use Rattle.std.proofs.lemmas.List.{length-map}
 use Rattle.pmt_recorder.proofs.RecordLemmas.{given-tape, thread-given, length-empty_tapes, plays_at}
 use Rattle.pmt_recorder.proofs.scripts.play_all.Goals as goal

@@ -1,4 +1,4 @@
-use Rattle.std.proofs.Common.{◌≡◌, length, map, ◌∙◌, sym}
+use Rattle.std.proofs.Common.{map, ◌∙◌, sym}
 use Rattle.std.proofs.lemmas.List.{length-map}
 use Rattle.pmt_model.specs.Formats.{first_version}
 use Rattle.pmt_recorder.proofs.RecordLemmas.{told_fits, all_there, recorded_all}

@@ -1,4 +1,4 @@
-use Rattle.std.proofs.Common.{length, vec_len}
+use Rattle.std.proofs.Common.{length}
 use Rattle.pmt_model.specs.Formats.{first_version}
 use Rattle.pmt_recorder.proofs.scripts.record_scripts.Given as goal
 

@@ -1,17 +1,13 @@
 use Rattle.std.proofs.Common.{◌≡◌, ℕ, List, map, length, Vec, Global, sym, ap, ◌∙◌, subst}
 use Rattle.std.proofs.lemmas.List.{length-map}
-use Rattle.std.specs.List.{AllByRecursion}
-use Rattle.pmt_model.specs.declared.finding.Finding.{Finding}
-use Rattle.pmt_model.specs.Traces.{Recording, IsTrace, history, lines_of}
-use Rattle.pmt_model.specs.Analyses.{IsFindings}
-use Rattle.pmt_lines.specs.declared.step.Step.{Step}
+use Rattle.pmt_model.specs.Traces.{Recording, IsTrace}
 use Rattle.pmt_lines.specs.Steps.{LineWork}
 use Rattle.pmt_lines.specs.Raises.{LineFound}
 use Rattle.pmt_lines.specs.Splitting.{line_in, IsSplit}
-use Rattle.pmt_findings.specs.Merging.{job_in, FindsAll}
+use Rattle.pmt_findings.specs.Merging.{job_in}
 use Rattle.pmt_trim.specs.Kept.{AreLinesKept, AreAllKept}
 use Rattle.pmt_asserts.specs.Tables.{AreResultsOf}
-use Rattle.pmt_workers.specs.Results.{result_in, kept_in}
+use Rattle.pmt_workers.specs.Results.{kept_in}
 use Rattle.pmt_workers.proofs.ResultLemmas.{jobs-same, lists-kept, results-of}
 use Rattle.pmt_workers.proofs.analyse.analysis_of.Goals as goal
 

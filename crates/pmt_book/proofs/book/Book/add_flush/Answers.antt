@@ -1,4 +1,4 @@
-use Rattle.std.proofs.Common.{◌≡◌, ℕ, sym, ap, ◌∙◌}
+use Rattle.std.proofs.Common.{◌≡◌, sym, ap, ◌∙◌}
 use Rattle.pmt_model.specs.Values.{Layout, line_of}
 use Rattle.pmt_model.specs.Machine.{Flushes}
 use Rattle.pmt_model.specs.Traces.{Recording, act}

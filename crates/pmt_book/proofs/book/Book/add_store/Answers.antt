@@ -1,6 +1,6 @@
 use Rattle.std.proofs.Common.{◌≡◌, ℕ, sym, ap, ◌∙◌}
 use Rattle.pmt_model.specs.Values.{Layout, line_of}
-use Rattle.pmt_model.specs.Machine.{Act, Stores}
+use Rattle.pmt_model.specs.Machine.{Stores}
 use Rattle.pmt_book.specs.Adding.{event_by}
 use Rattle.pmt_model.specs.declared.event.Op.TheVariants.{Store}
 use Rattle.pmt_book.specs.Ends.{whole_history}

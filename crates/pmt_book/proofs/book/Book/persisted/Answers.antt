@@ -1,10 +1,9 @@
 use Rattle.std.proofs.Common.{◌≡◌, ◌+◌, ◌-◌, ◌/◌, ℕ, le_trans, refl, sym, ◌∙◌, ap, subst}
 use Rattle.std.proofs.lemmas.Bool.{true≢false}
-use Rattle.std.specs.Prelude.{IsTrue}
 use Rattle.pmt_model.specs.Values.{Layout, line_of}
 use Rattle.pmt_model.specs.Traces.{Recording}
 use Rattle.pmt_book.specs.Ends.{PassesNow}
-use Rattle.pmt_book.proofs.PersistLemmas.{IsSpared, spared-from_passes, passes-from_spared, counted-spares}
+use Rattle.pmt_book.proofs.PersistLemmas.{spared-from_passes, passes-from_spared, counted-spares}
 use Rattle.pmt_book.proofs.book.Book.persisted.Goals as goal
 
 pub returns-then-not-spares : goal.returns-then-not-spares

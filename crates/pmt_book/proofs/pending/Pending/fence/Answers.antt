@@ -1,6 +1,6 @@
-use Rattle.std.proofs.Common.{◌≡◌, ◌<◌, ◌≤◌, ℕ, List, [], length, map, sym, ap, ◌∙◌, arith, rules}
+use Rattle.std.proofs.Common.{◌<◌, ◌≤◌, ℕ, List, [], length, map, sym, ap, ◌∙◌, arith, rules}
 use Rattle.std.proofs.lemmas.List.{length-map}
-use Rattle.pmt_book.specs.Live.{list_at, TellsFence}
+use Rattle.pmt_book.specs.Live.{list_at}
 use Rattle.pmt_book.proofs.LiveLemmas.{list_at-map, list_at-past, list_at-set_other, tells-no_list, tells-list}
 use Rattle.pmt_book.proofs.pending.Pending.fence.Goals as goal
 

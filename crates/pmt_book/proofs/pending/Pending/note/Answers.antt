@@ -1,7 +1,6 @@
-use Rattle.std.proofs.Common.{◌≡◌, ◌<◌, ℕ, List, [], length, map, sym, ap, subst, ◌∙◌, arith, true}
+use Rattle.std.proofs.Common.{◌<◌, length, ap, ◌∙◌, arith}
 use Rattle.std.proofs.lemmas.List.{length-map}
 use Rattle.pmt_model.specs.Traces.{has_line}
-use Rattle.pmt_book.specs.Live.{list_at, KeepsLists}
 use Rattle.pmt_book.proofs.LiveLemmas.{keeps-list, has_line-more, has_line-last, list_at-set_same}
 use Rattle.pmt_book.proofs.pending.Pending.note.Goals as goal
 

@@ -1,4 +1,4 @@
-use Rattle.std.proofs.Common.{◌≡◌, ℕ, ◌-◌, ◌+◌, vec_len, map, List}
+use Rattle.std.proofs.Common.{◌≡◌, ℕ, ◌-◌, ◌+◌, vec_len, map}
 use Rattle.pmt_book.specs.Live.{list_at}
 use Rattle.pmt_book.proofs.pending.Pending.reach.Given as goal
 

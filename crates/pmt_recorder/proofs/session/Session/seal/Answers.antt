@@ -1,4 +1,4 @@
-use Rattle.std.proofs.Common.{◌≡◌, ◌≤◌, length, refl, sym, ◌∙◌, ap, subst}
+use Rattle.std.proofs.Common.{◌≡◌, length, refl, sym, ◌∙◌, ap, subst}
 use Rattle.pmt_model.specs.Traces.{Recording}
 use Rattle.pmt_recorder.specs.Strips.{IsOneOfEach, total_length}
 use Rattle.pmt_recorder.specs.Sealing.{IsSealed, SealFails}
