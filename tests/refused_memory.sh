@@ -4,10 +4,7 @@
 set -u
 cd "$(dirname "$0")/.." || exit 1
 . tests/lib/program.sh
-folder=$(mktemp -d) || exit 1
-trap 'rm -rf "$folder"' EXIT
-passed=0
-failed=0
+. tests/lib/cases.sh
 
 # tell RIGHT WHAT: counts the case, and says what is wrong with it
 tell() {

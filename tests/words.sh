@@ -3,10 +3,7 @@
 set -u
 cd "$(dirname "$0")/.." || exit 1
 . tests/lib/program.sh
-folder=$(mktemp -d) || exit 1
-trap 'rm -rf "$folder"' EXIT
-passed=0
-failed=0
+. tests/lib/cases.sh
 
 # expect STATUS TEXT WORD ..: the program's status with these words, and a part of what it writes to both streams
 expect() {

@@ -1,0 +1,5 @@
+# For the tests that count cases of their own: a folder for their files, which goes at the end, and the counts.
+folder=$(mktemp -d) || exit 1
+trap 'rm -rf "$folder"' EXIT
+passed=0
+failed=0
