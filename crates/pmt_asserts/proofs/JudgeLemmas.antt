@@ -6,7 +6,7 @@ use Rattle.std.proofs.lemmas.Bool.{cases_eq}
 use Rattle.std.proofs.lemmas.Bool.Decides.{eqb_tells}
 use Rattle.std.proofs.lemmas.Option.{IfSome_then}
 use Rattle.pmt_model.specs.Values.{Span, line_of}
-use Rattle.pmt_model.specs.Machine.{Act, Stores, Flushes, FlushesNow, Fences, Asserts, count, writes}
+use Rattle.pmt_model.specs.Machine.{Act, Stores, Flushes, Clflushes, Fences, Asserts, count, writes}
 use Rattle.pmt_model.specs.Traces.{Recording, IsTrace, IsAct, history}
 use Rattle.pmt_model.specs.Fronts.{front, front_at}
 use Rattle.pmt_model.specs.Assertions.{Placed, last_store, up_to_last, InSpan, PersistPasses, OrderedPasses, NoLater}
@@ -29,7 +29,7 @@ own-next T b n (Stores k w) trace is own = go (writes w b) refl
     go true hit = sym (writes-line T (suc n) k w b trace is hit)
     go false free = own
 own-next T b n (Flushes t k) trace is own = own
-own-next T b n (FlushesNow k) trace is own = own
+own-next T b n (Clflushes k) trace is own = own
 own-next T b n (Fences t) trace is own = own
 own-next T b n Asserts trace is own = own
 

@@ -3,7 +3,7 @@ use Rattle.std.proofs.Common.{◌≡◌, ℕ, zero, suc, ◌-◌, ◌<◌, ◌�
 use Rattle.std.specs.Prelude.{◌&&◌, nat_le, nat_lt}
 use Rattle.std.proofs.lemmas.Bool.{cases_Bool, cases_eq}
 use Rattle.pmt_model.specs.Values.{Written, line_of}
-use Rattle.pmt_model.specs.Machine.{Act, Stores, Flushes, FlushesNow, Fences, Asserts, count, writes}
+use Rattle.pmt_model.specs.Machine.{Act, Stores, Flushes, Clflushes, Fences, Asserts, count, writes}
 use Rattle.pmt_model.specs.Traces.{Recording, IsTrace, IsAct, history, count_at}
 use Rattle.pmt_model.specs.Assertions.{last_store, up_to_last}
 use Rattle.pmt_laws.proofs.Histories.{history-act, history-step, act-unique}
@@ -93,7 +93,7 @@ last-next T l puts b n (Stores k w) trace are in_line is known = go (cases_eq l 
         let c = count-store_other l k w h ne in
         later-last T l puts b n (suc n) (count_at T l n) (count l (Stores k w ∷ h)) h (Stores k w ∷ h) (omega arith) (omega (arith, c)) (ap (last_in puts b) c) last.0 last.1 known
 last-next T l puts b n (Flushes t k) trace are in_line is known = later-last T l puts b n (suc n) (count_at T l n) (count_at T l n) (history T n) (Flushes t k ∷ history T n) (omega arith) (omega arith) refl refl refl known
-last-next T l puts b n (FlushesNow k) trace are in_line is known = later-last T l puts b n (suc n) (count_at T l n) (count_at T l n) (history T n) (FlushesNow k ∷ history T n) (omega arith) (omega arith) refl refl refl known
+last-next T l puts b n (Clflushes k) trace are in_line is known = later-last T l puts b n (suc n) (count_at T l n) (count_at T l n) (history T n) (Clflushes k ∷ history T n) (omega arith) (omega arith) refl refl refl known
 last-next T l puts b n (Fences t) trace are in_line is known = later-last T l puts b n (suc n) (count_at T l n) (count_at T l n) (history T n) (Fences t ∷ history T n) (omega arith) (omega arith) refl refl refl known
 last-next T l puts b n Asserts trace are in_line is known = later-last T l puts b n (suc n) (count_at T l n) (count_at T l n) (history T n) (Asserts ∷ history T n) (omega arith) (omega arith) refl refl refl known
 

@@ -5,10 +5,10 @@ use Rattle.std.proofs.lemmas.Bool.{cases_eq, cases_lt, cases_Bool, eq-eqb, ne_eq
 use Rattle.std.proofs.lemmas.Option.{same_Some}
 use Rattle.std.proofs.lemmas.List.Elements.{All-push, All-from_recursion, All-contains}
 use Rattle.pmt_model.specs.Values.{line_of}
-use Rattle.pmt_model.specs.Machine.{Act, Stores, Flushes, FlushesNow, Fences, Asserts, count}
+use Rattle.pmt_model.specs.Machine.{Act, Stores, Flushes, Clflushes, Fences, Asserts, count}
 use Rattle.pmt_model.specs.Traces.{Recording, IsTrace, history, count_at, lines_of, has_line, with_line}
 use Rattle.pmt_lines.specs.Raises.{LineFound}
-use Rattle.pmt_asserts.specs.Tables.{line_in, IsOfJob, AreResultsOf, IsUnwritten}
+use Rattle.pmt_asserts.specs.Tables.{found_line, IsOfJob, AreResultsOf, IsUnwritten}
 use Rattle.pmt_asserts.specs.Placing.{IsPlacing}
 use Rattle.pmt_asserts.proofs.LastLemmas.{LastIs, NoLast, LastAt, last-is}
 
@@ -36,12 +36,12 @@ placing-more results old new x is updated = record { found = λ l k e. at (cases
         let t = eq-eqb x.job.line l same in
         let there : new l ≡ Some (length results) = updated l ∙ ap (λ b. cond b (Some (length results)) (old l)) t in
         let k' : length results ≡ k = same_Some (length results) k (sym there ∙ e) in
-        (omega (arith, longer, k'), λ d. ap (λ n. (get_or (results ++ x ∷ []) n d).job.line) (sym k') ∙ ap line_in (pushed-last results x d) ∙ same)
+        (omega (arith, longer, k'), λ d. ap (λ n. (get_or (results ++ x ∷ []) n d).job.line) (sym k') ∙ ap found_line (pushed-last results x d) ∙ same)
     at {l} {k} (inr other) e =
         let t = ne_eqb x.job.line l other in
         let there : old l ≡ Some k = sym (updated l ∙ ap (λ b. cond b (Some (length results)) (old l)) t) ∙ e in
         let f = is.found l k there in
-        (omega (arith, longer, f.0), λ d. ap line_in (pushed-before results x d k f.0) ∙ f.1 d)
+        (omega (arith, longer, f.0), λ d. ap found_line (pushed-before results x d k f.0) ∙ f.1 d)
 
     past : {l : ℕ} → (x.job.line ≡ l) ⊎ (x.job.line ≡ l → ⊥) → new l ≡ None → All (λ r. r.job.line ≢ l) (results ++ x ∷ [])
     past {l} (inl same) e =
@@ -85,12 +85,12 @@ stored-has l (Stores k w ∷ h) some =
       | inr other ↦ has-with l k (lines_of h) (stored-has l h (rw (ne_eqb k l other) at some))
     ]
 stored-has l (Flushes t k ∷ h) some = has-with l k (lines_of h) (stored-has l h some)
-stored-has l (FlushesNow k ∷ h) some = has-with l k (lines_of h) (stored-has l h some)
+stored-has l (Clflushes k ∷ h) some = has-with l k (lines_of h) (stored-has l h some)
 stored-has l (Fences t ∷ h) some = stored-has l h some
 stored-has l (Asserts ∷ h) some = stored-has l h some
 
 -- a line without result is none of them
-none-has : (l : ℕ) (results : List LineFound) → All (λ r. r.job.line ≢ l) results → has_line l (map line_in results) ≡ true → ⊥
+none-has : (l : ℕ) (results : List LineFound) → All (λ r. r.job.line ≢ l) results → has_line l (map found_line results) ≡ true → ⊥
 none-has l [] none h = let never : false ≡ true = h in cc
 none-has l (r ∷ results) none h = none-has l results (λ k d within. none (suc k) d (omega arith)) (rw (ne_eqb r.job.line l (none 0 r (omega arith))) at h)
 

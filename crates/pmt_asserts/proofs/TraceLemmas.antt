@@ -2,7 +2,7 @@
 use Rattle.std.proofs.Common.{◌≡◌, ℕ, zero, suc, ◌+◌, ◌-◌, ◌<◌, ◌≤◌, ◌⊎◌, inl, inr, List, [], ◌∷◌, length, refl, sym, ap, subst, ◌∙◌, arith}
 use Rattle.std.proofs.lemmas.Bool.{cases_lt, cases_order}
 use Rattle.pmt_model.specs.Values.{Written}
-use Rattle.pmt_model.specs.Machine.{Act, Stores, Flushes, FlushesNow, Fences, Asserts, count}
+use Rattle.pmt_model.specs.Machine.{Act, Stores, Flushes, Clflushes, Fences, Asserts, count}
 use Rattle.pmt_model.specs.Traces.{Recording, IsAct, act, history, count_at}
 use Rattle.pmt_laws.proofs.Histories.{history-act, history-step, act-within, count-mono}
 use Rattle.pmt_laws.proofs.BoxLemmas.{count-store, count-store_other}
@@ -42,7 +42,7 @@ count_at-untouched T l n untouched =
     go : (a : Act) → IsAct T (suc n) a → count l (a ∷ history T n) ≡ count l (history T n)
     go (Stores k w) is = count-store_other l k w (history T n) (λ same. untouched (ByStore w (subst (λ j. IsAct T (suc n) (Stores j w)) (sym same) is)))
     go (Flushes t k) is = refl
-    go (FlushesNow k) is = refl
+    go (Clflushes k) is = refl
     go (Fences t) is = refl
     go Asserts is = refl
 
@@ -84,7 +84,7 @@ walk-puts T l low c (s ∷ steps) within walk counted =
         let counts : count_at T l s.number ≡ suc c = count_at-before T l s.number is.0 is.1 ∙ ap (λ m. suc m) before in
         (record { what = is.0; is = is.1; addr = is.2; len = is.3 }, counts, rest (suc c) counts)
     go Flush is rest = rest c (count_at-other T l s.number (Flushes s.thread l) is (λ h. refl) ∙ before)
-    go Clflush is rest = rest c (count_at-other T l s.number (FlushesNow l) is (λ h. refl) ∙ before)
+    go Clflush is rest = rest c (count_at-other T l s.number (Clflushes l) is (λ h. refl) ∙ before)
     go Fence is rest = rest c (count_at-other T l s.number (Fences s.thread) is (λ h. refl) ∙ before)
 
 -- no store has come at the start

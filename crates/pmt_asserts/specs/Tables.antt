@@ -9,15 +9,15 @@ use Rattle.pmt_lines.specs.Jobs.{IsJobOf}
 use Rattle.pmt_lines.specs.Raises.{LineFound}
 use Rattle.pmt_asserts.specs.declared.oldest.Oldest.{Oldest}
 
-abbrev pub line_in : LineFound → ℕ
-line_in found = found.job.line
+abbrev pub found_line : LineFound → ℕ
+found_line found = found.job.line
 
 abbrev pub IsOfJob : Recording → LineFound → Type 0
 IsOfJob T found = IsJobOf T found.job.line found.job.steps
 
 -- The results of the jobs of the trace: one for each line that is stored or flushed, in order of first appearance.
 pub record AreResultsOf (T : Recording) (results : List LineFound) : Type 0 where
-  pub covering : map line_in results ≡ lines_of (history T (length T.events))
+  pub covering : map found_line results ≡ lines_of (history T (length T.events))
   pub jobs : AllByRecursion (IsOfJob T) results
 
 -- Where the result is of the trace, p holds of the trace and its line.

@@ -6,7 +6,7 @@ use Rattle.std.specs.Map.{lookup}
 use Rattle.indexmap.specs.IndexMap.{IsEmpty}
 use Rattle.pmt_model.specs.declared.event.Event.{Event}
 use Rattle.pmt_model.specs.Values.{Written}
-use Rattle.pmt_model.specs.Machine.{Act, Stores, Flushes, FlushesNow, Fences, Asserts, count}
+use Rattle.pmt_model.specs.Machine.{Act, Stores, Flushes, Clflushes, Fences, Asserts, count}
 use Rattle.pmt_model.specs.Fronts.{open_mark}
 use Rattle.pmt_model.specs.Traces.{Recording, act, has_line, event_limit}
 use Rattle.pmt_model.specs.Pushing.{with_event}
@@ -47,9 +47,9 @@ live-store k w h lines new lists tells live = record {
 }
 
 -- a clflush
-pub live-clflush : (k : ℕ) (h : List Act) (lines new : Lines) (lists : List (List ℕ)) → TellsLine k (FlushesNow k) lines new → IsLive h lines lists → IsLive (FlushesNow k ∷ h) new lists
+pub live-clflush : (k : ℕ) (h : List Act) (lines new : Lines) (lists : List (List ℕ)) → TellsLine k (Clflushes k) lines new → IsLive h lines lists → IsLive (Clflushes k ∷ h) new lists
 live-clflush k h lines new lists tells live = record {
-  follow = tell_line (FlushesNow k) h k lines new tells (λ l other s f. others_leave l h s (FlushesNow k) (λ e. other (sym e)) f) live.follow;
+  follow = tell_line (Clflushes k) h k lines new tells (λ l other s f. others_leave l h s (Clflushes k) (λ e. other (sym e)) f) live.follow;
   noted = live.noted;
 }
 

@@ -4,7 +4,7 @@ use Rattle.std.specs.Prelude.{◌==◌, if◌then◌else◌, Bool, true, false}
 use Rattle.std.proofs.lemmas.List.{take_all, map-append, reverse-append}
 use Rattle.pmt_model.specs.declared.event.Event.{Event}
 use Rattle.pmt_model.specs.Values.{Layout}
-use Rattle.pmt_model.specs.Machine.{Act, Stores, Flushes, FlushesNow, Fences, Asserts, count}
+use Rattle.pmt_model.specs.Machine.{Act, Stores, Flushes, Clflushes, Fences, Asserts, count}
 use Rattle.pmt_model.specs.Traces.{Recording, act}
 use Rattle.pmt_model.specs.Pushing.{with_event}
 use Rattle.pmt_laws.proofs.Histories.{length-history}
@@ -32,7 +32,7 @@ count-le-length l (Stores k w ∷ h) = go (k == l) (count-le-length l h)
     go true e = omega arith
     go false e = omega arith
 count-le-length l (Flushes t k ∷ h) = omega (arith, count-le-length l h)
-count-le-length l (FlushesNow k ∷ h) = omega (arith, count-le-length l h)
+count-le-length l (Clflushes k ∷ h) = omega (arith, count-le-length l h)
 count-le-length l (Fences t ∷ h) = omega (arith, count-le-length l h)
 count-le-length l (Asserts ∷ h) = omega (arith, count-le-length l h)
 

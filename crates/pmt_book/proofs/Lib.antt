@@ -2,6 +2,6 @@ pub mod LiveLemmas
 pub mod HistoryLemmas
 pub mod BookLemmas
 pub mod StoreBytes
-pub mod SparingLemmas
+pub mod TouchingLemmas
 pub mod PersistLemmas
 pub mod CopyLemmas

@@ -8,14 +8,14 @@ use Rattle.pmt_model.specs.declared.event.Event.{Event}
 use Rattle.pmt_model.specs.declared.event.Op.{Op}
 use Rattle.pmt_model.specs.declared.event.Op.TheVariants.{Store, Clwb, ClflushOpt, Clflush, Sfence, Mfence, IsPersist, IsOrderedBefore}
 use Rattle.pmt_model.specs.Values.{Written, Span, Layout, line_of, IsRange}
-use Rattle.pmt_model.specs.Machine.{Act, Stores, Flushes, FlushesNow, Fences, Asserts, count, writes}
+use Rattle.pmt_model.specs.Machine.{Act, Stores, Flushes, Clflushes, Fences, Asserts, count, writes}
 use Rattle.pmt_model.specs.Fronts.{front}
 use Rattle.pmt_model.specs.Traces.{Recording, IsTrace, IsEventIn, IsOp, act, act_of}
 use Rattle.pmt_model.specs.Assertions.{Placed, last_store, InSpan}
 use Rattle.pmt_laws.proofs.AssertLemmas.{persist_by_fronts}
 use Rattle.pmt_book.specs.Ends.{whole_history, last_front, last_count, PassesNow}
 use Rattle.pmt_book.specs.Live.{Lines, line_at, IsLive}
-use Rattle.pmt_book.specs.Sparing.{touches, store_on, spares_next, spares}
+use Rattle.pmt_book.specs.Touching.{touches, store_on, none_touches_next, none_touches}
 use Rattle.pmt_book.proofs.HistoryLemmas.{whole_history-acts}
 use Rattle.pmt_book.proofs.StoreBytes.{IsStoreOf, IsSize, size-of_format, byte-line, byte-from_writes, writes-from_byte, line-le}
 
@@ -24,7 +24,7 @@ abbrev pub IsPlaced : Layout → List Act → Type 0
 IsPlaced f [] = Unit {0}
 IsPlaced f (Stores k w ∷ h) = IsStoreOf f k w × IsPlaced f h
 IsPlaced f (Flushes t k ∷ h) = IsPlaced f h
-IsPlaced f (FlushesNow k ∷ h) = IsPlaced f h
+IsPlaced f (Clflushes k ∷ h) = IsPlaced f h
 IsPlaced f (Fences t ∷ h) = IsPlaced f h
 IsPlaced f (Asserts ∷ h) = IsPlaced f h
 
@@ -32,7 +32,7 @@ placed-append : (f : Layout) (g h : List Act) → IsPlaced f g → IsPlaced f h 
 placed-append f [] h p q = q
 placed-append f (Stores k w ∷ g) h p q = (p.0, placed-append f g h p.1 q)
 placed-append f (Flushes t k ∷ g) h p q = placed-append f g h p q
-placed-append f (FlushesNow k ∷ g) h p q = placed-append f g h p q
+placed-append f (Clflushes k ∷ g) h p q = placed-append f g h p q
 placed-append f (Fences t ∷ g) h p q = placed-append f g h p q
 placed-append f (Asserts ∷ g) h p q = placed-append f g h p q
 
@@ -81,7 +81,7 @@ last_store-placed f (Stores k w ∷ h) a size p = go (writes w a) refl (last_sto
     go true e q = (byte-line f k a w size p.0 e, omega (arith, own))
     go false e q = older (last_store a h) q
 last_store-placed f (Flushes t k ∷ h) a size p = last_store-placed f h a size p
-last_store-placed f (FlushesNow k ∷ h) a size p = last_store-placed f h a size p
+last_store-placed f (Clflushes k ∷ h) a size p = last_store-placed f h a size p
 last_store-placed f (Fences t ∷ h) a size p = last_store-placed f h a size p
 last_store-placed f (Asserts ∷ h) a size p = last_store-placed f h a size p
 
@@ -114,10 +114,10 @@ byte-from_touches w A some wide e = go (nat_lt w.addr (A.addr + A.len)) (nat_lt 
     go false y p q f = absurd (true≢false (sym f))
 
 -- an act that is no store to the line changes nothing
-spares-other : (n l : ℕ) (A : Span) (a : Act) (h : List Act) → store_on l a ≡ None → spares n l A (a ∷ h) ≡ spares n l A h
-spares-other zero l A a [] e = refl
-spares-other zero l A a (b ∷ h) e = refl
-spares-other (suc n) l A a h e = ap (λ (o : Option Written). spares_next o A (spares n l A h) (spares (suc n) l A h)) e
+none_touches-other : (n l : ℕ) (A : Span) (a : Act) (h : List Act) → store_on l a ≡ None → none_touches n l A (a ∷ h) ≡ none_touches n l A h
+none_touches-other zero l A a [] e = refl
+none_touches-other zero l A a (b ∷ h) e = refl
+none_touches-other (suc n) l A a h e = ap (λ (o : Option Written). none_touches_next o A (none_touches n l A h) (none_touches (suc n) l A h)) e
 
 -- a store to another line writes no byte of this one
 other-line : (f : Layout) (l k a : ℕ) (w : Written) → IsSize f.line_size → IsStoreOf f k w → k ≢ l → line_of f a ≡ l → writes w a ≡ false
@@ -147,27 +147,27 @@ count-other : (l k : ℕ) (w : Written) (h : List Act) → k ≢ l → count l (
 count-other l k w h e = rw (ne_eqb k l e) refl
 
 -- the newest store past the first m is one of the line
-spares-own : (l k m : ℕ) (A : Span) (w : Written) (h : List Act) → k ≡ l → m ≤ count l h →
-    spares (count l (Stores k w ∷ h) - m) l A (Stores k w ∷ h) ≡ (not (touches w A) && spares (count l h - m) l A h)
-spares-own l k m A w h e few =
+none_touches-own : (l k m : ℕ) (A : Span) (w : Written) (h : List Act) → k ≡ l → m ≤ count l h →
+    none_touches (count l (Stores k w ∷ h) - m) l A (Stores k w ∷ h) ≡ (not (touches w A) && none_touches (count l h - m) l A h)
+none_touches-own l k m A w h e few =
     let n : count l (Stores k w ∷ h) - m ≡ suc (count l h - m) = omega (arith, count-own l k w h e) in
     let own : store_on l (Stores k w) ≡ Some w = rw (eq-eqb k l e) refl in
-    ap (λ (j : ℕ). spares j l A (Stores k w ∷ h)) n
-    ∙ ap (λ (o : Option Written). spares_next o A (spares (count l h - m) l A h) (spares (suc (count l h - m)) l A h)) own
+    ap (λ (j : ℕ). none_touches j l A (Stores k w ∷ h)) n
+    ∙ ap (λ (o : Option Written). none_touches_next o A (none_touches (count l h - m) l A h) (none_touches (suc (count l h - m)) l A h)) own
 
 -- no store of the line is past the first m where there are no more
-spares-few : (n l : ℕ) (A : Span) (h : List Act) → n ≡ 0 → spares n l A h ≡ true
-spares-few n l A h e = ap (λ (j : ℕ). spares j l A h) e
+none_touches-few : (n l : ℕ) (A : Span) (h : List Act) → n ≡ 0 → none_touches n l A h ≡ true
+none_touches-few n l A h e = ap (λ (j : ℕ). none_touches j l A h) e
 
 -- stores to other lines and other acts change nothing
-spares-skip : (l k m : ℕ) (A : Span) (w : Written) (h : List Act) → k ≢ l → spares (count l (Stores k w ∷ h) - m) l A (Stores k w ∷ h) ≡ spares (count l h - m) l A h
-spares-skip l k m A w h other =
-    ap (λ (c : ℕ). spares (c - m) l A (Stores k w ∷ h)) (count-other l k w h other)
-    ∙ spares-other (count l h - m) l A (Stores k w) h (rw (ne_eqb k l other) refl)
+none_touches-skip : (l k m : ℕ) (A : Span) (w : Written) (h : List Act) → k ≢ l → none_touches (count l (Stores k w ∷ h) - m) l A (Stores k w ∷ h) ≡ none_touches (count l h - m) l A h
+none_touches-skip l k m A w h other =
+    ap (λ (c : ℕ). none_touches (c - m) l A (Stores k w ∷ h)) (count-other l k w h other)
+    ∙ none_touches-other (count l h - m) l A (Stores k w) h (rw (ne_eqb k l other) refl)
 
 -- where the newest stores of the line spare the range, the last store to each of its bytes there is among the first m
 pub covered-from_spares :
-    (f : Layout) (l m : ℕ) (A : Span) (h : List Act) → IsSize f.line_size → IsPlaced f h → spares (count l h - m) l A h ≡ true → IsCovered f l m A h
+    (f : Layout) (l m : ℕ) (A : Span) (h : List Act) → IsSize f.line_size → IsPlaced f h → none_touches (count l h - m) l A h ≡ true → IsCovered f l m A h
 covered-from_spares f l m A [] size p e = λ a i at. tt
 covered-from_spares f l m A (Stores k w ∷ h) size p e = go (cases_eq k l) (cases_lt (count l h) m) (covered-from_spares f l m A h size p.1)
   where
@@ -182,28 +182,28 @@ covered-from_spares f l m A (Stores k w ∷ h) size p e = go (cases_eq k l) (cas
         by true q = absurd (true≢false (sym (touches-from_byte w A a q i) ∙ t))
         by false q = refl
 
-    go : (k ≡ l) ⊎ (k ≡ l → ⊥) → (count l h < m) ⊎ (m ≤ count l h) → (spares (count l h - m) l A h ≡ true → IsCovered f l m A h) → IsCovered f l m A (Stores k w ∷ h)
+    go : (k ≡ l) ⊎ (k ≡ l → ⊥) → (count l h < m) ⊎ (m ≤ count l h) → (none_touches (count l h - m) l A h ≡ true → IsCovered f l m A h) → IsCovered f l m A (Stores k w ∷ h)
     go (inl same) (inl few) older = covered-few f l m A (Stores k w ∷ h) size p (omega (arith, count-own l k w h same, few))
     go (inl same) (inr more) older = λ a i at.
-        let both = split (touches w A) (spares (count l h - m) l A h) (sym (spares-own l k m A w h same more) ∙ e) in
+        let both = split (touches w A) (none_touches (count l h - m) l A h) (sym (none_touches-own l k m A w h same more) ∙ e) in
         along m (last_store a (Stores k w ∷ h)) (last_store a h) (older_store k a w h (newest a i both.0)) (older both.1 a i at)
     go (inr other) few older = λ a i at.
         along m (last_store a (Stores k w ∷ h)) (last_store a h) (older_store k a w h (other-line f l k a w size p.0 other at))
-        (older (sym (spares-skip l k m A w h other) ∙ e) a i at)
-covered-from_spares f l m A (Flushes t k ∷ h) size p e = covered-from_spares f l m A h size p (sym (spares-other (count l h - m) l A (Flushes t k) h refl) ∙ e)
-covered-from_spares f l m A (FlushesNow k ∷ h) size p e = covered-from_spares f l m A h size p (sym (spares-other (count l h - m) l A (FlushesNow k) h refl) ∙ e)
-covered-from_spares f l m A (Fences t ∷ h) size p e = covered-from_spares f l m A h size p (sym (spares-other (count l h - m) l A (Fences t) h refl) ∙ e)
-covered-from_spares f l m A (Asserts ∷ h) size p e = covered-from_spares f l m A h size p (sym (spares-other (count l h - m) l A Asserts h refl) ∙ e)
+        (older (sym (none_touches-skip l k m A w h other) ∙ e) a i at)
+covered-from_spares f l m A (Flushes t k ∷ h) size p e = covered-from_spares f l m A h size p (sym (none_touches-other (count l h - m) l A (Flushes t k) h refl) ∙ e)
+covered-from_spares f l m A (Clflushes k ∷ h) size p e = covered-from_spares f l m A h size p (sym (none_touches-other (count l h - m) l A (Clflushes k) h refl) ∙ e)
+covered-from_spares f l m A (Fences t ∷ h) size p e = covered-from_spares f l m A h size p (sym (none_touches-other (count l h - m) l A (Fences t) h refl) ∙ e)
+covered-from_spares f l m A (Asserts ∷ h) size p e = covered-from_spares f l m A h size p (sym (none_touches-other (count l h - m) l A Asserts h refl) ∙ e)
 
 -- and the other way round
-pub spares-from_covered :
-    (f : Layout) (l m : ℕ) (A : Span) (h : List Act) → IsSize f.line_size → IsPlaced f h → 1 ≤ A.len → IsCovered f l m A h → spares (count l h - m) l A h ≡ true
-spares-from_covered f l m A [] size p wide c = none (count l [] - m)
+pub none_touches-from_covered :
+    (f : Layout) (l m : ℕ) (A : Span) (h : List Act) → IsSize f.line_size → IsPlaced f h → 1 ≤ A.len → IsCovered f l m A h → none_touches (count l h - m) l A h ≡ true
+none_touches-from_covered f l m A [] size p wide c = none (count l [] - m)
   where
-    none : (n : ℕ) → spares n l A [] ≡ true
+    none : (n : ℕ) → none_touches n l A [] ≡ true
     none zero = refl
     none (suc n) = refl
-spares-from_covered f l m A (Stores k w ∷ h) size p wide c = go (cases_eq k l) (cases_lt (count l h) m) (spares-from_covered f l m A h size p.1 wide)
+none_touches-from_covered f l m A (Stores k w ∷ h) size p wide c = go (cases_eq k l) (cases_lt (count l h) m) (none_touches-from_covered f l m A h size p.1 wide)
   where
     above : (n : ℕ) (o : Option Placed) (x : Placed) → o ≡ Some x → IfSome o (λ y. y.rank ≤ n) → x.rank ≤ n
     above n o x q r = let P : Option Placed → Type 0 = λ s. IfSome s (λ y. y.rank ≤ n) in subst P q r
@@ -234,21 +234,21 @@ spares-from_covered f l m A (Stores k w ∷ h) size p wide c = go (cases_eq k l)
     both : (x y : Bool) → x ≡ false → y ≡ true → (not x && y) ≡ true
     both x y q r = rw (q, r) refl
 
-    go : (k ≡ l) ⊎ (k ≡ l → ⊥) → (count l h < m) ⊎ (m ≤ count l h) → (IsCovered f l m A h → spares (count l h - m) l A h ≡ true) →
-        spares (count l (Stores k w ∷ h) - m) l A (Stores k w ∷ h) ≡ true
-    go (inl same) (inl few) next = spares-few (count l (Stores k w ∷ h) - m) l A (Stores k w ∷ h) (omega (arith, count-own l k w h same, few))
+    go : (k ≡ l) ⊎ (k ≡ l → ⊥) → (count l h < m) ⊎ (m ≤ count l h) → (IsCovered f l m A h → none_touches (count l h - m) l A h ≡ true) →
+        none_touches (count l (Stores k w ∷ h) - m) l A (Stores k w ∷ h) ≡ true
+    go (inl same) (inl few) next = none_touches-few (count l (Stores k w ∷ h) - m) l A (Stores k w ∷ h) (omega (arith, count-own l k w h same, few))
     go (inl same) (inr more) next =
-        spares-own l k m A w h same more
-        ∙ both (touches w A) (spares (count l h - m) l A h) (untouched same more) (next (λ a i at. older a i at (unwritten a i (untouched same more))))
-    go (inr other) few next = spares-skip l k m A w h other ∙ next (λ a i at. older a i at (other-line f l k a w size p.0 other at))
-spares-from_covered f l m A (Flushes t k ∷ h) size p wide c = spares-other (count l h - m) l A (Flushes t k) h refl ∙ spares-from_covered f l m A h size p wide c
-spares-from_covered f l m A (FlushesNow k ∷ h) size p wide c = spares-other (count l h - m) l A (FlushesNow k) h refl ∙ spares-from_covered f l m A h size p wide c
-spares-from_covered f l m A (Fences t ∷ h) size p wide c = spares-other (count l h - m) l A (Fences t) h refl ∙ spares-from_covered f l m A h size p wide c
-spares-from_covered f l m A (Asserts ∷ h) size p wide c = spares-other (count l h - m) l A Asserts h refl ∙ spares-from_covered f l m A h size p wide c
+        none_touches-own l k m A w h same more
+        ∙ both (touches w A) (none_touches (count l h - m) l A h) (untouched same more) (next (λ a i at. older a i at (unwritten a i (untouched same more))))
+    go (inr other) few next = none_touches-skip l k m A w h other ∙ next (λ a i at. older a i at (other-line f l k a w size p.0 other at))
+none_touches-from_covered f l m A (Flushes t k ∷ h) size p wide c = none_touches-other (count l h - m) l A (Flushes t k) h refl ∙ none_touches-from_covered f l m A h size p wide c
+none_touches-from_covered f l m A (Clflushes k ∷ h) size p wide c = none_touches-other (count l h - m) l A (Clflushes k) h refl ∙ none_touches-from_covered f l m A h size p wide c
+none_touches-from_covered f l m A (Fences t ∷ h) size p wide c = none_touches-other (count l h - m) l A (Fences t) h refl ∙ none_touches-from_covered f l m A h size p wide c
+none_touches-from_covered f l m A (Asserts ∷ h) size p wide c = none_touches-other (count l h - m) l A Asserts h refl ∙ none_touches-from_covered f l m A h size p wide c
 
 -- how many stores to line l may still be lost spare the range
 abbrev pub IsSpared : Recording → Span → ℕ → Type 0
-IsSpared T A l = spares (last_count T l - last_front T l) l A (whole_history T) ≡ true
+IsSpared T A l = none_touches (last_count T l - last_front T l) l A (whole_history T) ≡ true
 
 -- a verdict that passes
 pub spared-from_passes : (T : Recording) (A : Span) (l : ℕ) → IsTrace T → IsRange A → PassesNow T A → IsSpared T A l
@@ -257,7 +257,7 @@ spared-from_passes T A l is range passes =
     let size = size-of_format T.format is.format in
     let placed = placed-trace T is in
     let covered = (persist_by_fronts h A).0 passes in
-    spares-from_covered T.format l (front l h) A h size placed range.some
+    none_touches-from_covered T.format l (front l h) A h size placed range.some
     (λ a i at. here a (last_store a h) at (last_store-placed T.format h a size placed) (covered a i))
   where
     here : (a : ℕ) (o : Option Placed) → line_of T.format a ≡ l → IfSome o (λ x. (line_of T.format a ≡ x.line) × (x.rank ≤ count x.line (whole_history T))) →
@@ -286,15 +286,15 @@ passes-from_spared T A first last is range from to spared =
     here a (Some x) p q = let same : front x.line (whole_history T) ≡ front (line_of T.format a) (whole_history T) = ap (λ (k : ℕ). front k (whole_history T)) (sym p.0) in omega (arith, same, q)
 
 -- what the book counts is what its events say
-pub counted-spares :
+pub counted-none_touches :
     (T : Recording) (lines : Lines) (lists : List (List ℕ)) (l : ℕ) (A : Span) (f : Layout) (es : List Event) (n c k : ℕ) → IsLive (whole_history T) lines lists →
     f ≡ T.format → es ≡ T.events → n ≡ c - k → c ≡ (line_at lines l).count → k ≡ (line_at lines l).front →
-    spares n l A (reverse (map (act f) es)) ≡ spares (last_count T l - last_front T l) l A (whole_history T)
-counted-spares T lines lists l A f es n c k live e g m p q =
+    none_touches n l A (reverse (map (act f) es)) ≡ none_touches (last_count T l - last_front T l) l A (whole_history T)
+counted-none_touches T lines lists l A f es n c k live e g m p q =
     let counts : c ≡ last_count T l = p ∙ (live.follow l).counts in
     let fronts : k ≡ last_front T l = q ∙ (live.follow l).fronts in
     let few : n ≡ last_count T l - last_front T l = omega (arith, m, counts, fronts) in
-    ap (λ (j : ℕ). spares j l A (reverse (map (act f) es))) few
-    ∙ ap (λ (h : Layout). spares (last_count T l - last_front T l) l A (reverse (map (act h) es))) e
-    ∙ ap (λ (x : List Event). spares (last_count T l - last_front T l) l A (reverse (map (act T.format) x))) g
-    ∙ ap (spares (last_count T l - last_front T l) l A) (sym (whole_history-acts T))
+    ap (λ (j : ℕ). none_touches j l A (reverse (map (act f) es))) few
+    ∙ ap (λ (h : Layout). none_touches (last_count T l - last_front T l) l A (reverse (map (act h) es))) e
+    ∙ ap (λ (x : List Event). none_touches (last_count T l - last_front T l) l A (reverse (map (act T.format) x))) g
+    ∙ ap (none_touches (last_count T l - last_front T l) l A) (sym (whole_history-acts T))

@@ -1,5 +1,5 @@
 pub mod Adding
 pub mod Ends
 pub mod Live
-pub mod Sparing
+pub mod Touching
 pub mod Copying

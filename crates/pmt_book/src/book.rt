@@ -11,7 +11,7 @@ use crate::copying::{copied_lines, copied_trace};
 use crate::fault::BookError;
 use crate::lines::{Lines, clflush_at, count_at, flushed, front_at, put, reach, store_at};
 use crate::pending::Pending;
-use crate::sparing::spares;
+use crate::touching::none_touches;
 use indexmap::IndexMap;
 use pmt_model::{Addr, Event, Format, Op, OutOfMemory, Range, Trace, WordStore, line_of};
 use std::alloc::{AllocError, Global};
@@ -135,7 +135,7 @@ impl Book {
         let last = (range.addr().get() + (range.len() - 1)) / format.line_size();
         for line in first..last + 1 {
             let count = count_at(&self.lines, line).saturating_sub(front_at(&self.lines, line));
-            if !spares(self.trace.events(), format, count, line, range) {
+            if !none_touches(self.trace.events(), format, count, line, range) {
                 return false;
             }
         }

@@ -9,7 +9,7 @@ pub mod fault;
 pub mod laws;
 mod lines;
 mod pending;
-mod sparing;
+mod touching;
 
 pub use crate::book::Book;
 pub use crate::fault::BookError;

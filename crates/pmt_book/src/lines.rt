@@ -2,7 +2,7 @@
 
 ghost use Rattle.std.specs.Prelude.{◌≡◌, ◌≢◌, ℕ, ◌<◌, List, ◌∷◌, IfOk, OnOk, IsSome, None, is_some, nat_eq};
 ghost use Rattle.indexmap.specs.IndexMap.{get};
-ghost use Rattle.pmt_model.specs.Machine.{Act, Stores, Flushes, FlushesNow, Fences};
+ghost use Rattle.pmt_model.specs.Machine.{Act, Stores, Flushes, Clflushes, Fences};
 ghost use Rattle.pmt_model.specs.Traces.{event_limit};
 ghost use Rattle.pmt_model.specs.Values.{Written};
 ghost use Rattle.pmt_marks.specs.Lines.{Follows, mark_in};
@@ -101,7 +101,7 @@ pub(crate) fn put(lines: &mut Lines, line: u64, state: LineState)
 
 // Tells the line of a clflush. One that was neither stored nor flushed has nothing to learn of it.
 pub(crate) fn clflush_at(lines: &mut Lines, line: u64)
-    ensures { TellsLine line (FlushesNow line) lines.old lines.new }
+    ensures { TellsLine line (Clflushes line) lines.old lines.new }
 {
     if let Some(state) = lines.get_mut(&line) {
         state.on_clflush();

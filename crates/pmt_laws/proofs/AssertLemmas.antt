@@ -2,13 +2,13 @@
 use Rattle.std.proofs.Common.{◌≡◌, ℕ, suc, ◌≤◌, ◌==◌, true, false, if◌then◌else◌, List, [], ◌∷◌, ◌++◌, Option, Some, None, IfSome, IsSomeAnd, inl, inr, refl, sym, ◌∙◌, ap, subst, le_trans, le_of_eq, arith}
 use Rattle.std.proofs.lemmas.Option.{IfSome_then}
 use Rattle.std.proofs.lemmas.Bool.Decides.{eqb_tells}
-use Rattle.pmt_model.specs.Machine.{Act, Stores, Flushes, FlushesNow, Fences, Asserts, count, writes, State, Ends, Passes}
+use Rattle.pmt_model.specs.Machine.{Act, Stores, Flushes, Clflushes, Fences, Asserts, count, writes, State, Ends, IsMoment}
 use Rattle.pmt_model.specs.Fronts.{front}
 use Rattle.pmt_model.specs.Boxes.{InBox}
 use Rattle.pmt_model.specs.Assertions.{Placed, last_store, IsPersisted, InSpan, PersistPasses, OrderedPasses, PersistByFronts, up_to_last, NoLater, OrderedByFronts}
 use Rattle.pmt_laws.proofs.Histories.{count-grows, front-le-count, front-grows}
 use Rattle.pmt_laws.proofs.BoxLemmas.{box-ends, ends-box, leads-box, count-store}
-use Rattle.pmt_laws.proofs.Moments.{passes-split, split-passes}
+use Rattle.pmt_laws.proofs.MomentsOfRuns.{passes-split, split-passes}
 
 -- No run ends with less persisted than the front.
 pub front-le-persisted : (h : List Act) (s : State) → Ends h s → (l : ℕ) → front l h ≤ s.persisted l
@@ -39,7 +39,7 @@ up_to_last_suffix b (Stores k w ∷ h) =
       | false ↦ let r = up_to_last_suffix b h in (Stores k w ∷ r.0, ap (λ g. Stores k w ∷ g) r.1)
     ]
 up_to_last_suffix b (Flushes t k ∷ h) = let r = up_to_last_suffix b h in (Flushes t k ∷ r.0, ap (λ g. Flushes t k ∷ g) r.1)
-up_to_last_suffix b (FlushesNow k ∷ h) = let r = up_to_last_suffix b h in (FlushesNow k ∷ r.0, ap (λ g. FlushesNow k ∷ g) r.1)
+up_to_last_suffix b (Clflushes k ∷ h) = let r = up_to_last_suffix b h in (Clflushes k ∷ r.0, ap (λ g. Clflushes k ∷ g) r.1)
 up_to_last_suffix b (Fences t ∷ h) = let r = up_to_last_suffix b h in (Fences t ∷ r.0, ap (λ g. Fences t ∷ g) r.1)
 up_to_last_suffix b (Asserts ∷ h) = let r = up_to_last_suffix b h in (Asserts ∷ r.0, ap (λ g. Asserts ∷ g) r.1)
 
@@ -57,7 +57,7 @@ last_rank b (Stores k w ∷ h) =
       | false ↦ last_rank b h
     ]
 last_rank b (Flushes t k ∷ h) = last_rank b h
-last_rank b (FlushesNow k ∷ h) = last_rank b h
+last_rank b (Clflushes k ∷ h) = last_rank b h
 last_rank b (Fences t ∷ h) = last_rank b h
 last_rank b (Asserts ∷ h) = last_rank b h
 
@@ -67,7 +67,7 @@ front-up_to_last l b [] = omega arith
 front-up_to_last l b (Stores k w ∷ h) =
     elim (writes w b) as (λ t. front l (if t then Stores k w ∷ h else up_to_last b h) ≤ front l h) [ true ↦ omega arith | false ↦ front-up_to_last l b h ]
 front-up_to_last l b (Flushes t k ∷ h) = front-up_to_last l b h
-front-up_to_last l b (FlushesNow k ∷ h) = le_trans (front-up_to_last l b h) (front-grows l (FlushesNow k) h)
+front-up_to_last l b (Clflushes k ∷ h) = le_trans (front-up_to_last l b h) (front-grows l (Clflushes k) h)
 front-up_to_last l b (Fences t ∷ h) = omega (arith, front-up_to_last l b h)
 front-up_to_last l b (Asserts ∷ h) = front-up_to_last l b h
 
@@ -82,7 +82,7 @@ front_by_then b l (Stores k w ∷ newer) h =
       | false ↦ front_by_then b l newer h
     ]
 front_by_then b l (Flushes t k ∷ newer) h = front_by_then b l newer h
-front_by_then b l (FlushesNow k ∷ newer) h = front_by_then b l newer h
+front_by_then b l (Clflushes k ∷ newer) h = front_by_then b l newer h
 front_by_then b l (Fences t ∷ newer) h = front_by_then b l newer h
 front_by_then b l (Asserts ∷ newer) h = front_by_then b l newer h
 
@@ -126,7 +126,7 @@ value_of (Some x) p = (x, refl, p)
 
 -- The front up to the last store y to a byte, at a moment of a run that has y persisted.
 front_at_moment :
-    (h : List Act) (s : State) (b l : ℕ) (y : Placed) → Passes h s → last_store b h ≡ Some y → IsPersisted s.persisted y →
+    (h : List Act) (s : State) (b l : ℕ) (y : Placed) → IsMoment h s → last_store b h ≡ Some y → IsPersisted s.persisted y →
     front l (up_to_last b h) ≤ s.persisted l
 front_at_moment h s b l y passes e now =
     let split = passes-split h s passes in
@@ -139,7 +139,7 @@ front_at_moment h s b l y passes e now =
 -- A moment of a run of the history at which store y, the last one to a byte, is persisted, and no more than has to be.
 moment_of :
     (h : List Act) (b : ℕ) (y : Placed) → last_store b h ≡ Some y →
-    (s : State) × Passes h s × ((l : ℕ) → s.persisted l ≡ just_persisted y (up_to_last b h) l)
+    (s : State) × IsMoment h s × ((l : ℕ) → s.persisted l ≡ just_persisted y (up_to_last b h) l)
 moment_of h b y e =
     let g = up_to_last b h in
     let rank : count y.line g ≡ y.rank = at_value (λ z. count z.line g ≡ z.rank) y e (last_rank b h) in

@@ -2,11 +2,11 @@
 use Rattle.std.proofs.Common.{◌≡◌, ℕ, suc, ◌<◌, ◌≤◌, min, inl, inr, List, [], ◌∷◌, ◌==◌, refl, sym, ap, subst, subst₂, ◌↔◌, ◌∙◌, eq-eqb, eqb-true, ne_eqb, le_trans, arith}
 use Rattle.std.proofs.lemmas.Bool.{cond_both, cond-true, cond-false, cases_lt, cases_eq}
 use Rattle.pmt_model.specs.Values.{Written}
-use Rattle.pmt_model.specs.Machine.{Act, Stores, Flushes, FlushesNow, Fences, Asserts, State, Allows, Leads, Stays, Acts, Persists, Ends, Vectors, count, start, after, after_persist, outstanding_after}
+use Rattle.pmt_model.specs.Machine.{Act, Stores, Flushes, Clflushes, Fences, Asserts, State, Allows, Leads, Stays, Acts, Persists, Ends, Vectors, count, start, after, after_persist, outstanding_after}
 use Rattle.pmt_model.specs.Fronts.{mark, front}
 use Rattle.pmt_model.specs.Boxes.{InBox, VectorsAreABox}
 use Rattle.pmt_laws.proofs.Histories.{mark-le-count, count-grows, front-grows, front-le-count}
-use Rattle.pmt_laws.proofs.Owing.{owing, OwesAtMost, mark-le_owed, owed_from_marks}
+use Rattle.pmt_laws.proofs.OutstandingFlushes.{owing, OwesAtMost, mark-le_owed, owed_from_marks}
 
 -- what holds of each state that a run comes to
 pub record IsReached (s : State) : Type 0 where
@@ -17,7 +17,7 @@ pub record IsReached (s : State) : Type 0 where
 pub owes-after : (s : State) (a : Act) → s.outstanding ≡ owing s.history → outstanding_after s a ≡ owing (a ∷ s.history)
 owes-after s (Stores l w) owes = owes
 owes-after s (Flushes t l) owes = ap (λ os. record { thread = t; line = l; stores = count l s.history } ∷ os) owes
-owes-after s (FlushesNow l) owes = owes
+owes-after s (Clflushes l) owes = owes
 owes-after s (Fences t) owes = owes
 owes-after s Asserts owes = owes
 
@@ -25,7 +25,7 @@ owes-after s Asserts owes = owes
 pub front-after : (s : State) (a : Act) → IsReached s → Allows s a → (l : ℕ) → front l (a ∷ s.history) ≤ s.persisted l
 front-after s (Stores k w) reached allowed l = (reached.box l).0
 front-after s (Flushes t k) reached allowed l = (reached.box l).0
-front-after s (FlushesNow k) reached allowed l =
+front-after s (Clflushes k) reached allowed l =
     cond_both (k == l) (count l s.history) (front l s.history) (λ x. x ≤ s.persisted l)
     (λ same. subst (λ j. count j s.history ≤ s.persisted j) (eqb-true k l same) (omega arith))
     (λ other. (reached.box l).0)
@@ -77,7 +77,7 @@ pub count-store_other : (l k : ℕ) (w : Written) (h : List Act) → (l ≡ k �
 count-store_other l k w h other = cond-false (k == l) (suc (count l h)) (count l h) (ne_eqb k l (λ e. other (sym e)))
 
 -- a clflush raises the front of its line to the count
-pub front-flush_now : (l : ℕ) (h : List Act) → front l (FlushesNow l ∷ h) ≡ count l h
+pub front-flush_now : (l : ℕ) (h : List Act) → front l (Clflushes l ∷ h) ≡ count l h
 front-flush_now l h = cond-true (l == l) (count l h) (front l h) (eq-eqb l l refl)
 
 -- a persist step counts for its line
@@ -148,15 +148,15 @@ planned-next v (Flushes t k) h fronts s plan = (
     persisted = plan.persisted;
   },
 )
-planned-next v (FlushesNow k) h fronts s plan =
+planned-next v (Clflushes k) h fronts s plan =
     let reach = fronts k in
     let front = front-flush_now k h in
     let done = plan.persisted k in
     let all : s.persisted k ≡ count k h = omega arith in (
-      after s (FlushesNow k),
+      after s (Clflushes k),
       record {
-        path = Acts (FlushesNow k) plan.path (all ∙ ap (count k) (sym plan.is_history));
-        is_history = ap (λ history. FlushesNow k ∷ history) plan.is_history;
+        path = Acts (Clflushes k) plan.path (all ∙ ap (count k) (sym plan.is_history));
+        is_history = ap (λ history. Clflushes k ∷ history) plan.is_history;
         persisted = plan.persisted;
       },
     )

@@ -2,7 +2,7 @@
 use Rattle.std.proofs.Common.{◌≡◌, ℕ, zero, suc, ◌<◌, ◌≤◌, ◌⊎◌, ◌==◌, false, if◌then◌else◌, List, [], ◌∷◌, length, Some, slice_get, filter_map, refl, sym, ◌∙◌, ap, inl, inr, ⊎_elim, arith}
 use Rattle.std.proofs.lemmas.Bool.{le-leb, lt-leb, cases_eq, cases_lt, false_from_ne_true, true≢false}
 use Rattle.pmt_model.specs.declared.event.Event.{Event}
-use Rattle.pmt_model.specs.Machine.{Act, Stores, Flushes, FlushesNow, Fences, Asserts, count}
+use Rattle.pmt_model.specs.Machine.{Act, Stores, Flushes, Clflushes, Fences, Asserts, count}
 use Rattle.pmt_model.specs.Traces.{Recording, event, IsAct, history, count_at}
 use Rattle.pmt_model.specs.Selections.{IsRising, Has, always_stays, IsSelection, cut, matching_place}
 use Rattle.pmt_laws.proofs.Histories.{event-some, history-act, history-step}
@@ -174,7 +174,7 @@ history-zero T K s = ap (history (cut T K)) (place-low 0 K 0 s.rising (omega ari
 count-same : (l : ℕ) (a : Act) (g h : List Act) → count l g ≡ count l h → count l (a ∷ g) ≡ count l (a ∷ h)
 count-same l (Stores k w) g h e = ap (λ c. if k == l then suc c else c) e
 count-same l (Flushes t k) g h e = e
-count-same l (FlushesNow k) g h e = e
+count-same l (Clflushes k) g h e = e
 count-same l (Fences t) g h e = e
 count-same l Asserts g h e = e
 
@@ -182,7 +182,7 @@ count-same l Asserts g h e = e
 count-dropped : (l : ℕ) (a : Act) (h : List Act) → always_stays a ≡ false → count l (a ∷ h) ≡ count l h
 count-dropped l (Stores k w) h e = absurd (true≢false e)
 count-dropped l (Flushes t k) h e = refl
-count-dropped l (FlushesNow k) h e = refl
+count-dropped l (Clflushes k) h e = refl
 count-dropped l (Fences t) h e = refl
 count-dropped l Asserts h e = absurd (true≢false e)
 

@@ -2,11 +2,11 @@
 use Rattle.std.proofs.Common.{◌≡◌, ℕ, zero, suc, ◌<◌, ◌≤◌, max, ◌⊎◌, inl, inr, ◌∷◌, ◌&&◌, ◌==◌, refl, sym, ap, subst, subst₂, ◌∙◌, eqb-true, arith}
 use Rattle.std.proofs.lemmas.Bool.{cond_both, cases_lt, and_parts}
 use Rattle.std.proofs.lemmas.Option.{none-some}
-use Rattle.pmt_model.specs.Machine.{Act, Stores, Flushes, FlushesNow, Fences, Asserts, count}
+use Rattle.pmt_model.specs.Machine.{Act, Stores, Flushes, Clflushes, Fences, Asserts, count}
 use Rattle.pmt_model.specs.Traces.{Recording, IsAct, history, count_at}
 use Rattle.pmt_model.specs.Fronts.{IsCompleted, mark, front, front_at, FrontsAreGreatest}
 use Rattle.pmt_laws.proofs.Histories.{history-act, history-step, front-mono, mono-from_grows}
-use Rattle.pmt_laws.proofs.Owing.{mark-flush, mark-grows}
+use Rattle.pmt_laws.proofs.OutstandingFlushes.{mark-flush, mark-grows}
 use Rattle.pmt_laws.proofs.BoxLemmas.{front-flush_now}
 
 -- a number of stores that a flush of the line by the thread marked by place n
@@ -39,7 +39,7 @@ mark_of-act T t l n (Flushes u k) is old =
       stores = ap (count l) (history-act T n (Flushes u k) is);
     }))
     (λ other. marked-suc T t l n (mark t l (history T n)) old)
-mark_of-act T t l n (FlushesNow k) is old = marked-suc T t l n (mark t l (history T n)) old
+mark_of-act T t l n (Clflushes k) is old = marked-suc T t l n (mark t l (history T n)) old
 mark_of-act T t l n (Fences u) is old = marked-suc T t l n (mark t l (history T n)) old
 mark_of-act T t l n Asserts is old = marked-suc T t l n (mark t l (history T n)) old
 
@@ -92,13 +92,13 @@ front_of-fence T t l n c is (inr x) = inr (inl (record
 front_of-act : (T : Recording) (l n : ℕ) (a : Act) → IsAct T (suc n) a → IsFrontOf T l n (front_at T l n) → IsFrontOf T l (suc n) (front l (a ∷ history T n))
 front_of-act T l n (Stores k w) is old = front_of-suc T l n (front_at T l n) old
 front_of-act T l n (Flushes u k) is old = front_of-suc T l n (front_at T l n) old
-front_of-act T l n (FlushesNow k) is old =
+front_of-act T l n (Clflushes k) is old =
     cond_both (k == l) (count l (history T n)) (front_at T l n) (IsFrontOf T l (suc n))
     (λ same. inr (inr (record {
       clflush = suc n;
-      is_clflush = subst (λ j. IsAct T (suc n) (FlushesNow j)) (eqb-true k l same) is;
+      is_clflush = subst (λ j. IsAct T (suc n) (Clflushes j)) (eqb-true k l same) is;
       by_now = omega arith;
-      stores = ap (count l) (history-act T n (FlushesNow k) is);
+      stores = ap (count l) (history-act T n (Clflushes k) is);
     })))
     (λ other. front_of-suc T l n (front_at T l n) old)
 front_of-act T l n (Fences t) is old =
@@ -132,10 +132,10 @@ fenced-le_front T t l i (suc j) n flush fence later by_now =
     omega arith
 
 -- a clflush completes itself
-flushed_now-le_front : (T : Recording) (l i n : ℕ) → IsAct T i (FlushesNow l) → i ≤ n → count_at T l i ≤ front_at T l n
+flushed_now-le_front : (T : Recording) (l i n : ℕ) → IsAct T i (Clflushes l) → i ≤ n → count_at T l i ≤ front_at T l n
 flushed_now-le_front T l zero n is by_now = absurd (none-some is.0 is.1)
 flushed_now-le_front T l (suc i) n is by_now =
-    let new = history-act T i (FlushesNow l) is in
+    let new = history-act T i (Clflushes l) is in
     let counted : count_at T l (suc i) ≡ count l (history T i) = ap (count l) new in
     let raised : front_at T l (suc i) ≡ count l (history T i) = ap (front l) new ∙ front-flush_now l (history T i) in
     let stays = front-mono T l (suc i) n by_now in

@@ -5,7 +5,7 @@ use Rattle.std.proofs.Math.Seq.{take-suc}
 use Rattle.std.proofs.lemmas.List.{reverse-append, map-append, length-reverse, length-map, length-take, take_all}
 use Rattle.std.proofs.lemmas.Option.{slice_get_within, slice_get_past, get_or_from_slice_get, none-some, same_Some}
 use Rattle.pmt_model.specs.declared.event.Event.{Event}
-use Rattle.pmt_model.specs.Machine.{Act, Stores, Flushes, FlushesNow, Fences, Asserts, count}
+use Rattle.pmt_model.specs.Machine.{Act, Stores, Flushes, Clflushes, Fences, Asserts, count}
 use Rattle.pmt_model.specs.Traces.{Recording, act, event, IsAct, history, count_at}
 use Rattle.pmt_model.specs.Fronts.{mark, front, front_at}
 
@@ -94,7 +94,7 @@ greatest_choice false x y z p q = q
 pub count-grows : (l : ℕ) (a : Act) (h : List Act) → count l h ≤ count l (a ∷ h)
 count-grows l (Stores k w) h = least_choice (k == l) (suc (count l h)) (count l h) (count l h) (omega arith) (omega arith)
 count-grows l (Flushes t k) h = omega arith
-count-grows l (FlushesNow k) h = omega arith
+count-grows l (Clflushes k) h = omega arith
 count-grows l (Fences t) h = omega arith
 count-grows l Asserts h = omega arith
 
@@ -103,7 +103,7 @@ pub mark-le-count : (t l : ℕ) (h : List Act) → mark t l h ≤ count l h
 mark-le-count t l [] = omega arith
 mark-le-count t l (Stores k w ∷ h) = omega (arith, mark-le-count t l h, count-grows l (Stores k w) h)
 mark-le-count t l (Flushes u k ∷ h) = greatest_choice ((u == t) && (k == l)) (count l h) (mark t l h) (count l h) (omega arith) (mark-le-count t l h)
-mark-le-count t l (FlushesNow k ∷ h) = mark-le-count t l h
+mark-le-count t l (Clflushes k ∷ h) = mark-le-count t l h
 mark-le-count t l (Fences u ∷ h) = mark-le-count t l h
 mark-le-count t l (Asserts ∷ h) = mark-le-count t l h
 
@@ -112,7 +112,7 @@ pub front-le-count : (l : ℕ) (h : List Act) → front l h ≤ count l h
 front-le-count l [] = omega arith
 front-le-count l (Stores k w ∷ h) = omega (arith, front-le-count l h, count-grows l (Stores k w) h)
 front-le-count l (Flushes t k ∷ h) = front-le-count l h
-front-le-count l (FlushesNow k ∷ h) = greatest_choice (k == l) (count l h) (front l h) (count l h) (omega arith) (front-le-count l h)
+front-le-count l (Clflushes k ∷ h) = greatest_choice (k == l) (count l h) (front l h) (count l h) (omega arith) (front-le-count l h)
 front-le-count l (Fences t ∷ h) = omega (arith, front-le-count l h, mark-le-count t l h)
 front-le-count l (Asserts ∷ h) = front-le-count l h
 
@@ -120,7 +120,7 @@ front-le-count l (Asserts ∷ h) = front-le-count l h
 pub front-grows : (l : ℕ) (a : Act) (h : List Act) → front l h ≤ front l (a ∷ h)
 front-grows l (Stores k w) h = omega arith
 front-grows l (Flushes t k) h = omega arith
-front-grows l (FlushesNow k) h = least_choice (k == l) (count l h) (front l h) (front l h) (front-le-count l h) (omega arith)
+front-grows l (Clflushes k) h = least_choice (k == l) (count l h) (front l h) (front l h) (front-le-count l h) (omega arith)
 front-grows l (Fences t) h = omega arith
 front-grows l Asserts h = omega arith
 

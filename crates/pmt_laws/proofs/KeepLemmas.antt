@@ -1,7 +1,7 @@
 -- The list of the events that are kept: there is one, it is a selection, and it has the fronts of the trace at each place.
 use Rattle.std.proofs.Common.{◌≡◌, ℕ, zero, suc, ◌-◌, ◌<◌, ◌≤◌, ◌⊎◌, ◌==◌, ◌&&◌, Bool, true, false, if◌then◌else◌, List, [], ◌∷◌, length, refl, sym, ◌∙◌, ap, ap₂, subst, inl, inr, ⊎_elim, arith}
 use Rattle.std.proofs.lemmas.Bool.{cases_eq, cases_lt, cond-false, ne_eqb}
-use Rattle.pmt_model.specs.Machine.{Act, Stores, Flushes, FlushesNow, Fences, Asserts, count}
+use Rattle.pmt_model.specs.Machine.{Act, Stores, Flushes, Clflushes, Fences, Asserts, count}
 use Rattle.pmt_model.specs.Traces.{Recording, IsAct, history, count_at}
 use Rattle.pmt_model.specs.Fronts.{front, mark, front_at}
 use Rattle.pmt_model.specs.Boxes.{VectorsAreABox}
@@ -9,7 +9,7 @@ use Rattle.pmt_model.specs.Selections.{IsRising, Has, IsSelection, cut, matching
 use Rattle.pmt_model.specs.Keeping.{IsUsefulFlush, IsKept, Stays, ByFence, ByFlush, ByClflush, IsKeep, KeepIsUnique, KeepIsFaithful}
 use Rattle.pmt_laws.proofs.Histories.{act-within, history-act, front-grows, front-mono}
 use Rattle.pmt_laws.proofs.CutLemmas.{IsNext, Keeps, Drops, Ended, next-step, has-above, place-kept, place-mono, cut-act, history-zero, count-cut}
-use Rattle.pmt_laws.proofs.Owing.{mark-grows}
+use Rattle.pmt_laws.proofs.OutstandingFlushes.{mark-grows}
 use Rattle.pmt_laws.proofs.FrontLemmas.{mark-greatest, completed-le_front}
 use Rattle.pmt_laws.proofs.LastFlushes.{IsLastFlush, last-flush}
 use Rattle.pmt_laws.proofs.FaithfulLemmas.{fronts_decide}
@@ -54,7 +54,7 @@ kept-within : (T : Recording) (i : ℕ) → IsKept T i → i ≤ length T.events
 kept-within T i (Stays a is stays) = (act-within T i a is).1
 kept-within T i (ByFence u) = (act-within T i (Fences u.thread) u.is_fence).1
 kept-within T i (ByFlush u) = (act-within T i (Flushes u.thread u.line) u.is_flush).1
-kept-within T i (ByClflush u) = (act-within T i (FlushesNow u.line) u.is_clflush).1
+kept-within T i (ByClflush u) = (act-within T i (Clflushes u.line) u.is_clflush).1
 
 -- The list of the events that are kept is a selection.
 pub keep_is_selection : (T : Recording) (K : List ℕ) → IsKeep T K → IsSelection T K
@@ -76,7 +76,7 @@ mark-same t l u k c d m n h g = go ((u == t) && (k == l))
 mark-kept : (t l : ℕ) (a : Act) (g h : List Act) → count l g ≡ count l h → mark t l g ≤ mark t l h → mark t l (a ∷ g) ≤ mark t l (a ∷ h)
 mark-kept t l (Stores k w) g h e le = le
 mark-kept t l (Flushes u k) g h e le = mark-same t l u k (count l g) (count l h) (mark t l g) (mark t l h) (omega arith) le
-mark-kept t l (FlushesNow k) g h e le = le
+mark-kept t l (Clflushes k) g h e le = le
 mark-kept t l (Fences u) g h e le = le
 mark-kept t l Asserts g h e le = le
 
@@ -97,7 +97,7 @@ mark-cut-le T K t l (suc n) s = go (next-step T K n s) (mark-cut-le T K t l n s)
 front-kept : (l : ℕ) (a : Act) (g h : List Act) → count l g ≡ count l h → ((t : ℕ) → mark t l g ≤ mark t l h) → front l g ≤ front l h → front l (a ∷ g) ≤ front l (a ∷ h)
 front-kept l (Stores k w) g h e marks le = le
 front-kept l (Flushes u k) g h e marks le = le
-front-kept l (FlushesNow k) g h e marks le = go (k == l)
+front-kept l (Clflushes k) g h e marks le = go (k == l)
   where
     go : (b : Bool) → (if b then count l g else front l g) ≤ (if b then count l h else front l h)
     go true = omega arith
@@ -121,15 +121,15 @@ cut-front-le T K l (suc n) s = go (next-step T K n s) (cut-front-le T K l n s)
 pub raising-is-kept : (T : Recording) (l n : ℕ) (a : Act) → IsAct T (suc n) a → (front_at T l (suc n) ≡ front_at T l n → ⊥) → IsKept T (suc n)
 raising-is-kept T l n (Stores k w) is changes = Stays (Stores k w) is refl
 raising-is-kept T l n (Flushes u k) is changes = absurd (changes (ap (front l) (history-act T n (Flushes u k) is)))
-raising-is-kept T l n (FlushesNow k) is changes = go (cases_eq k l)
+raising-is-kept T l n (Clflushes k) is changes = go (cases_eq k l)
   where
     go : (k ≡ l) ⊎ (k ≡ l → ⊥) → IsKept T (suc n)
     go (inl e) = ByClflush (record {
       line = l;
-      is_clflush = (is.0, is.1, is.2 ∙ ap FlushesNow e);
+      is_clflush = (is.0, is.1, is.2 ∙ ap Clflushes e);
       raises = let before : suc n - 1 ≡ n = omega arith in λ same. changes (same ∙ ap (front_at T l) before);
     })
-    go (inr apart) = absurd (changes (ap (front l) (history-act T n (FlushesNow k) is) ∙ cond-false (k == l) (count l (history T n)) (front l (history T n)) (ne_eqb k l apart)))
+    go (inr apart) = absurd (changes (ap (front l) (history-act T n (Clflushes k) is) ∙ cond-false (k == l) (count l (history T n)) (front l (history T n)) (ne_eqb k l apart)))
 raising-is-kept T l n (Fences t) is changes = ByFence (record {
   thread = t;
   line = l;
@@ -186,7 +186,7 @@ kept-front : (T : Recording) (K : List ℕ) (l n : ℕ) (a : Act) → IsKeep T K
     front l (a ∷ history T n) ≤ front l (a ∷ history (cut T K) (matching_place K n))
 kept-front T K l n (Stores k w) keep is le = le
 kept-front T K l n (Flushes u k) keep is le = le
-kept-front T K l n (FlushesNow k) keep is le = go (k == l)
+kept-front T K l n (Clflushes k) keep is le = go (k == l)
   where
     go : (b : Bool) → (if b then count_at T l n else front_at T l n) ≤ (if b then count_at (cut T K) l (matching_place K n) else front_at (cut T K) l (matching_place K n))
     go true = omega (arith, count-cut T K l n (keep_is_selection T K keep))

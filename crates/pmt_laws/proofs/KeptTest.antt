@@ -7,7 +7,7 @@ use Rattle.std.proofs.lemmas.Bool.Decides.{not_from_Decides, Decides-not, Decide
 use Rattle.std.proofs.lemmas.Option.{none-some, same_Some}
 use Rattle.pmt_model.specs.declared.event.Event.{Event}
 use Rattle.pmt_model.specs.Values.{Layout}
-use Rattle.pmt_model.specs.Machine.{Act, Stores, Flushes, FlushesNow, Fences, Asserts, count}
+use Rattle.pmt_model.specs.Machine.{Act, Stores, Flushes, Clflushes, Fences, Asserts, count}
 use Rattle.pmt_model.specs.Traces.{Recording, act, event, IsAct, history, count_at}
 use Rattle.pmt_model.specs.Fronts.{front_at}
 use Rattle.pmt_model.specs.Selections.{IsRising, Has, always_stays}
@@ -40,7 +40,7 @@ abbrev is_fence_of : ℕ → Option Act → Bool
 is_fence_of t None = false
 is_fence_of t (Some (Stores l w)) = false
 is_fence_of t (Some (Flushes u l)) = false
-is_fence_of t (Some (FlushesNow l)) = false
+is_fence_of t (Some (Clflushes l)) = false
 is_fence_of t (Some (Fences u)) = u == t
 is_fence_of t (Some Asserts) = false
 
@@ -49,7 +49,7 @@ abbrev is_flush_of : ℕ → ℕ → Option Act → Bool
 is_flush_of t l None = false
 is_flush_of t l (Some (Stores k w)) = false
 is_flush_of t l (Some (Flushes u k)) = (u == t) && (k == l)
-is_flush_of t l (Some (FlushesNow k)) = false
+is_flush_of t l (Some (Clflushes k)) = false
 is_flush_of t l (Some (Fences u)) = false
 is_flush_of t l (Some Asserts) = false
 
@@ -61,7 +61,7 @@ Decides-fence T t i = (λ e. act-there T i (Fences t) (go (act_at T i) e), λ is
     go None e = cc
     go (Some (Stores l w)) e = cc
     go (Some (Flushes u l)) e = cc
-    go (Some (FlushesNow l)) e = cc
+    go (Some (Clflushes l)) e = cc
     go (Some (Fences u)) e = ap (λ n. Some (Fences n)) (eqb-true u t e)
     go (Some Asserts) e = cc
 
@@ -80,7 +80,7 @@ Decides-flush T t l i = (
         let thread : u ≡ t = eqb-true u t both.0 in
         let line : k ≡ l = eqb-true k l both.1 in
         cc
-    go (Some (FlushesNow k)) e = cc
+    go (Some (Clflushes k)) e = cc
     go (Some (Fences u)) e = cc
     go (Some Asserts) e = cc
 
@@ -227,7 +227,7 @@ abbrev some_differs : Recording → ℕ → List Act → Bool
 some_differs T i [] = false
 some_differs T i (Stores l w ∷ h) = differs T l i || some_differs T i h
 some_differs T i (Flushes t l ∷ h) = some_differs T i h
-some_differs T i (FlushesNow l ∷ h) = some_differs T i h
+some_differs T i (Clflushes l ∷ h) = some_differs T i h
 some_differs T i (Fences t ∷ h) = some_differs T i h
 some_differs T i (Asserts ∷ h) = some_differs T i h
 
@@ -245,7 +245,7 @@ some_differs-tells T i (Stores l w ∷ h) e = go (some_differs-tells T i h) (or_
     go rest (inl d) = (l, (Decides-differs T l i).0 d)
     go rest (inr d) = rest d
 some_differs-tells T i (Flushes t l ∷ h) e = some_differs-tells T i h e
-some_differs-tells T i (FlushesNow l ∷ h) e = some_differs-tells T i h e
+some_differs-tells T i (Clflushes l ∷ h) e = some_differs-tells T i h e
 some_differs-tells T i (Fences t ∷ h) e = some_differs-tells T i h e
 some_differs-tells T i (Asserts ∷ h) e = some_differs-tells T i h e
 
@@ -260,7 +260,7 @@ tells-some_differs T l i (Stores k w ∷ h) some apart = go (λ more. tells-some
         let same = cond-false (k == l) (suc (count l h)) (count l h) (ne_eqb k l other) in
         or_right (differs T k i) (some_differs T i h) (rest (omega (arith, same)))
 tells-some_differs T l i (Flushes t k ∷ h) some apart = tells-some_differs T l i h some apart
-tells-some_differs T l i (FlushesNow k ∷ h) some apart = tells-some_differs T l i h some apart
+tells-some_differs T l i (Clflushes k ∷ h) some apart = tells-some_differs T l i h some apart
 tells-some_differs T l i (Fences t ∷ h) some apart = tells-some_differs T l i h some apart
 tells-some_differs T l i (Asserts ∷ h) some apart = tells-some_differs T l i h some apart
 
@@ -269,7 +269,7 @@ abbrev keeps_act : Recording → ℕ → Option Act → Bool
 keeps_act T i None = false
 keeps_act T i (Some (Stores l w)) = true
 keeps_act T i (Some (Flushes t l)) = is_needed T t l (count_at T l i) i (length T.events)
-keeps_act T i (Some (FlushesNow l)) = differs T l i
+keeps_act T i (Some (Clflushes l)) = differs T l i
 keeps_act T i (Some (Fences t)) = some_differs T i (history T i)
 keeps_act T i (Some Asserts) = true
 
@@ -302,8 +302,8 @@ keeps_act-tells T i (Some (Flushes t l)) is e =
       last_flush = need.last_flush;
       needed = need.needed;
     })
-keeps_act-tells T i (Some (FlushesNow l)) is e =
-    ByClflush (record { line = l; is_clflush = act-there T i (FlushesNow l) is; raises = (Decides-differs T l i).0 e })
+keeps_act-tells T i (Some (Clflushes l)) is e =
+    ByClflush (record { line = l; is_clflush = act-there T i (Clflushes l) is; raises = (Decides-differs T l i).0 e })
 keeps_act-tells T i (Some (Fences t)) is e =
     let found = some_differs-tells T i (history T i) e in
     ByFence (record { thread = t; line = found.0; is_fence = act-there T i (Fences t) is; raises = found.1 })
@@ -316,7 +316,7 @@ tells-is_kept T i (Stays a is stays) = ap (keeps_act T i) (there-act T i a is) �
     go : (a : Act) → always_stays a ≡ true → keeps_act T i (Some a) ≡ true
     go (Stores l w) e = refl
     go (Flushes t l) e = cc
-    go (FlushesNow l) e = cc
+    go (Clflushes l) e = cc
     go (Fences t) e = cc
     go Asserts e = refl
 tells-is_kept T i (ByFence u) =
@@ -326,7 +326,7 @@ tells-is_kept T i (ByFlush u) =
     ap (keeps_act T i) (there-act T i (Flushes u.thread u.line) u.is_flush)
     ∙ tells-is_needed T u.thread u.line (count_at T u.line i) i (length T.events) (omega arith)
     (record { fence = u.fence; later = u.later; is_fence = u.is_fence; next_fence = u.next_fence; last_flush = u.last_flush; needed = u.needed })
-tells-is_kept T i (ByClflush u) = ap (keeps_act T i) (there-act T i (FlushesNow u.line) u.is_clflush) ∙ (Decides-differs T u.line i).1 u.raises
+tells-is_kept T i (ByClflush u) = ap (keeps_act T i) (there-act T i (Clflushes u.line) u.is_clflush) ∙ (Decides-differs T u.line i).1 u.raises
 
 -- The test finds the events that are kept.
 pub Decides-kept : (T : Recording) (i : ℕ) → Decides (is_kept T i) (IsKept T i)
@@ -383,7 +383,7 @@ kept-event : (T : Recording) (i : ℕ) → IsKept T i → (1 ≤ i) × (i ≤ le
 kept-event T i (Stays a is stays) = act-within T i a is
 kept-event T i (ByFence u) = act-within T i (Fences u.thread) u.is_fence
 kept-event T i (ByFlush u) = act-within T i (Flushes u.thread u.line) u.is_flush
-kept-event T i (ByClflush u) = act-within T i (FlushesNow u.line) u.is_clflush
+kept-event T i (ByClflush u) = act-within T i (Clflushes u.line) u.is_clflush
 
 -- The numbers that pass the test are the list of the events that are kept.
 pub keep-kept_numbers : (T : Recording) → IsKeep T (kept_numbers T)

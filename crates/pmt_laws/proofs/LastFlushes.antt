@@ -1,11 +1,11 @@
 -- The last flush of a line by a thread.
 use Rattle.std.proofs.Common.{◌≡◌, ℕ, zero, suc, ◌<◌, ◌≤◌, ◌⊎◌, ◌==◌, ◌&&◌, true, false, List, ◌∷◌, length, refl, sym, ◌∙◌, ap, ap₂, subst, inl, inr, ⊎_elim, arith}
 use Rattle.std.proofs.lemmas.Bool.{cases_eq, cases_lt, cases_Bool, eqb-true, and_parts, cond-false}
-use Rattle.pmt_model.specs.Machine.{Act, Stores, Flushes, FlushesNow, Fences, Asserts, count}
+use Rattle.pmt_model.specs.Machine.{Act, Stores, Flushes, Clflushes, Fences, Asserts, count}
 use Rattle.pmt_model.specs.Traces.{Recording, IsAct, history, count_at}
 use Rattle.pmt_model.specs.Fronts.{mark}
 use Rattle.pmt_laws.proofs.Histories.{act-within, act-unique, history-act, history-step}
-use Rattle.pmt_laws.proofs.Owing.{mark-flush}
+use Rattle.pmt_laws.proofs.OutstandingFlushes.{mark-flush}
 
 -- The last flush of line l by thread t among the first n events.
 pub record IsLastFlush (T : Recording) (t l n i : ℕ) : Type 0 where
@@ -23,7 +23,7 @@ flush-dec t l (Flushes u k) = go (cases_eq u t) (cases_eq k l)
     go (inl x) (inl y) = inl (cc)
     go (inl x) (inr y) = inr (λ e. y (cc))
     go (inr x) y = inr (λ e. x (cc))
-flush-dec t l (FlushesNow k) = inr (λ e. cc)
+flush-dec t l (Clflushes k) = inr (λ e. cc)
 flush-dec t l (Fences u) = inr (λ e. cc)
 flush-dec t l Asserts = inr (λ e. cc)
 
@@ -35,7 +35,7 @@ mark-other t l (Flushes u k) h apart = go (cases_Bool ((u == t) && (k == l)))
     go : ((u == t) && (k == l)) ≡ true ⊎ ((u == t) && (k == l)) ≡ false → mark t l (Flushes u k ∷ h) ≡ mark t l h
     go (inl e) = let both = and_parts (u == t) (k == l) e in absurd (apart (ap₂ Flushes (eqb-true u t both.0) (eqb-true k l both.1)))
     go (inr e) = cond-false ((u == t) && (k == l)) (count l h) (mark t l h) e
-mark-other t l (FlushesNow k) h apart = refl
+mark-other t l (Clflushes k) h apart = refl
 mark-other t l (Fences u) h apart = refl
 mark-other t l Asserts h apart = refl
 

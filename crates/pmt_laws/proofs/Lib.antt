@@ -1,7 +1,7 @@
 pub mod Histories
-pub mod Owing
+pub mod OutstandingFlushes
 pub mod BoxLemmas
-pub mod Moments
+pub mod MomentsOfRuns
 pub mod FrontLemmas
 pub mod CutLemmas
 pub mod FaithfulLemmas
@@ -10,7 +10,7 @@ pub mod KeepLemmas
 pub mod CutActs
 pub mod Pigeonhole
 pub mod SameFronts
-pub mod Partners
+pub mod ShortestPairs
 pub mod ShortestLemmas
 pub mod NeededFlushes
 pub mod NewStores

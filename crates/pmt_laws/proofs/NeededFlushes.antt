@@ -1,6 +1,6 @@
 -- A useful flush, by its thread and line, and the fence that needs it.
 use Rattle.std.proofs.Common.{◌≡◌, ℕ, zero, suc, ◌-◌, ◌<◌, List, sym, ap, subst₂, ◌∙◌, true≢false, arith}
-use Rattle.pmt_model.specs.Machine.{Flushes, FlushesNow, Fences}
+use Rattle.pmt_model.specs.Machine.{Flushes, Clflushes, Fences}
 use Rattle.pmt_model.specs.Traces.{Recording, IsAct, count_at}
 use Rattle.pmt_model.specs.Fronts.{front_at}
 use Rattle.pmt_model.specs.Selections.{Has, always_stays}
@@ -45,7 +45,7 @@ kept-needed T t l i (ByFlush u) flush =
     let thread : u.thread ≡ t = cc in
     let line : u.line ≡ l = cc in
     subst₂ (λ v k. IsNeededFlush T v k i) thread line (useful-needed T i u)
-kept-needed T t l i (ByClflush u) flush = let same = act-unique T i (FlushesNow u.line) (Flushes t l) u.is_clflush flush in cc
+kept-needed T t l i (ByClflush u) flush = let same = act-unique T i (Clflushes u.line) (Flushes t l) u.is_clflush flush in cc
 
 -- the fence that needs a flush raises the front of its line
 pub needed-raises : (T : Recording) (t l i : ℕ) (f : IsNeededFlush T t l i) → front_at T l f.before < front_at T l (suc f.before)

@@ -1,7 +1,7 @@
 -- A trimmed trace has no redundant flush and no fence without flush.
 use Rattle.std.proofs.Common.{◌≡◌, ◌≢◌, ℕ, zero, suc, ◌-◌, ◌<◌, ◌≤◌, max, ◌⊎◌, inl, inr, List, sym, ap, subst, ◌∙◌, arith, true≢false, ⊎_elim}
 use Rattle.std.proofs.lemmas.Bool.{cases_lt, cases_eq}
-use Rattle.pmt_model.specs.Machine.{Flushes, FlushesNow, Fences, Stores, count}
+use Rattle.pmt_model.specs.Machine.{Flushes, Clflushes, Fences, Stores, count}
 use Rattle.pmt_model.specs.Values.{Written}
 use Rattle.pmt_model.specs.Traces.{Recording, IsAct, history, count_at}
 use Rattle.pmt_model.specs.Fronts.{front, mark, front_at}
@@ -27,20 +27,20 @@ new-store T K l n keep above =
     (store.number, store.what, omega (arith, store.by_now), store.is_store, unsafe-store (cut T K) l (matching_place K n) store.number (omega (arith, store.stores)))
 
 -- a kept clflush waits for more stores than the front before
-kept-clflush : (T : Recording) (l n : ℕ) → IsKept T (suc n) → IsAct T (suc n) (FlushesNow l) → front_at T l n < count_at T l n
-kept-clflush T l n (Stays a is stays) clflush = absurd (true≢false (sym stays ∙ ap always_stays (act-unique T (suc n) a (FlushesNow l) is clflush)))
-kept-clflush T l n (ByFence u) clflush = let same = act-unique T (suc n) (Fences u.thread) (FlushesNow l) u.is_fence clflush in cc
-kept-clflush T l n (ByFlush u) clflush = let same = act-unique T (suc n) (Flushes u.thread u.line) (FlushesNow l) u.is_flush clflush in cc
+kept-clflush : (T : Recording) (l n : ℕ) → IsKept T (suc n) → IsAct T (suc n) (Clflushes l) → front_at T l n < count_at T l n
+kept-clflush T l n (Stays a is stays) clflush = absurd (true≢false (sym stays ∙ ap always_stays (act-unique T (suc n) a (Clflushes l) is clflush)))
+kept-clflush T l n (ByFence u) clflush = let same = act-unique T (suc n) (Fences u.thread) (Clflushes l) u.is_fence clflush in cc
+kept-clflush T l n (ByFlush u) clflush = let same = act-unique T (suc n) (Flushes u.thread u.line) (Clflushes l) u.is_flush clflush in cc
 kept-clflush T l n (ByClflush u) clflush =
-    let same = act-unique T (suc n) (FlushesNow u.line) (FlushesNow l) u.is_clflush clflush in
+    let same = act-unique T (suc n) (Clflushes u.line) (Clflushes l) u.is_clflush clflush in
     let line : u.line ≡ l = cc in
     let before : suc n - 1 ≡ n = omega arith in
     let raises : front_at T l (suc n) ≢ front_at T l n = rw before at (subst (λ k. front_at T k (suc n) ≢ front_at T k (suc n - 1)) line u.raises) in
-    let now : front_at T l (suc n) ≡ count_at T l n = ap (front l) (history-act T n (FlushesNow l) clflush) ∙ front-flush_now l (history T n) in
+    let now : front_at T l (suc n) ≡ count_at T l n = ap (front l) (history-act T n (Clflushes l) clflush) ∙ front-flush_now l (history T n) in
     omega (arith, front-le-count l (history T n))
 
 -- a kept clflush is not redundant
-clflush-not_redundant : (T : Recording) (K : List ℕ) (l n : ℕ) → IsKeep T K → Has K (suc n) → IsAct T (suc n) (FlushesNow l) →
+clflush-not_redundant : (T : Recording) (K : List ℕ) (l n : ℕ) → IsKeep T K → Has K (suc n) → IsAct T (suc n) (Clflushes l) →
     ¬ IsRedundantClflush (cut T K) l (suc (matching_place K n))
 clflush-not_redundant T K l n keep has clflush redundant =
     let store = new-store T K l n keep (kept-clflush T l n ((keep.just (suc n)).0 has) clflush) in
@@ -97,7 +97,7 @@ kept-fence T t n (ByFence u) fence =
     let raises : front_at T u.line (suc n) ≢ front_at T u.line n = rw before at u.raises in
     (u.line, omega (arith, front-mono T u.line n (suc n)))
 kept-fence T t n (ByFlush u) fence = let same = act-unique T (suc n) (Flushes u.thread u.line) (Fences t) u.is_flush fence in cc
-kept-fence T t n (ByClflush u) fence = let same = act-unique T (suc n) (FlushesNow u.line) (Fences t) u.is_clflush fence in cc
+kept-fence T t n (ByClflush u) fence = let same = act-unique T (suc n) (Clflushes u.line) (Fences t) u.is_clflush fence in cc
 
 -- with a kept flush of more stores than the front before it, a fence is not empty
 flushed-not_empty : (T : Recording) (K : List ℕ) (l i x : ℕ) → IsSelection T K → (e : IsEmptyFence (cut T K) i) → (o : IsOrigin T K i (Fences e.thread)) →
@@ -133,5 +133,5 @@ no_waste T K keep = record { flushes = no_flush; clflushes = no_clflush; fences 
 
     no_clflush : (l i : ℕ) → ¬ IsRedundantClflush (cut T K) l i
     no_clflush l i r =
-        let o = act-origin T K i (FlushesNow l) (keep_is_selection T K keep) r.is_clflush in
+        let o = act-origin T K i (Clflushes l) (keep_is_selection T K keep) r.is_clflush in
         clflush-not_redundant T K l o.before keep o.has o.is_act (subst (IsRedundantClflush (cut T K) l) (sym o.place) r)

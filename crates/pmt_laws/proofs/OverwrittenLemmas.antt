@@ -3,9 +3,9 @@ use Rattle.std.proofs.Common.{◌≡◌, ◌≢◌, ℕ, zero, suc, ◌-◌, ◌
 use Rattle.std.proofs.lemmas.Bool.{true≢false, cases_order, eqb-false}
 use Rattle.std.specs.Prelude.{if◌then◌else◌}
 use Rattle.pmt_model.specs.Values.{Written}
-use Rattle.pmt_model.specs.Machine.{Act, Stores, Flushes, FlushesNow, Fences, Asserts, writes}
+use Rattle.pmt_model.specs.Machine.{Act, Stores, Flushes, Clflushes, Fences, Asserts, writes}
 use Rattle.pmt_model.specs.Traces.{Recording, IsAct, history}
-use Rattle.pmt_model.specs.Findings.{IsFlushOf, ByFlush, ByClflush, IsOverwritten, OverwritesBefore, OverwrittenByNumbers, last_number, last_flush}
+use Rattle.pmt_model.specs.Findings.{IsFlushOf, ByFlush, ByClflush, IsOverwritten, OverwritesBefore, OverwrittenByNumbers, last_store_number, last_flush}
 use Rattle.pmt_laws.proofs.Histories.{act-unique, act-within, history-act, history-step, length-history}
 
 -- Event j is the last one of the first n events that writes the byte at b.
@@ -61,7 +61,7 @@ other-store T b n l w is not_it k x store written =
     absurd (true≢false (sym written ∙ ap (λ y. writes y b) (sym same_what) ∙ not_it))
 
 -- the last writer after a store
-store-tells : (T : Recording) (b n l : ℕ) (w : Written) (v : Bool) → writes w b ≡ v → IsAct T (suc n) (Stores l w) → LastWriter T b n (last_number b (history T n)) → LastWriter T b (suc n) (if v then Some (suc (length (history T n))) else last_number b (history T n))
+store-tells : (T : Recording) (b n l : ℕ) (w : Written) (v : Bool) → writes w b ≡ v → IsAct T (suc n) (Stores l w) → LastWriter T b n (last_store_number b (history T n)) → LastWriter T b (suc n) (if v then Some (suc (length (history T n))) else last_store_number b (history T n))
 store-tells T b n l w true it is before =
     let e : length (history T n) ≡ n = length-history T n (let h = act-within T (suc n) (Stores l w) is in omega (arith, h.1)) in
     let here : IsLastWriter T b (suc n) (suc n) = record {
@@ -74,25 +74,25 @@ store-tells T b n l w true it is before =
     } in
     let P : ℕ → Type 0 = λ i. IsLastWriter T b (suc n) (suc i) in
     subst P (sym e) here
-store-tells T b n l w false not_it is before = later-writer T b n (last_number b (history T n)) (other-store T b (suc n) l w is not_it) before
+store-tells T b n l w false not_it is before = later-writer T b n (last_store_number b (history T n)) (other-store T b (suc n) l w is not_it) before
 
 -- the last writer after one more act
-act-tells : (T : Recording) (b n : ℕ) (a : Act) → IsAct T (suc n) a → LastWriter T b n (last_number b (history T n)) → LastWriter T b (suc n) (last_number b (a ∷ history T n))
+act-tells : (T : Recording) (b n : ℕ) (a : Act) → IsAct T (suc n) a → LastWriter T b n (last_store_number b (history T n)) → LastWriter T b (suc n) (last_store_number b (a ∷ history T n))
 act-tells T b n (Stores l w) is before = store-tells T b n l w (writes w b) refl is before
-act-tells T b n (Flushes t l) is before = later-writer T b n (last_number b (history T n)) (no-store T b (suc n) (Flushes t l) is (λ k w e. cc)) before
-act-tells T b n (FlushesNow l) is before = later-writer T b n (last_number b (history T n)) (no-store T b (suc n) (FlushesNow l) is (λ k w e. cc)) before
-act-tells T b n (Fences t) is before = later-writer T b n (last_number b (history T n)) (no-store T b (suc n) (Fences t) is (λ k w e. cc)) before
-act-tells T b n Asserts is before = later-writer T b n (last_number b (history T n)) (no-store T b (suc n) Asserts is (λ k w e. cc)) before
+act-tells T b n (Flushes t l) is before = later-writer T b n (last_store_number b (history T n)) (no-store T b (suc n) (Flushes t l) is (λ k w e. cc)) before
+act-tells T b n (Clflushes l) is before = later-writer T b n (last_store_number b (history T n)) (no-store T b (suc n) (Clflushes l) is (λ k w e. cc)) before
+act-tells T b n (Fences t) is before = later-writer T b n (last_store_number b (history T n)) (no-store T b (suc n) (Fences t) is (λ k w e. cc)) before
+act-tells T b n Asserts is before = later-writer T b n (last_store_number b (history T n)) (no-store T b (suc n) Asserts is (λ k w e. cc)) before
 
 -- the number of the last store to a byte tells which event writes it last
-pub last_number-tells : (T : Recording) (b n : ℕ) → LastWriter T b n (last_number b (history T n))
-last_number-tells T b zero = λ k l w by_now is. absurd (let h = act-within T k (Stores l w) is in omega (arith, h.0))
-last_number-tells T b (suc n) =
+pub last_store_number-tells : (T : Recording) (b n : ℕ) → LastWriter T b n (last_store_number b (history T n))
+last_store_number-tells T b zero = λ k l w by_now is. absurd (let h = act-within T k (Stores l w) is in omega (arith, h.0))
+last_store_number-tells T b (suc n) =
     elim (history-step T n) [
-      | inl x ↦ let P : List Act → Type 0 = λ h. LastWriter T b (suc n) (last_number b h) in
-          subst P (sym (history-act T n x.0 x.1)) (act-tells T b n x.0 x.1 (last_number-tells T b n))
-      | inr x ↦ let P : List Act → Type 0 = λ h. LastWriter T b (suc n) (last_number b h) in
-          subst P (sym x.1) (later-writer T b n (last_number b (history T n)) (λ l w is. absurd (let h = act-within T (suc n) (Stores l w) is in omega (arith, h.1, x.0))) (last_number-tells T b n))
+      | inl x ↦ let P : List Act → Type 0 = λ h. LastWriter T b (suc n) (last_store_number b h) in
+          subst P (sym (history-act T n x.0 x.1)) (act-tells T b n x.0 x.1 (last_store_number-tells T b n))
+      | inr x ↦ let P : List Act → Type 0 = λ h. LastWriter T b (suc n) (last_store_number b h) in
+          subst P (sym x.1) (later-writer T b n (last_store_number b (history T n)) (λ l w is. absurd (let h = act-within T (suc n) (Stores l w) is in omega (arith, h.1, x.0))) (last_store_number-tells T b n))
     ]
 
 -- Number f is that of the last flush of line l among the first n events, or 0.
@@ -103,7 +103,7 @@ pub record IsLastFlush (T : Recording) (l n f : ℕ) : Type 0 where
 -- a flush has a number within the events
 flush-within : (T : Recording) (l i : ℕ) → IsFlushOf T l i → (1 ≤ i) × (i ≤ length T.events)
 flush-within T l i (ByFlush t is) = act-within T i (Flushes t l) is
-flush-within T l i (ByClflush is) = act-within T i (FlushesNow l) is
+flush-within T l i (ByClflush is) = act-within T i (Clflushes l) is
 
 -- an event that is no flush of the line leaves its last flush
 later-flush : (T : Recording) (l n f : ℕ) → (IsFlushOf T l (suc n) → ⊥) → IsLastFlush T l n f → IsLastFlush T l (suc n) f
@@ -124,12 +124,12 @@ flush-here T l n flush =
     subst P (sym e) here
 
 -- the act of a flush of the line
-flush-act : (T : Recording) (l i : ℕ) (a : Act) → IsAct T i a → IsFlushOf T l i → ((t : ℕ) × (a ≡ Flushes t l)) ⊎ (a ≡ FlushesNow l)
+flush-act : (T : Recording) (l i : ℕ) (a : Act) → IsAct T i a → IsFlushOf T l i → ((t : ℕ) × (a ≡ Flushes t l)) ⊎ (a ≡ Clflushes l)
 flush-act T l i a is (ByFlush t flush) = inl (t, act-unique T i a (Flushes t l) is flush)
-flush-act T l i a is (ByClflush flush) = inr (act-unique T i a (FlushesNow l) is flush)
+flush-act T l i a is (ByClflush flush) = inr (act-unique T i a (Clflushes l) is flush)
 
 -- an event with another act than a flush of the line is none
-no-flush : (T : Recording) (l i : ℕ) (a : Act) → IsAct T i a → ((t : ℕ) → a ≢ Flushes t l) → a ≢ FlushesNow l → IsFlushOf T l i → ⊥
+no-flush : (T : Recording) (l i : ℕ) (a : Act) → IsAct T i a → ((t : ℕ) → a ≢ Flushes t l) → a ≢ Clflushes l → IsFlushOf T l i → ⊥
 no-flush T l i a is other other_now flush = elim (flush-act T l i a is flush) [ inl x ↦ other x.0 x.1 | inr e ↦ other_now e ]
 
 -- the last flush of the line after a flush by a thread
@@ -142,19 +142,19 @@ flush-tells T t l n k false other is before =
     later-flush T l n (last_flush l (history T n)) (no-flush T l (suc n) (Flushes t k) is (λ u e. let s : k ≡ l = cc in eqb-false k l other s) (λ e. cc)) before
 
 -- the last flush of the line after a clflush
-clflush-tells : (T : Recording) (l n k : ℕ) (v : Bool) → (k == l) ≡ v → IsAct T (suc n) (FlushesNow k) → IsLastFlush T l n (last_flush l (history T n)) → IsLastFlush T l (suc n) (if v then suc (length (history T n)) else last_flush l (history T n))
+clflush-tells : (T : Recording) (l n k : ℕ) (v : Bool) → (k == l) ≡ v → IsAct T (suc n) (Clflushes k) → IsLastFlush T l n (last_flush l (history T n)) → IsLastFlush T l (suc n) (if v then suc (length (history T n)) else last_flush l (history T n))
 clflush-tells T l n k true same is before =
     let e : k ≡ l = eqb-true k l same in
-    let P : ℕ → Type 0 = λ m. IsAct T (suc n) (FlushesNow m) in
+    let P : ℕ → Type 0 = λ m. IsAct T (suc n) (Clflushes m) in
     flush-here T l n (ByClflush (subst P e is))
 clflush-tells T l n k false other is before =
-    later-flush T l n (last_flush l (history T n)) (no-flush T l (suc n) (FlushesNow k) is (λ u e. cc) (λ e. let s : k ≡ l = cc in eqb-false k l other s)) before
+    later-flush T l n (last_flush l (history T n)) (no-flush T l (suc n) (Clflushes k) is (λ u e. cc) (λ e. let s : k ≡ l = cc in eqb-false k l other s)) before
 
 -- the last flush of the line after one more act
 act-flushes : (T : Recording) (l n : ℕ) (a : Act) → IsAct T (suc n) a → IsLastFlush T l n (last_flush l (history T n)) → IsLastFlush T l (suc n) (last_flush l (a ∷ history T n))
 act-flushes T l n (Stores k w) is before = later-flush T l n (last_flush l (history T n)) (no-flush T l (suc n) (Stores k w) is (λ t e. cc) (λ e. cc)) before
 act-flushes T l n (Flushes t k) is before = flush-tells T t l n k (k == l) refl is before
-act-flushes T l n (FlushesNow k) is before = clflush-tells T l n k (k == l) refl is before
+act-flushes T l n (Clflushes k) is before = clflush-tells T l n k (k == l) refl is before
 act-flushes T l n (Fences t) is before = later-flush T l n (last_flush l (history T n)) (no-flush T l (suc n) (Fences t) is (λ u e. cc) (λ e. cc)) before
 act-flushes T l n Asserts is before = later-flush T l n (last_flush l (history T n)) (no-flush T l (suc n) Asserts is (λ u e. cc) (λ e. cc)) before
 
@@ -185,12 +185,12 @@ writer-unique T b n j (Some i) tells it =
     ]
 
 -- the number of the last store to a byte is that of its last writer
-pub last_number-from : (T : Recording) (b n j : ℕ) → IsLastWriter T b n j → last_number b (history T n) ≡ Some j
-last_number-from T b n j it = writer-unique T b n j (last_number b (history T n)) (last_number-tells T b n) it
+pub last_store_number-from : (T : Recording) (b n j : ℕ) → IsLastWriter T b n j → last_store_number b (history T n) ≡ Some j
+last_store_number-from T b n j it = writer-unique T b n j (last_store_number b (history T n)) (last_store_number-tells T b n) it
 
 -- the last writer of a byte, from the number of the last store to it
-pub last_number-is : (T : Recording) (b n j : ℕ) → last_number b (history T n) ≡ Some j → IsLastWriter T b n j
-last_number-is T b n j e = let P : Option ℕ → Type 0 = λ o. LastWriter T b n o in subst P e (last_number-tells T b n)
+pub last_store_number-is : (T : Recording) (b n j : ℕ) → last_store_number b (history T n) ≡ Some j → IsLastWriter T b n j
+last_store_number-is T b n j e = let P : Option ℕ → Type 0 = λ o. LastWriter T b n o in subst P e (last_store_number-tells T b n)
 
 -- a store comes after the last flush of its line, if no flush of the line comes after it
 store-after_flush : (T : Recording) (l j n f : ℕ) (w : Written) → IsAct T j (Stores l w) → ((k : ℕ) → j < k → k ≤ n → IsFlushOf T l k → ⊥) → IsLastFlush T l n f → f < j
@@ -224,7 +224,7 @@ numbers-from_overwritten T j i it =
       is_earlier = it.is_earlier;
       is_later = it.is_later;
       writes_later = it.writes_later;
-      last = last_number-from T it.byte (i - 1) j writer;
+      last = last_store_number-from T it.byte (i - 1) j writer;
       unflushed = store-after_flush T it.line j (i - 1) (last_flush it.line (history T (i - 1))) it.earlier it.is_earlier (λ k later by_now. it.unflushed k later (before-one k i within.0 by_now)) (last_flush-tells T it.line (i - 1));
     }
 
@@ -232,7 +232,7 @@ numbers-from_overwritten T j i it =
 overwritten-from_numbers : (T : Recording) (l j i : ℕ) (earlier later : Written) (byte : ℕ) → OverwritesBefore T l j i earlier later byte → IsOverwritten T j i
 overwritten-from_numbers T l j i earlier later byte it =
     let within = act-within T i (Stores l later) it.is_later in
-    let writer = last_number-is T byte (i - 1) j it.last in
+    let writer = last_store_number-is T byte (i - 1) j it.last in
     let flushed = last_flush-tells T l (i - 1) in
     let same : Stores writer.line writer.what ≡ Stores l earlier = act-unique T j (Stores writer.line writer.what) (Stores l earlier) writer.is_store it.is_earlier in
     let same_what : writer.what ≡ earlier = cc in

@@ -3,7 +3,7 @@ use Rattle.std.proofs.Common.{◌≡◌, ◌≢◌, ℕ, zero, suc, ◌-◌, ◌
 use Rattle.std.proofs.lemmas.Bool.{true≢false, cases_order, cases_lt, eqb-false, and_parts, and_from}
 use Rattle.std.specs.Prelude.{if◌then◌else◌}
 use Rattle.pmt_model.specs.Values.{Written}
-use Rattle.pmt_model.specs.Machine.{Act, Stores, Flushes, FlushesNow, Fences, Asserts, count}
+use Rattle.pmt_model.specs.Machine.{Act, Stores, Flushes, Clflushes, Fences, Asserts, count}
 use Rattle.pmt_model.specs.Traces.{Recording, IsAct, history, count_at}
 use Rattle.pmt_model.specs.Fronts.{front, front_at, open_mark}
 use Rattle.pmt_model.specs.Findings.{IsSafe, IsCovered, IsRedundantFlush, IsRedundantClflush, RedundantFlushByFronts, RedundantClflushByFronts}
@@ -71,7 +71,7 @@ here-store T l n k w false other is before = later-store T l n (count l (history
 act-store : (T : Recording) (l n : ℕ) (a : Act) → IsAct T (suc n) a → LastStore T l n (count l (history T n)) → LastStore T l (suc n) (count l (a ∷ history T n))
 act-store T l n (Stores k w) is before = here-store T l n k w (k == l) refl is before
 act-store T l n (Flushes t k) is before = later-store T l n (count l (history T n)) before
-act-store T l n (FlushesNow k) is before = later-store T l n (count l (history T n)) before
+act-store T l n (Clflushes k) is before = later-store T l n (count l (history T n)) before
 act-store T l n (Fences t) is before = later-store T l n (count l (history T n)) before
 act-store T l n Asserts is before = later-store T l n (count l (history T n)) before
 
@@ -185,8 +185,8 @@ act-mark : (T : Recording) (t l n : ℕ) (a : Act) → IsAct T (suc n) a → Ope
 act-mark T t l n (Stores k w) is before =
     later-mark T t l n (open_mark t l (history T n)) (other-act T (suc n) (Stores k w) (Flushes t l) is (λ e. cc)) (other-act T (suc n) (Stores k w) (Fences t) is (λ e. cc)) before
 act-mark T t l n (Flushes u k) is before = flush-mark T t l n u k ((u == t) && (k == l)) refl is before
-act-mark T t l n (FlushesNow k) is before =
-    later-mark T t l n (open_mark t l (history T n)) (other-act T (suc n) (FlushesNow k) (Flushes t l) is (λ e. cc)) (other-act T (suc n) (FlushesNow k) (Fences t) is (λ e. cc)) before
+act-mark T t l n (Clflushes k) is before =
+    later-mark T t l n (open_mark t l (history T n)) (other-act T (suc n) (Clflushes k) (Flushes t l) is (λ e. cc)) (other-act T (suc n) (Clflushes k) (Fences t) is (λ e. cc)) before
 act-mark T t l n (Fences u) is before = fence-mark T t l n u (u == t) refl is before
 act-mark T t l n Asserts is before =
     later-mark T t l n (open_mark t l (history T n)) (other-act T (suc n) Asserts (Flushes t l) is (λ e. cc)) (other-act T (suc n) Asserts (Fences t) is (λ e. cc)) before
@@ -272,8 +272,8 @@ all-safe T l i c some it (inr x) =
 -- a clflush is redundant exactly where the front counts all stores to the line already
 pub redundant_clflush_by_fronts : RedundantClflushByFronts
 redundant_clflush_by_fronts T l i is =
-    let within = act-within T i (FlushesNow l) is in
-    let same : count_at T l i ≡ count_at T l (i - 1) = count-left T l i (FlushesNow l) is (λ h. refl) in (
+    let within = act-within T i (Clflushes l) is in
+    let same : count_at T l i ≡ count_at T l (i - 1) = count-left T l i (Clflushes l) is (λ h. refl) in (
       λ it. omega (arith, same, all-safe T l i (count_at T l (i - 1)) within.0 it (last-store T l (i - 1))),
       λ below. record {
         is_clflush = is;

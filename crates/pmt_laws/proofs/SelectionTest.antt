@@ -2,7 +2,7 @@
 use Rattle.std.proofs.Common.{◌≡◌, ℕ, zero, suc, ◌≤◌, ◌⊎◌, ◌==◌, ◌&&◌, ◌||◌, Bool, true, false, List, [], ◌∷◌, length, Option, Some, None, sym, ◌∙◌, ap, subst, inl, inr, arith}
 use Rattle.std.specs.Prelude.{nat_lt, nat_le}
 use Rattle.std.proofs.lemmas.Bool.{and_parts, or_cases, ltb-true, leb-true, eqb-true, cases_eq}
-use Rattle.pmt_model.specs.Machine.{Act, Stores, Flushes, FlushesNow, Fences, Asserts}
+use Rattle.pmt_model.specs.Machine.{Act, Stores, Flushes, Clflushes, Fences, Asserts}
 use Rattle.pmt_model.specs.Traces.{Recording, IsAct}
 use Rattle.pmt_model.specs.Selections.{IsRising, Has, always_stays, IsSelection}
 use Rattle.pmt_laws.proofs.Histories.{act-within}
@@ -23,7 +23,7 @@ abbrev may_go : List ℕ → ℕ → Option Act → Bool
 may_go K n None = true
 may_go K n (Some (Stores l w)) = has_number K n
 may_go K n (Some (Flushes t l)) = true
-may_go K n (Some (FlushesNow l)) = true
+may_go K n (Some (Clflushes l)) = true
 may_go K n (Some (Fences t)) = true
 may_go K n (Some Asserts) = has_number K n
 
@@ -69,7 +69,7 @@ has_number-has (k ∷ ks) n e = go (has_number-has ks n) (or_cases (k == n) (has
 may_go-has : (K : List ℕ) (n : ℕ) (a : Act) → may_go K n (Some a) ≡ true → always_stays a ≡ true → Has K n
 may_go-has K n (Stores l w) e stays = has_number-has K n e
 may_go-has K n (Flushes t l) e stays = cc
-may_go-has K n (FlushesNow l) e stays = cc
+may_go-has K n (Clflushes l) e stays = cc
 may_go-has K n (Fences t) e stays = cc
 may_go-has K n Asserts e stays = has_number-has K n e
 

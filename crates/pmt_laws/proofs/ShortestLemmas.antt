@@ -1,7 +1,7 @@
 -- No selection with the same counts of persisted stores at every place is shorter than the kept one.
 use Rattle.pmt_model.specs.Shortest.{KeepIsShortest}
 use Rattle.pmt_laws.proofs.Pigeonhole.{pigeonhole}
-use Rattle.pmt_laws.proofs.Partners.{IsPartner, partners-differ, kept-partner}
+use Rattle.pmt_laws.proofs.ShortestPairs.{IsPartner, partners-differ, kept-partner}
 
 pub keep_shortest : KeepIsShortest
 keep_shortest T K S keep selection same =

@@ -4,7 +4,7 @@ use Rattle.std.proofs.lemmas.Bool.{le-leb}
 use Rattle.std.proofs.lemmas.Option.{IfSome_then, none-some}
 use Rattle.pmt_model.specs.Values.{Span}
 use Rattle.pmt_model.specs.declared.event.Event.{Event}
-use Rattle.pmt_model.specs.Machine.{Act, Stores, Flushes, FlushesNow, Fences, Asserts, count, writes}
+use Rattle.pmt_model.specs.Machine.{Act, Stores, Flushes, Clflushes, Fences, Asserts, count, writes}
 use Rattle.pmt_model.specs.Traces.{Recording, event, IsAct, history, count_at}
 use Rattle.pmt_model.specs.Fronts.{front, front_at}
 use Rattle.pmt_model.specs.Selections.{Has, always_stays, IsSelection, cut, matching_place}
@@ -28,7 +28,7 @@ last_store-same b (Stores k w) g h c e =
       | false ↦ e
     ]
 last_store-same b (Flushes t k) g h c e = e
-last_store-same b (FlushesNow k) g h c e = e
+last_store-same b (Clflushes k) g h c e = e
 last_store-same b (Fences t) g h c e = e
 last_store-same b Asserts g h c e = e
 
@@ -36,7 +36,7 @@ last_store-same b Asserts g h c e = e
 last_store-dropped : (b : ℕ) (a : Act) (h : List Act) → always_stays a ≡ false → last_store b (a ∷ h) ≡ last_store b h
 last_store-dropped b (Stores k w) h free = absurd (true≢false free)
 last_store-dropped b (Flushes t k) h free = refl
-last_store-dropped b (FlushesNow k) h free = refl
+last_store-dropped b (Clflushes k) h free = refl
 last_store-dropped b (Fences t) h free = refl
 last_store-dropped b Asserts h free = refl
 
@@ -63,7 +63,7 @@ up_to-same l b (Stores k w) g h f e =
       | false ↦ e
     ]
 up_to-same l b (Flushes t k) g h f e = e
-up_to-same l b (FlushesNow k) g h f e = e
+up_to-same l b (Clflushes k) g h f e = e
 up_to-same l b (Fences t) g h f e = e
 up_to-same l b Asserts g h f e = e
 
@@ -71,7 +71,7 @@ up_to-same l b Asserts g h f e = e
 up_to-dropped : (l b : ℕ) (a : Act) (h : List Act) → always_stays a ≡ false → front l (up_to_last b (a ∷ h)) ≡ front l (up_to_last b h)
 up_to-dropped l b (Stores k w) h free = absurd (true≢false free)
 up_to-dropped l b (Flushes t k) h free = refl
-up_to-dropped l b (FlushesNow k) h free = refl
+up_to-dropped l b (Clflushes k) h free = refl
 up_to-dropped l b (Fences t) h free = refl
 up_to-dropped l b Asserts h free = refl
 

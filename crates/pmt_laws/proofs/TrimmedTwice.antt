@@ -1,6 +1,6 @@
 -- Each event of a trimmed trace would be kept again.
 use Rattle.std.proofs.Common.{◌≡◌, ◌≢◌, ℕ, zero, suc, ◌-◌, ◌<◌, List, refl, sym, ap, subst, ◌∙◌, arith}
-use Rattle.pmt_model.specs.Machine.{Act, Flushes, FlushesNow, Fences}
+use Rattle.pmt_model.specs.Machine.{Act, Flushes, Clflushes, Fences}
 use Rattle.pmt_model.specs.Traces.{Recording, act, IsAct, count_at}
 use Rattle.pmt_model.specs.Fronts.{front_at}
 use Rattle.pmt_model.specs.Selections.{Has, IsSelection, cut, matching_place}
@@ -66,7 +66,7 @@ kept-again T K n keep has (ByFence u) = ByFence (record {
 kept-again T K n keep has (ByFlush u) = needed-again T K u.thread u.line n keep has (useful-needed T (suc n) u)
 kept-again T K n keep has (ByClflush u) = ByClflush (record {
   line = u.line;
-  is_clflush = cut-act T K n (FlushesNow u.line) (keep_is_selection T K keep) has u.is_clflush;
+  is_clflush = cut-act T K n (Clflushes u.line) (keep_is_selection T K keep) has u.is_clflush;
   raises = raises-again T K u.line n keep has u.raises;
 })
 

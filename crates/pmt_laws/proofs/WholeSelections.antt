@@ -9,7 +9,7 @@ use Rattle.pmt_model.specs.Selections.{IsRising, Has, cut}
 use Rattle.pmt_model.specs.Shortest.{TrimmedStays}
 use Rattle.pmt_laws.proofs.Histories.{event-some}
 use Rattle.pmt_laws.proofs.CutLemmas.{has-above}
-use Rattle.pmt_laws.proofs.Partners.{not_later}
+use Rattle.pmt_laws.proofs.ShortestPairs.{not_later}
 use Rattle.pmt_laws.proofs.KeepLemmas.{keep_is_selection}
 use Rattle.pmt_laws.proofs.TrimmedTwice.{trimmed_twice}
 

@@ -2,7 +2,7 @@
 use Rattle.std.proofs.Common.{◌≡◌, ℕ, ◌<◌, ◌≤◌, ◌⊎◌, [], ◌∷◌, ◌-◌, true, inl, inr, refl, sym, subst, lit<, lit≤, arith}
 use Rattle.std.specs.Prelude.{nat_lt, nat_le}
 use Rattle.std.proofs.lemmas.Bool.{and_parts, leb-true, ltb-true}
-use Rattle.pmt_model.specs.Machine.{Stores, Flushes, FlushesNow, writes}
+use Rattle.pmt_model.specs.Machine.{Stores, Flushes, Clflushes, writes}
 use Rattle.pmt_model.specs.declared.finding.Finding.TheVariants.{RedundantFlush, Overwritten}
 use Rattle.pmt_model.specs.Values.{Written}
 use Rattle.pmt_model.specs.Traces.{history}
@@ -29,7 +29,7 @@ first_is_needed (inl (t, l, redundant)) =
         let above : 1 ≤ 0 = (redundant_flush_by_fronts double_flush 0 64 2 (clwb 0 0x1000, refl, refl)).0 exact in
         omega arith
 first_is_needed (inr (l, redundant)) =
-    let e : FlushesNow l ≡ Flushes 0 64 = act-unique double_flush 2 (FlushesNow l) (Flushes 0 64) redundant.is_clflush (clwb 0 0x1000, refl, refl) in cc
+    let e : Clflushes l ≡ Flushes 0 64 = act-unique double_flush 2 (Clflushes l) (Flushes 0 64) redundant.is_clflush (clwb 0 0x1000, refl, refl) in cc
 
 -- The first flush marks the store, and the second one alone is kept.
 pub double_flush_says : DoubleFlush

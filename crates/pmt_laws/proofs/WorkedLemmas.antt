@@ -2,7 +2,7 @@
 use Rattle.std.proofs.Common.{◌≡◌, ℕ, zero, suc, ◌-◌, ◌<◌, ◌≤◌, ◌⊎◌, ◌↔◌, Bool, true, false, List, [], ◌∷◌, Option, Some, None, inl, inr, refl, sym, ◌∙◌, ap, subst, lit<, lit≤, arith}
 use Rattle.std.specs.Prelude.{nat_lt, nat_le, slice_get, ◌==◌, ◌&&◌, if◌then◌else◌}
 use Rattle.std.proofs.lemmas.Bool.{false≢true, cases_eq, eq-eqb, ne_eqb, le-leb, leb-true, lt-ltb, ltb-true, and_from, and_parts, cond-true, cond-false, false_from_ne_true}
-use Rattle.pmt_model.specs.Machine.{Act, Stores, Flushes, FlushesNow, Fences, State, Ends, Image, writes, write, image_of, Crash, count}
+use Rattle.pmt_model.specs.Machine.{Act, Stores, Flushes, Clflushes, Fences, State, Ends, Image, writes, write, image_of, Crash, count}
 use Rattle.pmt_model.specs.Traces.{IsAct, history, CrashAt, VectorsAt}
 use Rattle.pmt_model.specs.Fronts.{front, front_at}
 use Rattle.pmt_model.specs.Boxes.{InBox}
@@ -159,7 +159,7 @@ fence_alone l (j, after, flush) = by_kind flush
 
     by_kind : IsFlushOf store_after_flush l j → ⊥
     by_kind (ByFlush t is) = let e : Fences 0 ≡ Flushes t l = at_fence (Flushes t l) is in cc
-    by_kind (ByClflush is) = let e : Fences 0 ≡ FlushesNow l = at_fence (FlushesNow l) is in cc
+    by_kind (ByClflush is) = let e : Fences 0 ≡ Clflushes l = at_fence (Clflushes l) is in cc
 
 -- The store after the flush stays pending.
 pub store_after_flush_says : StoreAfterFlush

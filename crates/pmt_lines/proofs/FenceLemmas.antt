@@ -3,7 +3,7 @@ use Rattle.std.proofs.Common.{◌≡◌, ◌≢◌, ℕ, zero, suc, ◌+◌, ◌
 use Rattle.std.specs.Prelude.{◌==◌, ◌||◌, if◌then◌else◌, ◌↔◌}
 use Rattle.std.proofs.lemmas.Bool.{cases_lt, cases_eq, eq-eqb, ne_eqb, eqb-true, false≢true, both_ways}
 use Rattle.std.proofs.lemmas.List.{drop_more, drop_all, get_or-set_same, get_or-set_other, length-set}
-use Rattle.pmt_model.specs.Machine.{Act, Stores, Flushes, FlushesNow, Fences, Asserts}
+use Rattle.pmt_model.specs.Machine.{Act, Stores, Flushes, Clflushes, Fences, Asserts}
 use Rattle.pmt_model.specs.Traces.{Recording, IsAct, history}
 use Rattle.pmt_model.specs.Findings.{IsEmptyFence}
 use Rattle.pmt_model.specs.Selections.{IsRising, Has}
@@ -19,7 +19,7 @@ abbrev pub has_flushed : ℕ → List Act → Bool
 has_flushed t [] = false
 has_flushed t (Stores l w ∷ h) = has_flushed t h
 has_flushed t (Flushes u l ∷ h) = if u == t then true else has_flushed t h
-has_flushed t (FlushesNow l ∷ h) = has_flushed t h
+has_flushed t (Clflushes l ∷ h) = has_flushed t h
 has_flushed t (Fences u ∷ h) = if u == t then false else has_flushed t h
 has_flushed t (Asserts ∷ h) = has_flushed t h
 
@@ -27,14 +27,14 @@ has_flushed t (Asserts ∷ h) = has_flushed t h
 abbrev pub LeavesFlushed : ℕ → Act → Type 0
 LeavesFlushed t (Stores l w) = Unit {0}
 LeavesFlushed t (Flushes u l) = u ≢ t
-LeavesFlushed t (FlushesNow l) = Unit {0}
+LeavesFlushed t (Clflushes l) = Unit {0}
 LeavesFlushed t (Fences u) = u ≢ t
 LeavesFlushed t Asserts = Unit {0}
 
 pub has_flushed-left : (t : ℕ) (a : Act) (h : List Act) → LeavesFlushed t a → has_flushed t (a ∷ h) ≡ has_flushed t h
 has_flushed-left t (Stores l w) h other = refl
 has_flushed-left t (Flushes u l) h other = rw (ne_eqb u t other) refl
-has_flushed-left t (FlushesNow l) h other = refl
+has_flushed-left t (Clflushes l) h other = refl
 has_flushed-left t (Fences u) h other = rw (ne_eqb u t other) refl
 has_flushed-left t Asserts h other = refl
 
@@ -76,7 +76,7 @@ concern t (Flushes u l) =
   where
     thread-flush : (u t l k : ℕ) → Flushes u l ≡ Flushes t k → u ≡ t
     thread-flush u t l k e = cc
-concern t (FlushesNow l) = Another tt (λ k e. cc) (λ e. cc)
+concern t (Clflushes l) = Another tt (λ k e. cc) (λ e. cc)
 concern t (Fences u) =
     elim (cases_eq u t) [
       | inl same ↦ subst (λ v. Concern t (Fences v)) (sym same) Own_fence

@@ -3,7 +3,7 @@ use Rattle.std.proofs.Common.{◌≡◌, ◌≢◌, ℕ, zero, suc, ◌+◌, ◌
 use Rattle.std.specs.Prelude.{◌&&◌, ◌↔◌}
 use Rattle.std.proofs.lemmas.Bool.{cases_lt, cases_eq, both_ways, false≢true}
 use Rattle.std.proofs.lemmas.List.{drop_more, drop_all, get_or-set_same, get_or-set_other, length-set}
-use Rattle.pmt_model.specs.Machine.{Act, Stores, Flushes, FlushesNow, Fences, Asserts}
+use Rattle.pmt_model.specs.Machine.{Act, Stores, Flushes, Clflushes, Fences, Asserts}
 use Rattle.pmt_model.specs.Traces.{Recording, IsAct, history}
 use Rattle.pmt_model.specs.Findings.{IsEmptyFence}
 use Rattle.pmt_model.specs.Selections.{IsRising, Has}
@@ -46,7 +46,7 @@ flags-next T n flags nothing f = λ t within. f t within ∙ sym (go t (history-
     left : (t : ℕ) (a : Act) → IsAct T (suc n) a → has_flushed t (a ∷ history T n) ≡ has_flushed t (history T n)
     left t (Stores l w) is = refl
     left t (Flushes u l) is = absurd (nothing (AFlush u l is))
-    left t (FlushesNow l) is = refl
+    left t (Clflushes l) is = refl
     left t (Fences u) is = absurd (nothing (AFence u is))
     left t Asserts is = refl
 

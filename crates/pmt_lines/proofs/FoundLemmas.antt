@@ -4,7 +4,7 @@ use Rattle.std.specs.Prelude.{◌↔◌, replicate}
 use Rattle.std.proofs.lemmas.Bool.{cases_lt}
 use Rattle.std.proofs.lemmas.List.{get_or-replicate, drop_more, drop_all}
 use Rattle.pmt_model.specs.declared.finding.Finding.{Finding}
-use Rattle.pmt_model.specs.Machine.{Stores, Flushes, FlushesNow}
+use Rattle.pmt_model.specs.Machine.{Stores, Flushes, Clflushes}
 use Rattle.pmt_model.specs.Traces.{Recording, IsTrace, history}
 use Rattle.pmt_model.specs.Fronts.{front_at}
 use Rattle.pmt_model.specs.Findings.{last_flush}
@@ -50,7 +50,7 @@ finding-numbered T l f h = go (finding-act T l f h)
     go : HasAct T l (reported_at f) → 1 ≤ reported_at f
     go (AStore w is) = (act-within T (reported_at f) (Stores l w) is).0
     go (AFlush t is) = (act-within T (reported_at f) (Flushes t l) is).0
-    go (AClflush is) = (act-within T (reported_at f) (FlushesNow l) is).0
+    go (AClflush is) = (act-within T (reported_at f) (Clflushes l) is).0
 
 -- what is found at the next event that matters is added
 found-next : (T : Recording) (l low i : ℕ) (old fs : List Finding) → low < i → ((k : ℕ) → low < k → k < i → ¬ Touches T l k) → AreFoundTo T l low old → AreFoundAt T l i fs → AreFoundTo T l i (old ++ fs)

@@ -5,7 +5,7 @@ use Rattle.std.specs.List.{AllByRecursion}
 use Rattle.std.proofs.lemmas.Bool.{cases_lt}
 use Rattle.std.proofs.lemmas.List.{take-append-le, length-append}
 use Rattle.pmt_model.specs.declared.event.Event.{Event}
-use Rattle.pmt_model.specs.Machine.{Act, Stores, Flushes, FlushesNow, Fences, Asserts}
+use Rattle.pmt_model.specs.Machine.{Act, Stores, Flushes, Clflushes, Fences, Asserts}
 use Rattle.pmt_model.specs.Traces.{Recording, act, event, IsAct, history}
 use Rattle.pmt_model.specs.Pushing.{with_event}
 use Rattle.pmt_model.specs.Fronts.{open_mark}
@@ -89,25 +89,25 @@ module _ (T : Recording) (e : Event) where
   touches-from : (l k : ℕ) → k ≤ length T.events → Touches (with_event T e) l k → Touches T l k
   touches-from l k h (ByStore w is) = ByStore w (act-from k (Stores l w) h is)
   touches-from l k h (ByFlush t is) = ByFlush t (act-from k (Flushes t l) h is)
-  touches-from l k h (ByClflush is) = ByClflush (act-from k (FlushesNow l) h is)
+  touches-from l k h (ByClflush is) = ByClflush (act-from k (Clflushes l) h is)
   touches-from l k h (ByFence t is mark) = ByFence t (act-from k (Fences t) h is) (λ none. mark (ap (open_mark t l) (history-old (k - 1) (omega arith)) ∙ none))
 
   touches-to : (l k : ℕ) → Touches T l k → Touches (with_event T e) l k
   touches-to l k (ByStore w is) = ByStore w (act-to k (Stores l w) is)
   touches-to l k (ByFlush t is) = ByFlush t (act-to k (Flushes t l) is)
-  touches-to l k (ByClflush is) = ByClflush (act-to k (FlushesNow l) is)
+  touches-to l k (ByClflush is) = ByClflush (act-to k (Clflushes l) is)
   touches-to l k (ByFence t is mark) = ByFence t (act-to k (Fences t) is) (λ none. mark (sym (ap (open_mark t l) (history-old (k - 1) (omega (arith, (act-within T k (Fences t) is).1)))) ∙ none))
 
   touches-past : (l k : ℕ) → suc (length T.events) < k → ¬ Touches (with_event T e) l k
   touches-past l k h (ByStore w is) = act-past k (Stores l w) h is
   touches-past l k h (ByFlush t is) = act-past k (Flushes t l) h is
-  touches-past l k h (ByClflush is) = act-past k (FlushesNow l) h is
+  touches-past l k h (ByClflush is) = act-past k (Clflushes l) h is
   touches-past l k h (ByFence t is mark) = act-past k (Fences t) h is
 
   kind-to : (l n t : ℕ) (kind : StepKind) → IsKind T l n t kind → IsKind (with_event T e) l n t kind
   kind-to l n t (Store addr len) is = (is.0, act-to n (Stores l is.0) is.1, is.2, is.3)
   kind-to l n t Flush is = act-to n (Flushes t l) is
-  kind-to l n t Clflush is = act-to n (FlushesNow l) is
+  kind-to l n t Clflush is = act-to n (Clflushes l) is
   kind-to l n t Fence is = act-to n (Fences t) is
 
   step-to : (l : ℕ) (s : Step) → IsStepOf T l s → IsStepOf (with_event T e) l s

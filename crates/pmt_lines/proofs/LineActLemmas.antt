@@ -3,7 +3,7 @@ use Rattle.std.proofs.Common.{◌≡◌, ◌≢◌, ℕ, zero, suc, ◌+◌, ◌
 use Rattle.std.specs.Prelude.{◌==◌, ◌||◌, ◌&&◌, if◌then◌else◌}
 use Rattle.std.proofs.lemmas.Bool.{cases_lt, cases_eq, eq-eqb, ne_eqb, eqb-true, eqb-false, both_ways, or_parts, true≢false, false≢true}
 use Rattle.pmt_model.specs.Values.{Written}
-use Rattle.pmt_model.specs.Machine.{Act, Stores, Flushes, FlushesNow, Fences, Asserts, count}
+use Rattle.pmt_model.specs.Machine.{Act, Stores, Flushes, Clflushes, Fences, Asserts, count}
 use Rattle.pmt_model.specs.Traces.{Recording, IsAct, history, has_line, with_line, lines_of}
 use Rattle.pmt_model.specs.Fronts.{open_mark}
 use Rattle.pmt_laws.proofs.Histories.{history-act, history-step, act-within, act-unique}
@@ -16,7 +16,7 @@ use Rattle.pmt_lines.proofs.PlaceLemmas.{has_line-push}
 abbrev pub IsOnLine : ℕ → Act → Type 0
 IsOnLine l (Stores k w) = k ≡ l
 IsOnLine l (Flushes t k) = k ≡ l
-IsOnLine l (FlushesNow k) = k ≡ l
+IsOnLine l (Clflushes k) = k ≡ l
 IsOnLine l (Fences t) = ⊥
 IsOnLine l Asserts = ⊥
 
@@ -24,7 +24,7 @@ IsOnLine l Asserts = ⊥
 pub touches-own_line : (T : Recording) (n l : ℕ) (a : Act) → IsAct T n a → IsOnLine l a → Touches T l n
 touches-own_line T n l (Stores k w) is on = ByStore w (subst (λ j. IsAct T n (Stores j w)) on is)
 touches-own_line T n l (Flushes t k) is on = ByFlush t (subst (λ j. IsAct T n (Flushes t j)) on is)
-touches-own_line T n l (FlushesNow k) is on = ByClflush (subst (λ j. IsAct T n (FlushesNow j)) on is)
+touches-own_line T n l (Clflushes k) is on = ByClflush (subst (λ j. IsAct T n (Clflushes j)) on is)
 touches-own_line T n l (Fences t) is on = absurd on
 touches-own_line T n l Asserts is on = absurd on
 
@@ -32,21 +32,21 @@ touches-own_line T n l Asserts is on = absurd on
 pub untouched-other_line : (T : Recording) (n l m : ℕ) (a : Act) → IsAct T n a → IsOnLine l a → m ≢ l → ¬ Touches T m n
 untouched-other_line T n l m a is on other (ByStore w this) = other (subst (IsOnLine l) (act-unique T n a (Stores m w) is this) on)
 untouched-other_line T n l m a is on other (ByFlush t this) = other (subst (IsOnLine l) (act-unique T n a (Flushes t m) is this) on)
-untouched-other_line T n l m a is on other (ByClflush this) = other (subst (IsOnLine l) (act-unique T n a (FlushesNow m) is this) on)
+untouched-other_line T n l m a is on other (ByClflush this) = other (subst (IsOnLine l) (act-unique T n a (Clflushes m) is this) on)
 untouched-other_line T n l m a is on other (ByFence t this mark) = subst (IsOnLine l) (act-unique T n a (Fences t) is this) on
 
 -- an assertion matters to no line
 pub untouched-assert : (T : Recording) (n m : ℕ) → IsAct T n Asserts → ¬ Touches T m n
 untouched-assert T n m is (ByStore w this) = let e = act-unique T n Asserts (Stores m w) is this in cc
 untouched-assert T n m is (ByFlush t this) = let e = act-unique T n Asserts (Flushes t m) is this in cc
-untouched-assert T n m is (ByClflush this) = let e = act-unique T n Asserts (FlushesNow m) is this in cc
+untouched-assert T n m is (ByClflush this) = let e = act-unique T n Asserts (Clflushes m) is this in cc
 untouched-assert T n m is (ByFence t this mark) = let e = act-unique T n Asserts (Fences t) is this in cc
 
 -- a fence matters to the lines that its thread has an open mark on, and to no other
 pub untouched-fence : (T : Recording) (n m t : ℕ) → IsAct T n (Fences t) → open_mark t m (history T (n - 1)) ≡ None → ¬ Touches T m n
 untouched-fence T n m t is none (ByStore w this) = let e = act-unique T n (Fences t) (Stores m w) is this in cc
 untouched-fence T n m t is none (ByFlush u this) = let e = act-unique T n (Fences t) (Flushes u m) is this in cc
-untouched-fence T n m t is none (ByClflush this) = let e = act-unique T n (Fences t) (FlushesNow m) is this in cc
+untouched-fence T n m t is none (ByClflush this) = let e = act-unique T n (Fences t) (Clflushes m) is this in cc
 untouched-fence T n m t is none (ByFence u this mark) =
     mark (subst (λ v. open_mark v m (history T (n - 1)) ≡ None) (fences-thread t u (act-unique T n (Fences t) (Fences u) is this)) none)
   where
@@ -57,7 +57,7 @@ untouched-fence T n m t is none (ByFence u this mark) =
 pub lines_of-on_line : (l : ℕ) (a : Act) (h : List Act) → IsOnLine l a → lines_of (a ∷ h) ≡ with_line l (lines_of h)
 lines_of-on_line l (Stores k w) h on = ap (λ j. with_line j (lines_of h)) on
 lines_of-on_line l (Flushes t k) h on = ap (λ j. with_line j (lines_of h)) on
-lines_of-on_line l (FlushesNow k) h on = ap (λ j. with_line j (lines_of h)) on
+lines_of-on_line l (Clflushes k) h on = ap (λ j. with_line j (lines_of h)) on
 lines_of-on_line l (Fences t) h on = absurd on
 lines_of-on_line l Asserts h on = absurd on
 
@@ -74,7 +74,7 @@ absent-with_line l k lines e = go (has_line k lines) refl e
 absent-act : (l : ℕ) (a : Act) (h : List Act) → has_line l (lines_of (a ∷ h)) ≡ false → (¬ IsOnLine l a) × (has_line l (lines_of h) ≡ false)
 absent-act l (Stores k w) h e = absent-with_line l k (lines_of h) e
 absent-act l (Flushes t k) h e = absent-with_line l k (lines_of h) e
-absent-act l (FlushesNow k) h e = absent-with_line l k (lines_of h) e
+absent-act l (Clflushes k) h e = absent-with_line l k (lines_of h) e
 absent-act l (Fences t) h e = (λ on. on, e)
 absent-act l Asserts h e = (λ on. on, e)
 
@@ -90,7 +90,7 @@ open_mark-absent t l (Flushes u k ∷ h) e =
     go : (a b : Bool) → b ≡ false → open_mark t l h ≡ None → (if a && b then Some (count l h) else open_mark t l h) ≡ None
     go true b is none = rw is none
     go false b is none = none
-open_mark-absent t l (FlushesNow k ∷ h) e = open_mark-absent t l h (absent-act l (FlushesNow k) h e).1
+open_mark-absent t l (Clflushes k ∷ h) e = open_mark-absent t l h (absent-act l (Clflushes k) h e).1
 open_mark-absent t l (Fences u ∷ h) e = go (u == t) (open_mark-absent t l h e)
   where
     go : (b : Bool) → open_mark t l h ≡ None → (if b then None else open_mark t l h) ≡ None
@@ -124,7 +124,7 @@ untouched-absent T l k e (ByFence t is mark) =
     mark (open_mark-absent t l (history T (k - 1)) (absent-before T l (length T.events) (k - 1) (omega (arith, (act-within T k (Fences t) is).1)) e))
 untouched-absent T l k e (ByStore w is) = appears T l k (Stores l w) e is refl
 untouched-absent T l k e (ByFlush t is) = appears T l k (Flushes t l) e is refl
-untouched-absent T l k e (ByClflush is) = appears T l k (FlushesNow l) e is refl
+untouched-absent T l k e (ByClflush is) = appears T l k (Clflushes l) e is refl
 
 -- a line has no job to do before it appears
 pub empty_job : (T : Recording) (l : ℕ) → has_line l (lines_of (history T (length T.events))) ≡ false → IsLeanJob T (record { line = l; steps = [] })

@@ -5,7 +5,7 @@ use Rattle.std.proofs.lemmas.Bool.{leb-true}
 use Rattle.pmt_model.specs.declared.finding.Finding.{Finding}
 use Rattle.pmt_model.specs.declared.finding.Finding.TheVariants.{Overwritten, NeverPersisted, RedundantFlush, FenceWithoutFlush}
 use Rattle.pmt_model.specs.Values.{Written}
-use Rattle.pmt_model.specs.Machine.{Stores, Flushes, FlushesNow, Fences, count}
+use Rattle.pmt_model.specs.Machine.{Stores, Flushes, Clflushes, Fences, count}
 use Rattle.pmt_model.specs.Traces.{Recording, IsAct, history, count_at}
 use Rattle.pmt_model.specs.Fronts.{front_at, open_mark}
 use Rattle.pmt_model.specs.Findings.{IsRedundantFlush, IsRedundantClflush}
@@ -15,7 +15,7 @@ use Rattle.pmt_laws.proofs.RedundantLemmas.{redundant_flush_by_fronts, redundant
 use Rattle.pmt_marks.specs.Lines.{mark_in}
 use Rattle.pmt_lines.specs.declared.line_findings.Scan.{Scan}
 use Rattle.pmt_lines.specs.LineFindings.{IsLineFinding}
-use Rattle.pmt_lines.specs.Scans.{found_if, is_marked}
+use Rattle.pmt_lines.specs.Scans.{found_if, is_flush_covered}
 use Rattle.pmt_lines.proofs.ScanLemmas.{IsScan}
 use Rattle.pmt_lines.proofs.FindingLists.{has-if, if-has, if-ordered}
 
@@ -28,7 +28,7 @@ pub record AreFoundAt (T : Recording) (l i : ℕ) (found : List Finding) : Type 
 pub data HasAct (T : Recording) (l i : ℕ) : Type 0 where
   AStore : (w : Written) → IsAct T i (Stores l w) → HasAct T l i
   AFlush : (t : ℕ) → IsAct T i (Flushes t l) → HasAct T l i
-  AClflush : IsAct T i (FlushesNow l) → HasAct T l i
+  AClflush : IsAct T i (Clflushes l) → HasAct T l i
 
 -- a finding of the line is at a store, a flush or a clflush of it
 pub finding-act : (T : Recording) (l : ℕ) (f : Finding) → IsLineFinding T l f → HasAct T l (reported_at f)
@@ -45,7 +45,7 @@ found-fence T l i t is = record { ordered = tt; just = λ f. (λ none. absurd no
     go : HasAct T l i → ⊥
     go (AStore w store) = let e = act-unique T i (Fences t) (Stores l w) is store in cc
     go (AFlush u flush) = let e = act-unique T i (Fences t) (Flushes u l) is flush in cc
-    go (AClflush flush) = let e = act-unique T i (Fences t) (FlushesNow l) is flush in cc
+    go (AClflush flush) = let e = act-unique T i (Fences t) (Clflushes l) is flush in cc
 
 -- what is found at a flush or a clflush is that it is redundant
 found-flush : (T : Recording) (l i : ℕ) (b : Bool) → ((w : Written) → ¬ IsAct T i (Stores l w)) → (b ≡ true → IsLineFinding T l (RedundantFlush i)) → (IsLineFinding T l (RedundantFlush i) → b ≡ true) → AreFoundAt T l i (found_if b (RedundantFlush i))
@@ -68,8 +68,8 @@ le-test : (a b : ℕ) → a ≤ b → nat_le a b ≡ true
 le-test a b h = grind arith
 
 -- at a flush
-pub found-at_flush : (T : Recording) (l n t : ℕ) (scan : Scan) → IsScan T l n scan → IsAct T (suc n) (Flushes t l) → AreFoundAt T l (suc n) (found_if (is_marked scan.state t) (RedundantFlush (suc n)))
-found-at_flush T l n t scan s is = found-flush T l (suc n) (is_marked scan.state t) no_store (λ e. inl (t, to e)) from
+pub found-at_flush : (T : Recording) (l n t : ℕ) (scan : Scan) → IsScan T l n scan → IsAct T (suc n) (Flushes t l) → AreFoundAt T l (suc n) (found_if (is_flush_covered scan.state t) (RedundantFlush (suc n)))
+found-at_flush T l n t scan s is = found-flush T l (suc n) (is_flush_covered scan.state t) no_store (λ e. inl (t, to e)) from
   where
     law : IsRedundantFlush T t l (suc n) ↔ (count_at T l (suc n) ≤ max (front_at T l (suc n - 1)) (unwrap_or (open_mark t l (history T (suc n - 1))) 0))
     law = redundant_flush_by_fronts T t l (suc n) is
@@ -89,7 +89,7 @@ found-at_flush T l n t scan s is = found-flush T l (suc n) (is_marked scan.state
     marked : unwrap_or (open_mark t l (history T (suc n - 1))) 0 ≡ unwrap_or (mark_in t scan.state.marks) 0
     marked = ap (λ k. unwrap_or (open_mark t l (history T k)) 0) before ∙ ap (λ o. unwrap_or o 0) (sym (s.follows.marks t))
 
-    to : is_marked scan.state t ≡ true → IsRedundantFlush T t l (suc n)
+    to : is_flush_covered scan.state t ≡ true → IsRedundantFlush T t l (suc n)
     to e = law.1 (omega (arith, counted, fronted, marked, leb-true scan.state.count (max scan.state.front (unwrap_or (mark_in t scan.state.marks) 0)) e))
 
     same : (u : ℕ) → IsRedundantFlush T u l (suc n) → IsRedundantFlush T t l (suc n)
@@ -98,25 +98,25 @@ found-at_flush T l n t scan s is = found-flush T l (suc n) (is_marked scan.state
         let thread : u ≡ t = cc in
         subst (λ v. IsRedundantFlush T v l (suc n)) thread r
 
-    from : IsLineFinding T l (RedundantFlush (suc n)) → is_marked scan.state t ≡ true
+    from : IsLineFinding T l (RedundantFlush (suc n)) → is_flush_covered scan.state t ≡ true
     from (inl h) = le-test scan.state.count (max scan.state.front (unwrap_or (mark_in t scan.state.marks) 0)) (omega (arith, counted, fronted, marked, law.0 (same h.0 h.1)))
-    from (inr h) = let e = act-unique T (suc n) (FlushesNow l) (Flushes t l) h.is_clflush is in let no : ⊥ = cc in absurd no
+    from (inr h) = let e = act-unique T (suc n) (Clflushes l) (Flushes t l) h.is_clflush is in let no : ⊥ = cc in absurd no
 
 -- at a clflush
-pub found-at_clflush : (T : Recording) (l n : ℕ) (scan : Scan) → IsScan T l n scan → IsAct T (suc n) (FlushesNow l) → AreFoundAt T l (suc n) (found_if (nat_le scan.state.count scan.state.front) (RedundantFlush (suc n)))
+pub found-at_clflush : (T : Recording) (l n : ℕ) (scan : Scan) → IsScan T l n scan → IsAct T (suc n) (Clflushes l) → AreFoundAt T l (suc n) (found_if (nat_le scan.state.count scan.state.front) (RedundantFlush (suc n)))
 found-at_clflush T l n scan s is = found-flush T l (suc n) (nat_le scan.state.count scan.state.front) no_store (λ e. inr (to e)) from
   where
     law : IsRedundantClflush T l (suc n) ↔ (count_at T l (suc n) ≤ front_at T l (suc n - 1))
     law = redundant_clflush_by_fronts T l (suc n) is
 
     no_store : (w : Written) → ¬ IsAct T (suc n) (Stores l w)
-    no_store w store = let e = act-unique T (suc n) (FlushesNow l) (Stores l w) is store in cc
+    no_store w store = let e = act-unique T (suc n) (Clflushes l) (Stores l w) is store in cc
 
     before : suc n - 1 ≡ n
     before = omega arith
 
     counted : count_at T l (suc n) ≡ scan.state.count
-    counted = ap (count l) (history-act T n (FlushesNow l) is) ∙ sym s.follows.counts
+    counted = ap (count l) (history-act T n (Clflushes l) is) ∙ sym s.follows.counts
 
     fronted : front_at T l (suc n - 1) ≡ scan.state.front
     fronted = ap (front_at T l) before ∙ sym s.follows.fronts
@@ -125,5 +125,5 @@ found-at_clflush T l n scan s is = found-flush T l (suc n) (nat_le scan.state.co
     to e = law.1 (omega (arith, counted, fronted, leb-true scan.state.count scan.state.front e))
 
     from : IsLineFinding T l (RedundantFlush (suc n)) → nat_le scan.state.count scan.state.front ≡ true
-    from (inl h) = let e = act-unique T (suc n) (Flushes h.0 l) (FlushesNow l) h.1.is_flush is in let no : ⊥ = cc in absurd no
+    from (inl h) = let e = act-unique T (suc n) (Flushes h.0 l) (Clflushes l) h.1.is_flush is in let no : ⊥ = cc in absurd no
     from (inr h) = le-test scan.state.count scan.state.front (omega (arith, counted, fronted, law.0 h))

@@ -2,12 +2,12 @@
 use Rattle.std.proofs.Common.{◌≡◌, ◌≢◌, ℕ, zero, suc, ◌+◌, ◌-◌, ◌<◌, ◌≤◌, ◌⊎◌, inl, inr, List, [], ◌∷◌, ◌++◌, length, get_or, drop, Option, Some, None, refl, sym, ap, subst, ◌∙◌, arith}
 use Rattle.std.proofs.lemmas.Bool.{cases_lt}
 use Rattle.std.proofs.lemmas.List.{drop_more, drop_all}
-use Rattle.pmt_model.specs.Machine.{Act, Stores, Flushes, FlushesNow, Fences, Asserts}
+use Rattle.pmt_model.specs.Machine.{Act, Stores, Flushes, Clflushes, Fences, Asserts}
 use Rattle.pmt_model.specs.Traces.{Recording, IsAct, history, event_limit}
 use Rattle.pmt_model.specs.Fronts.{open_mark, front_at}
 use Rattle.pmt_laws.proofs.Histories.{history-act, history-step, act-within, front-mono}
 use Rattle.pmt_marks.specs.Lines.{Line, Follows}
-use Rattle.pmt_marks.specs.Others.{LeavesBe}
+use Rattle.pmt_marks.specs.Others.{LeavesLineUnchanged}
 use Rattle.pmt_marks.proofs.FollowLemmas.{follows-start, others_leave}
 use Rattle.pmt_lines.specs.declared.raises.Raise.{Raise}
 use Rattle.pmt_lines.specs.declared.step.StepKind.{StepKind}
@@ -19,11 +19,11 @@ use Rattle.pmt_lines.specs.Running.{TakesKind, TakesStep}
 use Rattle.pmt_lines.specs.Raises.{RaisesBetween, IsRaises, IsLineResult}
 
 -- an event that doesn't matter to the line concerns other lines alone
-pub leaves-be : (T : Recording) (l n : ℕ) (a : Act) → IsAct T (suc n) a → ¬ Touches T l (suc n) → LeavesBe l (history T n) a
-leaves-be T l n (Stores k w) is untouched = λ same. untouched (ByStore w (subst (λ j. IsAct T (suc n) (Stores j w)) same is))
-leaves-be T l n (Flushes t k) is untouched = λ same. untouched (ByFlush t (subst (λ j. IsAct T (suc n) (Flushes t j)) same is))
-leaves-be T l n (FlushesNow k) is untouched = λ same. untouched (ByClflush (subst (λ j. IsAct T (suc n) (FlushesNow j)) same is))
-leaves-be T l n (Fences t) is untouched = go (open_mark t l (history T n)) refl
+pub leaves-line_unchanged : (T : Recording) (l n : ℕ) (a : Act) → IsAct T (suc n) a → ¬ Touches T l (suc n) → LeavesLineUnchanged l (history T n) a
+leaves-line_unchanged T l n (Stores k w) is untouched = λ same. untouched (ByStore w (subst (λ j. IsAct T (suc n) (Stores j w)) same is))
+leaves-line_unchanged T l n (Flushes t k) is untouched = λ same. untouched (ByFlush t (subst (λ j. IsAct T (suc n) (Flushes t j)) same is))
+leaves-line_unchanged T l n (Clflushes k) is untouched = λ same. untouched (ByClflush (subst (λ j. IsAct T (suc n) (Clflushes j)) same is))
+leaves-line_unchanged T l n (Fences t) is untouched = go (open_mark t l (history T n)) refl
   where
     before : suc n - 1 ≡ n
     before = omega arith
@@ -31,13 +31,13 @@ leaves-be T l n (Fences t) is untouched = go (open_mark t l (history T n)) refl
     go : (mark : Option ℕ) → open_mark t l (history T n) ≡ mark → open_mark t l (history T n) ≡ None
     go None e = e
     go (Some m) e = absurd (untouched (ByFence t is (λ none. let e' : open_mark t l (history T n) ≡ None = ap (λ k. open_mark t l (history T k)) (sym before) ∙ none in let never : Some m ≡ None = sym e ∙ e' in cc)))
-leaves-be T l n Asserts is untouched = tt
+leaves-line_unchanged T l n Asserts is untouched = tt
 
 -- the state is still that of the line after an event that doesn't matter to it
 follows-next : (T : Recording) (l n : ℕ) (line : Line) → ¬ Touches T l (suc n) → Follows l (history T n) line → Follows l (history T (suc n)) line
 follows-next T l n line untouched f =
     elim (history-step T n) [
-      | inl x ↦ rw (history-act T n x.0 x.1) (others_leave l (history T n) line x.0 (leaves-be T l n x.0 x.1 untouched) f)
+      | inl x ↦ rw (history-act T n x.0 x.1) (others_leave l (history T n) line x.0 (leaves-line_unchanged T l n x.0 x.1 untouched) f)
       | inr x ↦ rw x.1 f
     ]
 
@@ -105,14 +105,14 @@ running-start l steps rising =
 pub kind-within : (T : Recording) (l n t : ℕ) (kind : StepKind) → IsKind T l n t kind → (1 ≤ n) × (n ≤ length T.events)
 kind-within T l n t (Store addr len) is = act-within T n (Stores l is.0) is.1
 kind-within T l n t Flush is = act-within T n (Flushes t l) is
-kind-within T l n t Clflush is = act-within T n (FlushesNow l) is
+kind-within T l n t Clflush is = act-within T n (Clflushes l) is
 kind-within T l n t Fence is = act-within T n (Fences t) is
 
 -- the state after a step follows the line
 pub follows-kind : (T : Recording) (l n t : ℕ) (kind : StepKind) (old new : Line) → IsKind T l (suc n) t kind → TakesKind l t kind old new → Follows l (history T n) old → Follows l (history T (suc n)) new
 follows-kind T l n t (Store addr len) old new is takes f = rw (history-act T n (Stores l is.0) is.1) (takes (history T n) is.0 f)
 follows-kind T l n t Flush old new is takes f = rw (history-act T n (Flushes t l) is) (takes (history T n) f)
-follows-kind T l n t Clflush old new is takes f = rw (history-act T n (FlushesNow l) is) (takes (history T n) f)
+follows-kind T l n t Clflush old new is takes f = rw (history-act T n (Clflushes l) is) (takes (history T n) f)
 follows-kind T l n t Fence old new is takes f = rw (history-act T n (Fences t) is) (takes (history T n) f)
 
 follows-step : (T : Recording) (l low n : ℕ) (s : Step) (old new : Line) → s.number ≡ suc n → low ≤ n → IsStepOf T l s → ((k : ℕ) → low < k → k < s.number → ¬ Touches T l k) → TakesStep s old new → Follows l (history T low) old → Follows l (history T s.number) new

@@ -3,9 +3,9 @@ use Rattle.std.proofs.Common.{◌≡◌, ℕ, zero, suc, ◌+◌, ◌/◌, ◌%�
 use Rattle.std.specs.Prelude.{if◌then◌else◌, unwrap_or}
 use Rattle.std.proofs.lemmas.Bool.{cases_lt, eq-eqb, true≢false}
 use Rattle.pmt_model.specs.Values.{Written, line_of}
-use Rattle.pmt_model.specs.Machine.{Act, Stores, Flushes, FlushesNow, Fences, Asserts, writes}
+use Rattle.pmt_model.specs.Machine.{Act, Stores, Flushes, Clflushes, Fences, Asserts, writes}
 use Rattle.pmt_model.specs.Traces.{Recording, IsTrace, IsAct, history}
-use Rattle.pmt_model.specs.Findings.{last_number, last_flush}
+use Rattle.pmt_model.specs.Findings.{last_store_number, last_flush}
 use Rattle.pmt_laws.proofs.Histories.{history-act, history-step, act-within, length-history}
 use Rattle.pmt_marks.specs.Lines.{Follows}
 use Rattle.pmt_lines.specs.declared.step.StepKind.{StepKind}
@@ -35,17 +35,17 @@ stays-over T l f each low (suc n) h untouched =
     one more (inr x) = ap f x.1
 
 -- an event that doesn't matter to a line stores none of its bytes
-bytes-alone : (T : Recording) (l b : ℕ) → IsTrace T → line_of T.format b ≡ l → (n : ℕ) → LeavesAlone T l (last_number b) n
+bytes-alone : (T : Recording) (l b : ℕ) → IsTrace T → line_of T.format b ≡ l → (n : ℕ) → LeavesAlone T l (last_store_number b) n
 bytes-alone T l b is_trace line n (Stores k w) is untouched = go (writes w b) refl
   where
-    go : (v : Bool) → writes w b ≡ v → (if v then Some (suc (length (history T n))) else last_number b (history T n)) ≡ last_number b (history T n)
+    go : (v : Bool) → writes w b ≡ v → (if v then Some (suc (length (history T n))) else last_store_number b (history T n)) ≡ last_store_number b (history T n)
     go true it =
         let of_line = byte-line T.format k b w (size-of_format T.format is_trace.format) (store-of_trace T (suc n) k w is_trace is) it in
         let same : k ≡ l = sym of_line ∙ line in
         absurd (untouched (ByStore w (subst (λ j. IsAct T (suc n) (Stores j w)) same is)))
     go false it = refl
 bytes-alone T l b is_trace line n (Flushes t k) is untouched = refl
-bytes-alone T l b is_trace line n (FlushesNow k) is untouched = refl
+bytes-alone T l b is_trace line n (Clflushes k) is untouched = refl
 bytes-alone T l b is_trace line n (Fences t) is untouched = refl
 bytes-alone T l b is_trace line n Asserts is untouched = refl
 
@@ -57,10 +57,10 @@ flush-alone T l n (Flushes t k) is untouched = go (k == l) refl
     go : (v : Bool) → (k == l) ≡ v → (if v then suc (length (history T n)) else last_flush l (history T n)) ≡ last_flush l (history T n)
     go true e = absurd (untouched (ByFlush t (subst (λ j. IsAct T (suc n) (Flushes t j)) (eqb-true k l e) is)))
     go false e = refl
-flush-alone T l n (FlushesNow k) is untouched = go (k == l) refl
+flush-alone T l n (Clflushes k) is untouched = go (k == l) refl
   where
     go : (v : Bool) → (k == l) ≡ v → (if v then suc (length (history T n)) else last_flush l (history T n)) ≡ last_flush l (history T n)
-    go true e = absurd (untouched (ByClflush (subst (λ j. IsAct T (suc n) (FlushesNow j)) (eqb-true k l e) is)))
+    go true e = absurd (untouched (ByClflush (subst (λ j. IsAct T (suc n) (Clflushes j)) (eqb-true k l e) is)))
     go false e = refl
 flush-alone T l n (Fences t) is untouched = refl
 flush-alone T l n Asserts is untouched = refl
@@ -70,7 +70,7 @@ flush-over T l low n = stays-over T l (last_flush l) (flush-alone T l) low n
 
 -- The table has the last store to each byte of the line at place n.
 abbrev pub IsTable : Recording → ℕ → ℕ → List ℕ → Type 0
-IsTable T l n table = (b : ℕ) → line_of T.format b ≡ l → get_or table (b % 256) 0 ≡ unwrap_or (last_number b (history T n)) 0
+IsTable T l n table = (b : ℕ) → line_of T.format b ≡ l → get_or table (b % 256) 0 ≡ unwrap_or (last_store_number b (history T n)) 0
 
 -- What is kept is right for line l at place n.
 pub record IsScan (T : Recording) (l n : ℕ) (scan : Scan) : Type 0 where
@@ -82,14 +82,14 @@ pub record IsScan (T : Recording) (l n : ℕ) (scan : Scan) : Type 0 where
 pub scan-over : (T : Recording) (l low n : ℕ) (scan : Scan) → IsTrace T → low ≤ n → ((k : ℕ) → low < k → k ≤ n → ¬ Touches T l k) → IsScan T l low scan → IsScan T l n scan
 scan-over T l low n scan is_trace h untouched s = record {
   follows = follows-over T l low n scan.state h untouched s.follows;
-  table = λ b line. s.table b line ∙ ap (λ o. unwrap_or o 0) (sym (stays-over T l (last_number b) (bytes-alone T l b is_trace line) low n h untouched));
+  table = λ b line. s.table b line ∙ ap (λ o. unwrap_or o 0) (sym (stays-over T l (last_store_number b) (bytes-alone T l b is_trace line) low n h untouched));
   flush = s.flush ∙ sym (flush-over T l low n h untouched);
 }
 
 -- the table after a store to the line
 table-store : (T : Recording) (l n : ℕ) (w : Written) (old new : List ℕ) → IsTrace T → IsAct T (suc n) (Stores l w) → StoresBytes old new w.addr (length w.bytes) (suc n) → IsTable T l n old → IsTable T l (suc n) new
 table-store T l n w old new is_trace is stores before b line =
-    go (writes w b) refl ∙ ap (λ h. unwrap_or (last_number b h) 0) (sym (history-act T n (Stores l w) is))
+    go (writes w b) refl ∙ ap (λ h. unwrap_or (last_store_number b h) 0) (sym (history-act T n (Stores l w) is))
   where
     of_line : IsStoreOf T.format l w
     of_line = store-of_trace T (suc n) l w is_trace is
@@ -110,23 +110,23 @@ table-store T l n w old new is_trace is stores before b line =
           ]
         ]
 
-    go : (v : Bool) → writes w b ≡ v → get_or new (b % 256) 0 ≡ unwrap_or (if v then Some (suc (length (history T n))) else last_number b (history T n)) 0
+    go : (v : Bool) → writes w b ≡ v → get_or new (b % 256) 0 ≡ unwrap_or (if v then Some (suc (length (history T n))) else last_store_number b (history T n)) 0
     go true it =
         let at = byte-from_writes w b it in
         stores.inside (b % 256) (omega (arith, block, at.0, at.1)) (omega (arith, block, at.0, at.1)) ∙ ap suc (sym numbered)
     go false it = stores.outside (b % 256) (outside it) ∙ before b line
 
 -- the table after another step
-table-other : (T : Recording) (l n : ℕ) (a : Act) (old new : List ℕ) → IsAct T (suc n) a → ((b : ℕ) → last_number b (a ∷ history T n) ≡ last_number b (history T n)) → new ≡ old → IsTable T l n old → IsTable T l (suc n) new
+table-other : (T : Recording) (l n : ℕ) (a : Act) (old new : List ℕ) → IsAct T (suc n) a → ((b : ℕ) → last_store_number b (a ∷ history T n) ≡ last_store_number b (history T n)) → new ≡ old → IsTable T l n old → IsTable T l (suc n) new
 table-other T l n a old new is same kept before b line =
-    ap (λ (t : List ℕ). get_or t (b % 256) 0) kept ∙ before b line ∙ ap (λ o. unwrap_or o 0) (sym (ap (last_number b) (history-act T n a is) ∙ same b))
+    ap (λ (t : List ℕ). get_or t (b % 256) 0) kept ∙ before b line ∙ ap (λ o. unwrap_or o 0) (sym (ap (last_store_number b) (history-act T n a is) ∙ same b))
 
 table-kind : (T : Recording) (l n t : ℕ) (kind : StepKind) (old new : List ℕ) → IsTrace T → IsKind T l (suc n) t kind → TakesBytes old new (suc n) kind → IsTable T l n old → IsTable T l (suc n) new
 table-kind T l n t (Store addr len) old new is_trace is takes before =
     let takes' : StoresBytes old new is.0.addr (length is.0.bytes) (suc n) = rw (is.2, is.3) takes in
     table-store T l n is.0 old new is_trace is.1 takes' before
 table-kind T l n t Flush old new is_trace is takes before = table-other T l n (Flushes t l) old new is (λ b. refl) takes before
-table-kind T l n t Clflush old new is_trace is takes before = table-other T l n (FlushesNow l) old new is (λ b. refl) takes before
+table-kind T l n t Clflush old new is_trace is takes before = table-other T l n (Clflushes l) old new is (λ b. refl) takes before
 table-kind T l n t Fence old new is_trace is takes before = table-other T l n (Fences t) old new is (λ b. refl) takes before
 
 -- the last flush after a step
@@ -142,7 +142,7 @@ flush-kind T l n t kind is = go kind is
     go : (kind : StepKind) → IsKind T l (suc n) t kind → last_flush l (history T (suc n)) ≡ flush_after (last_flush l (history T n)) (suc n) kind
     go (Store addr len) is = ap (last_flush l) (history-act T n (Stores l is.0) is.1)
     go Flush is = ap (last_flush l) (history-act T n (Flushes t l) is) ∙ rw (own, numbered) refl
-    go Clflush is = ap (last_flush l) (history-act T n (FlushesNow l) is) ∙ rw (own, numbered) refl
+    go Clflush is = ap (last_flush l) (history-act T n (Clflushes l) is) ∙ rw (own, numbered) refl
     go Fence is = ap (last_flush l) (history-act T n (Fences t) is)
 
 -- what is kept is right after a step

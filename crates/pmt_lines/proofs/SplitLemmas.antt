@@ -5,7 +5,7 @@ use Rattle.std.proofs.lemmas.Bool.{cases_lt, cases_eq, eq-eqb, ne_eqb, both_ways
 use Rattle.std.proofs.lemmas.List.{get_or-set_same, get_or-set_other, get_or_default, length-set, map-set, set-get_or, get_or_append_left, get_or_at, length-append, same_lists, get_or-map, length-map}
 use Rattle.std.proofs.lemmas.List.Elements.{All-push, All-nil, recursion_from_All}
 use Rattle.pmt_model.specs.declared.event.Event.{Event}
-use Rattle.pmt_model.specs.Machine.{Act, Stores, Flushes, FlushesNow, Fences, Asserts, count}
+use Rattle.pmt_model.specs.Machine.{Act, Stores, Flushes, Clflushes, Fences, Asserts, count}
 use Rattle.pmt_model.specs.Traces.{Recording, act, IsAct, history, has_line, with_line, lines_of}
 use Rattle.pmt_model.specs.Pushing.{with_event}
 use Rattle.pmt_model.specs.Fronts.{open_mark}

@@ -5,15 +5,15 @@ use Rattle.std.proofs.lemmas.Bool.{ltb-true, eq-eqb}
 use Rattle.pmt_model.specs.declared.finding.Finding.{Finding}
 use Rattle.pmt_model.specs.declared.finding.Finding.TheVariants.{Overwritten, NeverPersisted, RedundantFlush, FenceWithoutFlush}
 use Rattle.pmt_model.specs.Values.{Written}
-use Rattle.pmt_model.specs.Machine.{Stores, Flushes, FlushesNow, count, writes}
+use Rattle.pmt_model.specs.Machine.{Stores, Flushes, Clflushes, count, writes}
 use Rattle.pmt_model.specs.Traces.{Recording, IsTrace, IsAct, history, count_at}
 use Rattle.pmt_model.specs.Fronts.{front_at}
-use Rattle.pmt_model.specs.Findings.{IsNeverPersisted, IsFlushOf, ByFlush, ByClflush, IsFlushedAfter, IsOverwritten, OverwritesBefore, last_number, last_flush}
+use Rattle.pmt_model.specs.Findings.{IsNeverPersisted, IsFlushOf, ByFlush, ByClflush, IsFlushedAfter, IsOverwritten, OverwritesBefore, last_store_number, last_flush}
 use Rattle.pmt_model.specs.Selections.{Has}
 use Rattle.pmt_model.specs.Analyses.{reported_at, IsReportedBefore, HasFinding}
 use Rattle.pmt_laws.proofs.Histories.{act-unique, act-within, history-act}
 use Rattle.pmt_laws.proofs.NeverLemmas.{never_persisted_by_fronts}
-use Rattle.pmt_laws.proofs.OverwrittenLemmas.{overwritten_by_numbers, last_number-is, IsLastWriter, IsLastFlush, last_flush-tells}
+use Rattle.pmt_laws.proofs.OverwrittenLemmas.{overwritten_by_numbers, last_store_number-is, IsLastWriter, IsLastFlush, last_flush-tells}
 use Rattle.pmt_lines.specs.declared.line_findings.Scan.{Scan}
 use Rattle.pmt_lines.specs.declared.line_findings.Ending.{Ending}
 use Rattle.pmt_lines.specs.LineFindings.{IsLineFinding}
@@ -29,7 +29,7 @@ some-number None f j above e = absurd (omega arith)
 some-number (Some i) f j above e = ap (λ (k : ℕ). Some k) e
 
 -- the last store to a byte of the store
-slot-of : (T : Recording) (l n : ℕ) (w : Written) (table numbers : List ℕ) → IsTrace T → IsAct T (suc n) (Stores l w) → IsTable T l n table → AreStoresAt table w.addr (length w.bytes) numbers → (k : ℕ) → k < length w.bytes → get_or numbers k 0 ≡ unwrap_or (last_number (w.addr + k) (history T n)) 0
+slot-of : (T : Recording) (l n : ℕ) (w : Written) (table numbers : List ℕ) → IsTrace T → IsAct T (suc n) (Stores l w) → IsTable T l n table → AreStoresAt table w.addr (length w.bytes) numbers → (k : ℕ) → k < length w.bytes → get_or numbers k 0 ≡ unwrap_or (last_store_number (w.addr + k) (history T n)) 0
 slot-of T l n w table numbers is_trace is right at k within =
     let of_line = store-of_trace T (suc n) l w is_trace is in
     let place : w.addr % 256 + k ≡ (w.addr + k) % 256 = omega (arith, of_line.store.inside, within) in
@@ -48,7 +48,7 @@ overwritten-to T l n j w table numbers is_trace is right at unflushed among =
         is_earlier = subst (λ k. IsAct T j (Stores k writer.what)) line writer.is_store;
         is_later = is;
         writes_later = written;
-        last = ap (λ k. last_number byte (history T k)) before ∙ last;
+        last = ap (λ k. last_store_number byte (history T k)) before ∙ last;
         unflushed = rw before unflushed;
       },
     )
@@ -65,11 +65,11 @@ overwritten-to T l n j w table numbers is_trace is right at unflushed among =
     written : writes w byte ≡ true
     written = writes-from_byte w byte (omega arith, omega (arith, within))
 
-    last : last_number byte (history T n) ≡ Some j
-    last = some-number (last_number byte (history T n)) (last_flush l (history T n)) j unflushed (sym (slot-of T l n w table numbers is_trace is right at among.0 within) ∙ among.2)
+    last : last_store_number byte (history T n) ≡ Some j
+    last = some-number (last_store_number byte (history T n)) (last_flush l (history T n)) j unflushed (sym (slot-of T l n w table numbers is_trace is right at among.0 within) ∙ among.2)
 
     writer : IsLastWriter T byte n j
-    writer = last_number-is T byte n j last
+    writer = last_store_number-is T byte n j last
 
     size : IsSize T.format.line_size
     size = size-of_format T.format is_trace.format
@@ -113,11 +113,11 @@ overwritten-from T l n j w table numbers is_trace is right at o = (unflushed, (k
     there : w.addr + k ≡ x.3
     there = omega (arith, byte.0)
 
-    slot : get_or numbers k 0 ≡ unwrap_or (last_number x.3 (history T n)) 0
-    slot = slot-of T l n w table numbers is_trace is right at k within ∙ ap (λ b. unwrap_or (last_number b (history T n)) 0) there
+    slot : get_or numbers k 0 ≡ unwrap_or (last_store_number x.3 (history T n)) 0
+    slot = slot-of T l n w table numbers is_trace is right at k within ∙ ap (λ b. unwrap_or (last_store_number b (history T n)) 0) there
 
-    last : last_number x.3 (history T n) ≡ Some j
-    last = ap (λ m. last_number x.3 (history T m)) (sym before) ∙ x.4.last
+    last : last_store_number x.3 (history T n) ≡ Some j
+    last = ap (λ m. last_store_number x.3 (history T m)) (sym before) ∙ x.4.last
 
 -- What is known of line l at the end of the trace.
 pub record IsEnding (T : Recording) (l : ℕ) (ending : Ending) : Type 0 where
@@ -129,7 +129,7 @@ lt-test a b h = grind arith
 
 flush-within : (T : Recording) (l k : ℕ) → IsFlushOf T l k → k ≤ length T.events
 flush-within T l k (ByFlush t is) = (act-within T k (Flushes t l) is).1
-flush-within T l k (ByClflush is) = (act-within T k (FlushesNow l) is).1
+flush-within T l k (ByClflush is) = (act-within T k (Clflushes l) is).1
 
 -- a flush comes after an event exactly if the last flush does
 pub flushed-after : (T : Recording) (l i : ℕ) (ending : Ending) → IsEnding T l ending → IsTrue (nat_lt i ending.flush) ↔ IsFlushedAfter T l i
@@ -219,7 +219,7 @@ found-at_store T l n w scan ending numbers above is_trace end s is at are = reco
 
     flushes : IsLineFinding T l (RedundantFlush i) → ⊥
     flushes (inl h) = let e = act-unique T i (Stores l w) (Flushes h.0 l) is h.1.is_flush in cc
-    flushes (inr h) = let e = act-unique T i (Stores l w) (FlushesNow l) is h.is_clflush in cc
+    flushes (inr h) = let e = act-unique T i (Stores l w) (Clflushes l) is h.is_clflush in cc
 
     back : (f : Finding) → IsLineFinding T l f × (reported_at f ≡ i) → HasFinding (overwritten_by i above ++ never) f
     back (Overwritten j k) h =

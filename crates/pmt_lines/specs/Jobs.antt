@@ -3,7 +3,7 @@ use Rattle.std.specs.Prelude.{◌≡◌, ◌≢◌, ℕ, ◌-◌, ◌<◌, List,
 use Rattle.std.specs.List.{AllByRecursion}
 use Rattle.pmt_model.specs.declared.event.Event.{Event}
 use Rattle.pmt_model.specs.Values.{Written}
-use Rattle.pmt_model.specs.Machine.{Stores, Flushes, FlushesNow, Fences}
+use Rattle.pmt_model.specs.Machine.{Stores, Flushes, Clflushes, Fences}
 use Rattle.pmt_model.specs.Traces.{Recording, event, IsAct, history}
 use Rattle.pmt_model.specs.Fronts.{open_mark}
 use Rattle.pmt_lines.specs.declared.step.StepKind.{StepKind}
@@ -14,7 +14,7 @@ use Rattle.pmt_lines.specs.declared.step.Step.{Step}
 abbrev pub IsKind : Recording → ℕ → ℕ → ℕ → StepKind → Type 0
 IsKind T l n t (Store addr len) = (w : Written) × IsAct T n (Stores l w) × (w.addr ≡ addr) × (length w.bytes ≡ len)
 IsKind T l n t Flush = IsAct T n (Flushes t l)
-IsKind T l n t Clflush = IsAct T n (FlushesNow l)
+IsKind T l n t Clflush = IsAct T n (Clflushes l)
 IsKind T l n t Fence = IsAct T n (Fences t)
 
 -- Event n is by thread t.
@@ -31,7 +31,7 @@ pub record IsStepOf (T : Recording) (l : ℕ) (s : Step) : Type 0 where
 pub data Touches (T : Recording) (l n : ℕ) : Type 0 where
   ByStore : (w : Written) → IsAct T n (Stores l w) → Touches T l n
   ByFlush : (t : ℕ) → IsAct T n (Flushes t l) → Touches T l n
-  ByClflush : IsAct T n (FlushesNow l) → Touches T l n
+  ByClflush : IsAct T n (Clflushes l) → Touches T l n
   ByFence : (t : ℕ) → IsAct T n (Fences t) → open_mark t l (history T (n - 1)) ≢ None → Touches T l n
 
 -- After event low the steps are such events, in order, among them each one that matters.

@@ -62,8 +62,8 @@ abbrev pub never_persisted_of : Ending → ℕ → ℕ → List Finding
 never_persisted_of ending count n = found_if (nat_lt ending.front count) (NeverPersisted n (nat_lt n ending.flush))
 
 -- The front or the mark of the thread counts all stores to the line already.
-abbrev pub is_marked : Line → ℕ → Bool
-is_marked line t = nat_le line.count (max line.front (unwrap_or (mark_in t line.marks) 0))
+abbrev pub is_flush_covered : Line → ℕ → Bool
+is_flush_covered line t = nat_le line.count (max line.front (unwrap_or (mark_in t line.marks) 0))
 
 -- The last store to each byte from the address on.
 abbrev pub AreStoresAt : List ℕ → ℕ → ℕ → List ℕ → Type 0
@@ -81,7 +81,7 @@ pub record ReportsStore (scan : Scan) (ending : Ending) (n addr len : ℕ) (old 
 -- What is found at event n, a step of this kind by thread t, is added.
 abbrev pub ReportsKind : Scan → Ending → ℕ → ℕ → StepKind → List Finding → List Finding → Type 0
 ReportsKind scan ending n t (Store addr len) old new = ReportsStore scan ending n addr len old new
-ReportsKind scan ending n t Flush old new = new ≡ old ++ found_if (is_marked scan.state t) (RedundantFlush n)
+ReportsKind scan ending n t Flush old new = new ≡ old ++ found_if (is_flush_covered scan.state t) (RedundantFlush n)
 ReportsKind scan ending n t Clflush old new = new ≡ old ++ found_if (nat_le scan.state.count scan.state.front) (RedundantFlush n)
 ReportsKind scan ending n t Fence old new = new ≡ old
 

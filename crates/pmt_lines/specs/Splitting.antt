@@ -3,7 +3,7 @@ use Rattle.std.specs.Prelude.{◌≡◌, ◌≢◌, ℕ, ◌<◌, ◌↔◌, tru
 use Rattle.std.specs.List.{AllByRecursion}
 use Rattle.pmt_model.specs.Traces.{Recording, history, lines_of, has_line, with_line}
 use Rattle.pmt_model.specs.Values.{Written}
-use Rattle.pmt_model.specs.Machine.{Act, Stores, FlushesNow}
+use Rattle.pmt_model.specs.Machine.{Act, Stores, Clflushes}
 use Rattle.pmt_model.specs.Fronts.{open_mark}
 use Rattle.pmt_lines.specs.declared.step.StepKind.{StepKind}
 use Rattle.pmt_lines.specs.declared.step.StepKind.TheVariants.{Store, Flush, Clflush, Fence}
@@ -77,5 +77,5 @@ pub record EndsAt (places : List ℕ) (s : Step) (old new : List LineWork) : Typ
 abbrev pub IsAccess : ℕ → StepKind → Act → Type 0
 IsAccess l (Store addr len) a = (w : Written) × (a ≡ Stores l w) × (w.addr ≡ addr) × (length w.bytes ≡ len)
 IsAccess l Flush a = ⊥
-IsAccess l Clflush a = a ≡ FlushesNow l
+IsAccess l Clflush a = a ≡ Clflushes l
 IsAccess l Fence a = ⊥

@@ -3,7 +3,7 @@ ghost use Rattle.pmt_model.specs.Traces.{event_limit};
 ghost use Rattle.pmt_lines.specs.Steps.{IsStepKind};
 ghost use Rattle.pmt_lines.specs.Running.{TakesStep};
 ghost use Rattle.pmt_lines.specs.Raises.{FindsLine};
-ghost use Rattle.pmt_lines.specs.Scans.{found_if, last_front_of, last_flush_of, flush_after, is_marked, IsNextAbove, IsNoneAbove, PushesOverwritten, Reports, ReportsStore, TakesBytes};
+ghost use Rattle.pmt_lines.specs.Scans.{found_if, last_front_of, last_flush_of, flush_after, is_flush_covered, IsNextAbove, IsNoneAbove, PushesOverwritten, Reports, ReportsStore, TakesBytes};
 
 use crate::job::LineJob;
 use crate::last_stores::LastStores;
@@ -111,8 +111,8 @@ impl Scan {
     }
 
     // Whether the front or the mark of the thread counts all stores to the line already.
-    fn is_marked(&self, thread: u8) -> bool
-        ensures { result ≡ is_marked self.now.state thread }
+    fn is_flush_covered(&self, thread: u8) -> bool
+        ensures { result ≡ is_flush_covered self.now.state thread }
     {
         let mark = self.state.mark(thread).unwrap_or(0);
         self.state.count() <= self.state.front().max(mark)
@@ -133,7 +133,7 @@ impl Scan {
             StepKind::Store { addr, len } => self.report_store(found, ending, number, addr, len),
             StepKind::Flush => push_if(
                 found,
-                self.is_marked(step.thread),
+                self.is_flush_covered(step.thread),
                 Finding::RedundantFlush { event: number },
             ),
             StepKind::Clflush => push_if(

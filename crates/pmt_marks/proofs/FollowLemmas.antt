@@ -3,11 +3,11 @@ use Rattle.std.proofs.Common.{◌≡◌, ◌≢◌, ℕ, zero, suc, ◌+◌, ◌
 use Rattle.std.specs.Prelude.{◌==◌, ◌&&◌, if◌then◌else◌, max, unwrap_or}
 use Rattle.std.proofs.lemmas.Bool.{eq-eqb, ne_eqb, eqb-true, eqb-false, cases_eq}
 use Rattle.pmt_model.specs.Values.{Written}
-use Rattle.pmt_model.specs.Machine.{Act, Stores, Flushes, FlushesNow, Fences, Asserts, count}
+use Rattle.pmt_model.specs.Machine.{Act, Stores, Flushes, Clflushes, Fences, Asserts, count}
 use Rattle.pmt_model.specs.Fronts.{mark, open_mark, front}
 use Rattle.pmt_laws.proofs.Histories.{mark-le-count}
 use Rattle.pmt_marks.specs.Lines.{Line, Follows, mark_in, Marks, Completes}
-use Rattle.pmt_marks.specs.Others.{LeavesBe, OthersLeaveBe}
+use Rattle.pmt_marks.specs.Others.{LeavesLineUnchanged, LineStaysUnchanged}
 
 -- a thread's last mark is open, or in the front
 abbrev IsSettled : ℕ → ℕ → List Act → Type 0
@@ -23,7 +23,7 @@ mark-settled t l (Flushes u k ∷ h) = go ((u == t) && (k == l)) (mark-settled t
         ⊎ (((if b then Some (count l h) else open_mark t l h) ≡ None) × ((if b then count l h else mark t l h) ≤ front l h))
     go true s = inl refl
     go false s = s
-mark-settled t l (FlushesNow k ∷ h) = go (k == l) (mark-settled t l h)
+mark-settled t l (Clflushes k ∷ h) = go (k == l) (mark-settled t l h)
   where
     go : (b : Bool) → IsSettled t l h →
         (open_mark t l h ≡ Some (mark t l h)) ⊎ ((open_mark t l h ≡ None) × (mark t l h ≤ (if b then count l h else front l h)))
@@ -86,7 +86,7 @@ follows-flush l t h old new m f = record { counts = m.count ∙ f.counts; fronts
     go u (inr other) = m.marks.others u other ∙ f.marks u ∙ sym (open_mark-flush t u l h other)
 
 -- after a clflush of the line
-pub follows-clflush : (l : ℕ) (h : List Act) (old : Line) → Follows l h old → Follows l (FlushesNow l ∷ h) (record { count = old.count; front = old.count; marks = old.marks })
+pub follows-clflush : (l : ℕ) (h : List Act) (old : Line) → Follows l h old → Follows l (Clflushes l ∷ h) (record { count = old.count; front = old.count; marks = old.marks })
 follows-clflush l h old f =
     let e : (l == l) ≡ true = eq-eqb l l refl in
     record { counts = f.counts; fronts = rw e f.counts; marks = f.marks }
@@ -105,7 +105,7 @@ follows-fence l t h old new c f =
     go u (inr other) = c.marks.others u other ∙ f.marks u ∙ sym (open_mark-fence t u l h other)
 
 -- after an act that concerns other lines alone
-pub others_leave : OthersLeaveBe
+pub others_leave : LineStaysUnchanged
 others_leave l h line (Stores k w) other f =
     let e : (k == l) ≡ false = ne_eqb k l other in record { counts = rw e f.counts; fronts = f.fronts; marks = f.marks }
 others_leave l h line (Flushes t k) other f = record { counts = f.counts; fronts = f.fronts; marks = λ u. f.marks u ∙ sym (go u (t == u)) }
@@ -116,7 +116,7 @@ others_leave l h line (Flushes t k) other f = record { counts = f.counts; fronts
     go : (u : ℕ) (b : Bool) → (if b && (k == l) then Some (count l h) else open_mark u l h) ≡ open_mark u l h
     go u true = rw e refl
     go u false = refl
-others_leave l h line (FlushesNow k) other f =
+others_leave l h line (Clflushes k) other f =
     let e : (k == l) ≡ false = ne_eqb k l other in record { counts = f.counts; fronts = rw e f.fronts; marks = f.marks }
 others_leave l h line (Fences t) none f = record { counts = f.counts; fronts = f.fronts ∙ sym (front-fence t l h ∙ unraised); marks = λ u. go u (cases_eq u t) }
   where

@@ -1,5 +1,5 @@
 ghost use Rattle.std.specs.Prelude.{◌≡◌, ℕ, ◌+◌, ◌<◌, ◌↔◌, List, [], ◌∷◌, IsTrue, IsOk, IsSome, None, IfOk, OnOk, OnErr};
-ghost use Rattle.pmt_model.specs.Machine.{Act, Stores, Flushes, FlushesNow, Fences};
+ghost use Rattle.pmt_model.specs.Machine.{Act, Stores, Flushes, Clflushes, Fences};
 ghost use Rattle.pmt_model.specs.Traces.{event_limit};
 ghost use Rattle.pmt_model.specs.Values.{Written};
 ghost use Rattle.pmt_marks.specs.Lines.{IsLine, Follows, mark_in, Marks, Completes};
@@ -92,7 +92,7 @@ impl LineState {
     pub fn on_clflush(&mut self) -> bool
         ensures state { self.new ≡ record self.old { front = self.old.count } }
         ensures rose { IsTrue result ↔ (self.old.front < self.new.front) }
-        ensures follows { (l : ℕ) (h : List Act) → Follows l h self.old → Follows l (FlushesNow l ∷ h) self.new }
+        ensures follows { (l : ℕ) (h : List Act) → Follows l h self.old → Follows l (Clflushes l ∷ h) self.new }
     {
         let rose = self.front < self.count;
         self.front = self.count;

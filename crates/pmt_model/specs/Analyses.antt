@@ -52,7 +52,7 @@ pub record IsFindings (T : Recording) (findings : List Finding) : Type 0 where
   pub ordered : InReportOrder findings
   pub just : (f : Finding) → HasFinding findings f ↔ IsFinding T f
 
--- The op is an assertion; ordered tells isOrderedBefore from isPersist, and Passes whether it passes after the history.
+-- The op is an assertion; ordered tells isOrderedBefore from isPersist, and pass whether it passes after the history.
 pub data IsVerdictOf (T : Recording) (v : Verdict) : Type 0 where
   OfPersist : (e : Event) → event T v.event ≡ Some e → (r : _) → e.op ≡ IsPersist r → v.ordered ≡ false → (IsTrue v.pass ↔ PersistPasses (history T v.event) r) → IsVerdictOf T v
   OfOrdered : (e : Event) → event T v.event ≡ Some e → (r : _) → (q : _) → e.op ≡ IsOrderedBefore r q → v.ordered ≡ true → (IsTrue v.pass ↔ OrderedPasses (history T v.event) r q) → IsVerdictOf T v

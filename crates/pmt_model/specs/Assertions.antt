@@ -1,7 +1,7 @@
 -- The two assertions (own profile; their names are PMTest's).
 use Rattle.std.specs.Prelude.{◌≡◌, ℕ, suc, ◌+◌, ◌<◌, ◌≤◌, if◌then◌else◌, List, [], ◌∷◌, Option, Some, None, IfSome, IsSomeAnd, ◌↔◌, ◌⊎◌}
 use Rattle.pmt_model.specs.Values.{Span}
-use Rattle.pmt_model.specs.Machine.{Act, Stores, Flushes, FlushesNow, Fences, Asserts, count, writes, State, Ends, Passes}
+use Rattle.pmt_model.specs.Machine.{Act, Stores, Flushes, Clflushes, Fences, Asserts, count, writes, State, Ends, IsMoment}
 use Rattle.pmt_model.specs.Fronts.{front}
 use Rattle.pmt_model.specs.Traces.{Recording, history}
 use Rattle.pmt_model.specs.Selections.{cut, matching_place}
@@ -17,7 +17,7 @@ abbrev pub last_store : ℕ → List Act → Option Placed
 last_store b [] = None
 last_store b (Stores l w ∷ history) = if writes w b then Some (record { line = l; rank = suc (count l history) }) else last_store b history
 last_store b (Flushes t l ∷ history) = last_store b history
-last_store b (FlushesNow l ∷ history) = last_store b history
+last_store b (Clflushes l ∷ history) = last_store b history
 last_store b (Fences t ∷ history) = last_store b history
 last_store b (Asserts ∷ history) = last_store b history
 
@@ -40,7 +40,7 @@ PersistPasses history A = (s : State) → Ends history s → AllPersisted histor
 -- persisted than have come.
 abbrev pub OrderedPasses : List Act → Span → Span → Type 0
 OrderedPasses history A B =
-    (s : State) → Passes history s → (b : ℕ) → InSpan B b → IsSomeAnd (last_store b history) (IsPersisted s.persisted) →
+    (s : State) → IsMoment history s → (b : ℕ) → InSpan B b → IsSomeAnd (last_store b history) (IsPersisted s.persisted) →
     AllPersisted history s.persisted A
 
 -- The verdicts of assertion i in the trace and of the matching one in the kept selection are the same.
@@ -61,7 +61,7 @@ abbrev pub up_to_last : ℕ → List Act → List Act
 up_to_last b [] = []
 up_to_last b (Stores l w ∷ history) = if writes w b then Stores l w ∷ history else up_to_last b history
 up_to_last b (Flushes t l ∷ history) = up_to_last b history
-up_to_last b (FlushesNow l ∷ history) = up_to_last b history
+up_to_last b (Clflushes l ∷ history) = up_to_last b history
 up_to_last b (Fences t ∷ history) = up_to_last b history
 up_to_last b (Asserts ∷ history) = up_to_last b history
 

@@ -1,7 +1,7 @@
 -- What is found in a trace besides its verdicts (own profile).
 use Rattle.std.specs.Prelude.{◌≡◌, ◌≢◌, ℕ, ◌-◌, ◌<◌, ◌≤◌, ◌⊎◌, ◌↔◌, true, max, length, List, [], ◌∷◌, ◌==◌, suc, if◌then◌else◌, Option, Some, None, unwrap_or}
 use Rattle.pmt_model.specs.Values.{Written}
-use Rattle.pmt_model.specs.Machine.{Act, Asserts, Stores, Flushes, FlushesNow, Fences, writes, State, Ends}
+use Rattle.pmt_model.specs.Machine.{Act, Asserts, Stores, Flushes, Clflushes, Fences, writes, State, Ends}
 use Rattle.pmt_model.specs.Traces.{Recording, IsAct, history, count_at}
 use Rattle.pmt_model.specs.Fronts.{front_at, open_mark}
 use Rattle.pmt_model.specs.Selections.{cut, matching_place}
@@ -18,7 +18,7 @@ pub record IsNeverPersisted (T : Recording) (l i : ℕ) : Type 0 where
 -- Event i flushes line l: a flush by any thread, or a clflush.
 pub data IsFlushOf (T : Recording) (l i : ℕ) : Type 0 where
   ByFlush : (t : ℕ) → IsAct T i (Flushes t l) → IsFlushOf T l i
-  ByClflush : IsAct T i (FlushesNow l) → IsFlushOf T l i
+  ByClflush : IsAct T i (Clflushes l) → IsFlushOf T l i
 
 -- A flush of line l comes after event i.
 abbrev pub IsFlushedAfter : Recording → ℕ → ℕ → Type 0
@@ -44,7 +44,7 @@ pub record IsRedundantFlush (T : Recording) (t l i : ℕ) : Type 0 where
 
 -- The clflush of line l at i has no store to wait for that is not safe already.
 pub record IsRedundantClflush (T : Recording) (l i : ℕ) : Type 0 where
-  pub is_clflush : IsAct T i (FlushesNow l)
+  pub is_clflush : IsAct T i (Clflushes l)
   pub nothing_new : (j : ℕ) (w : Written) → j < i → IsAct T j (Stores l w) → IsSafe T l (i - 1) j
 
 -- Store j is the last one before store i to a byte that store i writes, and no flush of the line stands between them.
@@ -87,23 +87,23 @@ RedundantFlushByFronts =
 -- A redundant clflush, by the front just before it.
 abbrev pub RedundantClflushByFronts : Type 0
 RedundantClflushByFronts =
-    (T : Recording) (l i : ℕ) → IsAct T i (FlushesNow l) → IsRedundantClflush T l i ↔ (count_at T l i ≤ front_at T l (i - 1))
+    (T : Recording) (l i : ℕ) → IsAct T i (Clflushes l) → IsRedundantClflush T l i ↔ (count_at T l i ≤ front_at T l (i - 1))
 
 -- The number of the last store that writes the byte at b. The newest act of a history has the history's length as its number.
-abbrev pub last_number : ℕ → List Act → Option ℕ
-last_number b [] = None
-last_number b (Stores l w ∷ history) = if writes w b then Some (suc (length history)) else last_number b history
-last_number b (Flushes t l ∷ history) = last_number b history
-last_number b (FlushesNow l ∷ history) = last_number b history
-last_number b (Fences t ∷ history) = last_number b history
-last_number b (Asserts ∷ history) = last_number b history
+abbrev pub last_store_number : ℕ → List Act → Option ℕ
+last_store_number b [] = None
+last_store_number b (Stores l w ∷ history) = if writes w b then Some (suc (length history)) else last_store_number b history
+last_store_number b (Flushes t l ∷ history) = last_store_number b history
+last_store_number b (Clflushes l ∷ history) = last_store_number b history
+last_store_number b (Fences t ∷ history) = last_store_number b history
+last_store_number b (Asserts ∷ history) = last_store_number b history
 
 -- The number of the last flush of line l, or 0.
 abbrev pub last_flush : ℕ → List Act → ℕ
 last_flush l [] = 0
 last_flush l (Stores k w ∷ history) = last_flush l history
 last_flush l (Flushes t k ∷ history) = if k == l then suc (length history) else last_flush l history
-last_flush l (FlushesNow k ∷ history) = if k == l then suc (length history) else last_flush l history
+last_flush l (Clflushes k ∷ history) = if k == l then suc (length history) else last_flush l history
 last_flush l (Fences t ∷ history) = last_flush l history
 last_flush l (Asserts ∷ history) = last_flush l history
 
@@ -112,7 +112,7 @@ pub record OverwritesBefore (T : Recording) (l j i : ℕ) (earlier later : Writt
   pub is_earlier : IsAct T j (Stores l earlier)
   pub is_later : IsAct T i (Stores l later)
   pub writes_later : writes later byte ≡ true
-  pub last : last_number byte (history T (i - 1)) ≡ Some j
+  pub last : last_store_number byte (history T (i - 1)) ≡ Some j
   pub unflushed : last_flush l (history T (i - 1)) < j
 
 abbrev pub OverwrittenByNumbers : Type 0

@@ -1,6 +1,6 @@
 -- How many stores to a line are persisted for sure.
 use Rattle.std.specs.Prelude.{◌≡◌, ℕ, ◌==◌, ◌&&◌, ◌<◌, ◌≤◌, ◌⊎◌, max, if◌then◌else◌, List, [], ◌∷◌, Option, Some, None}
-use Rattle.pmt_model.specs.Machine.{Act, Stores, Flushes, FlushesNow, Fences, Asserts, count}
+use Rattle.pmt_model.specs.Machine.{Act, Stores, Flushes, Clflushes, Fences, Asserts, count}
 use Rattle.pmt_model.specs.Traces.{Recording, IsAct, history, count_at}
 
 -- A flush of line l marked c stores, and its thread has fenced since, by place n.
@@ -17,7 +17,7 @@ pub record IsFenced (T : Recording) (l n c : ℕ) : Type 0 where
 -- A clflush of line l had to wait for c stores, by place n.
 pub record IsFlushedNow (T : Recording) (l n c : ℕ) : Type 0 where
   pub clflush : ℕ
-  pub is_clflush : IsAct T clflush (FlushesNow l)
+  pub is_clflush : IsAct T clflush (Clflushes l)
   pub by_now : clflush ≤ n
   pub stores : count_at T l clflush ≡ c
 
@@ -34,7 +34,7 @@ abbrev pub mark : ℕ → ℕ → List Act → ℕ
 mark t l [] = 0
 mark t l (Stores k w ∷ history) = mark t l history
 mark t l (Flushes u k ∷ history) = if (u == t) && (k == l) then count l history else mark t l history
-mark t l (FlushesNow k ∷ history) = mark t l history
+mark t l (Clflushes k ∷ history) = mark t l history
 mark t l (Fences u ∷ history) = mark t l history
 mark t l (Asserts ∷ history) = mark t l history
 
@@ -43,7 +43,7 @@ abbrev pub open_mark : ℕ → ℕ → List Act → Option ℕ
 open_mark t l [] = None
 open_mark t l (Stores k w ∷ history) = open_mark t l history
 open_mark t l (Flushes u k ∷ history) = if (u == t) && (k == l) then Some (count l history) else open_mark t l history
-open_mark t l (FlushesNow k ∷ history) = open_mark t l history
+open_mark t l (Clflushes k ∷ history) = open_mark t l history
 open_mark t l (Fences u ∷ history) = if u == t then None else open_mark t l history
 open_mark t l (Asserts ∷ history) = open_mark t l history
 
@@ -52,7 +52,7 @@ abbrev pub front : ℕ → List Act → ℕ
 front l [] = 0
 front l (Stores k w ∷ history) = front l history
 front l (Flushes t k ∷ history) = front l history
-front l (FlushesNow k ∷ history) = if k == l then count l history else front l history
+front l (Clflushes k ∷ history) = if k == l then count l history else front l history
 front l (Fences t ∷ history) = max (front l history) (mark t l history)
 front l (Asserts ∷ history) = front l history
 

@@ -1,6 +1,6 @@
 -- The flushes and fences that matter, and the selection of them.
 use Rattle.std.specs.Prelude.{◌≡◌, ◌≢◌, ℕ, ◌-◌, ◌<◌, ◌≤◌, ◌↔◌, ◌==◌, if◌then◌else◌, true, false, List, [], ◌∷◌, length}
-use Rattle.pmt_model.specs.Machine.{Act, Flushes, FlushesNow, Fences}
+use Rattle.pmt_model.specs.Machine.{Act, Flushes, Clflushes, Fences}
 use Rattle.pmt_model.specs.Traces.{Recording, IsAct, count_at}
 use Rattle.pmt_model.specs.Fronts.{front_at}
 use Rattle.pmt_model.specs.Selections.{IsRising, Has, always_stays, IsFaithful}
@@ -28,7 +28,7 @@ pub record IsUsefulFlush (T : Recording) (i : ℕ) : Type 0 where
 -- A clflush that raises the front of its line.
 pub record IsUsefulClflush (T : Recording) (i : ℕ) : Type 0 where
   pub line : ℕ
-  pub is_clflush : IsAct T i (FlushesNow line)
+  pub is_clflush : IsAct T i (Clflushes line)
   pub raises : front_at T line i ≢ front_at T line (i - 1)
 
 -- A store, an assertion, or a useful flush or fence.

@@ -7,7 +7,7 @@ use Rattle.pmt_model.specs.Values.{Written}
 pub data Act : Type 0 where
   Stores : (line : ℕ) (what : Written) → Act
   Flushes : (thread : ℕ) (line : ℕ) → Act
-  FlushesNow : (line : ℕ) → Act
+  Clflushes : (line : ℕ) → Act
   Fences : (thread : ℕ) → Act
   Asserts : Act
 
@@ -16,7 +16,7 @@ abbrev pub count : ℕ → List Act → ℕ
 count l [] = 0
 count l (Stores k w ∷ history) = if k == l then suc (count l history) else count l history
 count l (Flushes t k ∷ history) = count l history
-count l (FlushesNow k ∷ history) = count l history
+count l (Clflushes k ∷ history) = count l history
 count l (Fences t ∷ history) = count l history
 count l (Asserts ∷ history) = count l history
 
@@ -41,7 +41,7 @@ start = record { history = []; persisted = λ _. 0; outstanding = [] }
 abbrev pub Allows : State → Act → Type 0
 Allows s (Stores l w) = Unit {0}
 Allows s (Flushes t l) = Unit {0}
-Allows s (FlushesNow l) = s.persisted l ≡ count l s.history
+Allows s (Clflushes l) = s.persisted l ≡ count l s.history
 Allows s (Fences t) = AllByRecursion (λ o. o.thread ≡ t → o.stores ≤ s.persisted o.line) s.outstanding
 Allows s Asserts = Unit {0}
 
@@ -50,7 +50,7 @@ Allows s Asserts = Unit {0}
 abbrev pub outstanding_after : State → Act → List Outstanding
 outstanding_after s (Stores l w) = s.outstanding
 outstanding_after s (Flushes t l) = record { thread = t; line = l; stores = count l s.history } ∷ s.outstanding
-outstanding_after s (FlushesNow l) = s.outstanding
+outstanding_after s (Clflushes l) = s.outstanding
 outstanding_after s (Fences t) = s.outstanding
 outstanding_after s Asserts = s.outstanding
 
@@ -72,8 +72,8 @@ abbrev pub Ends : List Act → State → Type 0
 Ends history s = Leads start s × (s.history ≡ history)
 
 -- The state is a moment of a run of the history: its first state, or the one after any of its steps.
-abbrev pub Passes : List Act → State → Type 0
-Passes history s = (end : State) × Leads start s × Leads s end × (end.history ≡ history)
+abbrev pub IsMoment : List Act → State → Type 0
+IsMoment history s = (end : State) × Leads start s × Leads s end × (end.history ≡ history)
 
 -- Memory after a crash: the byte at each address, if one was written.
 abbrev pub Image : Type 0
@@ -92,7 +92,7 @@ image_of persisted [] a = None
 image_of persisted (Stores l w ∷ history) a =
     if nat_lt (count l history) (persisted l) then write w (image_of persisted history) a else image_of persisted history a
 image_of persisted (Flushes t l ∷ history) a = image_of persisted history a
-image_of persisted (FlushesNow l ∷ history) a = image_of persisted history a
+image_of persisted (Clflushes l ∷ history) a = image_of persisted history a
 image_of persisted (Fences t ∷ history) a = image_of persisted history a
 image_of persisted (Asserts ∷ history) a = image_of persisted history a
 

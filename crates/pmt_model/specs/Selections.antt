@@ -1,7 +1,7 @@
 -- A trace cut to some of its events.
 use Rattle.std.specs.Prelude.{◌≡◌, ℕ, suc, ◌<◌, ◌≤◌, ◌⊎◌, ◌↔◌, Bool, true, false, nat_le, if◌then◌else◌, List, [], ◌∷◌, length}
 use Rattle.std.specs.List.{filter_map}
-use Rattle.pmt_model.specs.Machine.{Act, Stores, Flushes, FlushesNow, Fences, Asserts, Image}
+use Rattle.pmt_model.specs.Machine.{Act, Stores, Flushes, Clflushes, Fences, Asserts, Image}
 use Rattle.pmt_model.specs.Traces.{Recording, event, IsAct, CrashAt, VectorsAt}
 use Rattle.pmt_model.specs.Fronts.{front_at}
 
@@ -18,7 +18,7 @@ Has (k ∷ ks) n = (k ≡ n) ⊎ Has ks n
 abbrev pub always_stays : Act → Bool
 always_stays (Stores l w) = true
 always_stays (Flushes t l) = false
-always_stays (FlushesNow l) = false
+always_stays (Clflushes l) = false
 always_stays (Fences t) = false
 always_stays Asserts = true
 

@@ -6,11 +6,11 @@ use Rattle.pmt_model.specs.declared.fault.SplitStoreError.{SplitStoreError}
 use Rattle.pmt_model.specs.declared.fault.SplitStoreError.TheVariants.{BadLength, OutOfRange, OutOfMemory}
 
 -- The first piece goes to the end of the aligned word in which the address lies, or of the bytes, and the next ones follow.
-abbrev pub IsSplit : ℕ → List ℕ → List Op → Type 0
-IsSplit addr bytes [] = bytes ≡ []
-IsSplit addr bytes (op ∷ ops) =
+abbrev pub AreWordPieces : ℕ → List ℕ → List Op → Type 0
+AreWordPieces addr bytes [] = bytes ≡ []
+AreWordPieces addr bytes (op ∷ ops) =
     let room = 8 - addr % 8 in (1 ≤ length bytes) × (op ≡ Store (record { addr = addr; bytes = take room bytes }))
-    × IsSplit (addr + min room (length bytes)) (drop room bytes) ops
+    × AreWordPieces (addr + min room (length bytes)) (drop room bytes) ops
 
 pub record IsSplittable (addr : ℕ) (bytes : List ℕ) : Type 0 where
   pub some : 1 ≤ length bytes

@@ -6,7 +6,7 @@ use Rattle.pmt_model.specs.declared.event.Op.{Op}
 use Rattle.pmt_model.specs.declared.event.Op.TheVariants.{Store, Clwb, ClflushOpt, Clflush, Sfence, Mfence, IsPersist, IsOrderedBefore}
 use Rattle.pmt_model.specs.Formats.{IsFormat}
 use Rattle.pmt_model.specs.Values.{Layout, line_of, IsStore, IsAddress, IsRange}
-use Rattle.pmt_model.specs.Machine.{Act, Stores, Flushes, FlushesNow, Fences, Asserts, Image, count, Crash, Vectors}
+use Rattle.pmt_model.specs.Machine.{Act, Stores, Flushes, Clflushes, Fences, Asserts, Image, count, Crash, Vectors}
 
 -- What contracts see of a trace.
 pub record Recording : Type 0 where
@@ -58,7 +58,7 @@ abbrev pub act_of : Layout → ℕ → Op → Act
 act_of f t (Store w) = Stores (line_of f w.addr) w
 act_of f t (Clwb a) = Flushes t (line_of f a)
 act_of f t (ClflushOpt a) = Flushes t (line_of f a)
-act_of f t (Clflush a) = FlushesNow (line_of f a)
+act_of f t (Clflush a) = Clflushes (line_of f a)
 act_of f t Sfence = Fences t
 act_of f t Mfence = Fences t
 act_of f t (IsPersist r) = Asserts
@@ -104,6 +104,6 @@ abbrev pub lines_of : List Act → List ℕ
 lines_of [] = []
 lines_of (Stores l w ∷ history) = with_line l (lines_of history)
 lines_of (Flushes t l ∷ history) = with_line l (lines_of history)
-lines_of (FlushesNow l ∷ history) = with_line l (lines_of history)
+lines_of (Clflushes l ∷ history) = with_line l (lines_of history)
 lines_of (Fences t ∷ history) = lines_of history
 lines_of (Asserts ∷ history) = lines_of history

@@ -16,7 +16,7 @@ use Rattle.pmt_recorder.specs.Strips.{Strip, strip, empty_tapes, has_thread, IsO
 use Rattle.pmt_recorder.specs.Sealing.{IsSealed}
 use Rattle.pmt_recorder.specs.Scripts.{IsRecorded, Plays, PlaysEach, AtScript, first_fault, RecordFails}
 use Rattle.pmt_recorder.specs.declared.fault.RecordError.{RecordError}
-use Rattle.pmt_recorder.specs.declared.fault.RecordError.TheVariants.{NotInFormat as StrangeOp, Full as FullAt, OutOfMemory as NoMemory}
+use Rattle.pmt_recorder.specs.declared.fault.RecordError.TheVariants.{NotInFormat as NotInFormatAt, Full as FullAt, OutOfMemory as NoMemory}
 use Rattle.pmt_recorder.proofs.SealLemmas.{length-by_thread, slice_get-by_thread}
 
 -- What a recorder hands back.
@@ -92,7 +92,7 @@ fault_fits f scripts n ((s, Ok u) ∷ rest) e plays is = fault_fits f scripts (s
 fault_fits f scripts n ((s, Err NotInFormat) ∷ rest) e plays is =
     let at = plays 0 n (s, Err NotInFormat) (omega arith) (omega arith) in
     let P : RecordError → Type 0 = λ x. RecordFails f scripts x in
-    subst P (same_Some (StrangeOp n) e is) (at.0, at.1, at.2.stopped)
+    subst P (same_Some (NotInFormatAt n) e is) (at.0, at.1, at.2.stopped)
 fault_fits f scripts n ((s, Err (Full events)) ∷ rest) e plays is =
     let at = plays 0 n (s, Err (Full events)) (omega arith) (omega arith) in
     let P : RecordError → Type 0 = λ x. RecordFails f scripts x in
@@ -106,7 +106,7 @@ pub all_whole : (n : ℕ) (rest : List Played) → first_fault n rest ≡ None �
 all_whole n [] none k d h = absurd (omega arith)
 all_whole n ((s, Ok u) ∷ rest) none zero d h = refl
 all_whole n ((s, Ok u) ∷ rest) none (suc k) d h = all_whole (suc n) rest none k d (omega arith)
-all_whole n ((s, Err NotInFormat) ∷ rest) none k d h = absurd (none-some (StrangeOp n) (sym none))
+all_whole n ((s, Err NotInFormat) ∷ rest) none k d h = absurd (none-some (NotInFormatAt n) (sym none))
 all_whole n ((s, Err (Full events)) ∷ rest) none k d h = absurd (none-some (FullAt n events) (sym none))
 all_whole n ((s, Err OutOfMemory) ∷ rest) none k d h = absurd (none-some NoMemory (sym none))
 

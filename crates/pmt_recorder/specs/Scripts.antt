@@ -10,7 +10,7 @@ use Rattle.pmt_book.specs.declared.fault.BookError.{BookError}
 use Rattle.pmt_book.specs.declared.fault.BookError.TheVariants.{NotInFormat, Full, OutOfMemory}
 use Rattle.pmt_recorder.specs.Strips.{Strip, ops_of}
 use Rattle.pmt_recorder.specs.declared.fault.RecordError.{RecordError}
-use Rattle.pmt_recorder.specs.declared.fault.RecordError.TheVariants.{BadCount, NotInFormat as StrangeOp, Full as FullAt, OutOfMemory as NoMemory, Torn}
+use Rattle.pmt_recorder.specs.declared.fault.RecordError.TheVariants.{BadCount, NotInFormat as NotInFormatAt, Full as FullAt, OutOfMemory as NoMemory, Torn}
 
 -- The events are an interleaving of the scripts: part k has the ops of script k, in order.
 pub record IsRecorded (layout : Layout) (scripts : List (List Op)) (T : Recording) : Type 0 where
@@ -19,12 +19,12 @@ pub record IsRecorded (layout : Layout) (scripts : List (List Op)) (T : Recordin
   pub parts : (t : ℕ) → t < length scripts → slice_get scripts t ≡ Some (ops_of (part t T.events))
 
 -- Some op of the script is not in the format.
-abbrev pub HasStranger : Layout → List Op → Type 0
-HasStranger f script = list_any (λ op. not (in_format f op)) script ≡ true
+abbrev pub HasOpNotInFormat : Layout → List Op → Type 0
+HasOpNotInFormat f script = list_any (λ op. not (in_format f op)) script ≡ true
 
 -- What stopped the recorder of the script.
 abbrev pub Stops : Layout → List Op → BookError → Type 0
-Stops f script NotInFormat = HasStranger f script
+Stops f script NotInFormat = HasOpNotInFormat f script
 Stops f script (Full events) = events ≡ event_limit
 Stops f script OutOfMemory = Unit {0}
 
@@ -38,7 +38,7 @@ pub record Plays (layout : Layout) (script : List Op) (t : ℕ) (tape : Strip) (
 abbrev pub first_fault : ℕ → List (Strip × Result (Unit {0}) BookError) → Option RecordError
 first_fault n [] = None
 first_fault n ((s, Ok u) ∷ rest) = first_fault (suc n) rest
-first_fault n ((s, Err NotInFormat) ∷ rest) = Some (StrangeOp n)
+first_fault n ((s, Err NotInFormat) ∷ rest) = Some (NotInFormatAt n)
 first_fault n ((s, Err (Full events)) ∷ rest) = Some (FullAt n events)
 first_fault n ((s, Err OutOfMemory) ∷ rest) = Some NoMemory
 
@@ -55,7 +55,7 @@ PlaysEach f scripts played =
 -- Some tape of a number below n is not its part.
 abbrev pub IsTornBelow : ℕ → RecordError → Type 0
 IsTornBelow n BadCount = ⊥
-IsTornBelow n (StrangeOp t) = ⊥
+IsTornBelow n (NotInFormatAt t) = ⊥
 IsTornBelow n (FullAt t events) = ⊥
 IsTornBelow n NoMemory = ⊥
 IsTornBelow n (Torn t) = t < n
@@ -63,7 +63,7 @@ IsTornBelow n (Torn t) = t < n
 -- Why no trace was given.
 abbrev pub RecordFails : Layout → List (List Op) → RecordError → Type 0
 RecordFails f scripts BadCount = (length scripts ≡ 0) ⊎ (256 < length scripts)
-RecordFails f scripts (StrangeOp t) = AtScript scripts t (HasStranger f)
+RecordFails f scripts (NotInFormatAt t) = AtScript scripts t (HasOpNotInFormat f)
 RecordFails f scripts (FullAt t events) = (t < length scripts) × (events ≡ event_limit)
 RecordFails f scripts NoMemory = Unit {0}
 RecordFails f scripts (Torn t) = t < length scripts

@@ -6,7 +6,7 @@ use Rattle.pmt_model.specs.declared.event.Event.{Event}
 use Rattle.pmt_model.specs.declared.event.Op.{Op}
 use Rattle.pmt_model.specs.declared.event.Op.TheVariants.{Store, Clwb, ClflushOpt, Clflush, Sfence, Mfence, IsPersist, IsOrderedBefore}
 use Rattle.pmt_model.specs.Values.{Layout}
-use Rattle.pmt_model.specs.Machine.{Act, Stores, Flushes, FlushesNow, Fences, Asserts}
+use Rattle.pmt_model.specs.Machine.{Act, Stores, Flushes, Clflushes, Fences, Asserts}
 use Rattle.pmt_model.specs.Traces.{Recording, IsTrace, IsEventIn, IsOp, IsAct, act_of, history, has_line, with_line, lines_of}
 use Rattle.pmt_laws.proofs.Histories.{history-act, history-step}
 
@@ -18,7 +18,7 @@ IsLow size l = l * size < 2 ^ 48
 abbrev LowAct : ℕ → Act → Type 0
 LowAct size (Stores l w) = IsLow size l
 LowAct size (Flushes t l) = IsLow size l
-LowAct size (FlushesNow l) = IsLow size l
+LowAct size (Clflushes l) = IsLow size l
 LowAct size (Fences t) = Unit {0}
 LowAct size Asserts = Unit {0}
 
@@ -58,7 +58,7 @@ low-with_line size l lines here h = go (has_line l lines) refl
 low-lines : (size : ℕ) (a : Act) (h : List Act) → LowAct size a → AllByRecursion (IsLow size) (lines_of h) → AllByRecursion (IsLow size) (lines_of (a ∷ h))
 low-lines size (Stores l w) h here each = low-with_line size l (lines_of h) here each
 low-lines size (Flushes t l) h here each = low-with_line size l (lines_of h) here each
-low-lines size (FlushesNow l) h here each = low-with_line size l (lines_of h) here each
+low-lines size (Clflushes l) h here each = low-with_line size l (lines_of h) here each
 low-lines size (Fences t) h here each = each
 low-lines size Asserts h here each = each
 

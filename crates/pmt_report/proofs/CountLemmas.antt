@@ -2,7 +2,7 @@
 use Rattle.std.proofs.Common.{◌≡◌, ℕ, zero, suc, ◌+◌, ◌-◌, ◌<◌, ◌≤◌, inl, inr, ◌==◌, List, [], ◌∷◌, length, slice_get, Some, refl, sym, ap, ◌∙◌, subst, arith, ne_eqb, eq-eqb}
 use Rattle.std.proofs.lemmas.Bool.{cond-true, cond-false, cases_lt}
 use Rattle.pmt_model.specs.Values.{Written}
-use Rattle.pmt_model.specs.Machine.{Act, Stores, Flushes, FlushesNow, Fences, Asserts, count}
+use Rattle.pmt_model.specs.Machine.{Act, Stores, Flushes, Clflushes, Fences, Asserts, count}
 use Rattle.pmt_model.specs.Traces.{Recording, IsAct, history, count_at}
 use Rattle.pmt_model.specs.Fronts.{front_at}
 use Rattle.pmt_laws.proofs.Histories.{history-act, history-step}
@@ -14,7 +14,7 @@ use Rattle.pmt_lines.specs.Steps.{LineWork}
 use Rattle.pmt_lines.specs.Jobs.{IsKind, IsStepOf, Touches, ByStore, IsWalkFrom, IsJobOf}
 use Rattle.pmt_lines.specs.Raises.{RaisesBetween, LineFound, IsLineResult}
 use Rattle.pmt_lines.proofs.RunLemmas.{kind-within}
-use Rattle.pmt_report.specs.FrontsOf.{store_of, stores_in, front_after}
+use Rattle.pmt_report.specs.FrontsOf.{stores_of_step, stores_in, front_after}
 
 -- ---- Stores
 
@@ -22,7 +22,7 @@ use Rattle.pmt_report.specs.FrontsOf.{store_of, stores_in, front_after}
 count-other : (l : ℕ) (a : Act) (h : List Act) → ((w : Written) → a ≡ Stores l w → ⊥) → count l (a ∷ h) ≡ count l h
 count-other l (Stores k w) h other = cond-false (k == l) (suc (count l h)) (count l h) (ne_eqb k l (λ e. other w (ap (λ (j : ℕ). Stores j w) e)))
 count-other l (Flushes t k) h other = refl
-count-other l (FlushesNow k) h other = refl
+count-other l (Clflushes k) h other = refl
 count-other l (Fences t) h other = refl
 count-other l Asserts h other = refl
 
@@ -50,17 +50,17 @@ count-act : (T : Recording) (l n : ℕ) (a : Act) → IsAct T (suc n) a → coun
 count-act T l n a is = ap (count l) (history-act T n a is)
 
 -- a step of the line's job
-count-kind : (T : Recording) (l n t : ℕ) (kind : StepKind) → IsKind T l (suc n) t kind → count_at T l (suc n) ≡ store_of kind + count_at T l n
+count-kind : (T : Recording) (l n t : ℕ) (kind : StepKind) → IsKind T l (suc n) t kind → count_at T l (suc n) ≡ stores_of_step kind + count_at T l n
 count-kind T l n t (Store addr len) is = count-act T l n (Stores l is.0) is.1 ∙ count-same l is.0 (history T n) ∙ omega arith
 count-kind T l n t Flush is = count-act T l n (Flushes t l) is ∙ omega arith
-count-kind T l n t Clflush is = count-act T l n (FlushesNow l) is ∙ omega arith
+count-kind T l n t Clflush is = count-act T l n (Clflushes l) is ∙ omega arith
 count-kind T l n t Fence is = count-act T l n (Fences t) is ∙ omega arith
 
 count-step : (T : Recording) (l low number t : ℕ) (kind : StepKind) → low < number → ((k : ℕ) → low < k → k < number → ¬ Touches T l k) →
-    IsKind T l number t kind → count_at T l number ≡ store_of kind + count_at T l low
+    IsKind T l number t kind → count_at T l number ≡ stores_of_step kind + count_at T l low
 count-step T l low zero t kind above quiet is = absurd (omega arith)
 count-step T l low (suc n) t kind above quiet is =
-    count-kind T l n t kind is ∙ ap (λ (c : ℕ). store_of kind + c) (count-over T l low n (omega arith) (λ k a b. quiet k a (omega arith)))
+    count-kind T l n t kind is ∙ ap (λ (c : ℕ). stores_of_step kind + c) (count-over T l low n (omega arith) (λ k a b. quiet k a (omega arith)))
 
 -- the stores of a line's job are those of the line
 pub count-walk : (T : Recording) (l low : ℕ) (steps : List Step) → low ≤ length T.events → IsWalkFrom (IsStepOf T l) (Touches T l) low steps →

@@ -19,16 +19,16 @@ abbrev pub job_entry : Recording → LineWork → List ℕ
 job_entry T job = line_entry T (length T.events) job.line
 
 -- 1 for a store
-abbrev pub store_of : StepKind → ℕ
-store_of (Store addr len) = 1
-store_of Flush = 0
-store_of Clflush = 0
-store_of Fence = 0
+abbrev pub stores_of_step : StepKind → ℕ
+stores_of_step (Store addr len) = 1
+stores_of_step Flush = 0
+stores_of_step Clflush = 0
+stores_of_step Fence = 0
 
 -- how many of the steps are stores
 abbrev pub stores_in : List Step → ℕ
 stores_in [] = 0
-stores_in (s ∷ steps) = store_of s.kind + stores_in steps
+stores_in (s ∷ steps) = stores_of_step s.kind + stores_in steps
 
 -- the front after the raises
 abbrev pub front_after : ℕ → List Raise → ℕ

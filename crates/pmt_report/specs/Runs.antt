@@ -37,15 +37,15 @@ write_faults (Err (PastEnd events)) = 0
 write_faults (Err OutOfMemory) = 0
 
 -- How many reads failed.
-abbrev pub read_faults : {A : Type 0} → Result A RunError → ℕ
-read_faults (Ok x) = 0
-read_faults (Err Read) = 1
-read_faults (Err BadWorkers) = 0
-read_faults (Err (Text f)) = 0
-read_faults (Err TooMany) = 0
-read_faults (Err (PastEnd events)) = 0
-read_faults (Err OutOfMemory) = 0
-read_faults (Err (Write written)) = 0
+abbrev pub run_read_faults : {A : Type 0} → Result A RunError → ℕ
+run_read_faults (Ok x) = 0
+run_read_faults (Err Read) = 1
+run_read_faults (Err BadWorkers) = 0
+run_read_faults (Err (Text f)) = 0
+run_read_faults (Err TooMany) = 0
+run_read_faults (Err (PastEnd events)) = 0
+run_read_faults (Err OutOfMemory) = 0
+run_read_faults (Err (Write written)) = 0
 
 -- The answer is that the number of workers is bad.
 abbrev pub tells_workers : {A : Type 0} → Result A RunError → Bool
@@ -65,8 +65,8 @@ abbrev pub byte_limit : ℕ
 byte_limit = 67108864
 
 -- What comes from the bytes, where they are known.
-abbrev pub coming_from : Option (List ℕ) → Option Coming
-coming_from bytes = option_map (judged_within byte_limit) bytes
+abbrev pub coming_from_reader : Option (List ℕ) → Option Coming
+coming_from_reader bytes = option_map (judged_within byte_limit) bytes
 
 -- ---- What a run computes from what comes, before it writes
 
@@ -93,14 +93,14 @@ IsComingFault coming (PastEnd events) = ⊥
 IsComingFault coming OutOfMemory = Unit {0}
 IsComingFault coming (Write written) = ⊥
 
-abbrev pub IsTrimFault : Option Coming → RunError → Type 0
-IsTrimFault coming BadWorkers = Unit {0}
-IsTrimFault coming (Text f) = IsComingFault coming (Text f)
-IsTrimFault coming TooMany = IsComingFault coming TooMany
-IsTrimFault coming Read = Unit {0}
-IsTrimFault coming (PastEnd events) = ⊥
-IsTrimFault coming OutOfMemory = Unit {0}
-IsTrimFault coming (Write written) = ⊥
+abbrev pub IsAnalysisFault : Option Coming → RunError → Type 0
+IsAnalysisFault coming BadWorkers = Unit {0}
+IsAnalysisFault coming (Text f) = IsComingFault coming (Text f)
+IsAnalysisFault coming TooMany = IsComingFault coming TooMany
+IsAnalysisFault coming Read = Unit {0}
+IsAnalysisFault coming (PastEnd events) = ⊥
+IsAnalysisFault coming OutOfMemory = Unit {0}
+IsAnalysisFault coming (Write written) = ⊥
 
 abbrev pub IsFrontsFault : ℕ → Option Coming → RunError → Type 0
 IsFrontsFault place coming BadWorkers = ⊥
@@ -119,7 +119,7 @@ pub record IsFrontsAt (place : ℕ) (T : Recording) (text : List ℕ) : Type 0 w
 -- A read fault is told exactly where the count of failed reads rises, which it does by one; None: there is no count.
 abbrev pub CountsRuns : {A : Type 0} → Option ℕ → Result A RunError → Option ℕ → Type 0
 CountsRuns None result new = Unit {0}
-CountsRuns (Some n) result new = new ≡ Some (n + read_faults result)
+CountsRuns (Some n) result new = new ≡ Some (n + run_read_faults result)
 
 -- The text is that of the trimmed trace.
 pub record IsTrimmedText (T : Recording) (text : List ℕ) : Type 0 where
@@ -129,8 +129,8 @@ pub record IsTrimmedText (T : Recording) (text : List ℕ) : Type 0 where
   pub spelled : text ≡ spelling trimmed
 
 -- The numbers of workers that are allowed.
-abbrev pub is_workers : ℕ → Bool
-is_workers n = (n == 1) || (n == 2) || (n == 4) || (n == 8) || (n == 16)
+abbrev pub is_worker_count : ℕ → Bool
+is_worker_count n = (n == 1) || (n == 2) || (n == 4) || (n == 8) || (n == 16)
 
 -- ---- What a run tells
 

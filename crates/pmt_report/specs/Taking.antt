@@ -15,12 +15,12 @@ abbrev pub IsAllOf : Option Coming → Recording → Type 0
 IsAllOf coming T = IfSome coming (λ c. c ≡ whole T)
 
 -- A fault of the text is the one that comes. A failed read and want of memory may come at any time.
-abbrev pub IsFaultOf : Option Coming → SourceError → Type 0
-IsFaultOf coming (Text f) = IfSome coming (λ c. c.fault ≡ Some (Text f))
-IsFaultOf coming TooMany = IfSome coming (λ c. c.fault ≡ Some TooMany)
-IsFaultOf coming Read = Unit {0}
-IsFaultOf coming OutOfMemory = Unit {0}
-IsFaultOf coming Failed = ⊥
+abbrev pub IsTakingFault : Option Coming → SourceError → Type 0
+IsTakingFault coming (Text f) = IfSome coming (λ c. c.fault ≡ Some (Text f))
+IsTakingFault coming TooMany = IfSome coming (λ c. c.fault ≡ Some TooMany)
+IsTakingFault coming Read = Unit {0}
+IsTakingFault coming OutOfMemory = Unit {0}
+IsTakingFault coming Failed = ⊥
 
 -- The count of failed reads stays, where there is one.
 abbrev pub KeepsCount : Option ℕ → Option ℕ → Type 0

@@ -3,7 +3,7 @@ ghost use Rattle.std.specs.Prelude.{◌≡◌, ◌+◌, ◌-◌, ◌^◌, ◌<�
 ghost use Rattle.pmt_text.specs.Counting.{failure_count, inner_device};
 ghost use Rattle.pmt_workers.specs.Analysing.{IsAnalysed};
 ghost use Rattle.pmt_report.specs.Taking.{IsAllOf};
-ghost use Rattle.pmt_report.specs.Runs.{IsTrimFault, coming_from, is_workers, read_faults, tells_workers};
+ghost use Rattle.pmt_report.specs.Runs.{IsAnalysisFault, coming_from_reader, is_worker_count, run_read_faults, tells_workers};
 
 use crate::fault::{RunError, run_error};
 use pmt_model::NoGate;
@@ -22,12 +22,12 @@ pub(crate) fn analysed<T: Threads + Wait + Sync, R: Read>(
     reader: Counted<R>,
 ) -> (Counted<R>, Result<Analysis, RunError>)
     requires reads { failure_count reader < 2 ^ 64 - 1 }
-    ensures workers { tells_workers result.1 ≡ not (is_workers workers) }
+    ensures workers { tells_workers result.1 ≡ not (is_worker_count workers) }
     ensures unread { tells_workers result.1 ≡ true → result.0 ≡ reader }
     ensures right { IfOk result.1 IsAnalysed }
-    ensures all { IfOk result.1 (λ a. IsAllOf (coming_from (R.remaining (inner_device reader))) a.trace) }
-    ensures fault { IfErr result.1 (IsTrimFault (coming_from (R.remaining (inner_device reader)))) }
-    ensures read_failures { failure_count result.0 ≡ failure_count reader + read_faults result.1 }
+    ensures all { IfOk result.1 (λ a. IsAllOf (coming_from_reader (R.remaining (inner_device reader))) a.trace) }
+    ensures fault { IfErr result.1 (IsAnalysisFault (coming_from_reader (R.remaining (inner_device reader)))) }
+    ensures read_failures { failure_count result.0 ≡ failure_count reader + run_read_faults result.1 }
 {
     let mut source = TextSource::new(alloc, reader);
     let found = analyse_with(rt, alloc, &NoGate, &mut source, workers);

@@ -3,7 +3,7 @@ ghost use Rattle.std.specs.Prelude.{◌≡◌, ◌+◌, ◌-◌, ◌^◌, ◌<�
 ghost use Rattle.std.specs.List.{list_any};
 ghost use Rattle.pmt_text.specs.Counting.{failure_count, inner_device};
 ghost use Rattle.pmt_report.specs.Checks.{IsJudgedAs, IsReportOf, has_failed, is_failure, is_loss, report_for, unanswered};
-ghost use Rattle.pmt_report.specs.Runs.{IsTrimFault, Runs, coming_from, is_workers, read_faults, tells_workers, write_faults};
+ghost use Rattle.pmt_report.specs.Runs.{IsAnalysisFault, Runs, coming_from_reader, is_worker_count, run_read_faults, tells_workers, write_faults};
 
 use crate::analysed::analysed;
 use crate::fault::RunError;
@@ -32,11 +32,11 @@ pub fn run_check<T: Threads + Wait + Sync, R: Read, W: Write>(
 ) -> (Counted<R>, Result<bool, RunError>)
     requires reads { failure_count reader < 2 ^ 64 - 1 }
     requires writes { failure_count writer.old < 2 ^ 64 - 1 }
-    ensures workers { tells_workers result.1 ≡ not (is_workers workers) }
+    ensures workers { tells_workers result.1 ≡ not (is_worker_count workers) }
     ensures unread { tells_workers result.1 ≡ true → result.0 ≡ reader }
-    ensures runs { Runs IsReportOf IsTrimFault (coming_from (R.remaining (inner_device reader))) (W.contents (inner_device writer.old)) (W.contents (inner_device writer.new)) (unanswered result.1) }
-    ensures judged { IfOk result.1 (IsJudgedAs (coming_from (R.remaining (inner_device reader)))) }
-    ensures read_failures { failure_count result.0 ≡ failure_count reader + read_faults result.1 }
+    ensures runs { Runs IsReportOf IsAnalysisFault (coming_from_reader (R.remaining (inner_device reader))) (W.contents (inner_device writer.old)) (W.contents (inner_device writer.new)) (unanswered result.1) }
+    ensures judged { IfOk result.1 (IsJudgedAs (coming_from_reader (R.remaining (inner_device reader)))) }
+    ensures read_failures { failure_count result.0 ≡ failure_count reader + run_read_faults result.1 }
     ensures write_failures { failure_count writer.new ≡ failure_count writer.old + write_faults result.1 }
 {
     let (reader, found) = analysed(rt, alloc, workers, reader);

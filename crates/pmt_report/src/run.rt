@@ -2,7 +2,7 @@
 ghost use Rattle.std.specs.Prelude.{◌≡◌, ◌+◌, ◌-◌, ◌^◌, ◌<◌, IfOk, IfErr};
 ghost use Rattle.pmt_text.specs.declared.source.SourceState.{SourceState};
 ghost use Rattle.pmt_text.specs.Counting.{failure_count, inner_device};
-ghost use Rattle.pmt_report.specs.Runs.{CountsRuns, IsComputed, IsFrontsAt, IsFrontsFault, Runs, coming_from, read_faults, write_faults};
+ghost use Rattle.pmt_report.specs.Runs.{CountsRuns, IsComputed, IsFrontsAt, IsFrontsFault, Runs, coming_from_reader, run_read_faults, write_faults};
 
 use crate::fault::{RunError, run_error};
 use crate::fronts::fronts_of_trace;
@@ -25,8 +25,8 @@ pub fn run_fronts<R: Read, W: Write>(
 ) -> (Counted<R>, Result<(), RunError>)
     requires reads { failure_count reader < 2 ^ 64 - 1 }
     requires writes { failure_count writer.old < 2 ^ 64 - 1 }
-    ensures runs { Runs (IsFrontsAt place) (IsFrontsFault place) (coming_from (R.remaining (inner_device reader))) (W.contents (inner_device writer.old)) (W.contents (inner_device writer.new)) result.1 }
-    ensures read_failures { failure_count result.0 ≡ failure_count reader + read_faults result.1 }
+    ensures runs { Runs (IsFrontsAt place) (IsFrontsFault place) (coming_from_reader (R.remaining (inner_device reader))) (W.contents (inner_device writer.old)) (W.contents (inner_device writer.new)) result.1 }
+    ensures read_failures { failure_count result.0 ≡ failure_count reader + run_read_faults result.1 }
     ensures write_failures { failure_count writer.new ≡ failure_count writer.old + write_faults result.1 }
 {
     let mut source = TextSource::new(alloc, reader);

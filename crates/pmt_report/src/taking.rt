@@ -5,7 +5,7 @@ ghost use Rattle.pmt_model.specs.Traces.{IsEventIn, event_limit};
 ghost use Rattle.pmt_model.specs.Pushing.{with_event};
 ghost use Rattle.pmt_text.specs.declared.source.SourceState.{SourceState};
 ghost use Rattle.pmt_text.specs.Sources.{CountsReads};
-ghost use Rattle.pmt_report.specs.Taking.{EndsAfter, IsFaultOf, TakesFirst};
+ghost use Rattle.pmt_report.specs.Taking.{EndsAfter, IsTakingFault, TakesFirst};
 
 use pmt_model::{Event, PushError, Trace};
 use pmt_text::{EventSource, SourceError};
@@ -19,7 +19,7 @@ pub(crate) fn first_events<S: EventSource>(
 ) -> Result<Trace, SourceError>
     requires { S.state source.old ≡ SourceState.Open }
     ensures taken { IfOk result (λ P. TakesFirst most (S.coming source.old) P (S.coming source.new) (S.state source.new)) }
-    ensures fault { IfErr result (IsFaultOf (S.coming source.old)) }
+    ensures fault { IfErr result (IsTakingFault (S.coming source.old)) }
     ensures failures { CountsReads (S.failures source.old) result (S.failures source.new) }
 {
     let format = source.format()?;
@@ -37,7 +37,7 @@ pub(crate) fn first_events<S: EventSource>(
 pub(crate) fn skip_events<S: EventSource>(source: &mut S) -> Result<(), SourceError>
     requires { S.state source.old ≡ SourceState.Open }
     ensures taken { OnOk result ((es : List Event) × EndsAfter (S.coming source.old) es) }
-    ensures fault { IfErr result (IsFaultOf (S.coming source.old)) }
+    ensures fault { IfErr result (IsTakingFault (S.coming source.old)) }
     ensures failures { CountsReads (S.failures source.old) result (S.failures source.new) }
 {
     'skip: loop {

@@ -1,7 +1,7 @@
 //! The run that trims a trace.
 ghost use Rattle.std.specs.Prelude.{◌≡◌, ◌+◌, ◌-◌, ◌^◌, ◌<◌, true, not, IfOk};
 ghost use Rattle.pmt_text.specs.Counting.{failure_count, inner_device};
-ghost use Rattle.pmt_report.specs.Runs.{IsTrimFault, IsTrimmedText, Runs, coming_from, is_workers, read_faults, tells_workers, write_faults};
+ghost use Rattle.pmt_report.specs.Runs.{IsAnalysisFault, IsTrimmedText, Runs, coming_from_reader, is_worker_count, run_read_faults, tells_workers, write_faults};
 
 use crate::analysed::analysed;
 use crate::fault::RunError;
@@ -28,10 +28,10 @@ pub fn run_trim<T: Threads + Wait + Sync, R: Read, W: Write>(
 ) -> (Counted<R>, Result<(), RunError>)
     requires reads { failure_count reader < 2 ^ 64 - 1 }
     requires writes { failure_count writer.old < 2 ^ 64 - 1 }
-    ensures workers { tells_workers result.1 ≡ not (is_workers workers) }
+    ensures workers { tells_workers result.1 ≡ not (is_worker_count workers) }
     ensures unread { tells_workers result.1 ≡ true → result.0 ≡ reader }
-    ensures runs { Runs IsTrimmedText IsTrimFault (coming_from (R.remaining (inner_device reader))) (W.contents (inner_device writer.old)) (W.contents (inner_device writer.new)) result.1 }
-    ensures read_failures { failure_count result.0 ≡ failure_count reader + read_faults result.1 }
+    ensures runs { Runs IsTrimmedText IsAnalysisFault (coming_from_reader (R.remaining (inner_device reader))) (W.contents (inner_device writer.old)) (W.contents (inner_device writer.new)) result.1 }
+    ensures read_failures { failure_count result.0 ≡ failure_count reader + run_read_faults result.1 }
     ensures write_failures { failure_count writer.new ≡ failure_count writer.old + write_faults result.1 }
 {
     let (reader, found) = analysed(rt, alloc, workers, reader);

@@ -11,7 +11,7 @@ use Rattle.pmt_text.specs.declared.kind.TextKind.TheVariants.{TooManyEvents}
 use Rattle.pmt_text.specs.declared.kind.SourceError.{SourceError}
 use Rattle.pmt_text.specs.declared.kind.SourceError.TheVariants.{TooMany}
 use Rattle.pmt_text.specs.Judging.{script_line_judged}
-use Rattle.pmt_text.specs.Coming.{Items, lines_of, lines_coming, item_then, fault_at}
+use Rattle.pmt_text.specs.Coming.{Items, text_lines, lines_coming, item_then, fault_at}
 use Rattle.pmt_text.specs.ScriptInputs.{ReadsWithin, IsRead}
 use Rattle.pmt_text.proofs.ComingLemmas.{lines_coming-line, lines_coming-rest}
 
@@ -48,10 +48,10 @@ read-over bound (Some xs) (Some ys) (Some zs) text piece taken more some full =
 
 -- the fault of these bytes after so many ops, where more bytes come than are judged
 abbrev pub fault_after : ℕ → List ℕ → Option SourceError
-fault_after count text = (lines_coming script_line_judged true 1 count (lines_of text)).fault
+fault_after count text = (lines_coming script_line_judged true 1 count (text_lines text)).fault
 
-module _ (count : ℕ) (text line rest : List ℕ) (lines : lines_of text ≡ line ∷ lines_of rest) where
-  fault-line : fault_after count text ≡ (item_then (1 + count) count (script_line_judged line) (lines_coming script_line_judged true 1 (count + 1) (lines_of rest))).fault
+module _ (count : ℕ) (text line rest : List ℕ) (lines : text_lines text ≡ line ∷ text_lines rest) where
+  fault-line : fault_after count text ≡ (item_then (1 + count) count (script_line_judged line) (lines_coming script_line_judged true 1 (count + 1) (text_lines rest))).fault
   fault-line =
       ap (λ (l : List (List ℕ)). (lines_coming script_line_judged true 1 count l).fault) lines
       ∙ ap (λ (i : Items Op). i.fault) (lines_coming-line script_line_judged true 1 count line rest)
@@ -66,7 +66,7 @@ module _ (count : ℕ) (text line rest : List ℕ) (lines : lines_of text ≡ li
   pub fault-late : (op : Op) → script_line_judged line ≡ Ok op → event_limit ≤ count → fault_after count text ≡ Some (fault_at (1 + count) TooManyEvents)
   fault-late op judged many = fault-line ∙ rw (judged, le-ltb count event_limit many) refl
 
-pub fault-long : (count : ℕ) (text : List ℕ) → lines_of text ≡ text ∷ [] → fault_after count text ≡ Some TooMany
+pub fault-long : (count : ℕ) (text : List ℕ) → text_lines text ≡ text ∷ [] → fault_after count text ≡ Some TooMany
 fault-long count text last =
     ap (λ (l : List (List ℕ)). (lines_coming script_line_judged true 1 count l).fault) last
     ∙ ap (λ (i : Items Op). i.fault) (lines_coming-rest script_line_judged true 1 count text)

@@ -18,10 +18,10 @@ use Rattle.pmt_text.specs.declared.word.Word.TheVariants as words
 use Rattle.pmt_text.specs.Spelling.{ended, header, numeral, event_line, event_text, op_line, op_text, spelling, script_spelling, word_text}
 use Rattle.pmt_text.specs.Fields.{event_in}
 use Rattle.pmt_text.specs.Judging.{fields_of, required, is_known, event_checked, event_judged, line_judged, script_line_judged}
-use Rattle.pmt_text.specs.Coming.{lines_of, fault_at, Items, ends_with, item_then, rest_fault, lines_coming, Coming, lines_of_trace, header_then, with_format, all_formats, format_in, trace_coming, judged, script_coming, script_judged}
+use Rattle.pmt_text.specs.Coming.{text_lines, fault_at, Items, ends_with, item_then, rest_fault, lines_coming, Coming, lines_of_trace, header_then, with_format, all_formats, format_in, trace_coming, judged, script_coming, script_judged}
 use Rattle.pmt_text.specs.TextLaws.{whole, is_of_first_version, IsScript, whole_script, SpelledIsRead, ReadIsSpelled, OneTraceOfText, OneTextOfTrace, FirstVersionStays, NewWordsAreBad, ScriptsAreSpelled, WithinBound}
 use Rattle.pmt_text.proofs.LineLemmas.{IsFree, parts-append}
-use Rattle.pmt_text.proofs.ComingLemmas.{lines_of-nonempty, lines_coming-line}
+use Rattle.pmt_text.proofs.ComingLemmas.{text_lines-nonempty, lines_coming-line}
 use Rattle.pmt_text.proofs.ReaderLemmas.{judged-lines}
 use Rattle.pmt_text.proofs.WordLemmas.{header-format_in, word_in-word_text, sized, format_in-first, format_in-32, format_in-64, format_in-128, format_in-256}
 use Rattle.pmt_text.proofs.JudgedLemmas.{line_judged-ok, script_line_judged-ok}
@@ -35,13 +35,13 @@ record IsSpelledBy {A : Type 0} (rule : List ℕ → Result A TextKind) (line : 
   read : rule (line x) ≡ Ok x
 
 spelled_lines : {A : Type 0} (rule : List ℕ → Result A TextKind) (line : A → List ℕ) (first before : ℕ) (xs : List A) → AllByRecursion (IsSpelledBy rule line) xs → before + length xs ≤ event_limit →
-    lines_coming rule false first before (lines_of (flat_map (λ x. ended (line x)) xs)) ≡ record { items = xs; fault = None }
+    lines_coming rule false first before (text_lines (flat_map (λ x. ended (line x)) xs)) ≡ record { items = xs; fault = None }
 unfolding lines_coming
 spelled_lines rule line first before [] h few = refl
 spelled_lines rule line first before (x ∷ xs) h few =
     let rest : List ℕ = flat_map (λ y. ended (line y)) xs in
-    let later : Items _ = lines_coming rule false first (before + 1) (lines_of rest) in
-    ap (λ (text : List ℕ). lines_coming rule false first before (lines_of text)) (append_assoc (line x) (10 ∷ []) rest)
+    let later : Items _ = lines_coming rule false first (before + 1) (text_lines rest) in
+    ap (λ (text : List ℕ). lines_coming rule false first before (text_lines text)) (append_assoc (line x) (10 ∷ []) rest)
     ∙ ap (lines_coming rule false first before) (parts-append 10 (line x) rest h.0.free)
     ∙ lines_coming-line rule false first before (line x) rest
     ∙ ap (λ (j : Result _ TextKind). item_then (first + before) before j later) h.0.read
@@ -173,9 +173,9 @@ spelled_is_read T h =
     let f = T.format in
     let has = has_header f h.format in
     let rest : List ℕ = flat_map event_text T.events in
-    let cut : lines_of (spelling T) ≡ header f ∷ lines_of rest = ap lines_of (append_assoc (header f) (10 ∷ []) rest) ∙ parts-append 10 (header f) rest has.1 in
+    let cut : text_lines (spelling T) ≡ header f ∷ text_lines rest = ap text_lines (append_assoc (header f) (10 ∷ []) rest) ∙ parts-append 10 (header f) rest has.1 in
     judged-lines (spelling T) (header f) rest cut
-    ∙ ap (λ (o : Option Layout). header_then o false (lines_of rest)) has.0
+    ∙ ap (λ (o : Option Layout). header_then o false (text_lines rest)) has.0
     ∙ ap (with_format f) (spelled_lines (line_judged f) event_line 2 0 T.events (event_lines f T.events h.each) (omega (arith, h.few)))
 
 find-all : {X : Type 0} (P : X → Type 0) (test : X → Bool) (xs : List X) (x : X) → AllByRecursion P xs → find test xs ≡ Some x → P x
@@ -225,7 +225,7 @@ trace_lines (line ∷ next ∷ tail) e = go (format_in line) refl e
 pub read_is_spelled : ReadIsSpelled
 unfolding trace_coming
 read_is_spelled text e =
-    let read = trace_lines (lines_of text) e in
+    let read = trace_lines (text_lines text) e in
     (read.0, read.1.trace, read.1.comes, sym (join_with_byte-slice_split 10 text) ∙ read.1.text)
 
 whole-same : (T U : Recording) → whole T ≡ whole U → T ≡ U
@@ -275,7 +275,7 @@ old_events f same given e r =
 
 pub first_version_stays : FirstVersionStays
 unfolding trace_coming
-first_version_stays text e = go (lines_of text) e
+first_version_stays text e = go (text_lines text) e
   where
     header : (o : Option Layout) (lines : List (List ℕ)) → (header_then o false lines).format ≡ Some first_version → AllByRecursion IsOld (header_then o false lines).events
     header None lines e = tt
@@ -311,9 +311,9 @@ script_is_read ops h = spelled_lines script_line_judged op_line 1 0 ops (script_
 script_read : (text : List ℕ) → (script_judged text).fault ≡ None → (ops : List Op) × IsScript ops × (script_judged text ≡ whole_script ops) × (text ≡ script_spelling ops)
 unfolding script_coming script_spelling op_text
 script_read text e =
-    let later : Items Op = lines_coming script_line_judged false 1 0 (lines_of text) in
+    let later : Items Op = lines_coming script_line_judged false 1 0 (text_lines text) in
     let read = judged_lines Op script_line_judged op_line (λ op. IsOp op × (is_of_first_version op ≡ true)) 1
-    (λ given op r. let is = script_line_judged-ok given op r in (is.spelled, (is.allowed, sym (old_ops op) ∙ is.known))) 0 (lines_of text) (omega arith) (lines_of-nonempty text) e in
+    (λ given op r. let is = script_line_judged-ok given op r in (is.spelled, (is.allowed, sym (old_ops op) ∙ is.known))) 0 (text_lines text) (omega arith) (text_lines-nonempty text) e in
     let few = read.few in (
       later.items,
       record { few = omega (arith, zero-add (length later.items)); each = read.each },

@@ -17,8 +17,8 @@ use Rattle.pmt_text.specs.Spelling.{header}
 use Rattle.pmt_text.specs.Judging.{line_judged, script_line_judged}
 
 -- What stands between the LFs; the last is what stands after the last LF.
-abbrev pub lines_of : List ℕ → List (List ℕ)
-lines_of bytes = slice_split (λ b. b == 10) bytes
+abbrev pub text_lines : List ℕ → List (List ℕ)
+text_lines bytes = slice_split (λ b. b == 10) bytes
 
 abbrev pub fault_at : ℕ → TextKind → SourceError
 fault_at line kind = Text (record { line = line; kind = kind })
@@ -85,7 +85,7 @@ lines_of_trace more (line ∷ next ∷ tail) = header_then (format_in line) more
 
 -- What these bytes are, where more says that more bytes come, which are not judged.
 unfoldable pub trace_coming : Bool → List ℕ → Coming
-trace_coming more bytes = lines_of_trace more (lines_of bytes)
+trace_coming more bytes = lines_of_trace more (text_lines bytes)
 
 -- A whole text.
 abbrev pub judged : List ℕ → Coming
@@ -99,7 +99,7 @@ judged_within bound bytes = trace_coming (nat_lt bound (length bytes)) (take bou
 
 -- A script has no header. One of no bytes has no ops.
 unfoldable pub script_coming : Bool → List ℕ → Items Op
-script_coming more bytes = lines_coming script_line_judged more 1 0 (lines_of bytes)
+script_coming more bytes = lines_coming script_line_judged more 1 0 (text_lines bytes)
 
 abbrev pub script_judged : List ℕ → Items Op
 script_judged bytes = script_coming false bytes

@@ -43,7 +43,7 @@ module _ {R : Type 0} where
     pub ends : slice_index (unread r.piece) len ≡ 10
 
 -- the first LF stands in this place
-pub record EndsAt (bytes : List ℕ) (len : ℕ) : Type 0 where
+pub record LineEndsAt (bytes : List ℕ) (len : ℕ) : Type 0 where
   pub within : len < length bytes
   pub one_line : IsOneLine (take len bytes)
   pub ends : slice_index bytes len ≡ 10

@@ -21,8 +21,8 @@ GivesOps (Err OutOfMemory) s = Unit {0}
 GivesOps (Err Failed) s = ⊥
 
 -- The same of the script that known bytes are, of which so many are judged.
-abbrev pub GivesScript : {Z : Type 0} → ℕ → Option (List ℕ) → Result (Vec Op Z) SourceError → Type 0
-GivesScript bound known r = IfSome known (λ bytes. GivesOps r (script_within bound bytes))
+abbrev pub ReadsScript : {Z : Type 0} → ℕ → Option (List ℕ) → Result (Vec Op Z) SourceError → Type 0
+ReadsScript bound known r = IfSome known (λ bytes. GivesOps r (script_within bound bytes))
 
 -- At most so many bytes were read.
 abbrev pub ReadsWithin : ℕ → Option (List ℕ) → Option (List ℕ) → Type 0

@@ -11,7 +11,7 @@ use Rattle.pmt_text.specs.declared.source.SourceState.{SourceState}
 use Rattle.pmt_text.specs.declared.source.SourceState.TheVariants.{Open, Ended, Failed}
 use Rattle.pmt_text.specs.declared.text_source.TextSource.{TextSource}
 use Rattle.pmt_text.specs.Judging.{line_judged}
-use Rattle.pmt_text.specs.Coming.{Coming, Items, lines_of, lines_coming, item_then, ends_with, fault_at, trace_coming, lines_of_trace, header_then, format_in}
+use Rattle.pmt_text.specs.Coming.{Coming, Items, text_lines, lines_coming, item_then, ends_with, fault_at, trace_coming, lines_of_trace, header_then, format_in}
 use Rattle.pmt_text.specs.Lines.{Ahead, ahead}
 use Rattle.pmt_text.specs.TextSources.{coming_of, coming_in, end_of, text_coming, text_room, text_format}
 
@@ -42,8 +42,8 @@ few_trace more (line ∷ next ∷ tail) = few_after more (format_in line) (next 
 
 few_coming : (format : Option Layout) (given : ℕ) (a : Ahead) → (is_some format ≡ false → given ≡ 0) → length (coming_of format given a).events ≤ event_limit - given
 unfolding trace_coming
-few_coming None given a fresh = let none = fresh refl in let few = few_trace a.more (lines_of a.bytes) in omega (arith, none, few)
-few_coming (Some f) given a fresh = few_lines f a.more given (lines_of a.bytes)
+few_coming None given a fresh = let none = fresh refl in let few = few_trace a.more (text_lines a.bytes) in omega (arith, none, few)
+few_coming (Some f) given a fresh = few_lines f a.more given (text_lines a.bytes)
 
 few_from : (format : Option Layout) (given : ℕ) (a : Option Ahead) → (is_some format ≡ false → given ≡ 0) → IfSome (option_map (coming_of format given) a) (λ c. length c.events ≤ event_limit - given)
 few_from format given None fresh = tt

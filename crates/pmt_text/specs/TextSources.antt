@@ -12,14 +12,14 @@ use Rattle.pmt_text.specs.declared.line_reader.LineReader.{LineReader}
 use Rattle.pmt_text.specs.declared.text_source.TextSource.{TextSource}
 use Rattle.pmt_text.specs.Counting.{failure_count}
 use Rattle.pmt_text.specs.Judging.{line_judged}
-use Rattle.pmt_text.specs.Coming.{Coming, lines_of, lines_coming, trace_coming, with_format, ends_with}
+use Rattle.pmt_text.specs.Coming.{Coming, text_lines, lines_coming, trace_coming, with_format, ends_with}
 use Rattle.pmt_text.specs.Sources.{HasFormat, Gives, Faults}
 use Rattle.pmt_text.specs.Lines.{Ahead, ahead}
 
 -- what comes from the bytes ahead: from the header on, or, where it was read, from the event after those that were given
 abbrev pub coming_of : Option Layout → ℕ → Ahead → Coming
 coming_of None given a = trace_coming a.more a.bytes
-coming_of (Some f) given a = with_format f (lines_coming (line_judged f) a.more 2 given (lines_of a.bytes))
+coming_of (Some f) given a = with_format f (lines_coming (line_judged f) a.more 2 given (text_lines a.bytes))
 
 -- the end alone
 abbrev pub end_of : Option Layout → Option Coming

@@ -11,12 +11,12 @@ use Rattle.pmt_text.specs.declared.kind.TextError.{TextError}
 use Rattle.pmt_text.specs.declared.kind.ReadError.{ReadError}
 use Rattle.pmt_text.specs.declared.kind.ReadError.TheVariants.{Text, OutOfMemory}
 use Rattle.pmt_text.specs.Judging.{line_judged, script_line_judged}
-use Rattle.pmt_text.specs.Coming.{Items, Coming, lines_of, lines_coming, with_format}
+use Rattle.pmt_text.specs.Coming.{Items, Coming, text_lines, lines_coming, with_format}
 
 -- The first line and what stands after its LF, or no LF.
 abbrev pub SplitsLine : Option (Bor (List ℕ) × Bor (List ℕ)) → List ℕ → Type 0
-SplitsLine None text = lines_of text ≡ text ∷ []
-SplitsLine (Some p) text = (lines_of text ≡ p.0.now ∷ lines_of p.1.now) × (length p.1.now < length text)
+SplitsLine None text = text_lines text ≡ text ∷ []
+SplitsLine (Some p) text = (text_lines text ≡ p.0.now ∷ text_lines p.1.now) × (length p.1.now < length text)
 
 abbrev pub error_at : ℕ → TextKind → TextError
 error_at line kind = record { line = line; kind = kind }
@@ -44,7 +44,7 @@ after_items xs later = record { items = xs ++ later.items; fault = later.fault }
 
 -- What comes from the lines after the events of the trace.
 abbrev pub trace_then : Recording → List ℕ → Coming
-trace_then T text = with_format T.format (after_items T.events (lines_coming (line_judged T.format) false 2 (length T.events) (lines_of text)))
+trace_then T text = with_format T.format (after_items T.events (lines_coming (line_judged T.format) false 2 (length T.events) (text_lines text)))
 
 abbrev pub script_then : List Op → List ℕ → Items Op
-script_then ops text = after_items ops (lines_coming script_line_judged false 1 (length ops) (lines_of text))
+script_then ops text = after_items ops (lines_coming script_line_judged false 1 (length ops) (text_lines text))

@@ -118,7 +118,7 @@ impl<R> LineReader<R> {
 }
 
 impl<R: Read> LineReader<R> {
-    ghost use Rattle.pmt_text.specs.Lines.{unread, held, EndsAt, known_of, Refills, Looks, Finds};
+    ghost use Rattle.pmt_text.specs.Lines.{unread, held, LineEndsAt, known_of, Refills, Looks, Finds};
 
     // Reads one more piece. False at the end of the input.
     fn refill(&mut self) -> Result<bool, SourceError>
@@ -189,7 +189,7 @@ impl<R: Read> LineReader<R> {
 
     // The line that ends in this place of the piece, in one part.
     fn join(&mut self, len: usize) -> Result<Found, SourceError>
-        requires ends { EndsAt (unread self.old.piece) len }
+        requires ends { LineEndsAt (unread self.old.piece) len }
         ensures found { Looks R.remaining self.old result self.new }
         ensures failures { failure_count self.new.input ≡ failure_count self.old.input + read_faults result }
     {

@@ -2,7 +2,7 @@
 ghost use Rattle.std.specs.Prelude.{◌≡◌, ◌≢◌, ◌+◌, ◌-◌, ◌^◌, ◌<◌, true, [], Some, IfErr};
 ghost use Rattle.pmt_text.specs.Coming.{script_coming};
 ghost use Rattle.pmt_text.specs.Counting.{inner_device, failure_count};
-ghost use Rattle.pmt_text.specs.ScriptInputs.{GivesOps, GivesScript, ReadsWithin, ReadsText, long_fault};
+ghost use Rattle.pmt_text.specs.ScriptInputs.{GivesOps, ReadsScript, ReadsWithin, ReadsText, long_fault};
 ghost use Rattle.pmt_text.specs.Sources.{read_faults};
 ghost use Rattle.pmt_text.specs.Texts.{error_at};
 
@@ -30,7 +30,7 @@ pub fn read_script_from<R: Read>(
     input: &mut Counted<R>,
 ) -> Result<Vec<Op>, SourceError>
     requires { failure_count input.old < 2 ^ 64 - 1 }
-    ensures script { GivesScript 67108864 (R.remaining (inner_device input.old)) result }
+    ensures script { ReadsScript 67108864 (R.remaining (inner_device input.old)) result }
     ensures within { ReadsWithin 67108865 (R.remaining (inner_device input.old)) (R.remaining (inner_device input.new)) }
     ensures failures { failure_count input.new ≡ failure_count input.old + read_faults result }
     ensures told { IfErr result (λ e. e ≢ SourceError.Failed) }

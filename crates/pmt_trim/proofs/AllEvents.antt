@@ -9,7 +9,7 @@ use Rattle.pmt_model.specs.Shortest.{HasSameVectors}
 use Rattle.pmt_laws.proofs.Histories.{act-within}
 use Rattle.pmt_laws.proofs.CutLemmas.{place-low, place-kept}
 use Rattle.pmt_laws.proofs.WholeSelections.{cut-whole}
-use Rattle.pmt_trim.specs.Marking.{all_marks, is_marked}
+use Rattle.pmt_trim.specs.Marking.{all_marks, is_kept_at}
 
 -- the marks are those of the events' numbers
 marked-at : (events : List Event) (i : ℕ) → i < length events → get_or (all_marks events) i false ≡ true
@@ -29,7 +29,7 @@ pub record IsAll (T : Recording) (K : List ℕ) : Type 0 where
   pub whole : (i : ℕ) → 0 < i → i ≤ length T.events → Has K i
 
 -- the marked numbers are those of all events
-pub all-numbers : (T : Recording) (K : List ℕ) → IsRising 0 K → ((n : ℕ) → Has K n ↔ (is_marked (all_marks T.events) n ≡ true)) → IsAll T K
+pub all-numbers : (T : Recording) (K : List ℕ) → IsRising 0 K → ((n : ℕ) → Has K n ↔ (is_kept_at (all_marks T.events) n ≡ true)) → IsAll T K
 all-numbers T K rising just = record { rising = rising; within = within; whole = whole }
   where
     within : (i : ℕ) → Has K i → i ≤ length T.events
@@ -66,10 +66,10 @@ all-same T K all n within v =
 
 -- what the marked numbers are
 pub all-answer : {E : Type 0} (T : Recording) (marks : List Bool) (o : Result (List ℕ) E) → marks ≡ all_marks T.events → IfOk o (IsRising 0) →
-    IfOk o (λ K. (n : ℕ) → Has K n ↔ (is_marked marks n ≡ true)) → IfOk o (IsAll T)
+    IfOk o (λ K. (n : ℕ) → Has K n ↔ (is_kept_at marks n ≡ true)) → IfOk o (IsAll T)
 all-answer T marks (Err e) same rising just = tt
 all-answer T marks (Ok K) same rising just =
-    let P : List Bool → Type 0 = λ (ms : List Bool). (n : ℕ) → Has K n ↔ (is_marked ms n ≡ true) in
+    let P : List Bool → Type 0 = λ (ms : List Bool). (n : ℕ) → Has K n ↔ (is_kept_at ms n ≡ true) in
     all-numbers T K rising (subst P same just)
 
 -- and what holds of them

@@ -4,7 +4,7 @@ use Rattle.std.specs.Prelude.{slice_get, ◌↔◌, MatchOption, is_some, unwrap
 use Rattle.std.proofs.lemmas.Bool.{cases_lt, cases_eq, cases_Bool, false≢true}
 use Rattle.std.proofs.lemmas.List.{reverse-append}
 use Rattle.std.proofs.lemmas.Option.{none-some, same_Some}
-use Rattle.pmt_model.specs.Machine.{Stores, Flushes, FlushesNow, Fences}
+use Rattle.pmt_model.specs.Machine.{Stores, Flushes, Clflushes, Fences}
 use Rattle.pmt_model.specs.Traces.{Recording, IsAct}
 use Rattle.pmt_model.specs.Fronts.{front_at}
 use Rattle.pmt_model.specs.Selections.{IsRising, Has}
@@ -157,7 +157,7 @@ kept-iff T l low n t (Store addr len) rises waiting kind tells small awaited = (
   where
     never : IsKeptFor T l n → false ≡ true
     never (kept.ByFlush u e) = let f : Flushes u.thread u.line ≡ Stores l kind.0 = act-unique T n _ _ u.is_flush kind.1 in cc
-    never (kept.ByClflush u e) = let f : FlushesNow u.line ≡ Stores l kind.0 = act-unique T n _ _ u.is_clflush kind.1 in cc
+    never (kept.ByClflush u e) = let f : Clflushes u.line ≡ Stores l kind.0 = act-unique T n _ _ u.is_clflush kind.1 in cc
     never (kept.ByFence u is raises) = let f : Fences u ≡ Stores l kind.0 = act-unique T n _ _ is kind.1 in cc
 kept-iff T l low n t Flush rises waiting kind tells small awaited = (λ e. let u = awaits-useful T l t n kind (awaited.0 e) in kept.ByFlush u.0 u.1, back)
   where
@@ -166,7 +166,7 @@ kept-iff T l low n t Flush rises waiting kind tells small awaited = (λ e. let u
         let f : Flushes u.thread u.line ≡ Flushes t l = act-unique T n _ _ u.is_flush kind in
         let same : u.thread ≡ t = cc in
         awaited.1 (subst (λ v. Awaits T l v n) same (useful-awaits T l n u e))
-    back (kept.ByClflush u e) = let f : FlushesNow u.line ≡ Flushes t l = act-unique T n _ _ u.is_clflush kind in cc
+    back (kept.ByClflush u e) = let f : Clflushes u.line ≡ Flushes t l = act-unique T n _ _ u.is_clflush kind in cc
     back (kept.ByFence u is raises) = let f : Fences u ≡ Flushes t l = act-unique T n _ _ is kind in cc
 kept-iff T l low n t Clflush rises waiting kind tells small awaited = (λ e. kept.ByClflush (record { line = l; is_clflush = kind; raises = tells.yes e }) refl, back)
   where
@@ -174,7 +174,7 @@ kept-iff T l low n t Clflush rises waiting kind tells small awaited = (λ e. kep
     changes c = elim (cases_Bool rises) [ inl e ↦ e | inr e ↦ absurd (c (tells.no e)) ]
 
     back : IsKeptFor T l n → rises ≡ true
-    back (kept.ByFlush u e) = let f : Flushes u.thread u.line ≡ FlushesNow l = act-unique T n _ _ u.is_flush kind in cc
+    back (kept.ByFlush u e) = let f : Flushes u.thread u.line ≡ Clflushes l = act-unique T n _ _ u.is_flush kind in cc
     back (kept.ByClflush u e) = changes (subst (λ k. front_at T k n ≢ front_at T k (n - 1)) e u.raises)
     back (kept.ByFence u is raises) = changes raises
 kept-iff T l low n t Fence rises waiting kind tells small awaited = (λ e. kept.ByFence t kind (tells.yes e), back)
@@ -210,8 +210,8 @@ waits-before T l low s Flush rises waiting next kind tells small size awaited t 
         (λ e. over.0 ((awaited t h).0 (sym stays ∙ e)), λ a. stays ∙ (awaited t h).1 (over.1 a))
 waits-before T l low s Clflush rises waiting next kind tells small size awaited t h =
     let over = awaits-over T l t low s next
-    (λ is. let f : Flushes t l ≡ FlushesNow l = act-unique T s.number _ _ is kind in cc)
-    (λ is. let f : Fences t ≡ FlushesNow l = act-unique T s.number _ _ is kind in cc) in
+    (λ is. let f : Flushes t l ≡ Clflushes l = act-unique T s.number _ _ is kind in cc)
+    (λ is. let f : Fences t ≡ Clflushes l = act-unique T s.number _ _ is kind in cc) in
     (λ e. over.0 ((awaited t h).0 e), λ a. (awaited t h).1 (over.1 a))
 waits-before T l low s Fence rises waiting next kind tells small size awaited t h = go (cases_eq t s.thread)
   where
@@ -299,7 +299,7 @@ walk-end T l low (x ∷ steps) walk within = walk-end T l x.number steps walk.3 
         by : (kind : StepKind) → IsKind T l x.number x.thread kind → x.number ≤ length T.events
         by (Store addr len) is = (act-within T x.number (Stores l is.0) is.1).1
         by Flush is = (act-within T x.number (Flushes x.thread l) is).1
-        by Clflush is = (act-within T x.number (FlushesNow l) is).1
+        by Clflush is = (act-within T x.number (Clflushes l) is).1
         by Fence is = (act-within T x.number (Fences x.thread) is).1
 
 -- no thread waits in copies of false
@@ -329,7 +329,7 @@ passed-all T l raises waiting numbers passed =
   where
     above : (n : ℕ) → IsKeptFor T l n → 0 < n
     above n (kept.ByFlush u e) = (act-within T n (Flushes u.thread u.line) u.is_flush).0
-    above n (kept.ByClflush u e) = (act-within T n (FlushesNow u.line) u.is_clflush).0
+    above n (kept.ByClflush u e) = (act-within T n (Clflushes u.line) u.is_clflush).0
     above n (kept.ByFence t is raises) = (act-within T n (Fences t) is).0
 
 -- what one turn of the pass does: the raises, the threads that wait and the kept numbers after it

@@ -7,14 +7,14 @@ use Rattle.pmt_model.specs.declared.event.Event.{Event}
 use Rattle.pmt_model.specs.declared.event.Op.{Op}
 use Rattle.pmt_model.specs.declared.event.Op.TheVariants.{Store, Clwb, ClflushOpt, Clflush, Sfence, Mfence, IsPersist, IsOrderedBefore}
 use Rattle.pmt_model.specs.Values.{Layout}
-use Rattle.pmt_model.specs.Machine.{Act, Flushes, FlushesNow, Fences}
+use Rattle.pmt_model.specs.Machine.{Act, Flushes, Clflushes, Fences}
 use Rattle.pmt_model.specs.Traces.{Recording, act_of, act, IsAct, history, lines_of}
 use Rattle.pmt_model.specs.Selections.{IsRising, Has, always_stays}
 use Rattle.pmt_model.specs.Keeping.{IsKept, Stays, ByFence, ByFlush, ByClflush, IsKeep}
 use Rattle.pmt_laws.proofs.Histories.{event-some, act-within}
 use Rattle.pmt_trim.specs.Kept as kept
 use Rattle.pmt_trim.specs.Kept.{IsKeptFor, IsLineKept, AreLinesKept, AreAllKept}
-use Rattle.pmt_trim.specs.Marking.{op_stays, is_marked, MarksThese}
+use Rattle.pmt_trim.specs.Marking.{op_stays, is_kept_at, MarksThese}
 use Rattle.pmt_trim.proofs.LineLemmas.{kept-line}
 
 -- One of the lists has the number.
@@ -38,7 +38,7 @@ has_in-push (js ∷ lists) ks n = (there (has_in-push lists ks n).0, back (has_i
 
 -- The numbers of the lists are marked besides.
 abbrev pub MarksLists : List Bool → List (List ℕ) → List Bool → Type 0
-MarksLists old lists new = (n : ℕ) → (is_marked new n ≡ true) ↔ ((is_marked old n ≡ true) ⊎ HasIn lists n)
+MarksLists old lists new = (n : ℕ) → (is_kept_at new n ≡ true) ↔ ((is_kept_at old n ≡ true) ⊎ HasIn lists n)
 
 -- no list
 pub marks-no_lists : (marked : List Bool) → MarksLists marked [] marked
@@ -52,12 +52,12 @@ marks-list start old new lists i ks h is marks more =
     let taken : take (i + 1) lists ≡ take i lists ++ ks ∷ [] = ap (λ k. take k lists) e ∙ take-suc lists i [] h ∙ ap (λ x. take i lists ++ x ∷ []) is in
     rw taken (λ n. (there n (marks n).0 (more n).0 (has_in-push (take i lists) ks n).1, back n (marks n).1 (more n).1 (has_in-push (take i lists) ks n).0))
   where
-    there : (n : ℕ) → (is_marked old n ≡ true → (is_marked start n ≡ true) ⊎ HasIn (take i lists) n) → (is_marked new n ≡ true → (is_marked old n ≡ true) ⊎ Has ks n) →
-        (HasIn (take i lists) n ⊎ Has ks n → HasIn (take i lists ++ ks ∷ []) n) → is_marked new n ≡ true → (is_marked start n ≡ true) ⊎ HasIn (take i lists ++ ks ∷ []) n
+    there : (n : ℕ) → (is_kept_at old n ≡ true → (is_kept_at start n ≡ true) ⊎ HasIn (take i lists) n) → (is_kept_at new n ≡ true → (is_kept_at old n ≡ true) ⊎ Has ks n) →
+        (HasIn (take i lists) n ⊎ Has ks n → HasIn (take i lists ++ ks ∷ []) n) → is_kept_at new n ≡ true → (is_kept_at start n ≡ true) ⊎ HasIn (take i lists ++ ks ∷ []) n
     there n f g p m = elim (g m) [ inl o ↦ (elim (f o) [ inl s ↦ inl s | inr x ↦ inr (p (inl x)) ]) | inr x ↦ inr (p (inr x)) ]
 
-    back : (n : ℕ) → ((is_marked start n ≡ true) ⊎ HasIn (take i lists) n → is_marked old n ≡ true) → ((is_marked old n ≡ true) ⊎ Has ks n → is_marked new n ≡ true) →
-        (HasIn (take i lists ++ ks ∷ []) n → HasIn (take i lists) n ⊎ Has ks n) → (is_marked start n ≡ true) ⊎ HasIn (take i lists ++ ks ∷ []) n → is_marked new n ≡ true
+    back : (n : ℕ) → ((is_kept_at start n ≡ true) ⊎ HasIn (take i lists) n → is_kept_at old n ≡ true) → ((is_kept_at old n ≡ true) ⊎ Has ks n → is_kept_at new n ≡ true) →
+        (HasIn (take i lists ++ ks ∷ []) n → HasIn (take i lists) n ⊎ Has ks n) → (is_kept_at start n ≡ true) ⊎ HasIn (take i lists ++ ks ∷ []) n → is_kept_at new n ≡ true
     back n f g p (inl s) = g (inl (f (inl s)))
     back n f g p (inr x) = elim (p x) [ inl y ↦ g (inl (f (inr y))) | inr y ↦ g (inr y) ]
 
@@ -87,7 +87,7 @@ kept-has_in T (j ∷ lines) (ks ∷ lists) l n all (inr h) k = inr (kept-has_in 
 -- what is kept for a line is an event
 pub kept-for_within : (T : Recording) (l n : ℕ) → IsKeptFor T l n → (1 ≤ n) × (n ≤ length T.events)
 kept-for_within T l n (kept.ByFlush u e) = act-within T n (Flushes u.thread u.line) u.is_flush
-kept-for_within T l n (kept.ByClflush u e) = act-within T n (FlushesNow u.line) u.is_clflush
+kept-for_within T l n (kept.ByClflush u e) = act-within T n (Clflushes u.line) u.is_clflush
 kept-for_within T l n (kept.ByFence t is raises) = act-within T n (Fences t) is
 
 -- the acts that always stay are those of the ops that do
@@ -105,7 +105,7 @@ stays-by_op f t (IsOrderedBefore r q) = refl
 abbrev pub stay_marks : Recording → List Bool
 stay_marks T = map (λ (e : Event). op_stays e.op) T.events
 
-marked-stays : (T : Recording) (n : ℕ) → is_marked (stay_marks T) n ≡ true → IsKept T n
+marked-stays : (T : Recording) (n : ℕ) → is_kept_at (stay_marks T) n ≡ true → IsKept T n
 marked-stays T zero e = absurd (false≢true e)
 marked-stays T (suc i) e = go (cases_lt i (length T.events))
   where
@@ -126,7 +126,7 @@ marked-stays T (suc i) e = go (cases_lt i (length T.events))
         at (y ∷ xs) (suc i) x e = at xs i x e
     go (inr h) = absurd (false≢true (sym (past T.events i h) ∙ e))
 
-stays-marked : (T : Recording) (n : ℕ) (a : Act) → IsAct T n a → always_stays a ≡ true → is_marked (stay_marks T) n ≡ true
+stays-marked : (T : Recording) (n : ℕ) (a : Act) → IsAct T n a → always_stays a ≡ true → is_kept_at (stay_marks T) n ≡ true
 stays-marked T zero a is stays = let x = act-within T 0 a is in absurd (omega arith)
 stays-marked T (suc i) a is stays = at T.events i is.0 is.1 ∙ sym (stays-by_op T.format is.0.thread is.0.op) ∙ ap always_stays is.2 ∙ stays
   where
@@ -136,7 +136,7 @@ stays-marked T (suc i) a is stays = at T.events i is.0 is.1 ∙ sym (stays-by_op
     at (y ∷ xs) (suc i) x e = at xs i x e
 
 -- what is marked in the end is what is kept
-marked-kept : (T : Recording) (lists : List (List ℕ)) (n : ℕ) → AreAllKept T lists → (is_marked (stay_marks T) n ≡ true) ⊎ HasIn lists n → IsKept T n
+marked-kept : (T : Recording) (lists : List (List ℕ)) (n : ℕ) → AreAllKept T lists → (is_kept_at (stay_marks T) n ≡ true) ⊎ HasIn lists n → IsKept T n
 marked-kept T lists n all (inl m) = marked-stays T n m
 marked-kept T lists n all (inr h) = by (has_in-kept T (lines_of (history T (length T.events))) lists n all h)
   where
@@ -145,7 +145,7 @@ marked-kept T lists n all (inr h) = by (has_in-kept T (lines_of (history T (leng
     by (l, kept.ByClflush u e) = ByClflush u
     by (l, kept.ByFence t is raises) = ByFence (record { thread = t; line = l; is_fence = is; raises = raises })
 
-kept-marked : (T : Recording) (lists : List (List ℕ)) (n : ℕ) → AreAllKept T lists → IsKept T n → (is_marked (stay_marks T) n ≡ true) ⊎ HasIn lists n
+kept-marked : (T : Recording) (lists : List (List ℕ)) (n : ℕ) → AreAllKept T lists → IsKept T n → (is_kept_at (stay_marks T) n ≡ true) ⊎ HasIn lists n
 kept-marked T lists n all (Stays a is stays) = inl (stays-marked T n a is stays)
 kept-marked T lists n all (ByFence u) = inr (listed u.line (kept.ByFence u.thread u.is_fence u.raises))
   where
@@ -162,7 +162,7 @@ kept-marked T lists n all (ByClflush u) = inr (listed u.line (kept.ByClflush u r
 
 -- the rising numbers that are marked are all that is kept
 pub joined-keep : (T : Recording) (lists : List (List ℕ)) (marked : List Bool) (K : List ℕ) → AreAllKept T lists → MarksLists (stay_marks T) lists marked → IsRising 0 K →
-    ((n : ℕ) → Has K n ↔ (is_marked marked n ≡ true)) → IsKeep T K
+    ((n : ℕ) → Has K n ↔ (is_kept_at marked n ≡ true)) → IsKeep T K
 joined-keep T lists marked K all marks rising has =
     record {
       rising = rising;
@@ -171,6 +171,6 @@ joined-keep T lists marked K all marks rising has =
 
 -- and so is the answer, where there is one
 pub joined-answer : {E : Type 0} (T : Recording) (lists : List (List ℕ)) (marked : List Bool) (answer : Result (List ℕ) E) → AreAllKept T lists → MarksLists (stay_marks T) lists marked →
-    IfOk answer (IsRising 0) → IfOk answer (λ K. (n : ℕ) → Has K n ↔ (is_marked marked n ≡ true)) → IfOk answer (λ K. IsKeep T K)
+    IfOk answer (IsRising 0) → IfOk answer (λ K. (n : ℕ) → Has K n ↔ (is_kept_at marked n ≡ true)) → IfOk answer (λ K. IsKeep T K)
 joined-answer T lists marked (Ok K) all marks rising has = joined-keep T lists marked K all marks rising has
 joined-answer T lists marked (Err e) all marks rising has = tt

@@ -2,7 +2,7 @@
 use Rattle.std.proofs.Common.{◌≡◌, ◌≢◌, ℕ, zero, suc, ◌-◌, ◌≤◌, ◌⊎◌, inl, inr, Bool, true, false, List, [], ◌∷◌, ◌++◌, length, refl, sym, subst, arith}
 use Rattle.std.specs.Prelude.{◌==◌, if◌then◌else◌}
 use Rattle.std.proofs.lemmas.Bool.{cases_lt, eqb-true, or_cases}
-use Rattle.pmt_model.specs.Machine.{Act, Stores, Flushes, FlushesNow, Fences, Asserts}
+use Rattle.pmt_model.specs.Machine.{Act, Stores, Flushes, Clflushes, Fences, Asserts}
 use Rattle.pmt_model.specs.Traces.{Recording, IsAct, history, has_line, with_line, lines_of}
 use Rattle.pmt_model.specs.Fronts.{front_at}
 use Rattle.pmt_model.specs.Selections.{Has}
@@ -40,7 +40,7 @@ has-with_line l k lines x = go (has_line l lines) refl x
 lines-grow : (l : ℕ) (a : Act) (h : List Act) → Has (lines_of h) l → Has (lines_of (a ∷ h)) l
 lines-grow l (Stores k w) h x = has-with_line k l (lines_of h) (inr x)
 lines-grow l (Flushes t k) h x = has-with_line k l (lines_of h) (inr x)
-lines-grow l (FlushesNow k) h x = has-with_line k l (lines_of h) (inr x)
+lines-grow l (Clflushes k) h x = has-with_line k l (lines_of h) (inr x)
 lines-grow l (Fences t) h x = x
 lines-grow l Asserts h x = x
 
@@ -63,11 +63,11 @@ line-flushed T t l (suc n) is =
     lines-mono T l (suc n) (length T.events) (act-within T (suc n) (Flushes t l) is).1
     (subst (λ h. Has (lines_of h) l) (sym (history-act T n (Flushes t l) is)) (has-with_line l l (lines_of (history T n)) (inl refl)))
 
-line-flushed_now : (T : Recording) (l n : ℕ) → IsAct T n (FlushesNow l) → Has (lines_of (history T (length T.events))) l
-line-flushed_now T l zero is = let x = act-within T 0 (FlushesNow l) is in absurd (omega arith)
+line-flushed_now : (T : Recording) (l n : ℕ) → IsAct T n (Clflushes l) → Has (lines_of (history T (length T.events))) l
+line-flushed_now T l zero is = let x = act-within T 0 (Clflushes l) is in absurd (omega arith)
 line-flushed_now T l (suc n) is =
-    lines-mono T l (suc n) (length T.events) (act-within T (suc n) (FlushesNow l) is).1
-    (subst (λ h. Has (lines_of h) l) (sym (history-act T n (FlushesNow l) is)) (has-with_line l l (lines_of (history T n)) (inl refl)))
+    lines-mono T l (suc n) (length T.events) (act-within T (suc n) (Clflushes l) is).1
+    (subst (λ h. Has (lines_of h) l) (sym (history-act T n (Clflushes l) is)) (has-with_line l l (lines_of (history T n)) (inl refl)))
 
 -- and so is one whose front a fence raises
 line-fenced : (T : Recording) (t l n : ℕ) → IsAct T n (Fences t) → front_at T l n ≢ front_at T l (n - 1) → Has (lines_of (history T (length T.events))) l

@@ -7,7 +7,7 @@ use Rattle.std.proofs.lemmas.List.{length-take}
 use Rattle.pmt_laws.proofs.CutLemmas.{has-above}
 use Rattle.pmt_model.specs.Selecting.{first_fall}
 use Rattle.pmt_model.specs.Selections.{IsRising, Has}
-use Rattle.pmt_trim.specs.Marking.{is_marked, MarksThese}
+use Rattle.pmt_trim.specs.Marking.{is_kept_at, MarksThese}
 
 -- the numbers with one more at the end
 has-push : (ks : List ℕ) (n k : ℕ) → Has (ks ++ n ∷ []) k ↔ (Has ks k ⊎ (n ≡ k))
@@ -32,9 +32,9 @@ has-push (j ∷ ks) n k = (there (has-push ks n k).0, back (has-push ks n k).1)
     back f (inr e) = inr (f (inr e))
 
 -- a mark that is set is there, and leaves the others
-is_marked-set : (marked : List Bool) (i n : ℕ) → i < length marked → (is_marked (set marked i true) n ≡ true) ↔ ((is_marked marked n ≡ true) ⊎ (suc i ≡ n))
-is_marked-set marked i zero h = (λ e. absurd (false≢true e), λ x. elim x [ inl e ↦ e | inr e ↦ absurd (omega arith) ])
-is_marked-set marked i (suc n) h = go (cases_eq n i)
+is_kept_at-set : (marked : List Bool) (i n : ℕ) → i < length marked → (is_kept_at (set marked i true) n ≡ true) ↔ ((is_kept_at marked n ≡ true) ⊎ (suc i ≡ n))
+is_kept_at-set marked i zero h = (λ e. absurd (false≢true e), λ x. elim x [ inl e ↦ e | inr e ↦ absurd (omega arith) ])
+is_kept_at-set marked i (suc n) h = go (cases_eq n i)
   where
     go : (n ≡ i) ⊎ (n ≡ i → ⊥) → (get_or (set marked i true) n false ≡ true) ↔ ((get_or marked n false ≡ true) ⊎ (suc i ≡ suc n))
     go (inl e) = (λ _. inr (omega arith), λ _. ap (λ k. get_or (set marked i true) k false) e ∙ get_or-set_same marked i true false h)
@@ -48,17 +48,17 @@ marks-more old marked ks zero some within marks = absurd (omega arith)
 marks-more old marked ks (suc i) some within marks =
     let e : suc i - 1 ≡ i = omega arith in
     rw e (λ n.
-    let at = is_marked-set marked i n within in
+    let at = is_kept_at-set marked i n within in
     let has = has-push ks (suc i) n in
     (λ x. there n (has.1) (marks n).0 (at.0 x), λ x. at.1 (back n (has.0) (marks n).1 x)))
   where
-    there : (n : ℕ) → (Has ks n ⊎ (suc i ≡ n) → Has (ks ++ suc i ∷ []) n) → (is_marked marked n ≡ true → (is_marked old n ≡ true) ⊎ Has ks n) →
-        (is_marked marked n ≡ true) ⊎ (suc i ≡ n) → (is_marked old n ≡ true) ⊎ Has (ks ++ suc i ∷ []) n
+    there : (n : ℕ) → (Has ks n ⊎ (suc i ≡ n) → Has (ks ++ suc i ∷ []) n) → (is_kept_at marked n ≡ true → (is_kept_at old n ≡ true) ⊎ Has ks n) →
+        (is_kept_at marked n ≡ true) ⊎ (suc i ≡ n) → (is_kept_at old n ≡ true) ⊎ Has (ks ++ suc i ∷ []) n
     there n f g (inl m) = elim (g m) [ inl o ↦ inl o | inr h ↦ inr (f (inl h)) ]
     there n f g (inr e) = inr (f (inr e))
 
-    back : (n : ℕ) → (Has (ks ++ suc i ∷ []) n → Has ks n ⊎ (suc i ≡ n)) → ((is_marked old n ≡ true) ⊎ Has ks n → is_marked marked n ≡ true) →
-        (is_marked old n ≡ true) ⊎ Has (ks ++ suc i ∷ []) n → (is_marked marked n ≡ true) ⊎ (suc i ≡ n)
+    back : (n : ℕ) → (Has (ks ++ suc i ∷ []) n → Has ks n ⊎ (suc i ≡ n)) → ((is_kept_at old n ≡ true) ⊎ Has ks n → is_kept_at marked n ≡ true) →
+        (is_kept_at old n ≡ true) ⊎ Has (ks ++ suc i ∷ []) n → (is_kept_at marked n ≡ true) ⊎ (suc i ≡ n)
     back n f g (inl o) = inl (g (inl o))
     back n f g (inr h) = elim (f h) [ inl x ↦ inl (g (inr x)) | inr e ↦ inr e ]
 
@@ -137,6 +137,6 @@ has-marked n (false ∷ marked) zero = (λ h. absurd (below (marked_from (suc n)
     below ks r h = let x = has-above (suc n) ks (suc n + 0) r h in omega arith
 has-marked n (false ∷ marked) (suc k) = let e : suc n + suc k ≡ suc (suc n) + k = omega arith in rw e (has-marked (suc n) marked k)
 
-pub has-numbers : (marked : List Bool) (n : ℕ) → Has (marked_from 0 marked) n ↔ (is_marked marked n ≡ true)
+pub has-numbers : (marked : List Bool) (n : ℕ) → Has (marked_from 0 marked) n ↔ (is_kept_at marked n ≡ true)
 has-numbers marked zero = (λ h. let x = has-above 0 (marked_from 0 marked) 0 (marked-rise 0 marked) h in absurd (omega arith), λ e. absurd (false≢true e))
 has-numbers marked (suc k) = let e : suc k ≡ suc 0 + k = omega arith in let P : ℕ → Type 0 = λ m. Has (marked_from 0 marked) m ↔ (get_or marked k false ≡ true) in subst P (sym e) (has-marked 0 marked k)

@@ -2,7 +2,7 @@
 use Rattle.std.proofs.Common.{◌≡◌, ◌≢◌, ℕ, zero, suc, ◌-◌, ◌<◌, ◌≤◌, ◌⊎◌, inl, inr, ◌==◌, None, refl, sym, ap, subst, ◌∙◌, arith}
 use Rattle.std.specs.Prelude.{max, unwrap_or}
 use Rattle.std.proofs.lemmas.Bool.{cases_eq, cases_lt, cond-false, ne_eqb}
-use Rattle.pmt_model.specs.Machine.{Act, Stores, Flushes, FlushesNow, Fences, Asserts, count}
+use Rattle.pmt_model.specs.Machine.{Act, Stores, Flushes, Clflushes, Fences, Asserts, count}
 use Rattle.pmt_model.specs.Traces.{Recording, IsAct, history, count_at}
 use Rattle.pmt_model.specs.Fronts.{front, mark, open_mark, front_at}
 use Rattle.pmt_model.specs.Keeping.{IsUsefulFlush}
@@ -31,18 +31,18 @@ fence-touches T l (suc n) t is changes = ByFence t is (λ none. changes (unraise
 -- what is kept for a line touches it
 pub kept-touches : (T : Recording) (l n : ℕ) → IsKeptFor T l n → Touches T l n
 kept-touches T l n (kept.ByFlush u e) = ByFlush u.thread (subst (λ k. IsAct T n (Flushes u.thread k)) e u.is_flush)
-kept-touches T l n (kept.ByClflush u e) = ByClflush (subst (λ k. IsAct T n (FlushesNow k)) e u.is_clflush)
+kept-touches T l n (kept.ByClflush u e) = ByClflush (subst (λ k. IsAct T n (Clflushes k)) e u.is_clflush)
 kept-touches T l n (kept.ByFence t is raises) = fence-touches T l n t is raises
 
 -- an event that changes the front of a line touches it
 raising-touches : (T : Recording) (l n : ℕ) (a : Act) → IsAct T (suc n) a → front_at T l (suc n) ≢ front_at T l n → Touches T l (suc n)
 raising-touches T l n (Stores k w) is changes = absurd (changes (ap (front l) (history-act T n (Stores k w) is)))
 raising-touches T l n (Flushes t k) is changes = absurd (changes (ap (front l) (history-act T n (Flushes t k) is)))
-raising-touches T l n (FlushesNow k) is changes = go (cases_eq k l)
+raising-touches T l n (Clflushes k) is changes = go (cases_eq k l)
   where
     go : (k ≡ l) ⊎ (k ≡ l → ⊥) → Touches T l (suc n)
-    go (inl e) = ByClflush (subst (λ j. IsAct T (suc n) (FlushesNow j)) e is)
-    go (inr apart) = absurd (changes (ap (front l) (history-act T n (FlushesNow k) is) ∙ cond-false (k == l) (count l (history T n)) (front l (history T n)) (ne_eqb k l apart)))
+    go (inl e) = ByClflush (subst (λ j. IsAct T (suc n) (Clflushes j)) e is)
+    go (inr apart) = absurd (changes (ap (front l) (history-act T n (Clflushes k) is) ∙ cond-false (k == l) (count l (history T n)) (front l (history T n)) (ne_eqb k l apart)))
 raising-touches T l n (Fences t) is changes =
     let before : suc n - 1 ≡ n = omega arith in
     fence-touches T l (suc n) t is (λ same. changes (same ∙ ap (front_at T l) before))

@@ -21,10 +21,10 @@ abbrev pub all_marks : List Event → List Bool
 all_marks events = map (λ (e : Event). true) events
 
 -- Event n is marked, the first one having the number 1.
-abbrev pub is_marked : List Bool → ℕ → Bool
-is_marked marked zero = false
-is_marked marked (suc i) = slice_index_or marked i false
+abbrev pub is_kept_at : List Bool → ℕ → Bool
+is_kept_at marked zero = false
+is_kept_at marked (suc i) = slice_index_or marked i false
 
 -- These numbers are marked besides.
 abbrev pub MarksThese : List Bool → List ℕ → List Bool → Type 0
-MarksThese old numbers new = (n : ℕ) → (is_marked new n ≡ true) ↔ ((is_marked old n ≡ true) ⊎ Has numbers n)
+MarksThese old numbers new = (n : ℕ) → (is_kept_at new n ≡ true) ↔ ((is_kept_at old n ≡ true) ⊎ Has numbers n)

@@ -2,7 +2,7 @@ ghost use Rattle.std.specs.Prelude.{◌≡◌, ℕ, ◌≤◌, ◌↔◌, true, 
 ghost use Rattle.pmt_model.specs.Selections.{IsRising, Has};
 ghost use Rattle.pmt_model.specs.Keeping.{IsKeep};
 ghost use Rattle.pmt_trim.specs.Kept.{AreAllKept};
-ghost use Rattle.pmt_trim.specs.Marking.{op_stays, is_marked, MarksThese};
+ghost use Rattle.pmt_trim.specs.Marking.{op_stays, is_kept_at, MarksThese};
 
 use pmt_model::{Event, Op, OutOfMemory, Selection, Trace};
 use std::alloc::Global;
@@ -56,7 +56,7 @@ fn mark_all(marked: &mut [bool], numbers: &[u64])
 // The numbers that are marked.
 pub(crate) fn marked_numbers(alloc: Global, marked: &[bool]) -> Result<Selection, OutOfMemory>
     ensures rising { IfOk result (IsRising 0) }
-    ensures just { IfOk result (λ numbers. (n : ℕ) → Has numbers n ↔ (is_marked marked.now n ≡ true)) }
+    ensures just { IfOk result (λ numbers. (n : ℕ) → Has numbers n ↔ (is_kept_at marked.now n ≡ true)) }
 {
     let mut numbers = Vec::new(alloc);
     for i in 0..marked.len() {

@@ -9,7 +9,7 @@ use Rattle.pmt_findings.specs.Merging.{job_in}
 use Rattle.pmt_trim.specs.Kept.{IsJob, AreLinesKept}
 use Rattle.pmt_workers.specs.declared.shard.LineAnswer.{LineAnswer}
 use Rattle.pmt_workers.specs.Answering.{AreAnswersTo}
-use Rattle.pmt_asserts.specs.Tables.{line_in as line_found, IsOfJob, AreResultsOf}
+use Rattle.pmt_asserts.specs.Tables.{found_line as line_found, IsOfJob, AreResultsOf}
 use Rattle.pmt_workers.specs.Results.{result_in, kept_in}
 
 -- the results have the jobs that were answered

@@ -3,8 +3,8 @@ use Rattle.std.specs.Prelude.{◌==◌, ◌||◌, ◌≤◌, ℕ, ◌+◌, ◌-�
 use Rattle.pmt_lines.specs.Steps.{LineWork}
 
 -- The numbers of workers that may be asked for.
-abbrev pub is_count : ℕ → Bool
-is_count n = (n == 1) || (n == 2) || (n == 4) || (n == 8) || (n == 16)
+abbrev pub is_worker_count : ℕ → Bool
+is_worker_count n = (n == 1) || (n == 2) || (n == 4) || (n == 8) || (n == 16)
 
 -- The steps of all these jobs.
 abbrev pub steps_of : List LineWork → ℕ

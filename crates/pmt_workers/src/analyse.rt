@@ -6,7 +6,7 @@ ghost use Rattle.pmt_lines.specs.Sourcing.{IsWhole, IsFaultOf, TellsWhole};
 ghost use Rattle.pmt_trim.specs.Headline.{IsTrimmed};
 ghost use Rattle.pmt_workers.specs.Analysing.{IsAnalysed};
 ghost use Rattle.pmt_workers.specs.Asking.{told_by};
-ghost use Rattle.pmt_workers.specs.Halving.{is_count};
+ghost use Rattle.pmt_workers.specs.Halving.{is_worker_count};
 
 use crate::analysis::Analysis;
 use crate::halves::run_in_halves;
@@ -50,7 +50,7 @@ pub fn analyse_with<R: Threads + Sync, S: EventSource, G: ShardGate + Sync>(
     source: &mut S,
     workers: usize,
 ) -> Result<Analysis, AnalyseError>
-    ensures workers { IsErrOf result AnalyseError.BadWorkers ↔ IsFalse (is_count workers) }
+    ensures workers { IsErrOf result AnalyseError.BadWorkers ↔ IsFalse (is_worker_count workers) }
     ensures unasked { IsErrOf result AnalyseError.BadWorkers → source.new ≡ source.old }
     ensures right { IfOk result IsAnalysed }
     ensures trimmed { IfOk result (λ a. IsTrimmed a.trace a.selection (cut a.trace a.selection)) }
@@ -74,7 +74,7 @@ pub fn analyse_with<R: Threads + Sync, S: EventSource, G: ShardGate + Sync>(
 
 // Whether there may be this many workers.
 fn is_allowed(workers: usize) -> bool
-    ensures { result ≡ is_count workers }
+    ensures { result ≡ is_worker_count workers }
 {
     matches!(workers, 1 | 2 | 4 | 8 | 16)
 }
@@ -87,7 +87,7 @@ fn analysis_of<R: Threads + Sync, G: ShardGate + Sync>(
     jobs: Jobs,
     workers: usize,
 ) -> Result<Analysis, OutOfMemory>
-    requires count { IsTrue (is_count workers) }
+    requires count { IsTrue (is_worker_count workers) }
     requires apart { IsSplit jobs.trace jobs.lines.items jobs.fences }
     ensures trace { IfOk result (λ a. a.trace ≡ jobs.trace) }
     ensures right { IfOk result IsAnalysed }

@@ -1,7 +1,7 @@
 ghost use Rattle.std.specs.Prelude.{◌≡◌, ◌<◌, ◌≤◌, ◌+◌, ◌^◌, IfOk, IsTrue, take, drop, vec_len, ◌++◌};
 ghost use Rattle.std.specs.Thread.{IsSync};
 ghost use Rattle.pmt_workers.specs.Answering.{AreAnswersTo};
-ghost use Rattle.pmt_workers.specs.Halving.{is_count};
+ghost use Rattle.pmt_workers.specs.Halving.{is_worker_count};
 
 use crate::cut::fair_cut;
 use crate::shard::{LineAnswer, ShardGate};
@@ -25,7 +25,7 @@ pub(crate) fn run_in_halves<R: Threads + Sync, G: ShardGate + Sync>(
     workers: usize,
     jobs: Vec<LineJob>,
 ) -> Result<Vec<LineAnswer>, OutOfMemory>
-    requires count { IsTrue (is_count workers) }
+    requires count { IsTrue (is_worker_count workers) }
     requires numbered { first + workers ≤ 16 }
     ensures { IfOk result (λ answers. AreAnswersTo jobs.items answers.items) }
 {
@@ -39,11 +39,11 @@ pub(crate) fn run_in_halves<R: Threads + Sync, G: ShardGate + Sync>(
     let (answers, more) = join(
         rt,
         move || -> Result<Vec<LineAnswer>, OutOfMemory>
-            requires { IsSync R.row × IsSync G.row × IsTrue (is_count half) × (first + half ≤ 16) }
+            requires { IsSync R.row × IsSync G.row × IsTrue (is_worker_count half) × (first + half ≤ 16) }
             ensures { IfOk result (λ answers. AreAnswersTo front.items answers.items) }
         { run_in_halves(rt, alloc, gate, first, half, front) },
         move || -> Result<Vec<LineAnswer>, OutOfMemory>
-            requires { IsSync R.row × IsSync G.row × IsTrue (is_count half) × (first + half + half ≤ 16) }
+            requires { IsSync R.row × IsSync G.row × IsTrue (is_worker_count half) × (first + half + half ≤ 16) }
             ensures { IfOk result (λ answers. AreAnswersTo back.items answers.items) }
         { run_in_halves(rt, alloc, gate, first + half, half, back) },
     );

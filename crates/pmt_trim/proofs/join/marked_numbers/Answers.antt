@@ -1,7 +1,7 @@
 use Rattle.std.proofs.Common.{◌≡◌, ◌+◌, suc, take, true, false, sym, ap, subst, ◌∙◌, arith}
 use Rattle.std.proofs.lemmas.List.{take_all, append-nil}
 use Rattle.std.specs.Prelude.{◌↔◌}
-use Rattle.pmt_trim.specs.Marking.{is_marked}
+use Rattle.pmt_trim.specs.Marking.{is_kept_at}
 use Rattle.pmt_model.specs.Selections.{IsRising, Has}
 use Rattle.pmt_trim.proofs.MarkingLemmas.{marked_from, marked-next, marked-rise, rising-no_fall, has-numbers}
 use Rattle.pmt_trim.proofs.join.marked_numbers.Goals as goal
@@ -31,4 +31,4 @@ pub returns-clause-just : goal.returns-clause-just
 returns-clause-just c =
     let all = take_all c.loop-i.i c.args.marked.now c.loop-i-test.false in
     let numbers : c.in-Ok.selection ≡ marked_from 0 c.args.marked.now = c.in-Ok.ensures.taken ∙ c.loop-i.invariant ∙ ap (marked_from 0) all in
-    λ n. subst (λ ks. Has ks n ↔ (is_marked c.args.marked.now n ≡ true)) (sym numbers) (has-numbers c.args.marked.now n)
+    λ n. subst (λ ks. Has ks n ↔ (is_kept_at c.args.marked.now n ≡ true)) (sym numbers) (has-numbers c.args.marked.now n)

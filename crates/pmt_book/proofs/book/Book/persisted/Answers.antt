@@ -3,20 +3,20 @@ use Rattle.std.proofs.lemmas.Bool.{true≢false}
 use Rattle.pmt_model.specs.Values.{Layout, line_of}
 use Rattle.pmt_model.specs.Traces.{Recording}
 use Rattle.pmt_book.specs.Ends.{PassesNow}
-use Rattle.pmt_book.proofs.PersistLemmas.{spared-from_passes, passes-from_spared, counted-spares}
+use Rattle.pmt_book.proofs.PersistLemmas.{spared-from_passes, passes-from_spared, counted-none_touches}
 use Rattle.pmt_book.proofs.book.Book.persisted.Goals as goal
 
-pub returns-then-not-spares : goal.returns-then-not-spares
-returns-then-not-spares c =
+pub returns-then-not-none_touches : goal.returns-then-not-none_touches
+returns-then-not-none_touches c =
     let T = c.self.inside.trace in
     let A = c.args.range in
     let line = c.loop-line.line in
-    let same = counted-spares T c.self.inside.lines c.self.inside.pending line A c.format-format.result c.events.result.now c.saturating_sub-count.result c.count_at.result
+    let same = counted-none_touches T c.self.inside.lines c.self.inside.pending line A c.format-format.result c.events.result.now c.saturating_sub-count.result c.count_at.result
     c.front_at.result c.self.invariant c.format-format.ensures.value c.events.ensures.value c.saturating_sub-count.ensures c.count_at.ensures c.front_at.ensures in (
       λ h. absurd (true≢false (sym h)),
       λ passes.
           let P : Recording → Type 0 = λ R. PassesNow R A in
-          c.if-not-spares.ensures ∙ same ∙ spared-from_passes T A line c.format-format.ensures.is_trace c.len.ensures.is_range (subst P (sym c.self.view_is) passes),
+          c.if-not-none_touches.ensures ∙ same ∙ spared-from_passes T A line c.format-format.ensures.is_trace c.len.ensures.is_range (subst P (sym c.self.view_is) passes),
     )
 
 pub returns : goal.returns

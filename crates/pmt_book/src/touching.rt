@@ -2,7 +2,7 @@
 
 ghost use Rattle.std.specs.Prelude.{◌≡◌, map, reverse};
 ghost use Rattle.pmt_model.specs.Traces.{act};
-ghost use Rattle.pmt_book.specs.Sparing.{touches as touches_range, store_on, spares as spares_range};
+ghost use Rattle.pmt_book.specs.Touching.{touches as touches_range, store_on, none_touches as none_touches_range};
 
 use pmt_model::{Event, Format, Op, Range, WordStore, line_of};
 
@@ -33,8 +33,8 @@ fn store_to(event: &Event, format: Format, line: u64) -> Option<WordStore>
 }
 
 // Whether none of the newest `count` stores to the line writes a byte of the range. It goes back to the oldest of them.
-pub(crate) fn spares(events: &[Event], format: Format, count: u64, line: u64, range: Range) -> bool
-    ensures { result ≡ spares_range count line range (reverse (map (act format) events.now)) }
+pub(crate) fn none_touches(events: &[Event], format: Format, count: u64, line: u64, range: Range) -> bool
+    ensures { result ≡ none_touches_range count line range (reverse (map (act format) events.now)) }
 {
     let mut left = count;
     let mut rest = events;

@@ -1,7 +1,7 @@
 -- Whether the newest stores to a line write a byte of a range.
 use Rattle.std.specs.Prelude.{ℕ, zero, suc, ◌+◌, ◌==◌, ◌&&◌, nat_lt, not, Bool, true, if◌then◌else◌, List, [], ◌∷◌, length, Option, Some, None}
 use Rattle.pmt_model.specs.Values.{Written, Span}
-use Rattle.pmt_model.specs.Machine.{Act, Stores, Flushes, FlushesNow, Fences, Asserts}
+use Rattle.pmt_model.specs.Machine.{Act, Stores, Flushes, Clflushes, Fences, Asserts}
 
 -- The store writes a byte of the range.
 abbrev pub touches : Written → Span → Bool
@@ -11,16 +11,16 @@ touches w A = nat_lt w.addr (A.addr + A.len) && nat_lt A.addr (w.addr + length w
 abbrev pub store_on : ℕ → Act → Option Written
 store_on l (Stores k w) = if k == l then Some w else None
 store_on l (Flushes t k) = None
-store_on l (FlushesNow k) = None
+store_on l (Clflushes k) = None
 store_on l (Fences t) = None
 store_on l Asserts = None
 
-abbrev pub spares_next : Option Written → Span → Bool → Bool → Bool
-spares_next None A fewer same = same
-spares_next (Some w) A fewer same = not (touches w A) && fewer
+abbrev pub none_touches_next : Option Written → Span → Bool → Bool → Bool
+none_touches_next None A fewer same = same
+none_touches_next (Some w) A fewer same = not (touches w A) && fewer
 
 -- None of the newest n stores to line l writes a byte of the range.
-abbrev pub spares : ℕ → ℕ → Span → List Act → Bool
-spares zero l A history = true
-spares (suc n) l A [] = true
-spares (suc n) l A (a ∷ history) = spares_next (store_on l a) A (spares n l A history) (spares (suc n) l A history)
+abbrev pub none_touches : ℕ → ℕ → Span → List Act → Bool
+none_touches zero l A history = true
+none_touches (suc n) l A [] = true
+none_touches (suc n) l A (a ∷ history) = none_touches_next (store_on l a) A (none_touches n l A history) (none_touches (suc n) l A history)

@@ -2,7 +2,7 @@
 use Rattle.std.proofs.Common.{◌≡◌, ℕ, ◌≤◌, List, [], ◌∷◌, ◌&&◌, ◌==◌, refl, subst, eq-eqb, eqb-true, le_trans, arith}
 use Rattle.std.specs.List.{AllByRecursion}
 use Rattle.std.proofs.lemmas.Bool.{cond_both, and_parts, and_from, cond-true}
-use Rattle.pmt_model.specs.Machine.{Act, Stores, Flushes, FlushesNow, Fences, Asserts, Outstanding, count}
+use Rattle.pmt_model.specs.Machine.{Act, Stores, Flushes, Clflushes, Fences, Asserts, Outstanding, count}
 use Rattle.pmt_model.specs.Fronts.{mark}
 use Rattle.pmt_laws.proofs.Histories.{mark-le-count}
 
@@ -11,7 +11,7 @@ abbrev pub owing : List Act → List Outstanding
 owing [] = []
 owing (Stores l w ∷ h) = owing h
 owing (Flushes t l ∷ h) = record { thread = t; line = l; stores = count l h } ∷ owing h
-owing (FlushesNow l ∷ h) = owing h
+owing (Clflushes l ∷ h) = owing h
 owing (Fences t ∷ h) = owing h
 owing (Asserts ∷ h) = owing h
 
@@ -33,7 +33,7 @@ mark-le_owed t l bound (Flushes u k ∷ h) owed =
     let parts = and_parts (u == t) (k == l) both in
     subst (λ j. count j h ≤ bound j) (eqb-true k l parts.1) (owed.0 (eqb-true u t parts.0)))
     (λ other. mark-le_owed t l bound h owed.1)
-mark-le_owed t l bound (FlushesNow k ∷ h) owed = mark-le_owed t l bound h owed
+mark-le_owed t l bound (Clflushes k ∷ h) owed = mark-le_owed t l bound h owed
 mark-le_owed t l bound (Fences u ∷ h) owed = mark-le_owed t l bound h owed
 mark-le_owed t l bound (Asserts ∷ h) owed = mark-le_owed t l bound h owed
 
@@ -41,7 +41,7 @@ mark-le_owed t l bound (Asserts ∷ h) owed = mark-le_owed t l bound h owed
 pub mark-grows : (t l : ℕ) (a : Act) (h : List Act) → mark t l h ≤ mark t l (a ∷ h)
 mark-grows t l (Stores k w) h = omega arith
 mark-grows t l (Flushes u k) h = cond_both ((u == t) && (k == l)) (count l h) (mark t l h) (λ x. mark t l h ≤ x) (λ both. mark-le-count t l h) (λ other. omega arith)
-mark-grows t l (FlushesNow k) h = omega arith
+mark-grows t l (Clflushes k) h = omega arith
 mark-grows t l (Fences u) h = omega arith
 mark-grows t l Asserts h = omega arith
 
@@ -53,6 +53,6 @@ owed_from_marks t bound (Flushes u k ∷ h) marked = (
   λ same. subst (λ x. x ≤ bound k) (mark-flush t k h) (subst (λ v. mark t k (Flushes v k ∷ h) ≤ bound k) same (marked k)),
   owed_from_marks t bound h (λ l. le_trans (mark-grows t l (Flushes u k) h) (marked l)),
 )
-owed_from_marks t bound (FlushesNow k ∷ h) marked = owed_from_marks t bound h marked
+owed_from_marks t bound (Clflushes k ∷ h) marked = owed_from_marks t bound h marked
 owed_from_marks t bound (Fences u ∷ h) marked = owed_from_marks t bound h marked
 owed_from_marks t bound (Asserts ∷ h) marked = owed_from_marks t bound h marked

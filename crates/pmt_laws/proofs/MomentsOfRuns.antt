@@ -2,10 +2,10 @@
 use Rattle.std.proofs.Common.{◌≡◌, ℕ, zero, suc, ◌+◌, ◌-◌, ◌<◌, ◌≤◌, ◌==◌, List, [], ◌∷◌, ◌++◌, refl, sym, ap, subst, ◌∙◌, le_trans, arith}
 use Rattle.std.specs.List.{AllByRecursion}
 use Rattle.std.proofs.lemmas.Bool.{cond_both}
-use Rattle.pmt_model.specs.Machine.{Act, Stores, Flushes, FlushesNow, Fences, Asserts, Outstanding, State, Leads, Stays, Acts, Persists, Passes, count, start, after, after_persist}
+use Rattle.pmt_model.specs.Machine.{Act, Stores, Flushes, Clflushes, Fences, Asserts, Outstanding, State, Leads, Stays, Acts, Persists, IsMoment, count, start, after, after_persist}
 use Rattle.pmt_model.specs.Boxes.{InBox}
 use Rattle.pmt_laws.proofs.Histories.{count-grows}
-use Rattle.pmt_laws.proofs.Owing.{owing}
+use Rattle.pmt_laws.proofs.OutstandingFlushes.{owing}
 use Rattle.pmt_laws.proofs.BoxLemmas.{leads-reached, leads-box, box-ends, persisted-step}
 
 -- steps after steps
@@ -23,7 +23,7 @@ leads-extends s end (Acts {to} a path allowed) =
 leads-extends s end (Persists {to} l path room) = leads-extends s to path
 
 -- a moment of a run of the history has come by the run's first acts
-pub passes-split : (h : List Act) (s : State) → Passes h s → (newer : List Act) × (h ≡ newer ++ s.history) × Leads start s
+pub passes-split : (h : List Act) (s : State) → IsMoment h s → (newer : List Act) × (h ≡ newer ++ s.history) × Leads start s
 passes-split h s passes =
     let more = leads-extends s passes.0 passes.2 in
     (more.0, sym passes.3 ∙ more.1, passes.1)
@@ -70,7 +70,7 @@ pub owing-le_count : (bound : ℕ → ℕ) (h : List Act) → ((l : ℕ) → cou
 owing-le_count bound [] most = tt
 owing-le_count bound (Stores k w ∷ h) most = owing-le_count bound h (λ l. le_trans (count-grows l (Stores k w) h) (most l))
 owing-le_count bound (Flushes t k ∷ h) most = (most k, owing-le_count bound h most)
-owing-le_count bound (FlushesNow k ∷ h) most = owing-le_count bound h most
+owing-le_count bound (Clflushes k ∷ h) most = owing-le_count bound h most
 owing-le_count bound (Fences t ∷ h) most = owing-le_count bound h most
 owing-le_count bound (Asserts ∷ h) most = owing-le_count bound h most
 
@@ -96,12 +96,12 @@ persist_owed t (o ∷ os) s path within =
 pub act_possible : (s : State) → Leads start s → (a : Act) → (e : State) × Leads s e × (e.history ≡ a ∷ s.history)
 act_possible s path (Stores l w) = (after s (Stores l w), Acts (Stores l w) Stays tt, refl)
 act_possible s path (Flushes t l) = (after s (Flushes t l), Acts (Flushes t l) Stays tt, refl)
-act_possible s path (FlushesNow l) =
+act_possible s path (Clflushes l) =
     let few = (leads-box s path l).1 in
     let line = persist_line (count l s.history - s.persisted l) s l (omega arith) in (
-      after line.0 (FlushesNow l),
-      Acts (FlushesNow l) line.1.path (line.2 ∙ ap (count l) (sym line.1.is_history)),
-      ap (λ h. FlushesNow l ∷ h) line.1.is_history,
+      after line.0 (Clflushes l),
+      Acts (Clflushes l) line.1.path (line.2 ∙ ap (count l) (sym line.1.is_history)),
+      ap (λ h. Clflushes l ∷ h) line.1.is_history,
     )
 act_possible s path (Fences t) =
     let owes = (leads-reached s path).owes in
@@ -122,17 +122,17 @@ acts_possible s path (a ∷ newer) =
     (next.0, leads-trans s before.0 next.0 before.1 next.1, next.2 ∙ ap (λ h. a ∷ h) before.2)
 
 -- a state that a run of the first acts comes to is a moment of a run of the history
-pub split-passes : (h : List Act) (s : State) → Leads start s → (newer : List Act) → h ≡ newer ++ s.history → Passes h s
+pub split-passes : (h : List Act) (s : State) → Leads start s → (newer : List Act) → h ≡ newer ++ s.history → IsMoment h s
 split-passes h s path newer is =
     let rest = acts_possible s path newer in
     (rest.0, path, rest.1, rest.2 ∙ sym is)
 
 -- after the first acts of a history a run is at a moment with any counts of their box
-pub box-passes : (newer older : List Act) (v : ℕ → ℕ) → InBox older v → (s : State) × Passes (newer ++ older) s × (s.history ≡ older) × ((l : ℕ) → s.persisted l ≡ v l)
+pub box-passes : (newer older : List Act) (v : ℕ → ℕ) → InBox older v → (s : State) × IsMoment (newer ++ older) s × (s.history ≡ older) × ((l : ℕ) → s.persisted l ≡ v l)
 box-passes newer older v box =
     let run = box-ends older v box in
     (run.0, split-passes (newer ++ older) run.0 run.1.0 newer (ap (λ h. newer ++ h) (sym run.1.1)), run.1.1, run.2)
 
 -- at a moment of a run of the history the counts lie in the box of the acts so far
-pub passes-box : (h : List Act) (s : State) → Passes h s → InBox s.history s.persisted
+pub passes-box : (h : List Act) (s : State) → IsMoment h s → InBox s.history s.persisted
 passes-box h s passes = leads-box s passes.1

@@ -1,6 +1,6 @@
 -- Each kept event has a partner in a selection with the same counts of persisted stores, and no two have the same.
 use Rattle.std.proofs.Common.{◌≡◌, ◌≢◌, ℕ, zero, suc, ◌-◌, ◌<◌, ◌≤◌, List, length, true, refl, sym, ap, subst, ◌∙◌, arith, true≢false, subst₂, le_antisymm, max, lt_of_not-le, le_of_suc-le-suc}
-use Rattle.pmt_model.specs.Machine.{Act, Flushes, FlushesNow, Fences}
+use Rattle.pmt_model.specs.Machine.{Act, Flushes, Clflushes, Fences}
 use Rattle.pmt_model.specs.Traces.{Recording, IsAct, history, count_at}
 use Rattle.pmt_model.specs.Fronts.{front, mark, front_at}
 use Rattle.pmt_model.specs.Selections.{Has, IsSelection, always_stays, cut, matching_place}
@@ -111,4 +111,4 @@ kept-partner T S i selection same (ByFlush u) =
     let flush : IsFlushFor T u.thread u.line u.fence i = record { is_flush = u.is_flush; is_fence = u.is_fence; later = u.later; next_fence = u.next_fence } in
     flush-partner T S u.thread u.line i u.fence selection same flush u.last_flush u.needed
 kept-partner T S i selection same (ByClflush u) =
-    own-partner T S i (FlushesNow u.line) u.is_clflush (λ t l e. cc) (raising-selected T S u.line i (FlushesNow u.line) same u.is_clflush u.raises)
+    own-partner T S i (Clflushes u.line) u.is_clflush (λ t l e. cc) (raising-selected T S u.line i (Clflushes u.line) same u.is_clflush u.raises)
