@@ -64,5 +64,13 @@ judge 'a dash is a file name' "$?" 0 "$told" 'sfence 0'
 told=$("$program" trim --workers=4 2>&1 < examples/one_persist.trace)
 judge 'a value after the equals sign' "$?" 0 "$told" 'sfence 0'
 
+# help is a command too; at a terminal it is said what is waited for.
+expect 0 'Usage: pmtrim trim' help trim
+expect 0 'Usage: pmtrim <' help
+told=$(python3 tests/lib/terminal.py "$program" check)
+judge 'a terminal' "$?" 0 "$told" 'reading a trace from the terminal'
+told=$(python3 tests/lib/terminal.py "$program" check examples/one_persist.trace)
+judge 'a terminal that is not read' "$?" 0 "${told/*terminal*/bad}" 'events 3'
+
 echo "$passed passed, $failed failed"
 [ "$failed" -eq 0 ]

@@ -12,7 +12,6 @@ pub fn commands<'a>(alloc: Global) -> Result<Command<'a>, AllocError> {
         .override_usage(
             "pmtrim < TRACE\n       pmtrim check [--workers N] [FILE]\n       pmtrim trim [--workers N] [--stream] [FILE]\n       pmtrim fronts FILE PLACE\n       pmtrim record SCRIPT..",
         )
-        .disable_help_subcommand(true)
         .about(
             "Checks traces of persistent memory events, and trims the flushes and fences that no crash can show.{n}With no words it trims the trace on standard input.",
         )

@@ -32,6 +32,16 @@ pub enum Request<'a> {
     },
 }
 
+impl Request<'_> {
+    /// Whether standard input is read for it.
+    pub fn reads_input(&self) -> bool {
+        matches!(
+            self,
+            Request::Check { file: None, .. } | Request::Trim { file: None, .. }
+        )
+    }
+}
+
 /// What these words, which stand after the program's name, ask for.
 ///
 /// # Errors
