@@ -1,0 +1,64 @@
+#!/usr/bin/env bash
+# The installed program, its man page and completions. Last line: 'N passed, M failed'.
+set -u
+cd "$(dirname "$0")/.." || exit 1
+. tests/lib/program.sh
+. tests/lib/cases.sh
+
+# holds NAME COMMAND ..: the command succeeds
+holds() {
+  local name=$1
+  shift
+  if "$@" > "$folder/told" 2>&1; then
+    passed=$((passed + 1))
+  else
+    failed=$((failed + 1))
+    echo "$name: $(cat "$folder/told")"
+  fi
+}
+
+prefix=$folder/prefix
+holds 'install' ./install "$prefix"
+holds 'the program runs without the kit' env -i PATH=/usr/bin:/bin "$prefix/bin/pmtrim" check examples/one_persist.trace
+holds 'a bad word is refused' eval '! ./install --frob'
+
+# The man page says what the program's help says: every option, command and status.
+page=$prefix/share/man/man1/pmtrim.1
+sed 's/\\fB\|\\fI\|\\fR//g; s/\\-/-/g' "$page" > "$folder/page"
+for command in '' check trim fronts record; do
+  "$program" ${command:+"$command"} --help
+done > "$folder/help"
+grep -oE '(^|[ [])--[a-z]+' "$folder/help" | grep -oE -- '--[a-z]+' | sort -u > "$folder/options"
+holds 'help has options' grep -q -- --workers "$folder/options"
+while read -r option; do
+  holds "the man page has $option" grep -qF -- "$option" "$folder/page"
+done < "$folder/options"
+for line in $(grep -oE 'Statuses: .*' "$folder/help" | grep -oE '[0-6] ' | sort -u); do
+  holds "the man page has status $line" grep -qx "$line" "$folder/page"
+done
+for command in check trim fronts record; do
+  holds "the man page has $command" grep -qx ".B $command" "$folder/page"
+  about=$("$program" "$command" --help | head -n 1)
+  holds "the man page says what $command does" grep -qF "${about%%[.,]*}" "$folder/page"
+done
+
+# What bash offers for some words.
+offered() {
+  bash -c '. "$1"; shift; COMP_WORDS=("$@"); COMP_CWORD=$(($# - 1)); _pmtrim; echo "${COMPREPLY[*]}"' - \
+    "$prefix/share/bash-completion/completions/pmtrim" "$@"
+}
+holds 'a command is offered' [ "$(offered pmtrim ch)" = check ]
+holds 'numbers of workers are offered' [ "$(offered pmtrim check --workers 1)" = '1 16' ]
+holds 'an option is offered' [ "$(offered pmtrim trim --s)" = --stream ]
+holds 'a file is offered' [ "$(offered pmtrim check examples/one_persist.tra)" = examples/one_persist.trace ]
+for shell in zsh fish; do
+  if command -v "$shell" > /dev/null; then
+    case $shell in
+      zsh) holds 'zsh reads its completions' zsh -n "$prefix/share/zsh/site-functions/_pmtrim" ;;
+      fish) holds 'fish reads its completions' fish -n "$prefix/share/fish/vendor_completions.d/pmtrim.fish" ;;
+    esac
+  fi
+done
+
+echo "$passed passed, $failed failed"
+[ "$failed" -eq 0 ]
