@@ -1,5 +1,5 @@
 -- What the recorders of all scripts have done.
-use Rattle.std.proofs.Common.{◌≡◌, ℕ, zero, suc, ◌+◌, ◌<◌, ◌≤◌, ◌⊎◌, inl, inr, Bool, true, false, List, [], ◌∷◌, ◌++◌, length, map, get_or, slice_get, Some, None, Result, Ok, Err, OnOk, refl, sym, ap, subst, ◌∙◌, arith}
+use Rattle.std.proofs.Common.{◌≡◌, ◌↔◌, ℕ, zero, suc, ◌+◌, ◌<◌, ◌≤◌, ◌⊎◌, inl, inr, Bool, true, false, List, [], ◌∷◌, ◌++◌, length, map, get_or, slice_get, Some, None, Result, Ok, Err, OnOk, IfOk, IfErr, refl, sym, ap, subst, ◌∙◌, arith}
 use Rattle.std.specs.Prelude.{◌==◌, ◌||◌}
 use Rattle.std.specs.List.{AllByRecursion}
 use Rattle.std.proofs.lemmas.List.{length-append, length-map}
@@ -14,9 +14,9 @@ use Rattle.pmt_book.specs.declared.fault.BookError.{BookError}
 use Rattle.pmt_book.specs.declared.fault.BookError.TheVariants.{NotInFormat, Full, OutOfMemory}
 use Rattle.pmt_recorder.specs.Strips.{Strip, strip, empty_tapes, has_thread, IsOneOfEach, entries_of, ops_of}
 use Rattle.pmt_recorder.specs.Sealing.{IsSealed}
-use Rattle.pmt_recorder.specs.Scripts.{IsRecorded, Plays, PlaysEach, AtScript, first_fault, RecordFails}
+use Rattle.pmt_recorder.specs.Scripts.{IsRecorded, Plays, PlaysEach, AtScript, IsInFormat, AreInFormatBelow, HaveOpsOf, IsTornOf, first_fault, RecordFails}
 use Rattle.pmt_recorder.specs.declared.fault.RecordError.{RecordError}
-use Rattle.pmt_recorder.specs.declared.fault.RecordError.TheVariants.{NotInFormat as NotInFormatAt, Full as FullAt, OutOfMemory as NoMemory}
+use Rattle.pmt_recorder.specs.declared.fault.RecordError.TheVariants.{BadCount, NotInFormat as NotInFormatAt, Full as FullAt, OutOfMemory as NoMemory, Torn}
 use Rattle.pmt_recorder.proofs.SealLemmas.{length-by_thread, slice_get-by_thread}
 
 -- What a recorder hands back.
@@ -85,21 +85,44 @@ plays-from_each f scripts played len each k t d e h =
     let P : ℕ → Type 0 = λ u. AtScript scripts u (λ script. Plays f script u (get_or played k d).0 (get_or played k d).1) in
     subst P (sym same) (each k d within)
 
+-- what held of the scripts below a number holds of one more
+below-next : (f : Layout) (scripts : List (List Op)) (n : ℕ) → AreInFormatBelow f scripts n → AtScript scripts n (IsInFormat f) → AreInFormatBelow f scripts (suc n)
+below-next f scripts n below here u h = go (last_or_before u n h)
+  where
+    go : (u < n) ⊎ (n ≡ u) → AtScript scripts u (IsInFormat f)
+    go (inl less) = below u less
+    go (inr same) = let P : ℕ → Type 0 = λ t. AtScript scripts t (IsInFormat f) in subst P same here
+
+-- the script of a recorder that came to the end
+script-known : (f : Layout) (scripts : List (List Op)) (n : ℕ) (s : Strip) (u : Unit {0}) (rest : List Played) → PlaysFrom f scripts n ((s, Ok u) ∷ rest) → AtScript scripts n (IsInFormat f)
+script-known f scripts n s u rest plays = let at = plays 0 n (s, Ok u) (omega arith) (omega arith) in (at.0, at.1, at.2.known)
+
 -- a fault that is told fits the scripts
-pub fault_fits : (f : Layout) (scripts : List (List Op)) (n : ℕ) (rest : List Played) (e : RecordError) → PlaysFrom f scripts n rest → first_fault n rest ≡ Some e → RecordFails f scripts e
-fault_fits f scripts n [] e plays is = absurd (none-some e is)
-fault_fits f scripts n ((s, Ok u) ∷ rest) e plays is = fault_fits f scripts (suc n) rest e (plays-from_next f scripts n (s, Ok u) rest plays) is
-fault_fits f scripts n ((s, Err NotInFormat) ∷ rest) e plays is =
+pub fault_fits :
+    (f : Layout) (scripts : List (List Op)) (n : ℕ) (rest : List Played) (e : RecordError) → AreInFormatBelow f scripts n → PlaysFrom f scripts n rest →
+    first_fault n rest ≡ Some e → RecordFails f scripts e
+fault_fits f scripts n [] e below plays is = absurd (none-some e is)
+fault_fits f scripts n ((s, Ok u) ∷ rest) e below plays is =
+    fault_fits f scripts (suc n) rest e (below-next f scripts n below (script-known f scripts n s u rest plays)) (plays-from_next f scripts n (s, Ok u) rest plays) is
+fault_fits f scripts n ((s, Err NotInFormat) ∷ rest) e below plays is =
     let at = plays 0 n (s, Err NotInFormat) (omega arith) (omega arith) in
     let P : RecordError → Type 0 = λ x. RecordFails f scripts x in
-    subst P (same_Some (NotInFormatAt n) e is) (at.0, at.1, at.2.stopped)
-fault_fits f scripts n ((s, Err (Full events)) ∷ rest) e plays is =
+    subst P (same_Some (NotInFormatAt n) e is) ((at.0, at.1, at.2.stopped), below)
+fault_fits f scripts n ((s, Err (Full events)) ∷ rest) e below plays is =
     let at = plays 0 n (s, Err (Full events)) (omega arith) (omega arith) in
     let P : RecordError → Type 0 = λ x. RecordFails f scripts x in
-    subst P (same_Some (FullAt n events) e is) (within-from_get scripts n at.0 at.1, at.2.stopped)
-fault_fits f scripts n ((s, Err OutOfMemory) ∷ rest) e plays is =
+    subst P (same_Some (FullAt n events) e is) (at.2.stopped.0, (at.0, at.1, at.2.stopped.1), below)
+fault_fits f scripts n ((s, Err OutOfMemory) ∷ rest) e below plays is =
     let P : RecordError → Type 0 = λ x. RecordFails f scripts x in
     subst P (same_Some NoMemory e is) tt
+
+-- no recorder tells that the number of scripts is wrong
+fault-not_count : (n : ℕ) (rest : List Played) → first_fault n rest ≡ Some BadCount → ⊥
+fault-not_count n [] is = absurd (none-some BadCount is)
+fault-not_count n ((s, Ok u) ∷ rest) is = fault-not_count (suc n) rest is
+fault-not_count n ((s, Err NotInFormat) ∷ rest) is = let e : NotInFormatAt n ≡ BadCount = same_Some (NotInFormatAt n) BadCount is in cc
+fault-not_count n ((s, Err (Full events)) ∷ rest) is = let e : FullAt n events ≡ BadCount = same_Some (FullAt n events) BadCount is in cc
+fault-not_count n ((s, Err OutOfMemory) ∷ rest) is = let e : NoMemory ≡ BadCount = same_Some NoMemory BadCount is in cc
 
 -- where no fault is told, each recorder came to the end
 pub all_whole : (n : ℕ) (rest : List Played) → first_fault n rest ≡ None → (k : ℕ) (d : Played) → k < length rest → (get_or rest k d).1 ≡ Ok tt
@@ -153,28 +176,44 @@ get_or-map g (x ∷ xs) (suc k) d h = get_or-map g xs k d (omega arith)
 whole-of_plays : (script : List Op) (s : Strip) (end : Result (Unit {0}) BookError) → end ≡ Ok tt → OnOk end (ops_of s.entries ≡ script) → ops_of s.entries ≡ script
 whole-of_plays script s end e whole = let P : Result (Unit {0}) BookError → Type 0 = λ r. OnOk r (ops_of s.entries ≡ script) in subst P e whole
 
+-- the tapes have the ops of the scripts, where each recorder came to the end
+pub have_ops :
+    (f : Layout) (scripts : List (List Op)) (played : List Played) (strips : List Strip) → length played ≡ length scripts →
+    strips ≡ map (λ (p : Played). p.0) played → PlaysFrom f scripts 0 played → first_fault 0 played ≡ None → HaveOpsOf scripts strips
+have_ops f scripts played strips same_len is plays none t h =
+    let d : Played = (strip 0 [], Ok tt) in
+    let here : t < length played = omega (arith, same_len) in
+    let at = plays t t d (omega arith) here in
+    let tapes : List Strip = map (λ (p : Played). p.0) played in
+    let entries : entries_of t strips ≡ (get_or played t d).0.entries =
+    ap (entries_of t) is
+    ∙ entries_of-in_order 0 t t tapes d.0 (in_order-from_plays f scripts 0 played plays) (omega arith) (omega (arith, length-map played (λ (p : Played). p.0)))
+    ∙ ap (λ (s : Strip). s.entries) (get_or-map (λ (p : Played). p.0) played t d here) in
+    let whole = whole-of_plays at.0 (get_or played t d).0 (get_or played t d).1 (all_whole 0 played none t d here) at.2.whole in
+    at.1 ∙ ap Some (sym whole ∙ ap ops_of (sym entries))
+
+-- and all their ops are in the format
+pub all_known : (f : Layout) (scripts : List (List Op)) (played : List Played) → length played ≡ length scripts → PlaysFrom f scripts 0 played → first_fault 0 played ≡ None →
+    AreInFormatBelow f scripts (length scripts)
+all_known f scripts played same_len plays none t h =
+    let d : Played = (strip 0 [], Ok tt) in
+    let here : t < length played = omega (arith, same_len) in
+    let at = plays t t d (omega arith) here in
+    let P : Result (Unit {0}) BookError → Type 0 = λ r. OnOk r (IsInFormat f at.0) in
+    (at.0, at.1, subst P (all_whole 0 played none t d here) at.2.known)
+
 -- a sealed trace of tapes that have the ops of the scripts is a recording of them
 pub recorded :
-    (n : ℕ) (f layout : Layout) (scripts : List (List Op)) (played : List Played) (strips : List Strip) (T : Recording) → length scripts ≡ n →
-    length played ≡ length scripts → layout ≡ f → strips ≡ map (λ (p : Played). p.0) played → PlaysFrom f scripts 0 played → first_fault 0 played ≡ None →
-    IsSealed n f strips T → IsRecorded layout scripts T
-recorded n f layout scripts played strips T len same_len lay is plays none sealed = record {
+    (n : ℕ) (f layout : Layout) (scripts : List (List Op)) (strips : List Strip) (T : Recording) → length scripts ≡ n → layout ≡ f →
+    HaveOpsOf scripts strips → IsSealed n f strips T → IsRecorded layout scripts T
+recorded n f layout scripts strips T len lay have sealed = record {
   format = sealed.format ∙ sym lay;
   whose = subst (λ (m : ℕ). AllByRecursion (λ (x : Event). x.thread < m) T.events) (length-by_thread n strips ∙ sym len) sealed.interleaving.whose;
   parts = λ t h.
-      let d : Played = (strip 0 [], Ok tt) in
       let within : t < n = omega (arith, len) in
-      let here : t < length played = omega (arith, same_len) in
-      let at = plays t t d (omega arith) here in
-      let tapes : List Strip = map (λ (p : Played). p.0) played in
       let own : part t T.events ≡ entries_of t strips =
       same_Some (part t T.events) (entries_of t strips) (sym (sealed.interleaving.parts t (omega (arith, length-by_thread n strips))) ∙ slice_get-by_thread n strips t within) in
-      let entries : entries_of t strips ≡ (get_or played t d).0.entries =
-      ap (entries_of t) is
-      ∙ entries_of-in_order 0 t t tapes d.0 (in_order-from_plays f scripts 0 played plays) (omega arith) (omega (arith, length-map played (λ (p : Played). p.0)))
-      ∙ ap (λ (s : Strip). s.entries) (get_or-map (λ (p : Played). p.0) played t d here) in
-      let whole = whole-of_plays at.0 (get_or played t d).0 (get_or played t d).1 (all_whole 0 played none t d here) at.2.whole in
-      at.1 ∙ ap Some (sym whole ∙ ap ops_of (sym entries ∙ sym own));
+      have t h ∙ ap (λ (es : List (ℕ × Op)). Some (ops_of es)) (sym own);
 }
 
 -- the fault that is told fits the scripts
@@ -183,7 +222,15 @@ pub told_fits :
     PlaysEach f scripts played → shown ≡ played → Some e ≡ first_fault 0 shown → RecordFails layout scripts e
 told_fits f layout scripts played shown e lay len each same told =
     let P : Layout → Type 0 = λ g. RecordFails g scripts e in
-    subst P (sym lay) (fault_fits f scripts 0 played e (plays-from_each f scripts played len each) (sym (told ∙ ap (first_fault 0) same)))
+    subst P (sym lay) (fault_fits f scripts 0 played e (λ u h. absurd (omega arith)) (plays-from_each f scripts played len each) (sym (told ∙ ap (first_fault 0) same)))
+
+-- and is no fault of their number
+pub told-not_count : {X : Type 0} (shown : List Played) (e : RecordError) → Some e ≡ first_fault 0 shown → ◌≡◌ {A = Result X RecordError} (Err e) (Err BadCount) → ⊥
+told-not_count shown e told is = let same : e ≡ BadCount = cc in fault-not_count 0 shown (sym told ∙ ap Some same)
+
+-- where something was made, no fault was told
+pub made-not_told : {X E : Type 0} {P : Type 0} (r : Result X E) (x : X) (e : E) → r ≡ Ok x → ((r ≡ Err e) ↔ P) → P → ⊥
+made-not_told r x e made told p = let is : Ok x ≡ Err e = sym made ∙ told.1 p in cc
 
 -- all tapes are there
 pub all_there :
@@ -200,7 +247,38 @@ pub recorded_all :
     length played ≡ length scripts → layout ≡ f → strips ≡ map (λ (p : Played). p.0) played → PlaysEach f scripts played → shown ≡ played →
     None ≡ first_fault 0 shown → IsSealed n f strips T → IsRecorded layout scripts T
 recorded_all n f layout scripts played shown strips T len same_len lay is each same none sealed =
-    recorded n f layout scripts played strips T len same_len lay is (plays-from_each f scripts played same_len each) (sym (none ∙ ap (first_fault 0) same)) sealed
+    recorded n f layout scripts strips T len lay
+    (have_ops f scripts played strips same_len is (plays-from_each f scripts played same_len each) (sym (none ∙ ap (first_fault 0) same))) sealed
+
+-- tapes that did not seal are those of scripts whose recorders all came to the end
+pub torn_fits :
+    (n : ℕ) (f layout : Layout) (scripts : List (List Op)) (played shown : List Played) (strips : List Strip) (e : RecordError) → length scripts ≡ n →
+    length played ≡ length scripts → layout ≡ f → strips ≡ map (λ (p : Played). p.0) played → PlaysEach f scripts played → shown ≡ played →
+    None ≡ first_fault 0 shown → IsTornOf n strips e → RecordFails layout scripts e
+torn_fits n f layout scripts played shown strips BadCount len same_len lay is each same none torn = absurd torn
+torn_fits n f layout scripts played shown strips (NotInFormatAt t) len same_len lay is each same none torn = absurd torn
+torn_fits n f layout scripts played shown strips (FullAt t events) len same_len lay is each same none torn = absurd torn
+torn_fits n f layout scripts played shown strips NoMemory len same_len lay is each same none torn = absurd torn
+torn_fits n f layout scripts played shown strips (Torn t) len same_len lay is each same none torn =
+    let plays = plays-from_each f scripts played same_len each in
+    let whole : first_fault 0 played ≡ None = sym (none ∙ ap (first_fault 0) same) in
+    let P : Layout → Type 0 = λ g. AreInFormatBelow g scripts (length scripts) in
+    let Q : ℕ → Type 0 = λ m. IsTornOf m strips (Torn t) in
+    (subst P (sym lay) (all_known f scripts played same_len plays whole), (strips, have_ops f scripts played strips same_len is plays whole, subst Q (sym len) torn))
+
+-- what sealing answers, of the scripts
+pub recorded_or_torn :
+    (n : ℕ) (f layout : Layout) (scripts : List (List Op)) (played shown : List Played) (strips : List Strip) (r : Result Recording RecordError) →
+    length scripts ≡ n → length played ≡ length scripts → layout ≡ f → strips ≡ map (λ (p : Played). p.0) played → PlaysEach f scripts played → shown ≡ played →
+    None ≡ first_fault 0 shown → IfOk r (IsSealed n f strips) → IfErr r (IsTornOf n strips) → IfOk r (IsRecorded layout scripts) × IfErr r (RecordFails layout scripts)
+recorded_or_torn n f layout scripts played shown strips (Ok T) len same_len lay is each same none sealed torn =
+    (recorded_all n f layout scripts played shown strips T len same_len lay is each same none sealed, tt)
+recorded_or_torn n f layout scripts played shown strips (Err e) len same_len lay is each same none sealed torn =
+    (tt, torn_fits n f layout scripts played shown strips e len same_len lay is each same none torn)
+
+-- and that is no fault of their number
+pub torn-not_count : (n : ℕ) (strips : List Strip) (r : Result Recording RecordError) → IfErr r (IsTornOf n strips) → r ≡ Err BadCount → ⊥
+torn-not_count n strips r torn is = let P : Result Recording RecordError → Type 0 = λ x. IfErr x (IsTornOf n strips) in subst P is torn
 
 -- the thread of a tape is its place
 pub plays_at : (f : Layout) (scripts : List (List Op)) (t u : ℕ) (r : Played) → u ≡ t → AtScript scripts u (λ script. Plays f script u r.0 r.1) → AtScript scripts t (λ script. Plays f script t r.0 r.1)

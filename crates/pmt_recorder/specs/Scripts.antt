@@ -1,5 +1,5 @@
 -- What recording scripts gives.
-use Rattle.std.specs.Prelude.{◌≡◌, ℕ, suc, ◌<◌, ◌⊎◌, true, not, List, [], ◌∷◌, length, Some, slice_get, slice_index_or, Option, None, Result, Ok, Err, OnOk, IfErr}
+use Rattle.std.specs.Prelude.{◌≡◌, ℕ, suc, ◌<◌, ◌⊎◌, true, false, not, List, [], ◌∷◌, length, Some, slice_get, slice_index_or, Option, None, Result, Ok, Err, OnOk, IfErr}
 use Rattle.std.specs.List.{AllByRecursion, list_any}
 use Rattle.pmt_model.specs.declared.event.Event.{Event}
 use Rattle.pmt_model.specs.declared.event.Op.{Op}
@@ -8,7 +8,9 @@ use Rattle.pmt_model.specs.Traces.{Recording, in_format, event_limit}
 use Rattle.pmt_model.specs.Interleavings.{part}
 use Rattle.pmt_book.specs.declared.fault.BookError.{BookError}
 use Rattle.pmt_book.specs.declared.fault.BookError.TheVariants.{NotInFormat, Full, OutOfMemory}
-use Rattle.pmt_recorder.specs.Strips.{Strip, ops_of}
+use Rattle.pmt_recorder.specs.Strips.{Strip, ops_of, entries_of}
+use Rattle.pmt_recorder.specs.Sealing.{SealFails}
+use Rattle.pmt_recorder.specs.declared.fault.SealKind.TheVariants.{Torn as IsTornTape}
 use Rattle.pmt_recorder.specs.declared.fault.RecordError.{RecordError}
 use Rattle.pmt_recorder.specs.declared.fault.RecordError.TheVariants.{BadCount, NotInFormat as NotInFormatAt, Full as FullAt, OutOfMemory as NoMemory, Torn}
 
@@ -22,16 +24,25 @@ pub record IsRecorded (layout : Layout) (scripts : List (List Op)) (T : Recordin
 abbrev pub HasOpNotInFormat : Layout → List Op → Type 0
 HasOpNotInFormat f script = list_any (λ op. not (in_format f op)) script ≡ true
 
--- What stopped the recorder of the script.
+-- All ops of the script are in the format.
+abbrev pub IsInFormat : Layout → List Op → Type 0
+IsInFormat f script = list_any (λ op. not (in_format f op)) script ≡ false
+
+-- Some op of the script is in the format.
+abbrev pub HasOpInFormat : Layout → List Op → Type 0
+HasOpInFormat f script = list_any (λ op. in_format f op) script ≡ true
+
+-- What stopped the recorder of the script: an op that is not in the format, or want of room or memory for one that is.
 abbrev pub Stops : Layout → List Op → BookError → Type 0
 Stops f script NotInFormat = HasOpNotInFormat f script
-Stops f script (Full events) = events ≡ event_limit
-Stops f script OutOfMemory = Unit {0}
+Stops f script (Full events) = (events ≡ event_limit) × HasOpInFormat f script
+Stops f script OutOfMemory = HasOpInFormat f script
 
 -- What a recorder hands back: its tape, which has the ops of the script where it came to the end.
 pub record Plays (layout : Layout) (script : List Op) (t : ℕ) (tape : Strip) (end : Result (Unit {0}) BookError) : Type 0 where
   pub thread : tape.thread ≡ t
   pub whole : OnOk end (ops_of tape.entries ≡ script)
+  pub known : OnOk end (IsInFormat layout script)
   pub stopped : IfErr end (Stops layout script)
 
 -- The fault of the lowest number, the first recorder having the number n.
@@ -52,18 +63,28 @@ PlaysEach f scripts played =
     (t : ℕ) (d : Strip × Result (Unit {0}) BookError) → t < length scripts →
     AtScript scripts t (λ script. Plays f script t (slice_index_or played t d).0 (slice_index_or played t d).1)
 
--- Some tape of a number below n is not its part.
-abbrev pub IsTornBelow : ℕ → RecordError → Type 0
-IsTornBelow n BadCount = ⊥
-IsTornBelow n (NotInFormatAt t) = ⊥
-IsTornBelow n (FullAt t events) = ⊥
-IsTornBelow n NoMemory = ⊥
-IsTornBelow n (Torn t) = t < n
+-- The ops of all scripts below number t are in the format.
+abbrev pub AreInFormatBelow : Layout → List (List Op) → ℕ → Type 0
+AreInFormatBelow f scripts t = (u : ℕ) → u < t → AtScript scripts u (IsInFormat f)
 
--- Why no trace was given.
+-- Each tape has the ops of the script of its number.
+abbrev pub HaveOpsOf : List (List Op) → List Strip → Type 0
+HaveOpsOf scripts strips = (t : ℕ) → t < length scripts → slice_get scripts t ≡ Some (ops_of (entries_of t strips))
+
+-- The n tapes did not seal: the number told is the lowest whose tape is not its part of the book.
+abbrev pub IsTornOf : ℕ → List Strip → RecordError → Type 0
+IsTornOf n strips BadCount = ⊥
+IsTornOf n strips (NotInFormatAt t) = ⊥
+IsTornOf n strips (FullAt t events) = ⊥
+IsTornOf n strips NoMemory = ⊥
+IsTornOf n strips (Torn t) = (book : Recording) × SealFails n strips (IsTornTape t) book
+
+-- Why no trace was given: the fault of the recorder with the lowest number, so that no op of a lower one's script is at fault.
+-- Where every recorder came to the end, the lowest number whose tape is not its part of the book.
 abbrev pub RecordFails : Layout → List (List Op) → RecordError → Type 0
 RecordFails f scripts BadCount = (length scripts ≡ 0) ⊎ (256 < length scripts)
-RecordFails f scripts (NotInFormatAt t) = AtScript scripts t (HasOpNotInFormat f)
-RecordFails f scripts (FullAt t events) = (t < length scripts) × (events ≡ event_limit)
+RecordFails f scripts (NotInFormatAt t) = AtScript scripts t (HasOpNotInFormat f) × AreInFormatBelow f scripts t
+RecordFails f scripts (FullAt t events) = (events ≡ event_limit) × AtScript scripts t (HasOpInFormat f) × AreInFormatBelow f scripts t
 RecordFails f scripts NoMemory = Unit {0}
-RecordFails f scripts (Torn t) = t < length scripts
+RecordFails f scripts (Torn t) =
+    AreInFormatBelow f scripts (length scripts) × ((strips : List Strip) × HaveOpsOf scripts strips × IsTornOf (length scripts) strips (Torn t))

@@ -1,6 +1,6 @@
-ghost use Rattle.std.specs.Prelude.{◌≡◌, ℕ, ◌<◌, ◌≤◌, [], length, map, slice_get, Some, IfOk, IfErr, IfSome, IfNone};
+ghost use Rattle.std.specs.Prelude.{◌≡◌, ℕ, ◌<◌, ◌≤◌, ◌↔◌, ◌⊎◌, [], length, map, slice_get, Some, Err, IfOk, IfErr, IfSome, IfNone};
 ghost use Rattle.pmt_model.specs.Formats.{first_version};
-ghost use Rattle.pmt_recorder.specs.Scripts.{IsRecorded, IsTornBelow, Plays, PlaysEach, RecordFails, first_fault, AtScript};
+ghost use Rattle.pmt_recorder.specs.Scripts.{IsRecorded, IsTornOf, Plays, PlaysEach, RecordFails, first_fault, AtScript};
 ghost use Rattle.pmt_recorder.specs.Sealing.{IsSealed};
 ghost use Rattle.pmt_recorder.specs.Strips.{IsOneOfEach, empty_tapes};
 
@@ -113,7 +113,7 @@ fn tapes_of<L: Roll>(
 fn finish<L: Roll>(session: Session<L>, tapes: Vec<Tape<L>>) -> Result<Trace, RecordError>
     requires { IsOneOfEach L.tapes tapes.items }
     ensures ok { IfOk result (IsSealed L.tapes L.format tapes.items) }
-    ensures torn { IfErr result (IsTornBelow L.tapes) }
+    ensures torn { IfErr result (IsTornOf L.tapes tapes.items) }
 {
     match session.seal(tapes) {
         Ok(trace) => Ok(trace),
@@ -138,6 +138,7 @@ fn record_over<L: Roll + Send + Sync, G: Gate + Sync, R: Threads + Wait + Sync>(
     requires format { first_version ≡ L.format }
     ensures ok { IfOk result (IsRecorded first_version (map (λ script. script.items) scripts.now)) }
     ensures err { IfErr result (RecordFails first_version (map (λ script. script.items) scripts.now)) }
+    ensures count { (result ≡ Err RecordError.BadCount) ↔ ((length scripts.now ≡ 0) ⊎ (256 < length scripts.now)) }
 {
     let (session, tapes) = match Session::<L>::start(alloc, blank, scripts.len()) {
         Ok(started) => started,
@@ -153,8 +154,7 @@ fn record_over<L: Roll + Send + Sync, G: Gate + Sync, R: Threads + Wait + Sync>(
     let Ok(tapes) = tapes_of(alloc, played) else {
         return Err(RecordError::OutOfMemory);
     };
-    let trace = finish(session, tapes)?;
-    Ok(trace)
+    finish(session, tapes)
 }
 
 /// Records the scripts, each by a thread of its own: a trace of version 1 that is an interleaving of them, in which part k has the ops
@@ -173,6 +173,7 @@ pub fn record_scripts<G: Gate + Sync, R: Threads + Wait + Sync>(
 ) -> Result<Trace, RecordError>
     ensures ok { IfOk result (IsRecorded first_version (map (λ script. script.items) scripts.items)) }
     ensures err { IfErr result (RecordFails first_version (map (λ script. script.items) scripts.items)) }
+    ensures count { (result ≡ Err RecordError.BadCount) ↔ ((length scripts.items ≡ 0) ⊎ (256 < length scripts.items)) }
 {
     record_over::<Brand, G, R>(rt, alloc, Blank::new(256), gate, scripts.as_slice())
 }

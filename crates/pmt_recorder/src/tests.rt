@@ -210,6 +210,20 @@ fn not_in_format(rt: HostRuntime) -> Result<(), Fail> {
     Ok(())
 }
 
+#[test]
+fn two_faulty_scripts(rt: HostRuntime) -> Result<(), Fail> {
+    let scripts = vec![in rt.alloc();
+        vec![in rt.alloc(); Op::Sfence]?,
+        vec![in rt.alloc(); Op::Sfence, Op::clflush(0x1000)?]?,
+        vec![in rt.alloc(); Op::Mfence]?,
+    ]?;
+    assert_eq!(rt;
+        record_scripts(&rt, rt.alloc(), &NoGate, scripts).err(),
+        Some(RecordError::NotInFormat { recorder: 1 })
+    );
+    Ok(())
+}
+
 // Starts with a number of tapes that no session has.
 fn start_refused<L: Roll, R: Abort>(
     rt: &R,
