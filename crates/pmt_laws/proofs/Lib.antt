@@ -27,6 +27,8 @@ pub mod KeptTest
 pub mod SelectionTest
 pub mod ByteAssertions
 pub mod WorkedLemmas
+pub mod WorkedImageLemmas
+pub mod WorkedAnalysisLemmas
 pub mod WorkedTraces
 pub mod WorkedFindingLemmas
 pub mod AnalysisLemmas

@@ -6,12 +6,12 @@ use Rattle.pmt_model.specs.Machine.{Stores, Flushes, Clflushes, writes}
 use Rattle.pmt_model.specs.declared.finding.Finding.TheVariants.{RedundantFlush, Overwritten}
 use Rattle.pmt_model.specs.Values.{Written}
 use Rattle.pmt_model.specs.Traces.{history}
-use Rattle.pmt_model.specs.Findings.{IsRedundantFlush}
+use Rattle.pmt_model.specs.Findings.{IsRedundantFlush, IsRedundantClflush}
 use Rattle.pmt_model.specs.Analyses.{IsFinding}
-use Rattle.pmt_laws.specs.Worked.{store, clwb}
-use Rattle.pmt_laws.specs.WorkedFindings.{double_flush, DoubleFlush, overwritten_before_flush, OverwrittenBeforeFlush, order_within_a_line, OrderWithinALine, flushed_further_on, WideLine, NarrowLine}
+use Rattle.pmt_laws.specs.Worked.{store, clwb, clflush}
+use Rattle.pmt_laws.specs.WorkedFindings.{double_flush, DoubleFlush, overwritten_before_flush, OverwrittenBeforeFlush, order_within_a_line, OrderWithinALine, flushed_further_on, WideLine, NarrowLine, clflush_twice, ClflushTwice}
 use Rattle.pmt_laws.proofs.Histories.{act-unique}
-use Rattle.pmt_laws.proofs.RedundantLemmas.{redundant_flush_by_fronts}
+use Rattle.pmt_laws.proofs.RedundantLemmas.{redundant_flush_by_fronts, redundant_clflush_by_fronts}
 use Rattle.pmt_laws.proofs.OverwrittenLemmas.{overwritten_by_numbers}
 use Rattle.pmt_laws.proofs.ByteAssertions.{keeps, covered-passes, passes-covered, no_later-passes, passes-no_later}
 
@@ -112,4 +112,23 @@ narrow_line_says = record {
   fails = λ passes. let above : 1 ≤ 0 = passes-covered (history (flushed_further_on 64) 4) 0x1000 passes in omega arith;
   redundant = inl (0, 65, (redundant_flush_by_fronts (flushed_further_on 64) 0 65 2 (clwb 0 0x1040, refl, refl)).1 (lit≤ tt));
   kept = keeps (flushed_further_on 64) (1 ∷ 4 ∷ []) refl;
+}
+
+-- The first clflush has a store to wait for.
+first_clflush : IsFinding clflush_twice (RedundantFlush 2) → ⊥
+first_clflush (inl (t, l, redundant)) =
+    let e : Flushes t l ≡ Clflushes 64 = act-unique clflush_twice 2 (Flushes t l) (Clflushes 64) redundant.is_flush (clflush 0 0x1000, refl, refl) in cc
+first_clflush (inr (l, redundant)) =
+    let e : Clflushes l ≡ Clflushes 64 = act-unique clflush_twice 2 (Clflushes l) (Clflushes 64) redundant.is_clflush (clflush 0 0x1000, refl, refl) in
+    let line : l ≡ 64 = cc in
+    let P : ℕ → Type 0 = λ k. IsRedundantClflush clflush_twice k 2 in
+    let above : 1 ≤ 0 = (redundant_clflush_by_fronts clflush_twice 64 2 (clflush 0 0x1000, refl, refl)).0 (subst P line redundant) in
+    omega arith
+
+-- The second clflush comes when the store is safe.
+pub clflush_twice_says : ClflushTwice
+clflush_twice_says = record {
+  second_is_redundant = inr (64, (redundant_clflush_by_fronts clflush_twice 64 3 (clflush 0 0x1000, refl, refl)).1 (lit≤ tt));
+  first_is_not = first_clflush;
+  kept = keeps clflush_twice (1 ∷ 2 ∷ []) refl;
 }

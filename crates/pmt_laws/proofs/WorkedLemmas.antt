@@ -2,18 +2,22 @@
 use Rattle.std.proofs.Common.{◌≡◌, ℕ, zero, suc, ◌-◌, ◌<◌, ◌≤◌, ◌⊎◌, ◌↔◌, Bool, true, false, List, [], ◌∷◌, Option, Some, None, inl, inr, refl, sym, ◌∙◌, ap, subst, lit<, lit≤, arith}
 use Rattle.std.specs.Prelude.{nat_lt, nat_le, slice_get, ◌==◌, ◌&&◌, if◌then◌else◌}
 use Rattle.std.proofs.lemmas.Bool.{false≢true, cases_eq, eq-eqb, ne_eqb, le-leb, leb-true, lt-ltb, ltb-true, and_from, and_parts, cond-true, cond-false, false_from_ne_true}
+use Rattle.pmt_model.specs.declared.finding.Finding.TheVariants.{RedundantFlush, Overwritten}
+use Rattle.pmt_model.specs.Values.{Written}
 use Rattle.pmt_model.specs.Machine.{Act, Stores, Flushes, Clflushes, Fences, State, Ends, Image, writes, write, image_of, Crash, count}
 use Rattle.pmt_model.specs.Traces.{IsAct, history, CrashAt, VectorsAt}
 use Rattle.pmt_model.specs.Fronts.{front, front_at}
 use Rattle.pmt_model.specs.Boxes.{InBox}
 use Rattle.pmt_model.specs.Selections.{cut}
-use Rattle.pmt_model.specs.Findings.{ByFlush, ByClflush, IsFlushedAfter, IsFlushOf, IsEmptyFence}
-use Rattle.pmt_laws.specs.Worked.{nothing, byte_alone, IsSame, store, clwb, sfence, fence_of_another_thread, FenceOfAnotherThread, flushed_by_two_threads, FlushedByTwoThreads, two_rounds, TwoRounds, store_after_flush, StoreAfterFlush, ordered_by_fence, OrderedByFence, ordered_fence_too_late, OrderedFenceTooLate, same_byte_twice, SameByteTwice, clflush_beats_clwb, ClflushBeatsClwb}
+use Rattle.pmt_model.specs.Findings.{ByFlush, ByClflush, IsFlushedAfter, IsFlushOf, IsEmptyFence, IsCovered, IsRedundantFlush, IsRedundantClflush}
+use Rattle.pmt_model.specs.Analyses.{IsFinding}
+use Rattle.pmt_laws.specs.Worked.{nothing, byte_alone, IsSame, store, clwb, clflush, sfence, fence_of_another_thread, FenceOfAnotherThread, flushed_by_two_threads, FlushedByTwoThreads, two_rounds, TwoRounds, store_after_flush, StoreAfterFlush, ordered_by_fence, OrderedByFence, ordered_fence_too_late, OrderedFenceTooLate, same_byte_twice, SameByteTwice, clflush_beats_clwb, ClflushBeatsClwb}
 use Rattle.pmt_laws.proofs.Histories.{act-within, act-unique, front-le-count}
 use Rattle.pmt_laws.proofs.BoxLemmas.{box-ends, vectors_are_a_box}
 use Rattle.pmt_laws.proofs.FaithfulLemmas.{fronts_decide}
 use Rattle.pmt_laws.proofs.AssertLemmas.{front-le-persisted, least_end}
 use Rattle.pmt_laws.proofs.NeverLemmas.{never_persisted_by_fronts}
+use Rattle.pmt_laws.proofs.RedundantLemmas.{redundant_flush_by_fronts, redundant_clflush_by_fronts}
 use Rattle.pmt_laws.proofs.ByteAssertions.{keeps, covered-passes, passes-covered, no_later-passes, passes-no_later}
 use Rattle.pmt_laws.proofs.SelectionTest.{selection-is_selection}
 
@@ -105,12 +109,38 @@ fence_of_another_thread_says = record {
   kept = keeps fence_of_another_thread (1 ∷ 4 ∷ []) refl;
 }
 
+-- The only flush between the store and the flush of thread 1 is that of thread 0.
+not_covered_by_other : IsCovered flushed_by_two_threads 1 64 1 3 → ⊥
+not_covered_by_other covered =
+    let number : covered.flush ≡ 2 = omega (arith, covered.after, covered.before) in
+    let P : ℕ → Type 0 = λ k. IsAct flushed_by_two_threads k (Flushes 1 64) in
+    let e : Flushes 1 64 ≡ Flushes 0 64 = act-unique flushed_by_two_threads 2 (Flushes 1 64) (Flushes 0 64) (subst P number covered.is_flush) (clwb 0 0x1000, refl, refl) in
+    cc
+
+-- So the flush of thread 1 has a store to mark.
+not_redundant_to_other : IsFinding flushed_by_two_threads (RedundantFlush 3) → ⊥
+not_redundant_to_other (inl (t, l, redundant)) =
+    let e : Flushes t l ≡ Flushes 1 64 = act-unique flushed_by_two_threads 3 (Flushes t l) (Flushes 1 64) redundant.is_flush (clwb 1 0x1000, refl, refl) in
+    go t l (cc) (cc) redundant
+  where
+    go : (t l : ℕ) → 1 ≡ t → 64 ≡ l → IsRedundantFlush flushed_by_two_threads t l 3 → ⊥
+    go t l e d redundant =
+        let P : ℕ → Type 0 = λ u. IsRedundantFlush flushed_by_two_threads u l 3 in
+        let Q : ℕ → Type 0 = λ k. IsRedundantFlush flushed_by_two_threads 1 k 3 in
+        let exact : IsRedundantFlush flushed_by_two_threads 1 64 3 = subst Q (sym d) (subst P (sym e) redundant) in
+        let above : 1 ≤ 0 = (redundant_flush_by_fronts flushed_by_two_threads 1 64 3 (clwb 1 0x1000, refl, refl)).0 exact in
+        omega arith
+not_redundant_to_other (inr (l, redundant)) =
+    let e : Clflushes l ≡ Flushes 1 64 = act-unique flushed_by_two_threads 3 (Clflushes l) (Flushes 1 64) redundant.is_clflush (clwb 1 0x1000, refl, refl) in cc
+
 -- The fence of thread 1 persists the store, and thread 0 adds nothing.
 pub flushed_by_two_threads_says : FlushedByTwoThreads
 flushed_by_two_threads_says = record {
   flushed = (refl, refl);
   fenced = (refl, refl);
   fenced_again = (refl, refl);
+  not_covered = not_covered_by_other;
+  not_redundant = not_redundant_to_other;
   kept = keeps flushed_by_two_threads (1 ∷ 3 ∷ 4 ∷ []) refl;
 }
 
@@ -161,6 +191,15 @@ fence_alone l (j, after, flush) = by_kind flush
     by_kind (ByFlush t is) = let e : Fences 0 ≡ Flushes t l = at_fence (Flushes t l) is in cc
     by_kind (ByClflush is) = let e : Fences 0 ≡ Clflushes l = at_fence (Clflushes l) is in cc
 
+-- The line is flushed between its two stores.
+flushed_between : IsFinding store_after_flush (Overwritten 1 3) → ⊥
+flushed_between o =
+    let first : Written = record { addr = 0x1000; bytes = 1 ∷ [] } in
+    let e : Stores o.line o.earlier ≡ Stores 64 first = act-unique store_after_flush 1 (Stores o.line o.earlier) (Stores 64 first) o.is_earlier (store 0 0x1000 1, refl, refl) in
+    let line : o.line ≡ 64 = cc in
+    let P : ℕ → Type 0 = λ l. (k : ℕ) → 1 < k → k < 3 → IsFlushOf store_after_flush l k → ⊥ in
+    subst P line o.unflushed 2 (lit< tt) (lit< tt) (ByFlush 0 (clwb 0 0x1000, refl, refl))
+
 -- The store after the flush stays pending.
 pub store_after_flush_says : StoreAfterFlush
 store_after_flush_says = record {
@@ -171,6 +210,7 @@ store_after_flush_says = record {
     (never_persisted_by_fronts store_after_flush 64 3 (record { addr = 0x1000; bytes = 2 ∷ [] }) (store 0 0x1000 2, refl, refl)).1 (lit< tt),
     (λ none. absurd (false≢true none), λ flushed. absurd (fence_alone 64 flushed)),
   );
+  not_overwritten = flushed_between;
   kept = keeps store_after_flush (1 ∷ 2 ∷ 3 ∷ 4 ∷ []) refl;
 }
 
@@ -269,11 +309,23 @@ same_byte_twice_says = record {
   other_counts = λ faithful. second_store_lost faithful.vectors;
 }
 
+-- The store is not safe when the clflush comes.
+clflush_is_needed : IsFinding clflush_beats_clwb (RedundantFlush 3) → ⊥
+clflush_is_needed (inl (t, l, redundant)) =
+    let e : Flushes t l ≡ Clflushes 64 = act-unique clflush_beats_clwb 3 (Flushes t l) (Clflushes 64) redundant.is_flush (clflush 1 0x1000, refl, refl) in cc
+clflush_is_needed (inr (l, redundant)) =
+    let e : Clflushes l ≡ Clflushes 64 = act-unique clflush_beats_clwb 3 (Clflushes l) (Clflushes 64) redundant.is_clflush (clflush 1 0x1000, refl, refl) in
+    let line : l ≡ 64 = cc in
+    let P : ℕ → Type 0 = λ k. IsRedundantClflush clflush_beats_clwb k 3 in
+    let above : 1 ≤ 0 = (redundant_clflush_by_fronts clflush_beats_clwb 64 3 (clflush 1 0x1000, refl, refl)).0 (subst P line redundant) in
+    omega arith
+
 -- The clflush alone raises the front.
 pub clflush_beats_clwb_says : ClflushBeatsClwb
 clflush_beats_clwb_says = record {
   flushed = (refl, refl);
   flushed_now = (refl, refl);
   fenced = (refl, refl);
+  not_redundant = clflush_is_needed;
   kept = keeps clflush_beats_clwb (1 ∷ 3 ∷ []) refl;
 }

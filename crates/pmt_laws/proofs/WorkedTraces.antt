@@ -2,7 +2,7 @@
 use Rattle.std.proofs.Common.{ℕ, ◌<◌, ◌^◌, refl, lit<, lit≤, arith}
 use Rattle.pmt_model.specs.Values.{Layout}
 use Rattle.pmt_model.specs.Traces.{IsEventIn}
-use Rattle.pmt_laws.specs.Worked.{store, clwb, sfence, is_persist, is_ordered_before}
+use Rattle.pmt_laws.specs.Worked.{store, store_two, clwb, sfence, is_persist, is_ordered_before}
 use Rattle.pmt_laws.specs.WorkedFindings.{WorkedAreTraces}
 
 -- A store of one byte is an event of each format.
@@ -86,6 +86,18 @@ rising f = ordered-event f 0x1000 0x1008 (lit< tt) (lit< tt)
 falling : (f : Layout) → IsEventIn f (is_ordered_before 0x1008 0x1000)
 falling f = ordered-event f 0x1008 0x1000 (lit< tt) (lit< tt)
 
+pair : (f : Layout) → IsEventIn f (store_two 0 0x1000 1 2)
+pair f = record {
+  event = record {
+    thread = lit< tt;
+    op = record { address = lit< tt; some = lit≤ tt; inside = lit≤ tt; each = (lit< tt, (lit< tt, tt)) };
+  };
+  known = refl;
+}
+
+second_byte : (f : Layout) → IsEventIn f (store 0 0x1001 3)
+second_byte f = store-event f 0 0x1001 3 (lit< tt) (lit< tt) (lit< tt)
+
 flush_further_on : (f : Layout) → IsEventIn f (clwb 0 0x1040)
 flush_further_on f = clwb-event f 0 0x1040 (lit< tt) (lit< tt)
 
@@ -105,4 +117,14 @@ worked_are_traces = (
   record { format = refl; few = lit≤ tt; each = (one _, (same_line _, (rising _, (falling _, tt)))) },
   record { format = refl; few = lit≤ tt; each = (one _, (flush_further_on _, (fence _, (persist _, tt)))) },
   record { format = refl; few = lit≤ tt; each = (one _, (flush_further_on _, (fence _, (persist _, tt)))) },
+  record { format = refl; few = lit≤ tt; each = (pair _, (second_byte _, tt)) },
+  record {
+    format = refl;
+    few = lit≤ tt;
+    each = (
+      one _,
+      (record { event = record { thread = lit< tt; op = lit< tt }; known = refl }, (record { event = record { thread = lit< tt; op = lit< tt }; known = refl }, tt)),
+    );
+  },
+  record { format = refl; few = lit≤ tt; each = (one _, (two _, (flush _, (flush _, (other_fence _, (persist _, tt)))))) },
 )

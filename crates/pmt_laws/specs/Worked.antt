@@ -2,7 +2,7 @@
 use Rattle.std.specs.Prelude.{◌≡◌, ◌↔◌, ◌⊎◌, ℕ, ◌==◌, if◌then◌else◌, List, [], ◌∷◌, true, false, Some, None}
 use Rattle.pmt_model.specs.declared.event.Event.{Event}
 use Rattle.pmt_model.specs.declared.event.Op.TheVariants.{Store, Clwb, Clflush, Sfence, IsPersist, IsOrderedBefore}
-use Rattle.pmt_model.specs.declared.finding.Finding.TheVariants.{NeverPersisted, FenceWithoutFlush}
+use Rattle.pmt_model.specs.declared.finding.Finding.TheVariants.{Overwritten, NeverPersisted, RedundantFlush, FenceWithoutFlush}
 use Rattle.pmt_model.specs.Values.{Span}
 use Rattle.pmt_model.specs.Formats.{first_version}
 use Rattle.pmt_model.specs.Machine.{Image}
@@ -11,6 +11,7 @@ use Rattle.pmt_model.specs.Fronts.{front_at}
 use Rattle.pmt_model.specs.Selections.{IsSelection, IsFaithful, cut}
 use Rattle.pmt_model.specs.Keeping.{IsKeep}
 use Rattle.pmt_model.specs.Assertions.{last_store, PersistPasses, OrderedPasses}
+use Rattle.pmt_model.specs.Findings.{IsCovered}
 use Rattle.pmt_model.specs.Analyses.{IsFinding}
 
 -- Thread t stores a byte at the address.
@@ -62,9 +63,17 @@ pub record KeepsJust (T : Recording) (numbers : List ℕ) : Type 0 where
 abbrev pub nothing : Image
 nothing a = None
 
+-- Thread t stores two bytes from the address on.
+abbrev pub store_two : ℕ → ℕ → ℕ → ℕ → Event
+store_two t a first second = record { thread = t; op = Store (record { addr = a; bytes = first ∷ second ∷ [] }) }
+
 -- Memory in which the byte was written at the address, and nothing else.
 abbrev pub byte_alone : ℕ → ℕ → Image
 byte_alone a byte b = if b == a then Some byte else None
+
+-- Memory in which one byte was written at the first address and one at the second, and nothing else.
+abbrev pub two_bytes : ℕ → ℕ → ℕ → ℕ → Image
+two_bytes a first b second c = if c == a then Some first else (if c == b then Some second else None)
 
 abbrev pub IsSame : Image → Image → Type 0
 IsSame image other = (a : ℕ) → image a ≡ other a
@@ -88,8 +97,11 @@ pub record FenceOfAnotherThread : Type 0 where
 abbrev pub flushed_by_two_threads : Recording
 flushed_by_two_threads = trace_of (store 0 0x1000 1 ∷ clwb 0 0x1000 ∷ clwb 1 0x1000 ∷ sfence 1 ∷ sfence 0 ∷ [])
 
--- The first fence persists the store, so the flush and the fence of the other thread are not kept.
+-- The first fence persists the store, so the flush and the fence of the other thread are not kept. The second flush is not
+-- redundant when it comes, since a flush by another thread does not cover the store.
 pub record FlushedByTwoThreads : Type 0 where
+  pub not_covered : ¬ IsCovered flushed_by_two_threads 1 64 1 3
+  pub not_redundant : ¬ IsFinding flushed_by_two_threads (RedundantFlush 3)
   pub flushed : HasFront flushed_by_two_threads 64 3 0 1
   pub fenced : HasFront flushed_by_two_threads 64 4 1 1
   pub fenced_again : HasFront flushed_by_two_threads 64 5 1 1
@@ -114,8 +126,10 @@ pub record TwoRounds : Type 0 where
 abbrev pub store_after_flush : Recording
 store_after_flush = trace_of (store 0 0x1000 1 ∷ clwb 0 0x1000 ∷ store 0 0x1000 2 ∷ sfence 0 ∷ [])
 
--- The fence persists what was stored before the flush, and not the later store.
+-- The fence persists what was stored before the flush, and not the later store. The earlier one is not overwritten, since its
+-- line was flushed in between.
 pub record StoreAfterFlush : Type 0 where
+  pub not_overwritten : ¬ IsFinding store_after_flush (Overwritten 1 3)
   pub fenced : HasFront store_after_flush 64 4 1 2
   pub last : HasLastStore store_after_flush 4 0x1000 64 2
   pub pending : IsFinding store_after_flush (NeverPersisted 3 false)
@@ -169,9 +183,22 @@ clflush_beats_clwb = record {
   events = store 0 0x1000 1 ∷ clwb 0 0x1000 ∷ clflush 1 0x1000 ∷ sfence 0 ∷ [];
 }
 
--- The clflush persists the store by itself, so neither the flush nor the fence is kept.
+-- The clflush persists the store by itself, so neither the flush nor the fence is kept. It is not redundant, since the store
+-- is marked when it comes and not safe.
 pub record ClflushBeatsClwb : Type 0 where
+  pub not_redundant : ¬ IsFinding clflush_beats_clwb (RedundantFlush 3)
   pub flushed : HasFront clflush_beats_clwb 64 2 0 1
   pub flushed_now : HasFront clflush_beats_clwb 64 3 1 1
   pub fenced : HasFront clflush_beats_clwb 64 4 1 1
   pub kept : KeepsJust clflush_beats_clwb (1 ∷ 3 ∷ [])
+
+-- The second byte of a store is stored again.
+abbrev pub second_byte_again : Recording
+second_byte_again = trace_of (store_two 0 0x1000 1 2 ∷ store 0 0x1001 3 ∷ [])
+
+-- A crash leaves nothing, the first store whole, or both, with the newer byte where both have written, and no other image.
+pub record SecondByteAgain : Type 0 where
+  pub leaves :
+      (image : Image) →
+      CrashAt second_byte_again 2 image ↔ (IsSame nothing image ⊎ (IsSame (two_bytes 0x1000 1 0x1001 2) image ⊎ IsSame (two_bytes 0x1000 1 0x1001 3) image))
+  pub kept : KeepsJust second_byte_again (1 ∷ 2 ∷ [])

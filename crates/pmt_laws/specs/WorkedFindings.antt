@@ -1,10 +1,10 @@
 -- More small traces: what is found in them, the order within a line, and lines of other sizes.
-use Rattle.std.specs.Prelude.{ℕ, [], ◌∷◌}
-use Rattle.pmt_model.specs.declared.finding.Finding.TheVariants.{Overwritten, RedundantFlush}
+use Rattle.std.specs.Prelude.{ℕ, [], ◌∷◌, true, false}
+use Rattle.pmt_model.specs.declared.finding.Finding.TheVariants.{Overwritten, NeverPersisted, RedundantFlush, FenceWithoutFlush}
 use Rattle.pmt_model.specs.Traces.{Recording, IsTrace, history}
 use Rattle.pmt_model.specs.Assertions.{PersistPasses, OrderedPasses}
-use Rattle.pmt_model.specs.Analyses.{IsFinding}
-use Rattle.pmt_laws.specs.Worked.{store, clwb, sfence, byte_at, is_persist, is_ordered_before, trace_of, HasFront, KeepsJust, fence_of_another_thread, flushed_by_two_threads, two_rounds, store_after_flush, ordered_by_fence, ordered_fence_too_late, same_byte_twice, clflush_beats_clwb}
+use Rattle.pmt_model.specs.Analyses.{IsFinding, IsAnalysis}
+use Rattle.pmt_laws.specs.Worked.{store, clwb, clflush, sfence, byte_at, is_persist, is_ordered_before, trace_of, HasFront, KeepsJust, fence_of_another_thread, flushed_by_two_threads, two_rounds, store_after_flush, ordered_by_fence, ordered_fence_too_late, same_byte_twice, clflush_beats_clwb, second_byte_again}
 
 -- The same line is flushed twice before the fence.
 abbrev pub double_flush : Recording
@@ -58,9 +58,36 @@ pub record NarrowLine : Type 0 where
   pub redundant : IsFinding (flushed_further_on 64) (RedundantFlush 2)
   pub kept : KeepsJust (flushed_further_on 64) (1 ∷ 4 ∷ [])
 
+-- The same line is flushed by two clflushes, in version 2 with lines of 64 bytes.
+abbrev pub clflush_twice : Recording
+clflush_twice = record {
+  format = record { version = 2; line_size = 64 };
+  events = store 0 0x1000 1 ∷ clflush 0 0x1000 ∷ clflush 0 0x1000 ∷ [];
+}
+
+-- The first one makes the store safe, so the second one is redundant.
+pub record ClflushTwice : Type 0 where
+  pub second_is_redundant : IsFinding clflush_twice (RedundantFlush 3)
+  pub first_is_not : ¬ IsFinding clflush_twice (RedundantFlush 2)
+  pub kept : KeepsJust clflush_twice (1 ∷ 2 ∷ [])
+
+-- A trace with findings of each kind.
+abbrev pub every_finding : Recording
+every_finding =
+    trace_of (store 0 0x1000 1 ∷ store 0 0x1000 2 ∷ clwb 0 0x1000 ∷ clwb 0 0x1000 ∷ sfence 1 ∷ is_persist 0x1000 ∷ [])
+
+-- Its whole analysis: one line, five findings in report order, one verdict, and what is kept.
+abbrev pub EveryFinding : Type 0
+EveryFinding =
+    IsAnalysis every_finding 1
+    (NeverPersisted 1 true ∷ Overwritten 1 2 ∷ NeverPersisted 2 true ∷ RedundantFlush 4 ∷ FenceWithoutFlush 5 ∷ [])
+    (record { event = 6; ordered = false; pass = false } ∷ [])
+    (1 ∷ 2 ∷ 6 ∷ [])
+
 -- Each worked trace is within the limits of a trace.
 abbrev pub WorkedAreTraces : Type 0
 WorkedAreTraces =
     IsTrace fence_of_another_thread × IsTrace flushed_by_two_threads × IsTrace two_rounds × IsTrace store_after_flush × IsTrace ordered_by_fence
     × IsTrace ordered_fence_too_late × IsTrace same_byte_twice × IsTrace clflush_beats_clwb × IsTrace double_flush × IsTrace overwritten_before_flush
     × IsTrace order_within_a_line × IsTrace (flushed_further_on 128) × IsTrace (flushed_further_on 64)
+    × IsTrace second_byte_again × IsTrace clflush_twice × IsTrace every_finding

@@ -1,7 +1,7 @@
 //! Small traces, with what the definitions say of them.
 
-ghost use Rattle.pmt_laws.specs.WorkedFindings.{DoubleFlush, OverwrittenBeforeFlush, OrderWithinALine, WideLine, NarrowLine, WorkedAreTraces};
-ghost use Rattle.pmt_laws.specs.Worked.{FenceOfAnotherThread, FlushedByTwoThreads, TwoRounds, StoreAfterFlush, OrderedByFence, OrderedFenceTooLate, SameByteTwice, ClflushBeatsClwb};
+ghost use Rattle.pmt_laws.specs.WorkedFindings.{DoubleFlush, OverwrittenBeforeFlush, OrderWithinALine, WideLine, NarrowLine, ClflushTwice, EveryFinding, WorkedAreTraces};
+ghost use Rattle.pmt_laws.specs.Worked.{FenceOfAnotherThread, FlushedByTwoThreads, TwoRounds, StoreAfterFlush, OrderedByFence, OrderedFenceTooLate, SameByteTwice, ClflushBeatsClwb, SecondByteAgain};
 
 /// A fence completes the flushes of its own thread alone, so the store stays pending and the fence of the other thread goes.
 pub fn fence_of_another_thread()
@@ -66,6 +66,21 @@ pub fn wide_line()
 /// With lines of 64 bytes, a flush 64 bytes further on is of another line.
 pub fn narrow_line()
     ensures { NarrowLine }
+{}
+
+/// Of two stores that overlap a crash may leave neither, the first one, or both, with the newer byte over the older one.
+pub fn second_byte_again()
+    ensures { SecondByteAgain }
+{}
+
+/// Of two clflushes the second is redundant, since the first has made the store safe.
+pub fn clflush_twice()
+    ensures { ClflushTwice }
+{}
+
+/// The whole analysis of a trace with findings of each kind.
+pub fn every_finding()
+    ensures { EveryFinding }
 {}
 
 /// Each of the worked traces is within the limits of a trace.

@@ -1,0 +1,270 @@
+-- The whole analysis of a small trace.
+use Rattle.std.proofs.Common.{◌≡◌, ℕ, zero, suc, ◌<◌, ◌≤◌, ◌⊎◌, Bool, true, false, List, [], ◌∷◌, Some, inl, inr, refl, sym, ◌∙◌, ap, subst, lit<, lit≤, arith}
+use Rattle.std.proofs.lemmas.Bool.{false≢true}
+use Rattle.std.proofs.lemmas.Option.{same_Some}
+use Rattle.pmt_model.specs.declared.event.Event.{Event}
+use Rattle.pmt_model.specs.declared.finding.Finding.{Finding}
+use Rattle.pmt_model.specs.declared.finding.Finding.TheVariants.{Overwritten, NeverPersisted, RedundantFlush, FenceWithoutFlush}
+use Rattle.pmt_model.specs.declared.finding.Verdict.{Verdict}
+use Rattle.pmt_model.specs.Values.{Written, Span}
+use Rattle.pmt_model.specs.Machine.{Act, Stores, Flushes, Clflushes, Fences, Asserts}
+use Rattle.pmt_model.specs.Traces.{IsAct, event, history}
+use Rattle.pmt_model.specs.Findings.{ByFlush, IsFlushedAfter, IsRedundantFlush}
+use Rattle.pmt_model.specs.Assertions.{PersistPasses}
+use Rattle.pmt_model.specs.Analyses.{IsFinding, HasFinding, IsFindings, IsVerdictOf, OfPersist, OfOrdered, HasVerdict, IsVerdicts}
+use Rattle.pmt_laws.specs.Worked.{store, clwb, sfence, byte_at, is_persist}
+use Rattle.pmt_laws.specs.WorkedFindings.{every_finding, EveryFinding}
+use Rattle.pmt_laws.proofs.Histories.{act-within, act-unique}
+use Rattle.pmt_laws.proofs.NeverLemmas.{never_persisted_by_fronts}
+use Rattle.pmt_laws.proofs.RedundantLemmas.{redundant_flush_by_fronts}
+use Rattle.pmt_laws.proofs.OverwrittenLemmas.{overwritten_by_numbers}
+use Rattle.pmt_laws.proofs.ByteAssertions.{keeps, passes-covered}
+
+abbrev first : Written
+first = record { addr = 0x1000; bytes = 1 ∷ [] }
+
+abbrev second : Written
+second = record { addr = 0x1000; bytes = 2 ∷ [] }
+
+-- ---- The acts of the trace by their numbers
+
+abbrev ActIs : ℕ → Act → Type 0
+ActIs i a = IsAct every_finding i a
+
+is1 : ActIs 1 (Stores 64 first)
+is1 = (store 0 0x1000 1, refl, refl)
+
+is2 : ActIs 2 (Stores 64 second)
+is2 = (store 0 0x1000 2, refl, refl)
+
+is3 : ActIs 3 (Flushes 0 64)
+is3 = (clwb 0 0x1000, refl, refl)
+
+is4 : ActIs 4 (Flushes 0 64)
+is4 = (clwb 0 0x1000, refl, refl)
+
+is5 : ActIs 5 (Fences 1)
+is5 = (sfence 1, refl, refl)
+
+is6 : ActIs 6 Asserts
+is6 = (is_persist 0x1000, refl, refl)
+
+-- What each of the numbers 1 to 6 has, each event has.
+each_number : (P : ℕ → Type 0) → P 1 → P 2 → P 3 → P 4 → P 5 → P 6 → (i : ℕ) (a : Act) → ActIs i a → P i
+each_number P p1 p2 p3 p4 p5 p6 i a is = go i (act-within every_finding i a is).0 (act-within every_finding i a is).1
+  where
+    go : (i : ℕ) → 1 ≤ i → i ≤ 6 → P i
+    go zero low high = absurd (omega arith)
+    go (suc zero) low high = p1
+    go (suc (suc zero)) low high = p2
+    go (suc (suc (suc zero))) low high = p3
+    go (suc (suc (suc (suc zero)))) low high = p4
+    go (suc (suc (suc (suc (suc zero))))) low high = p5
+    go (suc (suc (suc (suc (suc (suc zero)))))) low high = p6
+    go (suc (suc (suc (suc (suc (suc (suc i))))))) low high = absurd (omega arith)
+
+-- Its stores.
+stores : (i l : ℕ) (w : Written) → ActIs i (Stores l w) → ((i ≡ 1) ⊎ (i ≡ 2)) × (l ≡ 64)
+stores i l w is =
+    each_number (λ k. ActIs k (Stores l w) → ((k ≡ 1) ⊎ (k ≡ 2)) × (l ≡ 64))
+    (λ at. let e : Stores l w ≡ Stores 64 first = act-unique every_finding 1 (Stores l w) (Stores 64 first) at is1 in (inl refl, (cc)))
+    (λ at. let e : Stores l w ≡ Stores 64 second = act-unique every_finding 2 (Stores l w) (Stores 64 second) at is2 in (inr refl, (cc)))
+    (λ at. let e : Stores l w ≡ Flushes 0 64 = act-unique every_finding 3 (Stores l w) (Flushes 0 64) at is3 in cc)
+    (λ at. let e : Stores l w ≡ Flushes 0 64 = act-unique every_finding 4 (Stores l w) (Flushes 0 64) at is4 in cc)
+    (λ at. let e : Stores l w ≡ Fences 1 = act-unique every_finding 5 (Stores l w) (Fences 1) at is5 in cc)
+    (λ at. let e : Stores l w ≡ Asserts = act-unique every_finding 6 (Stores l w) Asserts at is6 in cc) i (Stores l w) is is
+
+-- Its flushes.
+flushes : (i t l : ℕ) → ActIs i (Flushes t l) → ((i ≡ 3) ⊎ (i ≡ 4)) × (t ≡ 0) × (l ≡ 64)
+flushes i t l is =
+    each_number (λ k. ActIs k (Flushes t l) → ((k ≡ 3) ⊎ (k ≡ 4)) × (t ≡ 0) × (l ≡ 64))
+    (λ at. let e : Flushes t l ≡ Stores 64 first = act-unique every_finding 1 (Flushes t l) (Stores 64 first) at is1 in cc)
+    (λ at. let e : Flushes t l ≡ Stores 64 second = act-unique every_finding 2 (Flushes t l) (Stores 64 second) at is2 in cc)
+    (λ at. let e : Flushes t l ≡ Flushes 0 64 = act-unique every_finding 3 (Flushes t l) (Flushes 0 64) at is3 in (inl refl, (cc), (cc)))
+    (λ at. let e : Flushes t l ≡ Flushes 0 64 = act-unique every_finding 4 (Flushes t l) (Flushes 0 64) at is4 in (inr refl, (cc), (cc)))
+    (λ at. let e : Flushes t l ≡ Fences 1 = act-unique every_finding 5 (Flushes t l) (Fences 1) at is5 in cc)
+    (λ at. let e : Flushes t l ≡ Asserts = act-unique every_finding 6 (Flushes t l) Asserts at is6 in cc) i (Flushes t l) is is
+
+-- It has no clflush.
+no_clflush : (i l : ℕ) → ActIs i (Clflushes l) → ⊥
+no_clflush i l is =
+    each_number (λ k. ActIs k (Clflushes l) → ⊥)
+    (λ at. let e : Clflushes l ≡ Stores 64 first = act-unique every_finding 1 (Clflushes l) (Stores 64 first) at is1 in cc)
+    (λ at. let e : Clflushes l ≡ Stores 64 second = act-unique every_finding 2 (Clflushes l) (Stores 64 second) at is2 in cc)
+    (λ at. let e : Clflushes l ≡ Flushes 0 64 = act-unique every_finding 3 (Clflushes l) (Flushes 0 64) at is3 in cc)
+    (λ at. let e : Clflushes l ≡ Flushes 0 64 = act-unique every_finding 4 (Clflushes l) (Flushes 0 64) at is4 in cc)
+    (λ at. let e : Clflushes l ≡ Fences 1 = act-unique every_finding 5 (Clflushes l) (Fences 1) at is5 in cc)
+    (λ at. let e : Clflushes l ≡ Asserts = act-unique every_finding 6 (Clflushes l) Asserts at is6 in cc) i (Clflushes l) is is
+
+-- Its fence.
+fence : (i t : ℕ) → ActIs i (Fences t) → i ≡ 5
+fence i t is =
+    each_number (λ k. ActIs k (Fences t) → k ≡ 5)
+    (λ at. let e : Fences t ≡ Stores 64 first = act-unique every_finding 1 (Fences t) (Stores 64 first) at is1 in cc)
+    (λ at. let e : Fences t ≡ Stores 64 second = act-unique every_finding 2 (Fences t) (Stores 64 second) at is2 in cc)
+    (λ at. let e : Fences t ≡ Flushes 0 64 = act-unique every_finding 3 (Fences t) (Flushes 0 64) at is3 in cc)
+    (λ at. let e : Fences t ≡ Flushes 0 64 = act-unique every_finding 4 (Fences t) (Flushes 0 64) at is4 in cc)
+    (λ at. refl)
+    (λ at. let e : Fences t ≡ Asserts = act-unique every_finding 6 (Fences t) Asserts at is6 in cc) i (Fences t) is is
+
+-- Its assertion.
+assertion : (i : ℕ) → ActIs i Asserts → i ≡ 6
+assertion i is =
+    each_number (λ k. ActIs k Asserts → k ≡ 6)
+    (λ at. let e : Asserts ≡ Stores 64 first = act-unique every_finding 1 Asserts (Stores 64 first) at is1 in cc)
+    (λ at. let e : Asserts ≡ Stores 64 second = act-unique every_finding 2 Asserts (Stores 64 second) at is2 in cc)
+    (λ at. let e : Asserts ≡ Flushes 0 64 = act-unique every_finding 3 Asserts (Flushes 0 64) at is3 in cc)
+    (λ at. let e : Asserts ≡ Flushes 0 64 = act-unique every_finding 4 Asserts (Flushes 0 64) at is4 in cc)
+    (λ at. let e : Asserts ≡ Fences 1 = act-unique every_finding 5 Asserts (Fences 1) at is5 in cc)
+    (λ at. refl) i Asserts is is
+
+-- ---- The findings
+
+abbrev listed : List Finding
+listed = NeverPersisted 1 true ∷ Overwritten 1 2 ∷ NeverPersisted 2 true ∷ RedundantFlush 4 ∷ FenceWithoutFlush 5 ∷ []
+
+-- A flush comes after both stores.
+flushed_after : (i : ℕ) → i < 3 → IsFlushedAfter every_finding 64 i
+flushed_after i before = (3, before, ByFlush 0 is3)
+
+first_lost : IsFinding every_finding (NeverPersisted 1 true)
+first_lost = (64, (never_persisted_by_fronts every_finding 64 1 first is1).1 (lit< tt), (λ _. flushed_after 1 (lit< tt), λ _. refl))
+
+second_lost : IsFinding every_finding (NeverPersisted 2 true)
+second_lost = (64, (never_persisted_by_fronts every_finding 64 2 second is2).1 (lit< tt), (λ _. flushed_after 2 (lit< tt), λ _. refl))
+
+first_overwritten : IsFinding every_finding (Overwritten 1 2)
+first_overwritten =
+    (overwritten_by_numbers every_finding 1 2).1
+    (64, first, second, 0x1000, record { is_earlier = is1; is_later = is2; writes_later = refl; last = refl; unflushed = lit< tt })
+
+second_flush : IsFinding every_finding (RedundantFlush 4)
+second_flush = inl (0, 64, (redundant_flush_by_fronts every_finding 0 64 4 is4).1 (lit≤ tt))
+
+-- Thread 1 flushes nothing.
+empty_fence : IsFinding every_finding (FenceWithoutFlush 5)
+empty_fence = record {
+  thread = 1;
+  is_fence = is5;
+  nothing = λ j l before is. absurd (let zero_is : ◌≡◌ {A = ℕ} 1 0 = (flushes j 1 l is).1 in omega arith);
+}
+
+-- The first flush has stores to mark.
+first_flush : IsRedundantFlush every_finding 0 64 3 → ⊥
+first_flush redundant = let above : 2 ≤ 0 = (redundant_flush_by_fronts every_finding 0 64 3 is3).0 redundant in omega arith
+
+listed_is : (f : Finding) → HasFinding listed f → IsFinding every_finding f
+listed_is f (inl e) = subst (IsFinding every_finding) e first_lost
+listed_is f (inr (inl e)) = subst (IsFinding every_finding) e first_overwritten
+listed_is f (inr (inr (inl e))) = subst (IsFinding every_finding) e second_lost
+listed_is f (inr (inr (inr (inl e)))) = subst (IsFinding every_finding) e second_flush
+listed_is f (inr (inr (inr (inr (inl e))))) = subst (IsFinding every_finding) e empty_fence
+listed_is f (inr (inr (inr (inr (inr none))))) = absurd none
+
+is_listed : (f : Finding) → IsFinding every_finding f → HasFinding listed f
+is_listed (Overwritten j i) o = go j i ((stores j o.line o.earlier o.is_earlier).0) ((stores i o.line o.later o.is_later).0) o.order
+  where
+    go : (j i : ℕ) → (j ≡ 1) ⊎ (j ≡ 2) → (i ≡ 1) ⊎ (i ≡ 2) → j < i → HasFinding listed (Overwritten j i)
+    go j i (inl d) (inl e) order = absurd (omega arith)
+    go j i (inl d) (inr e) order = inr (inl (cc))
+    go j i (inr d) (inl e) order = absurd (omega arith)
+    go j i (inr d) (inr e) order = absurd (omega arith)
+is_listed (NeverPersisted i flushed) (l, never, told) = go i flushed at.0 (told.1 after)
+  where
+    at : ((i ≡ 1) ⊎ (i ≡ 2)) × (l ≡ 64)
+    at = stores i l never.what never.is_store
+
+    early : (i ≡ 1) ⊎ (i ≡ 2) → i < 3
+    early (inl e) = omega arith
+    early (inr e) = omega arith
+
+    after : IsFlushedAfter every_finding l i
+    after = let P : ℕ → Type 0 = λ k. IsFlushedAfter every_finding k i in subst P (sym at.1) (flushed_after i (early at.0))
+
+    go : (i : ℕ) (flushed : Bool) → (i ≡ 1) ⊎ (i ≡ 2) → flushed ≡ true → HasFinding listed (NeverPersisted i flushed)
+    go i flushed (inl e) yes_is = inl (cc)
+    go i flushed (inr e) yes_is = inr (inr (inl (cc)))
+is_listed (RedundantFlush i) (inl (t, l, redundant)) = go (flushes i t l redundant.is_flush).0 redundant
+  where
+    at : ((i ≡ 3) ⊎ (i ≡ 4)) × (t ≡ 0) × (l ≡ 64)
+    at = flushes i t l redundant.is_flush
+
+    go : (i ≡ 3) ⊎ (i ≡ 4) → IsRedundantFlush every_finding t l i → HasFinding listed (RedundantFlush i)
+    go (inl e) r =
+        let P : ℕ → Type 0 = λ k. IsRedundantFlush every_finding t l k in
+        let Q : ℕ → Type 0 = λ k. IsRedundantFlush every_finding t k 3 in
+        let R : ℕ → Type 0 = λ u. IsRedundantFlush every_finding u 64 3 in
+        absurd (first_flush (subst R at.1 (subst Q at.2 (subst P e r))))
+    go (inr e) r = inr (inr (inr (inl (cc))))
+is_listed (RedundantFlush i) (inr (l, redundant)) = absurd (no_clflush i l redundant.is_clflush)
+is_listed (FenceWithoutFlush i) empty =
+    let e : i ≡ 5 = fence i empty.thread empty.is_fence in inr (inr (inr (inr (inl (ap (λ (k : ℕ). FenceWithoutFlush k) (sym e))))))
+
+findings_are : IsFindings every_finding listed
+findings_are = record {
+  ordered = (inl (lit< tt), (inr (refl, tt), (inl (lit< tt), (inl (lit< tt), tt))));
+  just = λ f. (listed_is f, is_listed f);
+}
+
+-- ---- The verdict
+
+abbrev failed : Verdict
+failed = record { event = 6; ordered = false; pass = false }
+
+fails : PersistPasses (history every_finding 6) (byte_at 0x1000) → ⊥
+fails passes = let above : 2 ≤ 0 = passes-covered (history every_finding 6) 0x1000 passes in omega arith
+
+failed_is : IsVerdictOf every_finding failed
+failed_is = OfPersist (is_persist 0x1000) refl (byte_at 0x1000) refl refl (λ e. absurd (false≢true e), λ passes. absurd (fails passes))
+
+same_verdict : (v : Verdict) → v.event ≡ 6 → v.ordered ≡ false → v.pass ≡ false → failed ≡ v
+same_verdict v e ordered pass =
+    let verdict : ℕ → Bool → Bool → Verdict = λ n o p. record { event = n; ordered = o; pass = p } in
+    ap (λ (n : ℕ). verdict n false false) (sym e) ∙ ap (λ (o : Bool). verdict v.event o false) (sym ordered) ∙ ap (λ (p : Bool). verdict v.event v.ordered p) (sym pass)
+
+not_true : (b : Bool) → (b ≡ true → ⊥) → b ≡ false
+not_true true no_true = absurd (no_true refl)
+not_true false no_true = refl
+
+-- The event of an assertion.
+only_assertion : (i : ℕ) (e : Event) → event every_finding i ≡ Some e → i ≡ 6 → e ≡ is_persist 0x1000
+only_assertion i e at six =
+    let P : ℕ → Type 0 = λ k. event every_finding k ≡ Some e in same_Some e (is_persist 0x1000) (sym (subst P six at))
+
+is_failed : (v : Verdict) → IsVerdictOf every_finding v → HasVerdict (failed ∷ []) v
+is_failed v (OfPersist e at r op ordered pass) = inl (same_verdict v six ordered (not_true v.pass (λ passes. fails (on_byte (pass.0 passes)))))
+  where
+    act_is : ActIs v.event Asserts
+    act_is = (e, at, (rw op refl))
+
+    six : v.event ≡ 6
+    six = assertion v.event act_is
+
+    range : r ≡ byte_at 0x1000
+    range = let same : e ≡ is_persist 0x1000 = only_assertion v.event e at six in cc
+
+    on_byte : PersistPasses (history every_finding v.event) r → PersistPasses (history every_finding 6) (byte_at 0x1000)
+    on_byte passes =
+        let P : ℕ → Type 0 = λ k. PersistPasses (history every_finding k) r in
+        let Q : Span → Type 0 = λ q. PersistPasses (history every_finding 6) q in
+        subst Q range (subst P six passes)
+is_failed v (OfOrdered e at r q op ordered pass) =
+    let act_is : ActIs v.event Asserts = (e, at, (rw op refl)) in
+    let same : e ≡ is_persist 0x1000 = only_assertion v.event e at (assertion v.event act_is) in
+    absurd (cc)
+
+verdicts_are : IsVerdicts every_finding (failed ∷ [])
+verdicts_are = record { ordered = (lit< tt, tt); just = λ v. (by_list v, is_failed v) }
+  where
+    by_list : (v : Verdict) → HasVerdict (failed ∷ []) v → IsVerdictOf every_finding v
+    by_list v (inl e) = subst (IsVerdictOf every_finding) e failed_is
+    by_list v (inr none) = absurd none
+
+-- One line, the findings, the verdict, and what is kept.
+pub every_finding_says : EveryFinding
+every_finding_says = record {
+  touched = refl;
+  found = findings_are;
+  judged = verdicts_are;
+  kept = (keeps every_finding (1 ∷ 2 ∷ 6 ∷ []) refl).keep;
+}
