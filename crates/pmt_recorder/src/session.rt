@@ -1,8 +1,8 @@
 ghost use Rattle.std.specs.Prelude.{◌≡◌, ℕ, ◌+◌, ◌<◌, ◌≤◌, ◌↔◌, ◌⊎◌, IfOk, OnOk, IfErr, Err};
 ghost use Rattle.pmt_model.specs.Formats.{first_version};
 ghost use Rattle.pmt_recorder.specs.Sealing.{IsSealed, SealFails};
-ghost use Rattle.pmt_recorder.specs.Shelving.{Records};
-ghost use Rattle.pmt_recorder.specs.Strips.{empty_tapes, IsPart};
+ghost use Rattle.pmt_recorder.specs.Shelving.{Records, IsSnapshot};
+ghost use Rattle.pmt_recorder.specs.Strips.{empty_tapes};
 
 use crate::fault::{AppendError, SealKind, SnapshotError, StartError};
 use crate::parts::{Rest, Whole};
@@ -114,8 +114,8 @@ impl<L: Roll> Session<L> {
         Ok((session, tapes))
     }
 
-    /// Appends the op, as an event of the tape's thread, to the book and to the tape, and answers the event's number. It takes the
-    /// session's lock and makes the one call `Shelf::append`.
+    /// Appends the op, as an event of the tape's thread, to the book and to the tape, and answers the event's number, 1 to
+    /// 1,000,000. It takes the session's lock and makes the one call `Shelf::append`.
     ///
     /// # Errors
     /// Those of `Shelf::append`. Book and tape are unchanged then.
@@ -125,13 +125,13 @@ impl<L: Roll> Session<L> {
         self.shelf.lock(rt).append(tape, op)
     }
 
-    /// A copy of the book, in which the tape is its thread's part. It takes the session's lock and makes the one call
-    /// `Shelf::snapshot`. The session goes on, whatever is answered.
+    /// A copy of the book, in the session's format, in which the tape is its thread's part. It takes the session's lock and makes the
+    /// one call `Shelf::snapshot`. The session goes on, whatever is answered.
     ///
     /// # Errors
     /// `Torn` where the tape is not its part of the book, `OutOfMemory`.
     pub fn snapshot<R: Wait>(&self, rt: &R, tape: &Tape<L>) -> Result<Snapshot, SnapshotError>
-        ensures { IfOk result (λ book. IsPart tape.now book.events) }
+        ensures { IfOk result (IsSnapshot L.tapes L.format tape.now) }
     {
         self.shelf.lock(rt).snapshot(tape)
     }

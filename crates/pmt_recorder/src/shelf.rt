@@ -1,7 +1,7 @@
-ghost use Rattle.std.specs.Prelude.{◌≡◌, ℕ, ◌<◌, [], length};
+ghost use Rattle.std.specs.Prelude.{◌≡◌, ℕ, ◌<◌, [], length, IfOk};
 ghost use Rattle.std.specs.List.{AllByRecursion};
 ghost use Rattle.pmt_model.specs.declared.event.Event.{Event};
-ghost use Rattle.pmt_recorder.specs.Shelving.{Appends, Shows};
+ghost use Rattle.pmt_recorder.specs.Shelving.{Appends, Shows, IsSnapshot};
 ghost use Rattle.pmt_recorder.specs.Strips.{total_length};
 
 use crate::fault::{AppendError, SnapshotError};
@@ -70,7 +70,8 @@ impl<L: Roll> Shelf<L> {
         book
     }
 
-    /// Adds the op, as an event of the tape's thread, at the end of the book and of the tape, and answers the event's number.
+    /// Adds the op, as an event of the tape's thread, at the end of the book and of the tape, and answers the event's number, 1
+    /// to 1,000,000.
     ///
     /// # Errors
     /// `NotInFormat` where the op is a clflush or an mfence and the session is of version 1, then `Full` where the book has
@@ -91,18 +92,21 @@ impl<L: Roll> Shelf<L> {
             return Err(AppendError::OutOfMemory);
         }
         let number = self.book.push_event(event)?;
+        self.count.audit(&mut tape.share);
         self.count.add(&mut tape.share, 1);
         tape.entries.push_reserved((number, entry));
         Ok(number)
     }
 
-    /// A copy of the book, in which the tape is its thread's part.
+    /// A copy of the book, in the session's format, in which the tape is its thread's part.
     ///
     /// # Errors
     /// `Torn` where the tape is not its part of the book, `OutOfMemory`.
     pub fn snapshot(&self, tape: &Tape<L>) -> Result<Snapshot, SnapshotError>
-        ensures { Shows self.now tape.now result }
+        ensures shows { Shows self.now tape.now result }
+        ensures known { IfOk result (IsSnapshot L.tapes L.format tape.now) }
     {
+        let _ = &self.count;
         if !tape.is_part(self.book.events()) {
             return Err(SnapshotError::Torn);
         }

@@ -135,6 +135,8 @@ fn record_one<L: Roll, R: Wait + Abort>(
         (snapshot.book().front(32), snapshot.book().count(32)),
         (1, 1)
     );
+    let shown = snapshot.book().format();
+    assert_eq!(rt; (shown.version(), shown.line_size()), (2, 128));
     assert_eq!(rt; tape.get(1), Some((2, Op::clflush(0x1040)?)));
     if tapes.push(tape).is_err() {
         return Err("no memory".into());
