@@ -1,5 +1,7 @@
 -- How bytes are cut into stores of one word each.
-use Rattle.std.specs.Prelude.{◌≡◌, ℕ, ◌+◌, ◌-◌, ◌%◌, ◌^◌, ◌<◌, ◌≤◌, ◌⊎◌, min, List, [], ◌∷◌, length, take, drop}
+use Rattle.std.specs.Prelude.{◌≡◌, ℕ, ◌+◌, ◌-◌, ◌%◌, ◌^◌, ◌<◌, ◌≤◌, ◌⊎◌, min, List, [], ◌∷◌, length, map, take, drop}
+use Rattle.std.specs.List.{AllByRecursion, flat_map}
+use Rattle.pmt_model.specs.Values.{Written}
 use Rattle.pmt_model.specs.declared.event.Op.{Op}
 use Rattle.pmt_model.specs.declared.event.Op.TheVariants.{Store}
 use Rattle.pmt_model.specs.declared.fault.SplitStoreError.{SplitStoreError}
@@ -11,6 +13,27 @@ AreWordPieces addr bytes [] = bytes ≡ []
 AreWordPieces addr bytes (op ∷ ops) =
     let room = 8 - addr % 8 in (1 ≤ length bytes) × (op ≡ Store (record { addr = addr; bytes = take room bytes }))
     × AreWordPieces (addr + min room (length bytes)) (drop room bytes) ops
+
+-- Each piece begins where the one before it ends, the first one at addr.
+abbrev pub AreAdjoining : ℕ → List Written → Type 0
+AreAdjoining addr [] = Unit {0}
+AreAdjoining addr (w ∷ ws) = (w.addr ≡ addr) × AreAdjoining (addr + length w.bytes) ws
+
+-- The piece has bytes, and lies inside one aligned word of 8.
+pub record IsInWord (w : Written) : Type 0 where
+  pub some : 1 ≤ length w.bytes
+  pub inside : w.addr % 8 + length w.bytes ≤ 8
+
+-- What it is to cut the bytes at addr into stores: laid side by side from addr on the pieces are the bytes, each lies in one word,
+-- and there are 1 to 513.
+pub record IsCutInWords (addr : ℕ) (bytes : List ℕ) (ops : List Op) : Type 0 where
+  pub pieces : List Written
+  pub stores : ops ≡ map (λ w. Store w) pieces
+  pub whole : flat_map (λ w. w.bytes) pieces ≡ bytes
+  pub adjoining : AreAdjoining addr pieces
+  pub in_words : AllByRecursion IsInWord pieces
+  pub some : 1 ≤ length pieces
+  pub few : length pieces ≤ 513
 
 pub record IsSplittable (addr : ℕ) (bytes : List ℕ) : Type 0 where
   pub some : 1 ≤ length bytes

@@ -1,5 +1,5 @@
-ghost use Rattle.std.specs.Prelude.{◌≡◌, MatchResult};
-ghost use Rattle.pmt_model.specs.Splitting.{AreWordPieces, SplitRefuses, IsSplittable};
+ghost use Rattle.std.specs.Prelude.{◌≡◌, MatchResult, IfOk};
+ghost use Rattle.pmt_model.specs.Splitting.{AreWordPieces, IsCutInWords, SplitRefuses, IsSplittable};
 
 use crate::event::Op;
 use crate::fault::SplitStoreError;
@@ -11,7 +11,8 @@ use std::alloc::Global;
 /// `BadLength` where there are no bytes or more than 4096, then `OutOfRange` where `addr` and the length pass 48 bits, then
 /// `OutOfMemory`.
 pub fn split_store(alloc: Global, addr: u64, bytes: &[u8]) -> Result<Vec<Op>, SplitStoreError>
-    ensures { MatchResult result (λ ops. IsSplittable addr bytes.now × AreWordPieces addr bytes.now ops.items) (SplitRefuses addr bytes.now) }
+    ensures pieces { MatchResult result (λ ops. IsSplittable addr bytes.now × AreWordPieces addr bytes.now ops.items) (SplitRefuses addr bytes.now) }
+    ensures whole { IfOk result (λ ops. IsCutInWords addr bytes.now ops.items) }
 {
     if bytes.is_empty() || bytes.len() > 4096 {
         return Err(SplitStoreError::BadLength);
@@ -24,7 +25,8 @@ pub fn split_store(alloc: Global, addr: u64, bytes: &[u8]) -> Result<Vec<Op>, Sp
 
 fn pieces(alloc: Global, addr: u64, bytes: &[u8]) -> Result<Vec<Op>, SplitStoreError>
     requires { IsSplittable addr bytes.now }
-    ensures { MatchResult result (λ ops. AreWordPieces addr bytes.now ops.items) (λ e. e ≡ SplitStoreError.OutOfMemory) }
+    ensures pieces { MatchResult result (λ ops. AreWordPieces addr bytes.now ops.items) (λ e. e ≡ SplitStoreError.OutOfMemory) }
+    ensures whole { IfOk result (λ ops. IsCutInWords addr bytes.now ops.items) }
 {
     let mut ops = Vec::new(alloc);
     let mut addr = addr;
