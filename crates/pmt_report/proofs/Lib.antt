@@ -1,6 +1,7 @@
 pub mod Decimals
 pub mod Pushing
 pub mod EntryLemmas
+pub mod ListingLemmas
 pub mod TakingLemmas
 pub mod CountLemmas
 pub mod BoundLemmas

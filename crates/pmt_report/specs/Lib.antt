@@ -1,5 +1,6 @@
 pub mod Faults
 pub mod Entries
+pub mod Listing
 pub mod Reports
 pub mod Taking
 pub mod Checks

@@ -7,6 +7,7 @@ mod analysed;
 pub mod check;
 pub mod fault;
 mod fronts;
+pub mod listing;
 mod output;
 mod report;
 pub mod run;
