@@ -1,17 +1,16 @@
 ghost use Rattle.std.specs.Prelude.{◌≤◌};
 
-use crate::halves::run_in_halves;
-use crate::{LineAnswer, ShardGate, run_shard};
-use pmt_lines::{Jobs, LineJob, split};
-use pmt_model::{Event, Op, OutOfMemory, Trace};
+use crate::{LineAnswer, ShardGate, analyse_with, run_shard};
+use pmt_lines::{Jobs, LineJob, StepKind, split};
+use pmt_model::{Event, Finding, Op, OutOfMemory, Trace};
 use pmt_text::ListSource;
 use std::alloc::Global;
 use std::sync::atomic::{AtomicU64, Ordering};
 use std::test::Fail;
 use std::thread;
 
-// The jobs of so many stores to a line each, a flush of each, and two fences.
-fn jobs_of(alloc: Global, lines: u64) -> Result<Vec<LineJob>, Fail>
+// The trace of so many stores to a line each, a flush of each, and two fences.
+fn trace_of(alloc: Global, lines: u64) -> Result<Trace, Fail>
     requires { lines ≤ 40 }
 {
     let mut trace = Trace::new(alloc);
@@ -29,14 +28,36 @@ fn jobs_of(alloc: Global, lines: u64) -> Result<Vec<LineJob>, Fail>
             op: Op::Sfence,
         })?;
     }
-    let Jobs { lines, .. } = split(alloc, &mut ListSource::new(&trace))?;
-    Ok(lines)
+    Ok(trace)
+}
+
+// The trace of forty lines, taken apart.
+fn forty_lines(alloc: Global) -> Result<Jobs, Fail> {
+    let trace = trace_of(alloc, 40)?;
+    Ok(split(alloc, &mut ListSource::new(&trace))?)
+}
+
+// Each line has its store, its flush and the first fence.
+#[test]
+fn steps_of_a_job(rt: HostRuntime) -> Result<(), Fail> {
+    let Jobs { lines, fences, .. } = forty_lines(rt.alloc())?;
+    assert_eq!(rt; fences.steps().len(), 42);
+    assert_eq!(rt; lines.len(), 40);
+    for job in &lines {
+        assert_eq!(rt; job.steps().len(), 3);
+        assert!(rt; matches!(job.steps()[0].kind, StepKind::Store { .. }));
+        assert!(rt; matches!(job.steps()[1].kind, StepKind::Flush));
+        assert!(rt; matches!(job.steps()[2].kind, StepKind::Fence));
+        assert_eq!(rt; job.steps()[2].number, 81);
+    }
+    Ok(())
 }
 
 // Each line keeps its flush and the first fence.
 #[test]
 fn kept_by_a_shard(rt: HostRuntime) -> Result<(), Fail> {
-    let answers = run_shard(rt.alloc(), jobs_of(rt.alloc(), 40)?)?;
+    let Jobs { lines, .. } = forty_lines(rt.alloc())?;
+    let answers = run_shard(rt.alloc(), lines)?;
     assert_eq!(rt; answers.len(), 40);
     for (place, answer) in answers.iter().enumerate() {
         assert_eq!(rt; answer.result.job().line(), 0x40 + place as u64);
@@ -80,7 +101,7 @@ impl ShardGate for Meeting {
     }
 }
 
-// All workers are at work at once, each with its part of the jobs, and the answers stand in the order of the lines.
+// All workers are at work at once, each with its part of the jobs.
 #[test]
 fn workers_meet(rt: HostRuntime) -> Result<(), Fail> {
     for (workers, lines, most) in [
@@ -100,8 +121,9 @@ fn workers_meet(rt: HostRuntime) -> Result<(), Fail> {
             jobs: AtomicU64::new(0),
             most: AtomicU64::new(0),
         };
-        let jobs = jobs_of(rt.alloc(), lines)?;
-        let answers = run_in_halves(&rt, rt.alloc(), &gate, 0, workers, jobs)?;
+        let trace = trace_of(rt.alloc(), lines)?;
+        let mut source = ListSource::new(&trace);
+        let analysis = analyse_with(&rt, rt.alloc(), &gate, &mut source, workers)?;
         assert_eq!(rt;
             gate.met.load(Ordering::SeqCst),
             workers as u64,
@@ -123,10 +145,14 @@ fn workers_meet(rt: HostRuntime) -> Result<(), Fail> {
             lines,
             "{workers} workers"
         );
-        for (place, answer) in answers.iter().enumerate() {
-            assert_eq!(rt; answer.result.job().line(), 0x40 + place as u64);
-        }
-        assert_eq!(rt; answers.len() as u64, lines);
+        assert_eq!(rt; analysis.lines() as u64, lines, "{workers} workers");
+        assert_eq!(rt;
+            analysis.findings().last().copied(),
+            Some(Finding::FenceWithoutFlush {
+                event: 2 * lines + 2
+            }),
+            "{workers} workers"
+        );
     }
     Ok(())
 }
