@@ -13,12 +13,15 @@ use Rattle.pmt_text.specs.declared.source.SourceState.TheVariants as states
 use Rattle.pmt_text.specs.Coming.{Coming}
 use Rattle.pmt_text.specs.Sources.{Gives, IsOver, Faults, TakesNext, HasFormat, TakesFormat, TellsNext, TellsFormat, KeepsFormat, IsGivenIn, LeavesFewer, read_faults, CountsReads}
 use Rattle.pmt_text.proofs.SourceLemmas.{Gives-nil, Gives-trans, Gives-over, HasFormat-Gives}
-use Rattle.pmt_lines.specs.Sourcing.{IsWhole, IsFaultOf, TellsWhole}
 
 -- no read has failed since
 abbrev pub SameReads : Option ℕ → Option ℕ → Type 0
 SameReads None new = Unit {0}
 SameReads (Some n) new = new ≡ Some n
+
+same_reads-none : (reads : Option ℕ) → SameReads reads reads
+same_reads-none None = tt
+same_reads-none (Some n) = refl
 
 same_reads-more : {A : Type 0} (old mid new : Option ℕ) (x : A) → SameReads old mid → CountsReads mid (Ok x) new → SameReads old new
 same_reads-more None mid new x same counts = tt
@@ -67,3 +70,30 @@ module _ (first now next : Option Coming) (old mid new : SourceState) (known new
         same_reads = same_reads-more reads mid_reads new_reads (Some e) so_far.same_reads counts;
         roomy = omega (arith, so_far.roomy, fewer, length-append T.events (e ∷ []));
       }
+
+-- before the first event
+pub so_far-none : (first now : Option Coming) (old new : SourceState) (known : Option Layout) (reads new_reads : Option ℕ) (room : ℕ) (f : Layout) → TakesFormat first (Ok f) now → TellsFormat old (Ok f) new → known ≡ Some f → CountsReads reads (Ok f) new_reads → room ≤ event_limit →
+    SoFar first now old new known reads new_reads room (empty f)
+so_far-none first now old new known reads new_reads room f takes tells is_known counts few =
+    record {
+      given = takes.1;
+      format = takes.0;
+      in_format = is_known;
+      same_state = same old tells;
+      unfailed = unfailed old tells;
+      same_reads = same_reads-more reads reads new_reads f (same_reads-none reads) counts;
+      roomy = omega (arith, few);
+    }
+  where
+    never : ◌≡◌ {A = Result Layout SourceError} (Ok f) (Err Failed) → ⊥
+    never h = cc
+
+    same : (s : SourceState) → TellsFormat s (Ok f) new → new ≡ s
+    same states.Open t = t
+    same states.Ended t = t
+    same (states.Failed told) t = absurd (never t.0)
+
+    unfailed : (s : SourceState) → TellsFormat s (Ok f) new → (told : SourceError) → s ≢ states.Failed told
+    unfailed states.Open t told = λ h. cc
+    unfailed states.Ended t told = λ h. cc
+    unfailed (states.Failed was) t told = absurd (never t.0)

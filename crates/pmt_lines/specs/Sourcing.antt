@@ -6,7 +6,10 @@ use Rattle.pmt_text.specs.declared.kind.SourceError.TheVariants.{Text, TooMany, 
 use Rattle.pmt_text.specs.declared.source.SourceState.{SourceState}
 use Rattle.pmt_text.specs.declared.source.SourceState.TheVariants as states
 use Rattle.pmt_text.specs.Coming.{Coming}
-use Rattle.pmt_text.specs.Sources.{Faults}
+use Rattle.pmt_lines.specs.declared.splitting.SplitError.{SplitError}
+use Rattle.pmt_lines.specs.declared.splitting.SplitError.TheVariants as splits
+
+-- ---- What came
 
 -- All that came: the format, the events, and no fault.
 pub record IsWhole (c : Coming) (T : Recording) : Type 0 where
@@ -22,12 +25,41 @@ IsFaultOf c Read = Unit {0}
 IsFaultOf c OutOfMemory = Unit {0}
 IsFaultOf c Failed = Unit {0}
 
--- Ok is answered only where the source has told its end, a fault only where it has told that fault, or where memory was refused,
--- and `Failed` only where it had told a fault before.
+-- ---- What the source told, by its states before and after
+
+-- It has told its end.
+abbrev pub TellsEnd : SourceState → SourceState → Type 0
+TellsEnd states.Open new = new ≡ states.Ended
+TellsEnd states.Ended new = new ≡ states.Ended
+TellsEnd (states.Failed told) new = ⊥
+
+-- It has told this fault, or `Failed` where it had told a fault before.
+abbrev pub TellsFault : SourceState → SourceError → SourceState → Type 0
+TellsFault states.Open e new = (new ≡ states.Failed e) × (e ≢ Failed)
+TellsFault states.Ended e new = ⊥
+TellsFault (states.Failed told) e new = (e ≡ Failed) × (new ≡ states.Failed told)
+
+-- It has told no fault, and its end only where it had told it before.
+abbrev pub TellsNothing : SourceState → SourceState → Type 0
+TellsNothing states.Open new = new ≡ states.Open
+TellsNothing states.Ended new = new ≡ states.Ended
+TellsNothing (states.Failed told) new = ⊥
+
+-- ---- What a split answers
+
+-- The fault that the source told, if it told one.
+abbrev pub told_by : {A : Type 0} → Result A SplitError → Result (Unit {0}) SourceError
+told_by (Ok x) = Ok tt
+told_by (Err (splits.Source e)) = Err e
+told_by (Err splits.OutOfMemory) = Ok tt
+
+-- The source told its end, or the fault that is answered; where memory was refused to the split itself, it told nothing.
+abbrev pub TellsSplit : {A : Type 0} → SourceState → Result A SplitError → SourceState → Type 0
+TellsSplit old (Ok x) new = TellsEnd old new
+TellsSplit old (Err (splits.Source e)) new = TellsFault old e new
+TellsSplit old (Err splits.OutOfMemory) new = TellsNothing old new
+
+-- Where `OutOfMemory` stands for both: the source told it, or it told nothing, and memory was refused to the split itself.
 abbrev pub TellsWhole : {A : Type 0} → SourceState → Result A SourceError → SourceState → Type 0
-TellsWhole states.Open (Ok x) new = new ≡ states.Ended
-TellsWhole states.Open (Err e) new = (e ≢ Failed) × ((e ≡ OutOfMemory) ⊎ (new ≡ states.Failed e))
-TellsWhole states.Ended (Ok x) new = new ≡ states.Ended
-TellsWhole states.Ended (Err e) new = (e ≡ OutOfMemory) × (new ≡ states.Ended)
-TellsWhole (states.Failed told) (Ok x) new = ⊥
-TellsWhole (states.Failed told) (Err e) new = (e ≡ Failed) × (new ≡ states.Failed told)
+TellsWhole old (Ok x) new = TellsEnd old new
+TellsWhole old (Err e) new = TellsFault old e new ⊎ ((e ≡ OutOfMemory) × TellsNothing old new)

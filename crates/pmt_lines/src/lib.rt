@@ -17,6 +17,6 @@ pub mod thread_job;
 pub use crate::fences::{ThreadResult, run_fences};
 pub use crate::job::LineJob;
 pub use crate::raises::{LineResult, Raise, run_line};
-pub use crate::splitting::{Jobs, split};
+pub use crate::splitting::{Jobs, SplitError, split, split_source};
 pub use crate::step::{Step, StepKind};
 pub use crate::thread_job::ThreadJob;

@@ -1,14 +1,16 @@
 ghost use Rattle.std.specs.Prelude.{◌≡◌, IfOk, IfErr, IfSome};
 ghost use Rattle.pmt_text.specs.Sources.{CountsReads};
 ghost use Rattle.pmt_lines.specs.Splitting.{IsSplit};
-ghost use Rattle.pmt_lines.specs.Sourcing.{IsWhole, IsFaultOf, TellsWhole};
+ghost use Rattle.pmt_lines.specs.Sourcing.{IsWhole, IsFaultOf, TellsSplit, TellsWhole, told_by};
+ghost use Rattle.pmt_lines.specs.declared.splitting.SplitError.TheVariants.{Source, OutOfMemory};
 
 use crate::job::LineJob;
 use crate::splitter::Splitter;
 use crate::thread_job::ThreadJob;
 use pmt_model::Trace;
 use pmt_text::{EventSource, SourceError};
-use std::alloc::Global;
+use std::alloc::{AllocError, Global};
+use thiserror::Error;
 
 /// A trace taken apart by its lines.
 #[derive(Drop)]
@@ -21,11 +23,38 @@ pub struct Jobs {
     pub fences: ThreadJob,
 }
 
+/// Why a source was not taken apart.
+#[derive(Clone, Copy, Debug, PartialEq, Eq, Error)]
+pub enum SplitError {
+    /// The source told this fault.
+    #[error("{0}")]
+    Source(SourceError),
+    /// Memory was refused, and not to the source.
+    #[error("out of memory")]
+    OutOfMemory,
+}
+
+impl From<SourceError> for SplitError {
+    ghost from_gives = { λ fault error. error ≡ Source fault };
+
+    fn from(fault: SourceError) -> Self {
+        SplitError::Source(fault)
+    }
+}
+
+impl From<AllocError> for SplitError {
+    ghost from_gives = { λ _ error. error ≡ OutOfMemory };
+
+    fn from(_refused: AllocError) -> Self {
+        SplitError::OutOfMemory
+    }
+}
+
 /// Takes all events of the source, and takes their trace apart by lines.
 ///
 /// # Errors
-/// The fault that the source told, `OutOfMemory` where memory was refused, `Failed` where the source had told a fault before.
-/// The source stands past the events that were taken.
+/// The fault that the source told, `Failed` where it had told a fault before; `OutOfMemory` also where memory was refused to the
+/// split itself, and the source told nothing then. The source stands past the events that were taken.
 pub fn split<S: EventSource>(alloc: Global, source: &mut S) -> Result<Jobs, SourceError>
     ensures apart { IfOk result (λ jobs. IsSplit jobs.trace jobs.lines.items jobs.fences) }
     ensures whole { IfOk result (λ jobs. IfSome (S.coming source.old) (λ c. IsWhole c jobs.trace)) }
@@ -33,14 +62,29 @@ pub fn split<S: EventSource>(alloc: Global, source: &mut S) -> Result<Jobs, Sour
     ensures told { TellsWhole (S.state source.old) result (S.state source.new) }
     ensures failures { CountsReads (S.failures source.old) result (S.failures source.new) }
 {
+    match split_source(alloc, source) {
+        Ok(jobs) => Ok(jobs),
+        Err(SplitError::Source(fault)) => Err(fault),
+        Err(SplitError::OutOfMemory) => Err(SourceError::OutOfMemory),
+    }
+}
+
+/// As `split`, and it tells want of memory of its own from that of the source.
+///
+/// # Errors
+/// `Source` with the fault that the source told, or with `Failed` where it had told a fault before. `OutOfMemory` where memory
+/// was refused to the split itself; the source told nothing then. The source stands past the events that were taken.
+pub fn split_source<S: EventSource>(alloc: Global, source: &mut S) -> Result<Jobs, SplitError>
+    ensures apart { IfOk result (λ jobs. IsSplit jobs.trace jobs.lines.items jobs.fences) }
+    ensures whole { IfOk result (λ jobs. IfSome (S.coming source.old) (λ c. IsWhole c jobs.trace)) }
+    ensures fault { IfErr (told_by result) (λ e. IfSome (S.coming source.old) (λ c. IsFaultOf c e)) }
+    ensures told { TellsSplit (S.state source.old) result (S.state source.new) }
+    ensures failures { CountsReads (S.failures source.old) (told_by result) (S.failures source.new) }
+{
     let format = source.format()?;
-    let Ok(mut splitter) = Splitter::new(alloc, format) else {
-        return Err(SourceError::OutOfMemory);
-    };
+    let mut splitter = Splitter::new(alloc, format)?;
     while let Some(event) = source.next()? {
-        let Ok(()) = splitter.take(event) else {
-            return Err(SourceError::OutOfMemory);
-        };
+        splitter.take(event)?;
     }
     Ok(splitter.finish())
 }

@@ -2,10 +2,11 @@ ghost use Rattle.std.specs.Prelude.{◌≡◌, ◌↔◌, IfOk, IfErr, IfSome, I
 ghost use Rattle.pmt_model.specs.Selections.{cut};
 ghost use Rattle.pmt_text.specs.Sources.{CountsReads};
 ghost use Rattle.pmt_lines.specs.Splitting.{IsSplit};
-ghost use Rattle.pmt_lines.specs.Sourcing.{IsWhole, IsFaultOf, TellsWhole};
+ghost use Rattle.pmt_lines.specs.Sourcing.{IsWhole, IsFaultOf};
 ghost use Rattle.pmt_trim.specs.Headline.{IsTrimmed};
 ghost use Rattle.pmt_workers.specs.Analysing.{IsAnalysed};
-ghost use Rattle.pmt_workers.specs.Asking.{told_by};
+ghost use Rattle.pmt_workers.specs.Asking.{TellsSource, error_of, told_by};
+ghost use Rattle.pmt_workers.specs.declared.analyse.AnalyseError.TheVariants.{OutOfMemory};
 ghost use Rattle.pmt_workers.specs.Halving.{is_worker_count};
 
 use crate::analysis::Analysis;
@@ -14,11 +15,11 @@ use crate::judging::judged;
 use crate::results::taken_apart;
 use crate::shard::ShardGate;
 use pmt_findings::findings;
-use pmt_lines::{Jobs, run_fences, split};
+use pmt_lines::{Jobs, SplitError, run_fences, split_source};
 use pmt_model::OutOfMemory;
 use pmt_text::{EventSource, SourceError};
 use pmt_trim::liveness;
-use std::alloc::Global;
+use std::alloc::{AllocError, Global};
 use std::thread::Threads;
 use thiserror::Error;
 
@@ -31,9 +32,28 @@ pub enum AnalyseError {
     /// The source told this fault.
     #[error("{0}")]
     Source(SourceError),
-    /// Memory was refused.
+    /// Memory was refused, and not to the source.
     #[error("out of memory")]
     OutOfMemory,
+}
+
+impl From<SplitError> for AnalyseError {
+    ghost from_gives = { λ refused error. error ≡ error_of refused };
+
+    fn from(refused: SplitError) -> Self {
+        match refused {
+            SplitError::Source(fault) => AnalyseError::Source(fault),
+            SplitError::OutOfMemory => AnalyseError::OutOfMemory,
+        }
+    }
+}
+
+impl From<AllocError> for AnalyseError {
+    ghost from_gives = { λ _ error. error ≡ OutOfMemory };
+
+    fn from(_refused: AllocError) -> Self {
+        AnalyseError::OutOfMemory
+    }
 }
 
 /// The analysis of the trace whose events the source has still to give, by this many workers. It is the same for every number of
@@ -41,8 +61,8 @@ pub enum AnalyseError {
 ///
 /// # Errors
 /// `BadWorkers` unless there are 1, 2, 4, 8 or 16 workers; the source is unchanged then. `Source` with the fault that the source
-/// told, or with `OutOfMemory` where memory was refused before it told its end; `Source(Failed)` only where it had told a fault
-/// before. `OutOfMemory` where memory was refused after its end. The source stands past the events that were taken.
+/// told, or with `Failed` where it had told a fault before. `OutOfMemory` where memory was refused to the analysis itself; the
+/// source told no fault then. The source stands past the events that were taken.
 pub fn analyse_with<R: Threads + Sync, S: EventSource, G: ShardGate + Sync>(
     rt: &R,
     alloc: Global,
@@ -55,21 +75,16 @@ pub fn analyse_with<R: Threads + Sync, S: EventSource, G: ShardGate + Sync>(
     ensures right { IfOk result IsAnalysed }
     ensures trimmed { IfOk result (λ a. IsTrimmed a.trace a.selection (cut a.trace a.selection)) }
     ensures whole { IfOk result (λ a. IfSome (S.coming source.old) (λ c. IsWhole c a.trace)) }
-    ensures fault { IfSome (told_by result) (λ told. IfErr told (λ e. IfSome (S.coming source.old) (λ c. IsFaultOf c e))) }
-    ensures told { IfSome (told_by result) (λ told. TellsWhole (S.state source.old) told (S.state source.new)) }
-    ensures failures { IfSome (told_by result) (λ told. CountsReads (S.failures source.old) told (S.failures source.new)) }
+    ensures fault { IfErr (told_by result) (λ e. IfSome (S.coming source.old) (λ c. IsFaultOf c e)) }
+    ensures told { TellsSource (S.state source.old) result (S.state source.new) }
+    ensures failures { CountsReads (S.failures source.old) (told_by result) (S.failures source.new) }
 {
     if !is_allowed(workers) {
         return Err(AnalyseError::BadWorkers);
     }
-    let jobs = match split(alloc, source) {
-        Ok(jobs) => jobs,
-        Err(fault) => return Err(AnalyseError::Source(fault)),
-    };
-    match analysis_of(rt, alloc, gate, jobs, workers) {
-        Ok(analysis) => Ok(analysis),
-        Err(_) => Err(AnalyseError::OutOfMemory),
-    }
+    let jobs = split_source(alloc, source)?;
+    let analysis = analysis_of(rt, alloc, gate, jobs, workers)?;
+    Ok(analysis)
 }
 
 // Whether there may be this many workers.

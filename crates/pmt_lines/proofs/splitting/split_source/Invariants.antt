@@ -1,7 +1,7 @@
 use Rattle.std.proofs.Common.{◌≡◌, ◌+◌, ◌≤◌, length, Some}
 use Rattle.pmt_lines.specs.Splitting.{IsSplitting}
 use Rattle.pmt_lines.proofs.SourceRunLemmas.{SoFar}
-use Rattle.pmt_lines.proofs.splitting.split.Given as goal
+use Rattle.pmt_lines.proofs.splitting.split_source.Given as goal
 
 abbrev pub invariant-loop-splitter : goal.invariant-loop-splitter
 invariant-loop-splitter g l =
