@@ -1,7 +1,8 @@
+//! Tests of the analysis.
 use crate::{AnalyseError, Analysis, analyse_with};
 use pmt_model::{Finding, NoGate, Verdict};
 use pmt_text::devices::PieceReader;
-use pmt_text::{Counted, SourceError, TextSource};
+use pmt_text::{Counted, ListSource, SourceError, TextSource, write_trace};
 use std::alloc::Global;
 use std::test::Fail;
 use std::thread::Threads;
@@ -94,4 +95,76 @@ fn read_fault_and_then_failed(rt: HostRuntime) {
         }
     }
     assert_eq!(rt; source.into_input().failures(), 1);
+}
+
+const DOUBLE_FLUSH: &[u8] =
+    b"pmtrace 1\nstore 0 0x1000 01\nclwb 0 0x1000\nclwb 0 0x1000\nsfence 0\n";
+
+const FLUSHED_AGAIN: &[u8] =
+    b"pmtrace 1\nstore 0 0x1000 01\nclwb 0 0x1000\nsfence 0\nclwb 0 0x1000\nsfence 0\n";
+
+const FLUSH_WITHOUT_STORES: &[u8] = b"pmtrace 1\nclwb 0 0x1000\nsfence 0\n";
+
+const FLUSH_BY_AN_UNFENCED_THREAD: &[u8] =
+    b"pmtrace 1\nstore 0 0x1000 01\nclwb 0 0x1000\nstore 0 0x1008 02\nclwb 1 0x1000\nsfence 0\n";
+
+const SIX_FLUSHERS: &[u8] =
+    b"pmtrace 1\nstore 0 0x1000 01\nclwb 0 0x1000\nclwb 1 0x1000\nclwb 2 0x1000\nclwb 3 0x1000\nclwb 4 0x1000\nclwb 5 0x1000\nsfence 5\nsfence 4\nsfence 3\nsfence 2\nsfence 1\nsfence 0\n";
+
+const CLFLUSH_BEATS_CLWB: &[u8] =
+    b"pmtrace 2 64\nstore 0 0x1000 01\nclwb 0 0x1000\nclflush 1 0x1000\nsfence 0\n";
+
+const SFENCE_AFTER_CLFLUSH: &[u8] =
+    b"pmtrace 2 64\nstore 0 0x1000 01\nclflush 0 0x1000\nsfence 0\n";
+
+// The analysis of a trimmed trace drops nothing more, and of its findings only what no flush mends is left.
+#[test]
+fn trimmed_again(rt: HostRuntime) -> Result<(), Fail> {
+    let dirty = [Finding::NeverPersisted {
+        event: 3,
+        flushed: false,
+    }];
+    for (text, trimmed, lines, findings) in [
+        (DOUBLE_FLUSH, ONE_PERSIST, 1, [].as_slice()),
+        (FLUSHED_AGAIN, ONE_PERSIST, 1, [].as_slice()),
+        (
+            FLUSH_WITHOUT_STORES,
+            b"pmtrace 1\n".as_slice(),
+            0,
+            [].as_slice(),
+        ),
+        (
+            FLUSH_BY_AN_UNFENCED_THREAD,
+            b"pmtrace 1\nstore 0 0x1000 01\nclwb 0 0x1000\nstore 0 0x1008 02\nsfence 0\n".as_slice(),
+            1,
+            dirty.as_slice(),
+        ),
+        (
+            SIX_FLUSHERS,
+            b"pmtrace 1\nstore 0 0x1000 01\nclwb 5 0x1000\nsfence 5\n".as_slice(),
+            1,
+            [].as_slice(),
+        ),
+        (
+            CLFLUSH_BEATS_CLWB,
+            b"pmtrace 2 64\nstore 0 0x1000 01\nclflush 1 0x1000\n".as_slice(),
+            1,
+            [].as_slice(),
+        ),
+        (
+            SFENCE_AFTER_CLFLUSH,
+            b"pmtrace 2 64\nstore 0 0x1000 01\nclflush 0 0x1000\n".as_slice(),
+            1,
+            [].as_slice(),
+        ),
+    ] {
+        let trace = analysis_of_text(&rt, rt.alloc(), text, 2)?.trimmed()?;
+        assert_eq!(rt; write_trace(rt.alloc(), &trace)?.as_slice(), trimmed);
+        let mut source = ListSource::new(&trace);
+        let again = analyse_with(&rt, rt.alloc(), &NoGate, &mut source, 2)?;
+        assert_eq!(rt; again.lines(), lines);
+        assert_eq!(rt; again.findings(), findings);
+        assert_eq!(rt; again.selection().len(), trace.len());
+    }
+    Ok(())
 }
