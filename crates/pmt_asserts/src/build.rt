@@ -1,3 +1,4 @@
+//! The stores of a line's steps, and the bytes that each of them writes.
 ghost use Rattle.std.specs.Prelude.{◌≡◌, ◌+◌, ◌^◌, ◌<◌, ◌⊎◌, ◌↔◌, true, ◌++◌, ◌∷◌, [], IfOk, OnOk, All, Contains};
 ghost use Rattle.pmt_asserts.specs.declared.put.Write.{Write};
 ghost use Rattle.pmt_asserts.specs.Puts.{covers, puts_of, IsInside, AreWritesOf};

@@ -1,3 +1,4 @@
+//! For each store of a line, when another one has replaced all that it wrote.
 ghost use Rattle.std.specs.Prelude.{◌≡◌, ℕ, ◌+◌, ◌<◌, ◌≤◌, IfOk, All, length, slice_index};
 ghost use Rattle.pmt_asserts.specs.Puts.{IsInside, AreWritesOf, IsNext, AreEnds, AreLeasts};
 

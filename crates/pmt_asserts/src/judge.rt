@@ -1,3 +1,4 @@
+//! The verdicts of the assertions of a trace.
 ghost use Rattle.std.specs.Prelude.{◌≡◌, ◌≢◌, ℕ, ◌+◌, ◌<◌, ◌≤◌, ◌^◌, ◌↔◌, IsTrue, IfOk, IfSome, length, Option, None, Some};
 ghost use Rattle.pmt_model.specs.Values.{line_of};
 ghost use Rattle.pmt_model.specs.Traces.{IsTrace, history};
@@ -58,8 +59,8 @@ fn assertions(alloc: Global, trace: &Trace) -> Result<Vec<u64>, OutOfMemory>
     Ok(numbers)
 }
 
-// Whether the op is an assertion.
-fn is_assertion(op: Op) -> bool
+/// Whether the op is an assertion.
+pub fn is_assertion(op: Op) -> bool
     ensures { result ≡ asserts op }
 {
     match op {

@@ -12,7 +12,7 @@ mod put;
 mod table;
 mod tables;
 
-pub use crate::judge::{verdict, verdicts};
+pub use crate::judge::{is_assertion, verdict, verdicts};
 pub use crate::tables::Tables;
 
 #[cfg(test)]

@@ -1,3 +1,5 @@
+//! The first stores to lines, as the second range of isOrderedBefore asks for them.
+
 /// The first one of some stores to a line: its rank among the line's stores and its event's number.
 #[derive(Clone, Copy, Debug, PartialEq, Eq)]
 pub struct Oldest {

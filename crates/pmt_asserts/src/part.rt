@@ -1,3 +1,4 @@
+//! The part of a range that lies in one line, and what is asked of the line's table there.
 ghost use Rattle.std.specs.Prelude.{◌≡◌, ℕ, ◌<◌, ◌≤◌, ◌^◌, ◌/◌, ◌↔◌, IsTrue, IsSome, length, Option, MatchOption};
 ghost use Rattle.pmt_model.specs.Values.{line_of};
 ghost use Rattle.pmt_model.specs.Assertions.{InSpan};

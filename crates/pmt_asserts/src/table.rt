@@ -1,3 +1,4 @@
+//! The table of one line: its result, made ready for searches by place and by byte.
 ghost use Rattle.std.specs.Prelude.{◌≡◌, ◌≤◌, ◌↔◌, IsTrue, IfOk, length};
 ghost use Rattle.pmt_model.specs.Traces.{count_at as stores_by};
 ghost use Rattle.pmt_model.specs.Fronts.{front_at as front_by};

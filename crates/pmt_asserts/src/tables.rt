@@ -1,3 +1,4 @@
+//! The tables of all lines of a trace.
 ghost use Rattle.std.specs.Prelude.{◌≡◌, ◌≢◌, IfOk, All, Contains, MatchOption};
 
 use crate::table::LineTable;

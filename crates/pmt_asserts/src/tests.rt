@@ -1,3 +1,4 @@
+//! Tests of verdicts on small traces.
 ghost use Rattle.std.specs.Prelude.{IfOk, []};
 ghost use Rattle.pmt_asserts.specs.Tables.{AreResultsOf};
 

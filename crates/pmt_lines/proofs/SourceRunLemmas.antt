@@ -29,71 +29,73 @@ same_reads-more (Some n) mid new x same counts =
     let counted = subst (λ m. CountsReads m (Ok x) new) same counts in
     let e : n + 0 ≡ n = omega arith in counted ∙ ap (λ (k : ℕ). Some k) e
 
+-- what a source shows between two calls
+pub record Shown : Type 0 where
+  pub coming : Option Coming
+  pub state : SourceState
+  pub format : Option Layout
+  pub failures : Option ℕ
+  pub room : ℕ
+
+-- what a source shows by these members of its trait
+abbrev pub shown_by : {S : Type 0} → (S → Option Coming) → (S → SourceState) → (S → Option Layout) → (S → Option ℕ) → (S → ℕ) → S → Shown
+shown_by coming state format failures room s =
+    record { coming = coming s; state = state s; format = format s; failures = failures s; room = room s }
+
 -- after events were taken, T being the trace of them
-pub record SoFar (first now : Option Coming) (old new : SourceState) (known : Option Layout) (reads new_reads : Option ℕ) (room : ℕ) (T : Recording) : Type 0 where
-  pub given : Gives first T.events now
-  pub format : HasFormat first (Some T.format)
-  pub in_format : known ≡ Some T.format
-  pub same_state : new ≡ old
-  pub unfailed : (told : SourceError) → old ≢ states.Failed told
-  pub same_reads : SameReads reads new_reads
-  pub roomy : length T.events + room ≤ event_limit
+pub record SoFar (first now : Shown) (T : Recording) : Type 0 where
+  pub given : Gives first.coming T.events now.coming
+  pub format : HasFormat first.coming (Some T.format)
+  pub in_format : now.format ≡ Some T.format
+  pub same_state : now.state ≡ first.state
+  pub unfailed : (told : SourceError) → first.state ≢ states.Failed told
+  pub same_reads : SameReads first.failures now.failures
+  pub roomy : length T.events + now.room ≤ event_limit
 
 -- a format that is known stays
 known-kept : (known new : Option Layout) (f : Layout) → known ≡ Some f → KeepsFormat known new → new ≡ Some f
 known-kept known new f is kept = subst (λ k. KeepsFormat k new) is kept
 
-module _ (first now next : Option Coming) (old mid new : SourceState) (known new_known : Option Layout) (reads mid_reads new_reads : Option ℕ) (room less : ℕ) (T : Recording) (so_far : SoFar first now old mid known reads mid_reads room T) where
-  tells-some : (e : Event) → TellsNext mid (Ok (Some e)) new → new ≡ mid
-  tells-some e tells = go mid tells
-    where
-      never : (e : Event) → ◌≡◌ {A = Result (Option Event) SourceError} (Ok (Some e)) (Ok None) → ⊥
-      never e h = cc
+-- an event that is told leaves the state
+tells-some : (old new : SourceState) (e : Event) → TellsNext old (Ok (Some e)) new → new ≡ old
+tells-some states.Open new e tells = tells
+tells-some states.Ended new e tells =
+    let ended : ◌≡◌ {A = Result (Option Event) SourceError} (Ok (Some e)) (Ok None) = tells.0 in cc
+tells-some (states.Failed told) new e tells =
+    let failed : ◌≡◌ {A = Result (Option Event) SourceError} (Ok (Some e)) (Err Failed) = tells.0 in cc
 
-      failed : (e : Event) → ◌≡◌ {A = Result (Option Event) SourceError} (Ok (Some e)) (Err Failed) → ⊥
-      failed e h = cc
-
-      go : (s : SourceState) → TellsNext s (Ok (Some e)) new → new ≡ s
-      go states.Open t = t
-      go states.Ended t = absurd (never e t.0)
-      go (states.Failed told) t = absurd (failed e t.0)
-
-  pub so_far-more : (e : Event) → TakesNext now (Ok (Some e)) next → TellsNext mid (Ok (Some e)) new → KeepsFormat known new_known → CountsReads mid_reads (Ok (Some e)) new_reads → LeavesFewer room (Ok (Some e)) less →
-      SoFar first next old new new_known reads new_reads less (with_event T e)
-  so_far-more e takes tells kept counts fewer =
-      record {
-        given = Gives-trans first now next T.events (e ∷ []) so_far.given takes;
-        format = so_far.format;
-        in_format = known-kept known new_known T.format so_far.in_format kept;
-        same_state = tells-some e tells ∙ so_far.same_state;
-        unfailed = so_far.unfailed;
-        same_reads = same_reads-more reads mid_reads new_reads (Some e) so_far.same_reads counts;
-        roomy = omega (arith, so_far.roomy, fewer, length-append T.events (e ∷ []));
-      }
+-- a format that is told leaves the state, which is no fault
+tells-format : (old new : SourceState) (f : Layout) → TellsFormat old (Ok f) new → (new ≡ old) × ((told : SourceError) → old ≢ states.Failed told)
+tells-format states.Open new f tells = (tells, λ told same. cc)
+tells-format states.Ended new f tells = (tells, λ told same. cc)
+tells-format (states.Failed was) new f tells =
+    let failed : ◌≡◌ {A = Result Layout SourceError} (Ok f) (Err Failed) = tells.0 in cc
 
 -- before the first event
-pub so_far-none : (first now : Option Coming) (old new : SourceState) (known : Option Layout) (reads new_reads : Option ℕ) (room : ℕ) (f : Layout) → TakesFormat first (Ok f) now → TellsFormat old (Ok f) new → known ≡ Some f → CountsReads reads (Ok f) new_reads → room ≤ event_limit →
-    SoFar first now old new known reads new_reads room (empty f)
-so_far-none first now old new known reads new_reads room f takes tells is_known counts few =
+pub so_far-none : (first now : Shown) (f : Layout) → TakesFormat first.coming (Ok f) now.coming → TellsFormat first.state (Ok f) now.state → now.format ≡ Some f → CountsReads first.failures (Ok f) now.failures → now.room ≤ event_limit →
+    SoFar first now (empty f)
+so_far-none first now f takes tells known counts few =
+    let told = tells-format first.state now.state f tells in
     record {
       given = takes.1;
       format = takes.0;
-      in_format = is_known;
-      same_state = same old tells;
-      unfailed = unfailed old tells;
-      same_reads = same_reads-more reads reads new_reads f (same_reads-none reads) counts;
+      in_format = known;
+      same_state = told.0;
+      unfailed = told.1;
+      same_reads = same_reads-more first.failures first.failures now.failures f (same_reads-none first.failures) counts;
       roomy = omega (arith, few);
     }
-  where
-    never : ◌≡◌ {A = Result Layout SourceError} (Ok f) (Err Failed) → ⊥
-    never h = cc
 
-    same : (s : SourceState) → TellsFormat s (Ok f) new → new ≡ s
-    same states.Open t = t
-    same states.Ended t = t
-    same (states.Failed told) t = absurd (never t.0)
-
-    unfailed : (s : SourceState) → TellsFormat s (Ok f) new → (told : SourceError) → s ≢ states.Failed told
-    unfailed states.Open t told = λ h. cc
-    unfailed states.Ended t told = λ h. cc
-    unfailed (states.Failed was) t told = absurd (never t.0)
+-- after one more event
+pub so_far-more : (first now next : Shown) (T : Recording) (e : Event) → SoFar first now T → TakesNext now.coming (Ok (Some e)) next.coming → TellsNext now.state (Ok (Some e)) next.state → KeepsFormat now.format next.format → CountsReads now.failures (Ok (Some e)) next.failures → LeavesFewer now.room (Ok (Some e)) next.room →
+    SoFar first next (with_event T e)
+so_far-more first now next T e so_far takes tells kept counts fewer =
+    record {
+      given = Gives-trans first.coming now.coming next.coming T.events (e ∷ []) so_far.given takes;
+      format = so_far.format;
+      in_format = known-kept now.format next.format T.format so_far.in_format kept;
+      same_state = tells-some now.state next.state e tells ∙ so_far.same_state;
+      unfailed = so_far.unfailed;
+      same_reads = same_reads-more first.failures now.failures next.failures (Some e) so_far.same_reads counts;
+      roomy = omega (arith, so_far.roomy, fewer, length-append T.events (e ∷ []));
+    }

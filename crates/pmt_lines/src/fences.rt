@@ -1,3 +1,4 @@
+//! The fences without flush.
 ghost use Rattle.std.specs.Prelude.{◌≡◌, IfOk};
 ghost use Rattle.pmt_lines.specs.Fences.{IsThreadResult};
 

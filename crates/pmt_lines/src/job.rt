@@ -1,3 +1,4 @@
+//! The job of one line: the events that matter to it.
 ghost use Rattle.std.specs.Prelude.{◌≡◌, ◌<◌, ◌≤◌, OnOk, OnErr, []};
 ghost use Rattle.pmt_model.specs.Traces.{event_limit};
 ghost use Rattle.pmt_lines.specs.Steps.{IsStepKind, AreSteps, last_number, with_step};

@@ -1,3 +1,4 @@
+//! Which store wrote each byte of a line last.
 ghost use Rattle.std.specs.Prelude.{◌≡◌, ℕ, ◌+◌, ◌%◌, ◌<◌, ◌≤◌, ◌⊎◌, length, replicate, slice_index};
 
 /// The number of the last store to each byte of a line, or 0, by the byte's address modulo 256: a line has at most 256 bytes.

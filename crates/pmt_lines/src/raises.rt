@@ -1,3 +1,4 @@
+//! The run of a line's job: where its front rises, and what is found.
 ghost use Rattle.std.specs.Prelude.{◌≡◌, ◌+◌, ◌<◌, ◌≤◌, ◌↔◌, IsTrue, IfOk, OnOk};
 ghost use Rattle.pmt_model.specs.Traces.{event_limit};
 ghost use Rattle.pmt_lines.specs.Running.{TakesStep};

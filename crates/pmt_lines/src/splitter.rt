@@ -1,3 +1,4 @@
+//! Where each event of a trace goes while it is split.
 ghost use Rattle.std.specs.Prelude.{◌≡◌, ℕ, suc, ◌<◌, ◌≤◌, length, map, vec_len, All, IfOk, OnOk};
 ghost use Rattle.pmt_model.specs.declared.event.Event.{Event};
 ghost use Rattle.pmt_model.specs.Machine.{Flushes, Fences};

@@ -1,3 +1,4 @@
+//! Splitting a trace into jobs by line.
 ghost use Rattle.std.specs.Prelude.{◌≡◌, IfOk, IfErr, IfSome};
 ghost use Rattle.pmt_text.specs.Sources.{CountsReads};
 ghost use Rattle.pmt_lines.specs.Splitting.{IsSplit};

@@ -1,3 +1,4 @@
+//! One step of a job.
 ghost use Rattle.std.specs.Prelude.{◌≡◌};
 
 /// What an event does to a line.

@@ -1,3 +1,4 @@
+//! The analysis of a source's trace by any number of workers.
 ghost use Rattle.std.specs.Prelude.{◌≡◌, ◌↔◌, IfOk, IfErr, IfSome, IsTrue, IsFalse, IsErrOf};
 ghost use Rattle.pmt_model.specs.Selections.{cut};
 ghost use Rattle.pmt_text.specs.Sources.{CountsReads};

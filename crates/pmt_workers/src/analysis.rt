@@ -1,3 +1,4 @@
+//! The analysis of a trace.
 ghost use Rattle.std.specs.Prelude.{◌≡◌, IfOk};
 ghost use Rattle.pmt_model.specs.Analyses.{IsAnalysis};
 ghost use Rattle.pmt_trim.specs.Headline.{IsTrimmed};

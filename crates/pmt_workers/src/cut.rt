@@ -1,3 +1,4 @@
+//! Where jobs are cut in two.
 ghost use Rattle.std.specs.Prelude.{◌≡◌, ◌<◌, ◌^◌};
 ghost use Rattle.pmt_workers.specs.Halving.{steps_of, apart, IsFairCut};
 

@@ -1,3 +1,4 @@
+//! Running jobs by halves of the workers.
 ghost use Rattle.std.specs.Prelude.{◌≡◌, ◌<◌, ◌≤◌, ◌+◌, ◌^◌, IfOk, IsTrue, take, drop, vec_len, ◌++◌};
 ghost use Rattle.std.specs.Thread.{IsSync};
 ghost use Rattle.pmt_workers.specs.Answering.{AreAnswersTo};

@@ -1,13 +1,13 @@
+//! The verdicts, where the trace has assertions.
 ghost use Rattle.std.specs.Prelude.{◌≡◌, IfOk};
 ghost use Rattle.std.specs.List.{list_any};
 ghost use Rattle.pmt_model.specs.Analyses.{IsVerdicts};
 ghost use Rattle.pmt_asserts.specs.Tables.{AreResultsOf};
-ghost use Rattle.pmt_asserts.specs.Judging.{asserts};
 ghost use Rattle.pmt_workers.specs.Results.{event_asserts};
 
-use pmt_asserts::{Tables, verdicts};
+use pmt_asserts::{Tables, is_assertion, verdicts};
 use pmt_lines::LineResult;
-use pmt_model::{Event, Op, OutOfMemory, Trace, Verdict};
+use pmt_model::{Event, OutOfMemory, Trace, Verdict};
 use std::alloc::Global;
 use std::thread::Threads;
 
@@ -34,15 +34,4 @@ fn has_assertion(events: &[Event]) -> bool
     ensures { result ≡ list_any event_asserts events.now }
 {
     events.iter().any(|event| is_assertion(event.op))
-}
-
-// Whether the op is an assertion.
-fn is_assertion(op: Op) -> bool
-    ensures { result ≡ asserts op }
-{
-    match op {
-        Op::IsPersist(_) | Op::IsOrderedBefore(_, _) => true,
-        Op::Store(_) | Op::Clwb(_) | Op::ClflushOpt(_) | Op::Clflush(_) | Op::Sfence | Op::Mfence =>
-            false,
-    }
 }

@@ -1,3 +1,4 @@
+//! Taking the answers of shards apart.
 ghost use Rattle.std.specs.Prelude.{◌≡◌, map, IfOk};
 ghost use Rattle.pmt_workers.specs.Results.{result_in, kept_in};
 

@@ -1,3 +1,4 @@
+//! The part of one worker, and the gate that it goes through.
 ghost use Rattle.std.specs.Prelude.{IfOk};
 ghost use Rattle.pmt_workers.specs.Answering.{IsAnswerTo, AreAnswersTo};
 

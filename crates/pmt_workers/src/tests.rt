@@ -1,3 +1,4 @@
+//! Tests of the workers over forty lines.
 ghost use Rattle.std.specs.Prelude.{◌≤◌};
 
 use crate::{LineAnswer, ShardGate, analyse_with, run_shard};

@@ -1,26 +1,28 @@
 use Rattle.pmt_lines.proofs.FenceActLemmas.{split-end}
-use Rattle.pmt_lines.proofs.SourceRunLemmas.{so_far-more, so_far-none}
+use Rattle.pmt_lines.proofs.SourceRunLemmas.{shown_by, so_far-more, so_far-none}
 use Rattle.pmt_lines.proofs.splitting.split_source.Goals as goal
 
 pub loop-splitter-init : goal.loop-splitter-init
 loop-splitter-init g c =
     let source = g.S.EventSource in
+    let shown = shown_by source.coming source.state source.known_format source.failures source.room in
     let said = c.in_ok-format.ensures in (
       rw c.in_ok-splitter.ensures.trace
-          (so_far-none (source.coming c.args.source.now) (source.coming c.format.new.self) (source.state c.args.source.now) (source.state c.format.new.self) (source.known_format c.format.new.self) (source.failures c.args.source.now) (source.failures c.format.new.self) (source.room c.format.new.self) c.in_ok-format.format said.taken said.told said.known said.failures (g.met.S.EventSource.few c.format.new.self)),
+          (so_far-none (shown c.args.source.now) (shown c.format.new.self) c.in_ok-format.format said.taken said.told said.known said.failures (g.met.S.EventSource.few c.format.new.self)),
       c.in_ok-splitter.ensures.so_far,
     )
 
 pub loop-splitter-preserved : goal.loop-splitter-preserved
 loop-splitter-preserved g c =
     let source = g.S.EventSource in
+    let shown = shown_by source.coming source.state source.known_format source.failures source.room in
     let said = c.in_ok-event.ensures in
     let taken = rw c.in-Some.is at said.taken in
     let told = rw c.in-Some.is at said.told in
     let counted = rw c.in-Some.is at said.failures in
     let fewer = rw c.in-Some.is at said.room in (
       rw c.in_ok-take.ensures.trace
-          (so_far-more (source.coming c.args.source.now) (source.coming c.loop-splitter.source) (source.coming c.next.new.self) (source.state c.args.source.now) (source.state c.loop-splitter.source) (source.state c.next.new.self) (source.known_format c.loop-splitter.source) (source.known_format c.next.new.self) (source.failures c.args.source.now) (source.failures c.loop-splitter.source) (source.failures c.next.new.self) (source.room c.loop-splitter.source) (source.room c.next.new.self) c.loop-splitter.splitter.trace c.loop-splitter.invariant.0 c.in-Some.event taken told said.kept counted fewer),
+          (so_far-more (shown c.args.source.now) (shown c.loop-splitter.source) (shown c.next.new.self) c.loop-splitter.splitter.trace c.in-Some.event c.loop-splitter.invariant.0 taken told said.kept counted fewer),
       c.in_ok-take.ensures.so_far,
     )
 

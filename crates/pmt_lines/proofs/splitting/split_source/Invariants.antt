@@ -1,11 +1,12 @@
-use Rattle.std.proofs.Common.{◌≡◌, ◌+◌, ◌≤◌, length, Some}
 use Rattle.pmt_lines.specs.Splitting.{IsSplitting}
-use Rattle.pmt_lines.proofs.SourceRunLemmas.{SoFar}
+use Rattle.pmt_lines.proofs.SourceRunLemmas.{SoFar, shown_by}
 use Rattle.pmt_lines.proofs.splitting.split_source.Given as goal
 
 abbrev pub invariant-loop-splitter : goal.invariant-loop-splitter
 invariant-loop-splitter g l =
-    SoFar (g.S.EventSource.coming l.fn.source) (g.S.EventSource.coming l.source) (g.S.EventSource.state l.fn.source) (g.S.EventSource.state l.source) (g.S.EventSource.known_format l.source) (g.S.EventSource.failures l.fn.source) (g.S.EventSource.failures l.source) (g.S.EventSource.room l.source) l.splitter.trace
+    let source = g.S.EventSource in
+    let shown = shown_by source.coming source.state source.known_format source.failures source.room in
+    SoFar (shown l.fn.source) (shown l.source) l.splitter.trace
     × IsSplitting l.splitter.trace l.splitter.lines.keys l.splitter.jobs.items l.splitter.open_flushes l.splitter.fences
 
 abbrev pub decreases-loop-splitter : goal.decreases-loop-splitter
