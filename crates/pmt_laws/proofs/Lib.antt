@@ -32,3 +32,5 @@ pub mod WorkedAnalysisLemmas
 pub mod WorkedTraces
 pub mod WorkedFindingLemmas
 pub mod AnalysisLemmas
+pub mod DecidedLemmas
+pub mod PassLemmas

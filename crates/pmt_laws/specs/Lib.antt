@@ -1,3 +1,4 @@
 pub mod Worked
 pub mod WorkedFindings
 pub mod OneAnalysis
+pub mod Passing

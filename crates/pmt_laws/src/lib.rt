@@ -6,6 +6,7 @@ pub mod findings;
 pub mod fronts;
 pub mod keeping;
 pub mod needed;
+pub mod passing;
 pub mod shortest;
 pub mod verdicts;
 pub mod worked;
