@@ -6,6 +6,9 @@
 pub mod join;
 pub mod kept;
 pub mod laws;
+mod line_table;
+mod open;
+pub mod pass;
 pub mod shortest;
 #[cfg(test)]
 mod tests;
@@ -13,5 +16,6 @@ pub mod trimming;
 
 pub use crate::join::liveness;
 pub use crate::kept::line_kept;
+pub use crate::pass::Pass;
 pub use crate::shortest::{all_events, shortest_selection};
 pub use crate::trimming::trim;

@@ -1,0 +1,84 @@
+-- What a pass over the events of a trace keeps, and what it tells.
+use Rattle.std.specs.Prelude.{◌≡◌, ℕ, suc, ◌+◌, ◌<◌, ◌≤◌, ◌⊎◌, ◌↔◌, Bool, true, false, List, length, map, All, Option, Some, None, slice_get}
+use Rattle.pmt_model.specs.Machine.{Act, count}
+use Rattle.pmt_model.specs.Traces.{Recording, history}
+use Rattle.pmt_model.specs.Fronts.{front}
+use Rattle.pmt_model.specs.Keeping.{IsKept}
+use Rattle.pmt_laws.specs.Passing.{IsOpenFlush, IsDecided, Flushed, open_flushes}
+use Rattle.pmt_trim.specs.declared.line_table.LineRow.{LineRow}
+use Rattle.pmt_trim.specs.declared.open.OpenFlush.{OpenFlush}
+use Rattle.pmt_trim.specs.declared.pass.Mark.{Mark}
+use Rattle.pmt_trim.specs.declared.pass.Mark.TheVariants as marks
+use Rattle.pmt_trim.specs.declared.pass.Pass.{Pass}
+use Rattle.pmt_trim.specs.LineTables.{count_of, front_of, IsPlaceOf}
+use Rattle.pmt_trim.specs.OpenFlushes.{list_at}
+
+-- Event k of the trace so far has this mark.
+abbrev pub TellsMark : Recording → ℕ → Mark → Type 0
+TellsMark T k marks.Open = IsOpenFlush T k
+TellsMark T k marks.Kept = IsDecided T k × IsKept T k
+TellsMark T k marks.Dropped = IsDecided T k × ¬ IsKept T k
+
+-- The mark of an event that is kept, or not.
+abbrev pub mark_from : Bool → Mark
+mark_from true = marks.Kept
+mark_from false = marks.Dropped
+
+-- Whether an event with the mark is kept, if that is decided.
+abbrev pub decision_by : Mark → Option Bool
+decision_by marks.Open = None
+decision_by marks.Kept = Some true
+decision_by marks.Dropped = Some false
+
+-- Whether it is kept if the trace ends.
+abbrev pub flag_by : Mark → Bool
+flag_by marks.Open = false
+flag_by marks.Kept = true
+flag_by marks.Dropped = false
+
+-- The marks are those of the events after event settled.
+abbrev pub AreMarks : Recording → ℕ → List Mark → Type 0
+AreMarks T settled list = (i : ℕ) (m : Mark) → slice_get list i ≡ Some m → TellsMark T (suc (settled + i)) m
+
+-- Each line has its count and its front after the history.
+abbrev pub FollowAll : List Act → List LineRow → Type 0
+FollowAll history rows = (l : ℕ) → (count_of l rows ≡ count l history) × (front_of l rows ≡ front l history)
+
+abbrev pub flushed : OpenFlush → Flushed
+flushed f = record { number = f.number; line = f.line; stores = f.stores }
+
+abbrev pub number_of : OpenFlush → ℕ
+number_of f = f.number
+
+-- Each of the flushes has the place of its line.
+abbrev pub ArePlaced : List LineRow → List OpenFlush → Type 0
+ArePlaced rows flushes = All (λ f. IsPlaceOf f.line f.place rows) flushes
+
+-- The pass has taken the events of this trace, and no others.
+pub record IsPassOf (T : Recording) (p : Pass) : Type 0 where
+  pub format : p.format ≡ T.format
+  pub follow : FollowAll (history T (length T.events)) p.lines
+  pub open_lists : (t : ℕ) → t < 256 → map flushed (list_at t p.open_flushes) ≡ open_flushes t (history T (length T.events))
+  pub placed : (t : ℕ) → ArePlaced p.lines (list_at t p.open_flushes)
+  pub all : p.settled + length p.marks.items ≡ length T.events
+  pub marks : AreMarks T p.settled p.marks.items
+  pub before : (k : ℕ) → k ≤ p.settled → IsDecided T k
+
+-- It has taken the events of some trace.
+abbrev pub IsPassing : Pass → Type 0
+IsPassing p = (T : Recording) × IsPassOf T p
+
+-- How many events it has taken.
+abbrev pub taken : Pass → ℕ
+taken p = p.settled + length p.marks.items
+
+-- The oldest event that was not given out is decided, and is given out; or there is none, or it is an open flush.
+abbrev pub Settles : Recording → ℕ → Option Bool → ℕ → Type 0
+Settles T old None new = (new ≡ old) × ((old ≡ length T.events) ⊎ IsOpenFlush T (suc old))
+Settles T old (Some kept) new =
+    (new ≡ suc old) × (suc old ≤ length T.events) × IsDecided T (suc old) × ((kept ≡ true) ↔ IsKept T (suc old))
+
+-- A flag for each event after event settled: whether it is kept.
+abbrev pub AreFlags : Recording → ℕ → List Bool → Type 0
+AreFlags T settled flags =
+    (settled + length flags ≡ length T.events) × ((i : ℕ) → (slice_get flags i ≡ Some true) ↔ IsKept T (suc (settled + i)))
