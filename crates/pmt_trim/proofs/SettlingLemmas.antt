@@ -70,6 +70,13 @@ passing-less T p q m kept some read is before format lines lists dropped settled
 
 -- ---- At the end
 
+-- what is kept has a number from 1 on
+pub kept-some : (T : Recording) (i : ℕ) → IsKept T i → 1 ≤ i
+kept-some T i (Stays a is stays) = (act-within T i a is).0
+kept-some T i (ByFence u) = (act-within T i (Fences u.thread) u.is_fence).0
+kept-some T i (ByFlush u) = (act-within T i (Flushes u.thread u.line) u.is_flush).0
+kept-some T i (ByClflush u) = (act-within T i (Clflushes u.line) u.is_clflush).0
+
 -- what is kept has come
 kept-within : (T : Recording) (i : ℕ) → IsKept T i → i ≤ length T.events
 kept-within T i (Stays a is stays) = (act-within T i a is).1

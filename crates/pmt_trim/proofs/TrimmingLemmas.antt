@@ -1,36 +1,31 @@
--- What is kept for each line, one job after another.
-use Rattle.std.proofs.Common.{◌≡◌, ℕ, ◌≤◌, List, [], ◌∷◌, ◌++◌, map, length, inl, inr, refl, sym, ap₂}
-use Rattle.std.proofs.lemmas.List.{map-append}
+-- From the flags of a pass to what is kept.
+use Rattle.std.proofs.Common.{◌≡◌, ℕ, zero, suc, ◌+◌, ◌<◌, ◌≤◌, Bool, true, false, List, [], ◌∷◌, ◌++◌, length, get_or, take, Some, inl, inr, refl, sym, ap, ◌∙◌, arith}
+use Rattle.std.specs.Prelude.{◌↔◌, slice_get}
+use Rattle.std.proofs.lemmas.Bool.{false≢true}
+use Rattle.std.proofs.lemmas.List.{take_more, take_all}
 use Rattle.std.proofs.lemmas.Option.{same_Some}
 use Rattle.std.specs.List.{AllByRecursion}
 use Rattle.pmt_model.specs.declared.event.Event.{Event}
-use Rattle.pmt_model.specs.Values.{Layout}
 use Rattle.pmt_model.specs.Traces.{Recording}
-use Rattle.pmt_model.specs.Selections.{IsSelection, Has}
-use Rattle.pmt_lines.specs.Steps.{LineWork}
-use Rattle.pmt_text.specs.ListSources.{rest_of_trace}
-use Rattle.pmt_lines.specs.Splitting.{line_in, IsLeanJob}
-use Rattle.pmt_lines.specs.Sourcing.{IsWhole}
-use Rattle.pmt_trim.specs.Kept.{IsLineKept, AreLinesKept, IsJob}
+use Rattle.pmt_model.specs.Pushing.{with_event}
+use Rattle.pmt_model.specs.Selections.{IsRising, Has, IsSelection}
+use Rattle.pmt_model.specs.Keeping.{IsKept, IsKeep}
+use Rattle.pmt_trim.specs.Marking.{is_kept_at}
+use Rattle.pmt_trim.specs.Passing.{AreFlags}
+use Rattle.pmt_trim.proofs.SettlingLemmas.{kept-some}
 
--- the jobs without the last one, and that one
-all-front : (P : LineWork → Type 0) (jobs : List LineWork) (job : LineWork) → AllByRecursion P (jobs ++ job ∷ []) → AllByRecursion P jobs × P job
-all-front P [] job all = (tt, all.0)
-all-front P (j ∷ jobs) job all = let rest = all-front P jobs job all.1 in ((all.0, rest.0), rest.1)
+-- The trace of the first n events.
+abbrev pub first_events : Recording → ℕ → Recording
+first_events T n = record { format = T.format; events = take n T.events }
 
--- one line more
-lines-push : (T : Recording) (lines : List ℕ) (lists : List (List ℕ)) (l : ℕ) (kept : List ℕ) → AreLinesKept T lines lists → IsLineKept T l kept → AreLinesKept T (lines ++ l ∷ []) (lists ++ kept ∷ [])
-lines-push T [] [] l kept all last = (last, tt)
-lines-push T [] (ks ∷ lists) l kept all last = absurd all
-lines-push T (j ∷ lines) [] l kept all last = absurd all
-lines-push T (j ∷ lines) (ks ∷ lists) l kept all last = (all.0, lines-push T lines lists l kept all.1 last)
+-- one event more
+pub first-more : (T : Recording) (n : ℕ) (e : Event) → n < length T.events → e ≡ get_or T.events n e → with_event (first_events T n) e ≡ first_events T (n + 1)
+first-more T n e within at =
+    ap (λ (es : List Event). let R : Recording = record { format = T.format; events = es } in R) (ap (λ x. take n T.events ++ x ∷ []) at ∙ sym (take_more T.events n e within))
 
--- one job more
-pub jobs-push : (T : Recording) (jobs : List LineWork) (job : LineWork) (lists : List (List ℕ)) (kept : List ℕ) → (AllByRecursion (IsJob T) jobs → AreLinesKept T (map line_in jobs) lists) →
-    (IsJob T job → IsLineKept T job.line kept) → AllByRecursion (IsJob T) (jobs ++ job ∷ []) → AreLinesKept T (map line_in (jobs ++ job ∷ [])) (lists ++ kept ∷ [])
-jobs-push T jobs job lists kept before last all =
-    let parts = all-front (IsJob T) jobs job all in
-    rw (map-append line_in jobs (job ∷ [])) (lines-push T (map line_in jobs) lists job.line kept (before parts.0) (last parts.1))
+-- and all of them
+pub first-all : (T : Recording) (n : ℕ) → length T.events ≤ n → first_events T n ≡ T
+first-all T n past = ap (λ (es : List Event). let R : Recording = record { format = T.format; events = es } in R) (take_all n T.events past)
 
 -- the numbers of a selection are within the trace
 pub selection-within : (T : Recording) (K : List ℕ) → IsSelection T K → AllByRecursion (λ k. k ≤ length T.events) K
@@ -40,12 +35,20 @@ selection-within T K s = go K (λ k h. s.within k h)
     go [] f = tt
     go (k ∷ ks) f = (f k (inl refl), go ks (λ j h. f j (inr h)))
 
--- a list source whose whole list was taken apart gave the trace
-pub whole-list : (T R : Recording) → IsWhole (rest_of_trace T 0) R → R ≡ T
-whole-list T R whole =
-    ap₂ (λ (f : Layout) (es : List Event). let r : Recording = record { format = f; events = es } in r) (sym (same_Some T.format R.format whole.format)) (sym whole.events)
+flag-at : (flags : List Bool) (i : ℕ) → (get_or flags i false ≡ true) ↔ (slice_get flags i ≡ Some true)
+flag-at [] i = ((λ e. absurd (false≢true e)), (λ e. absurd (cc)))
+flag-at (b ∷ flags) zero = ((λ e. ap Some e), (λ e. same_Some b true e))
+flag-at (b ∷ flags) (suc i) = flag-at flags i
 
--- lean jobs are jobs
-pub jobs-of : (T : Recording) (jobs : List LineWork) → AllByRecursion (IsLeanJob T) jobs → AllByRecursion (IsJob T) jobs
-jobs-of T [] all = tt
-jobs-of T (job ∷ jobs) all = (all.0.0, jobs-of T jobs all.1)
+-- the numbers that are flagged are those that are kept
+pub keep-flagged : (T : Recording) (flags : List Bool) (K : List ℕ) → AreFlags T 0 flags → IsRising 0 K → ((n : ℕ) → Has K n ↔ (is_kept_at flags n ≡ true)) → IsKeep T K
+keep-flagged T flags K are rising marked = record { rising = rising; just = λ n. go n (marked n) }
+  where
+    go : (n : ℕ) → Has K n ↔ (is_kept_at flags n ≡ true) → Has K n ↔ IsKept T n
+    go zero m = ((λ h. absurd (false≢true (m.0 h))), (λ kept. absurd (omega (arith, kept-some T 0 kept))))
+    go (suc i) m =
+        let at = flag-at flags i in
+        let told : (slice_get flags i ≡ Some true) ↔ IsKept T (suc (0 + i)) = are.1 i in
+        let e : 0 + i ≡ i = omega arith in
+        let here : (slice_get flags i ≡ Some true) ↔ IsKept T (suc i) = rw e at told in
+        ((λ h. here.0 (at.0 (m.0 h))), (λ kept. m.1 (at.1 (here.1 kept))))

@@ -122,8 +122,8 @@ impl Pass {
     {
         let place = self.lines.place_of(line)?;
         let count = self.lines.count(line, place);
-        let rises = self.lines.raise(line, place, count);
-        self.marks.push_back(mark_of(rises))?;
+        let mark = mark_of(self.lines.raise(line, place, count));
+        self.marks.push_back(mark)?;
         Ok(())
     }
 

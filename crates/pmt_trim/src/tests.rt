@@ -31,10 +31,11 @@ fn small_traces(rt: HostRuntime) -> Result<(), Fail> {
     let again = Op::store(0x1000, &[2])?;
     let q = Op::store(0x1008, &[2])?;
     let flush = Op::clwb(0x1000)?;
+    let other = Op::clwb(0x1040)?;
     let now = Op::clflush(0x1000)?;
     let asserts = Op::IsPersist(Range::new(0x1000, 1)?);
     let fence = Op::Sfence;
-    let rows: [(&[(u8, Op)], &[u64]); 10] = [
+    let rows: [(&[(u8, Op)], &[u64]); 11] = [
         (&[], &[]),
         (&[(0, p), (0, flush), (0, fence)], &[1, 2, 3]),
         (&[(0, p), (0, flush), (0, flush), (0, fence)], &[1, 3, 4]),
@@ -59,6 +60,8 @@ fn small_traces(rt: HostRuntime) -> Result<(), Fail> {
             &[1, 2, 3],
         ),
         (&[(0, flush), (0, fence)], &[]),
+        // The last flush before the fence is of a line without stores.
+        (&[(0, p), (0, flush), (0, other), (0, fence)], &[1, 2, 4]),
         (
             &[(0, p), (0, flush), (0, q), (1, flush), (0, fence)],
             &[1, 2, 3, 5],
@@ -92,7 +95,7 @@ fn six_threads(rt: HostRuntime) -> Result<(), Fail> {
     Ok(())
 }
 
-// The parts of which trim is made, called one by one.
+// The parts of which the selection of the workers is made, called one by one.
 #[test]
 fn two_lines_by_parts(rt: HostRuntime) -> Result<(), Fail> {
     let alloc = rt.alloc();

@@ -1,23 +1,18 @@
-use Rattle.std.proofs.Common.{◌≡◌, length, map, subst}
-use Rattle.std.specs.Prelude.{Option, IfSome}
-use Rattle.std.specs.List.{AllByRecursion}
-use Rattle.pmt_model.specs.Traces.{Recording, history, lines_of}
-use Rattle.pmt_text.specs.Coming.{Coming}
-use Rattle.pmt_text.specs.ListSources.{rest_of_trace}
-use Rattle.pmt_lines.specs.Splitting.{line_in}
-use Rattle.pmt_lines.specs.Sourcing.{IsWhole}
-use Rattle.pmt_trim.specs.Kept.{IsJob}
-use Rattle.pmt_trim.proofs.TrimmingLemmas.{whole-list, jobs-of}
+use Rattle.pmt_laws.proofs.KeepLemmas.{keep_is_selection}
+use Rattle.pmt_trim.proofs.TrimmingLemmas.{selection-within, keep-flagged}
+use Rattle.pmt_trim.proofs.HeadlineLemmas.{keep-is-trimmed}
 use Rattle.pmt_trim.proofs.trimming.trim.Goals as goal
 
-pub trim_lines-requires : goal.trim_lines-requires
-trim_lines-requires c =
-    let T : Recording = c.args.trace.now in
-    let taken : Recording = c.in-Ok.field-0.trace in
-    let lines = c.in-Ok.field-0.lines.items in
-    let whole : IsWhole (rest_of_trace T 0) taken = subst (λ (o : Option Coming). IfSome o (λ x. IsWhole x taken)) c.new-source.ensures.coming c.in-Ok.ensures.whole in
-    let same : taken ≡ T = whole-list T taken whole in
-    record {
-      covering = subst (λ (R : Recording). map line_in lines ≡ lines_of (history R (length R.events))) same c.in-Ok.ensures.apart.covering;
-      jobs = subst (λ (R : Recording). AllByRecursion (IsJob R) lines) same (jobs-of taken lines c.in-Ok.ensures.apart.jobs);
-    }
+pub select-requires : goal.select-requires
+select-requires c =
+    let T = c.args.trace.now in
+    let just = rw c.as_slice.ensures.value at c.in_ok-selection.ensures.just in
+    let keep = keep-flagged T c.in_ok-kept.kept.items c.in_ok-selection.selection c.in_ok-kept.ensures c.in_ok-selection.ensures.rising just in
+    selection-within T c.in_ok-selection.selection (keep_is_selection T c.in_ok-selection.selection keep)
+
+pub returns : goal.returns
+returns c =
+    let T = c.args.trace.now in
+    let just = rw c.as_slice.ensures.value at c.in_ok-selection.ensures.just in
+    let keep = keep-flagged T c.in_ok-kept.kept.items c.in_ok-selection.selection c.in_ok-kept.ensures c.in_ok-selection.ensures.rising just in
+    keep-is-trimmed T c.in_ok-selection.selection c.in_ok-trimmed.trimmed keep c.in_ok-trimmed.ensures
