@@ -1,8 +1,8 @@
 -- What a line that was found takes from what was coming.
-use Rattle.std.proofs.Common.{◌≡◌, ℕ, ◌+◌, ◌<◌, ◌≤◌, List, [], ◌∷◌, ◌++◌, length, take, drop, get_or, true, false, ◌==◌, Option, Some, None, Ok, Err, refl, sym, ap, ◌∙◌, subst, add-one, append_assoc}
-use Rattle.std.proofs.Math.Seq.{drop-cons}
+use Rattle.std.proofs.Common.{◌≡◌, ℕ, zero, suc, ◌+◌, ◌-◌, ◌<◌, ◌≤◌, List, [], ◌∷◌, ◌++◌, length, take, drop, get_or, true, false, ◌==◌, Option, Some, None, Ok, Err, refl, sym, ap, ap₂, ◌∙◌, subst, arith, add-one, append_assoc, length-append}
+use Rattle.std.proofs.Math.Seq.{drop-cons, take-append_seam}
 use Rattle.std.proofs.lemmas.List.{take-append-drop, nil_from_length}
-use Rattle.std.proofs.lemmas.Bool.{eqb-true}
+use Rattle.std.proofs.lemmas.Bool.{eqb-true, eqb-false}
 use Rattle.pmt_model.specs.declared.event.Event.{Event}
 use Rattle.pmt_model.specs.Values.{Layout}
 use Rattle.pmt_model.specs.Traces.{event_limit}
@@ -14,9 +14,15 @@ use Rattle.pmt_text.specs.declared.line_reader.LineReader.{LineReader}
 use Rattle.pmt_text.specs.declared.line_reader.Found.TheVariants.{End}
 use Rattle.pmt_text.specs.Judging.{line_judged}
 use Rattle.pmt_text.specs.Coming.{format_in, fault_at, rest_fault}
-use Rattle.pmt_text.specs.Lines.{Ahead, ahead, known_ahead, known_of, held, unread, IsLineAt, Finds}
+use Rattle.pmt_text.specs.Lines.{Ahead, ahead, known_ahead, known_of, held, unread, IsLineAt, IsEventAt, Finds}
+use Rattle.pmt_text.specs.OneLine.{IsOneLine}
+use Rattle.pmt_text.specs.Spelled.{IsFirstEvent}
+use Rattle.pmt_text.specs.Spelling.{event_line}
 use Rattle.pmt_text.specs.Sources.{Gives, IsOver, HasFormat, Faults}
 use Rattle.pmt_text.specs.TextSources.{coming_of, coming_from}
+use Rattle.pmt_text.proofs.LineLemmas.{IsFree}
+use Rattle.pmt_text.proofs.SpelledLemmas.{event_line_free, line_judged-event_line}
+use Rattle.pmt_text.proofs.SpelledReading.{line-and-rest}
 use Rattle.pmt_text.proofs.TextLemmas.{coming_now, coming_then, event_taken, event_late, event_refused, events_much, header_taken, header_refused, header_much, events_last, header_last, Gives-kept}
 
 -- the bytes round place n
@@ -24,6 +30,40 @@ cut_list : (xs : List ℕ) (n : ℕ) → n < length xs → get_or xs n 0 ≡ 10 
 cut_list xs n within is =
     let after : drop n xs ≡ 10 ∷ drop (n + 1) xs = drop-cons xs n 0 within ∙ (rw (is, add-one) refl) in
     sym (take-append-drop n xs) ∙ ap (λ l. take n xs ++ l) after
+
+-- no byte is LF, and then LF stands
+one_line-free : (line : List ℕ) → IsFree 10 line → IsOneLine line
+one_line-free [] free k l = absurd (omega arith)
+one_line-free (b ∷ line) free zero l = eqb-false b 10 free.0
+one_line-free (b ∷ line) free (suc k) l = one_line-free line free.1 k (omega arith)
+
+newline-after : (line rest : List ℕ) → get_or (line ++ 10 ∷ rest) (length line) 0 ≡ 10
+newline-after [] rest = refl
+newline-after (b ∷ line) rest = newline-after line rest
+
+pub length-first : (f : Layout) (e : Event) (text rest : List ℕ) → IsFirstEvent f e text rest → length text ≡ length (event_line e) + suc (length rest)
+length-first f e text rest h = ap length (line-and-rest f e text rest h) ∙ length-append (event_line e) (10 ∷ rest)
+
+-- the line that stands first in the piece is judged its event
+pub plain-at : {R : Type 0} (f : Layout) (e : Event) (r : LineReader R) (text rest : List ℕ) → text ≡ unread r.piece → r.front.items ≡ [] → IsFirstEvent f e text rest
+    → IsEventAt f e r (length text - length rest - 1)
+plain-at f e r text rest is none h =
+    let line : List ℕ = event_line e in
+    let free : IsFree 10 line = event_line_free e in
+    let long = length-first f e text rest h in
+    let count : length text - length rest - 1 ≡ length line = omega (arith, long) in
+    let whole : unread r.piece ≡ line ++ 10 ∷ rest = sym is ∙ line-and-rest f e text rest h in
+    let cut : take (length text - length rest - 1) (unread r.piece) ≡ line = ap₂ (λ (n : ℕ) (xs : List ℕ). take n xs) count whole ∙ take-append_seam line (10 ∷ rest) in
+    let found : r.front.items ++ take (length text - length rest - 1) (unread r.piece) ≡ line = ap₂ (λ (xs ys : List ℕ). xs ++ ys) none cut in
+    record {
+      found = record {
+        within = omega (arith, long, ap length is);
+        whole = λ some. none;
+        one_line = subst IsOneLine (sym found) (one_line-free line free);
+        ends = ap₂ (λ (xs : List ℕ) (n : ℕ). get_or xs n 0) whole count ∙ newline-after line rest;
+      };
+      judged = ap (line_judged f) found ∙ line_judged-event_line f e h.0;
+    }
 
 -- some bytes after the last LF
 rest_truncated : (number : ℕ) (front : List ℕ) → (length front == 0) ≡ false → rest_fault false number front ≡ Some (fault_at number Truncated)

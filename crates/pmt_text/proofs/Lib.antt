@@ -12,6 +12,7 @@ pub mod ReaderLemmas
 pub mod NumberWriting
 pub mod LineWriting
 pub mod SpelledLemmas
+pub mod SpelledReading
 pub mod WholeLemmas
 pub mod AheadLemmas
 pub mod ListLemmas

@@ -1,15 +1,18 @@
 -- What the readers of whole texts answer, at each of their returns.
-use Rattle.std.proofs.Common.{◌≡◌, ℕ, ◌+◌, Bool, true, false, ◌==◌, List, [], ◌∷◌, length, Option, Some, None, Ok, Err, refl, sym, ◌∙◌, ap, subst, arith, eqb-true, eq-eqb, true≢false}
+use Rattle.std.proofs.Common.{◌≡◌, ℕ, ◌+◌, Bool, true, false, ◌==◌, List, [], ◌∷◌, length, Option, Some, None, Result, Ok, Err, refl, sym, ◌∙◌, ap, subst, arith, eqb-true, eq-eqb, true≢false}
+use Rattle.std.specs.Borrow.{Bor}
 use Rattle.pmt_model.specs.declared.event.Op.{Op}
+use Rattle.pmt_model.specs.declared.event.Event.{Event}
 use Rattle.pmt_model.specs.Values.{Layout}
 use Rattle.pmt_model.specs.Pushing.{empty}
 use Rattle.pmt_model.specs.Traces.{Recording}
+use Rattle.pmt_text.specs.declared.kind.TextKind.{TextKind}
 use Rattle.pmt_text.specs.declared.kind.TextKind.TheVariants.{Truncated, BadHeader}
 use Rattle.pmt_text.specs.declared.kind.ReadError.{ReadError}
 use Rattle.pmt_text.specs.declared.kind.ReadError.TheVariants as answers
 use Rattle.pmt_text.specs.Judging.{line_judged, script_line_judged}
 use Rattle.pmt_text.specs.Coming.{Items, Coming, text_lines, lines_of_trace, header_then, with_format, fault_at, format_in, trace_coming, judged, script_coming, script_judged, Refuses}
-use Rattle.pmt_text.specs.Texts.{AddsLine, AddsOp, error_at, trace_then, script_then}
+use Rattle.pmt_text.specs.Texts.{AddsJudged, AddsLine, AddsOp, SplitsJudged, error_at, trace_then, script_then}
 use Rattle.pmt_text.proofs.ComingLemmas.{text_lines-nonempty, coming_after-item, coming_after-fault, coming_after-end, coming_after-truncated}
 
 -- a slice without bytes
@@ -21,6 +24,14 @@ pub not_empty : (text : List ℕ) (b : Bool) → b ≡ (length text == 0) → b 
 not_empty text b e t none = true≢false (sym (e ∙ eq-eqb (length text) 0 (ap length none)) ∙ t)
 
 -- ---- Traces
+
+-- the first line is judged in the format of the trace
+pub in_format : (T : Recording) (f : Layout) (judged : Result Event TextKind) (text : List ℕ) (rest : Bor (List ℕ)) → f ≡ T.format → SplitsJudged f (Some (judged, rest)) text → SplitsJudged T.format (Some (judged, rest)) text
+in_format T f judged text rest e h = subst (λ (x : Layout). SplitsJudged x (Some (judged, rest)) text) e h
+
+-- what was judged is of the line
+pub adds-line : (T new : Recording) (line : List ℕ) (judged : Result Event TextKind) (r : Result (Unit {0}) ReadError) → line_judged T.format line ≡ judged → AddsJudged T judged r new → AddsLine T line r new
+adds-line T new line judged r e h = subst (λ (j : Result Event TextKind). AddsJudged T j r new) (sym e) h
 
 -- the event of the line is added
 pub trace_then-line : (T new : Recording) (text line rest : List ℕ) (u : Unit {0}) → text_lines text ≡ line ∷ text_lines rest → AddsLine T line (Ok u) new → trace_then new rest ≡ trace_then T text

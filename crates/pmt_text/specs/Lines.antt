@@ -1,6 +1,8 @@
 -- What a reader of lines still has to give.
 use Rattle.std.specs.Prelude.{◌≡◌, ℕ, ◌+◌, ◌<◌, Bool, true, false, nat_lt, List, [], ◌++◌, length, take, slice_index, slice_range, Option, Some, None, IfSome, option_map, Result, Ok, Err}
 use Rattle.std.specs.Io.KnownBytes.{Consumes, IsAtEnd}
+use Rattle.pmt_model.specs.declared.event.Event.{Event}
+use Rattle.pmt_model.specs.Values.{Layout}
 use Rattle.pmt_text.specs.declared.piece.Piece.{Piece}
 use Rattle.pmt_text.specs.declared.line_reader.LineReader.{LineReader}
 use Rattle.pmt_text.specs.declared.line_reader.Found.{Found}
@@ -8,6 +10,7 @@ use Rattle.pmt_text.specs.declared.line_reader.Found.TheVariants.{Line, End, Mor
 use Rattle.pmt_text.specs.declared.kind.SourceError.{SourceError}
 use Rattle.pmt_text.specs.declared.kind.SourceError.TheVariants.{Text, TooMany, Read, OutOfMemory, Failed}
 use Rattle.pmt_text.specs.Counting.{inner_device}
+use Rattle.pmt_text.specs.Judging.{line_judged}
 use Rattle.pmt_text.specs.OneLine.{IsOneLine}
 
 -- the bytes of a piece that were not taken yet
@@ -41,6 +44,11 @@ module _ {R : Type 0} where
     pub whole : 0 < len → r.front.items ≡ []
     pub one_line : IsOneLine (r.front.items ++ take len (unread r.piece))
     pub ends : slice_index (unread r.piece) len ≡ 10
+
+  -- that line is judged this event
+  pub record IsEventAt (f : Layout) (e : Event) (r : LineReader R) (len : ℕ) : Type 0 where
+    pub found : IsLineAt r len
+    pub judged : line_judged f (r.front.items ++ take len (unread r.piece)) ≡ Ok e
 
 -- the first LF stands in this place
 pub record LineEndsAt (bytes : List ℕ) (len : ℕ) : Type 0 where

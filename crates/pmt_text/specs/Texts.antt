@@ -4,6 +4,7 @@ use Rattle.std.specs.Borrow.{Bor}
 use Rattle.pmt_model.specs.declared.event.Op.{Op}
 use Rattle.pmt_model.specs.declared.event.Event.{Event}
 use Rattle.pmt_model.specs.Pushing.{with_event}
+use Rattle.pmt_model.specs.Values.{Layout}
 use Rattle.pmt_model.specs.Traces.{Recording, event_limit}
 use Rattle.pmt_text.specs.declared.kind.TextKind.{TextKind}
 use Rattle.pmt_text.specs.declared.kind.TextKind.TheVariants.{TooManyEvents}
@@ -18,6 +19,11 @@ abbrev pub SplitsLine : Option (Bor (List ℕ) × Bor (List ℕ)) → List ℕ �
 SplitsLine None text = text_lines text ≡ text ∷ []
 SplitsLine (Some p) text = (text_lines text ≡ p.0.now ∷ text_lines p.1.now) × (length p.1.now < length text)
 
+-- The first line, as it is judged, and what stands after its LF, or no LF.
+abbrev pub SplitsJudged : Layout → Option (Result Event TextKind × Bor (List ℕ)) → List ℕ → Type 0
+SplitsJudged f None text = text_lines text ≡ text ∷ []
+SplitsJudged f (Some p) text = (line : List ℕ) × (text_lines text ≡ line ∷ text_lines p.1.now) × (line_judged f line ≡ p.0) × (length p.1.now < length text)
+
 abbrev pub error_at : ℕ → TextKind → TextError
 error_at line kind = record { line = line; kind = kind }
 
@@ -26,11 +32,14 @@ abbrev pub IsLineFault : {A : Type 0} → Result A TextKind → ℕ → ℕ → 
 IsLineFault (Err kind) first before f = f ≡ error_at (first + before) kind
 IsLineFault (Ok x) first before f = (event_limit ≤ before) × (f ≡ error_at (first + before) TooManyEvents)
 
--- The line's event is added to the trace, or the line's fault is told.
+-- The event of a line that was judged is added to the trace, or the line's fault is told.
+abbrev pub AddsJudged : Recording → Result Event TextKind → Result (Unit {0}) ReadError → Recording → Type 0
+AddsJudged T judged (Ok u) new = (e : Event) × (judged ≡ Ok e) × (length T.events < event_limit) × (new ≡ with_event T e)
+AddsJudged T judged (Err (Text f)) new = IsLineFault judged 2 (length T.events) f
+AddsJudged T judged (Err OutOfMemory) new = Unit {0}
+
 abbrev pub AddsLine : Recording → List ℕ → Result (Unit {0}) ReadError → Recording → Type 0
-AddsLine T line (Ok u) new = (e : Event) × (line_judged T.format line ≡ Ok e) × (length T.events < event_limit) × (new ≡ with_event T e)
-AddsLine T line (Err (Text f)) new = IsLineFault (line_judged T.format line) 2 (length T.events) f
-AddsLine T line (Err OutOfMemory) new = Unit {0}
+AddsLine T line = AddsJudged T (line_judged T.format line)
 
 -- The line's op is added to the script, or the line's fault is told.
 abbrev pub AddsOp : List Op → List ℕ → Result (Unit {0}) ReadError → List Op → Type 0

@@ -17,6 +17,7 @@ pub mod number;
 pub(crate) mod piece;
 pub mod script_input;
 pub mod source;
+pub(crate) mod spelled;
 pub mod text;
 pub(crate) mod text_events;
 pub mod text_source;

@@ -1,4 +1,4 @@
-ghost use Rattle.std.specs.Prelude.{◌≡◌, ◌+◌, ◌-◌, ◌^◌, ◌<◌, ◌≤◌, [], ◌++◌, length, take, drop, OnOk, OnErr, IfErr, ◌==◌};
+ghost use Rattle.std.specs.Prelude.{◌≡◌, ◌+◌, ◌-◌, ◌^◌, ◌<◌, ◌≤◌, [], ◌++◌, length, take, drop, OnOk, OnErr, IfErr, IfSome, ◌==◌};
 ghost use Rattle.pmt_text.specs.Counting.{inner_device, failure_count};
 ghost use Rattle.pmt_text.specs.OneLine.{IsOneLine};
 ghost use Rattle.pmt_text.specs.Sources.{read_faults};
@@ -6,7 +6,9 @@ ghost use Rattle.pmt_text.specs.Sources.{read_faults};
 use crate::counted::Counted;
 use crate::kind::SourceError;
 use crate::piece::Piece;
+use crate::spelled::first_event;
 use bstr::ByteSlice;
+use pmt_model::{Event, Format};
 use std::alloc::Global;
 use std::io::Read;
 
@@ -37,7 +39,7 @@ pub(crate) enum Found {
 
 impl<R> LineReader<R> {
     ghost use Rattle.std.specs.Prelude.{Some, slice_index};
-    ghost use Rattle.pmt_text.specs.Lines.{unread, held, IsLineAt};
+    ghost use Rattle.pmt_text.specs.Lines.{unread, held, IsEventAt, IsLineAt};
 
     pub(crate) fn new(alloc: Global, input: Counted<R>) -> Self
         ensures input { result.input ≡ input }
@@ -80,6 +82,25 @@ impl<R> LineReader<R> {
             &self.piece.as_slice()[..len]
         } else {
             self.front.as_slice()
+        }
+    }
+
+    // The event of the line at the front of the piece, where no front waits and that is plain in one pass, and the line's length.
+    #[inline(always)]
+    pub(crate) fn plain_event(&self, format: Format) -> Option<(Event, usize)>
+        ensures { IfSome result (λ p. IsEventAt format p.0 self.now p.1) }
+    {
+        if !self.front.is_empty() {
+            return None;
+        }
+        let piece = self.piece.as_slice();
+        match first_event(format, piece) {
+            Some((event, rest)) => {
+                let len = piece.len() - rest.len() - 1;
+                let Event { thread, op } = event;
+                Some((Event { thread, op }, len))
+            }
+            None => None,
         }
     }
 

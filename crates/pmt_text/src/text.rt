@@ -1,12 +1,14 @@
-ghost use Rattle.std.specs.Prelude.{◌≡◌, length};
+ghost use Rattle.std.specs.Prelude.{◌≡◌, length, IfOk, IfSome};
+ghost use Rattle.pmt_model.specs.Traces.{IsEventIn};
 ghost use Rattle.pmt_text.specs.Coming.{GivesScript, GivesTrace, judged, script_judged};
-ghost use Rattle.pmt_text.specs.Texts.{AddsLine, AddsOp, SplitsLine, error_at, script_then, trace_then};
+ghost use Rattle.pmt_text.specs.Texts.{AddsJudged, AddsOp, SplitsJudged, SplitsLine, error_at, script_then, trace_then};
 
 use crate::header::judge_header;
 use crate::kind::{ReadError, TextError, TextKind};
 use crate::line::{judge_line, judge_script_line};
+use crate::spelled::first_event;
 use bstr::ByteSlice;
-use pmt_model::{Event, Op, PushError, Trace};
+use pmt_model::{Event, Format, Op, PushError, Trace};
 use std::alloc::Global;
 
 /// The trace whose text this is.
@@ -59,13 +61,28 @@ fn fault_at(line: u64, kind: TextKind) -> ReadError
     ReadError::Text(TextError { line, kind })
 }
 
+/// The event of the first line, or its fault, and what stands after its LF; none where there is no LF.
+#[inline(always)]
+fn first_judged(format: Format, text: &[u8]) -> Option<(Result<Event, TextKind>, &[u8])>
+    ensures first { SplitsJudged format result text.now }
+    ensures in_format { IfSome result (λ p. IfOk p.0 (IsEventIn format)) }
+{
+    if let Some((event, rest)) = first_event(format, text) {
+        return Some((Ok(event), rest));
+    }
+    match split_line(text) {
+        Some((line, rest)) => Some((judge_line(format, line), rest)),
+        None => None,
+    }
+}
+
 /// The trace with the events of the lines after it.
 fn read_events(mut trace: Trace, text: &[u8]) -> Result<Trace, ReadError>
     ensures { GivesTrace result (trace_then trace text.now) }
 {
     let mut rest = text;
-    while let Some((line, after)) = split_line(rest) {
-        push_line(&mut trace, line)?;
+    while let Some((judged, after)) = first_judged(trace.format(), rest) {
+        push_judged(&mut trace, judged)?;
         rest = after;
     }
     if !rest.is_empty() {
@@ -74,13 +91,14 @@ fn read_events(mut trace: Trace, text: &[u8]) -> Result<Trace, ReadError>
     Ok(trace)
 }
 
-/// Adds the event of the line.
-#[inline]
-fn push_line(trace: &mut Trace, line: &[u8]) -> Result<(), ReadError>
-    ensures { AddsLine trace.old line.now result trace.new }
+/// Adds the event of a line that was judged.
+#[inline(always)]
+fn push_judged(trace: &mut Trace, judged: Result<Event, TextKind>) -> Result<(), ReadError>
+    requires { IfOk judged (IsEventIn trace.old.format) }
+    ensures { AddsJudged trace.old judged result trace.new }
 {
     let number = 2 + trace.len() as u64;
-    let event = match judge_line(trace.format(), line) {
+    let event = match judged {
         Ok(event) => event,
         Err(kind) => return Err(fault_at(number, kind)),
     };

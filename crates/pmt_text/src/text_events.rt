@@ -2,7 +2,7 @@
 ghost use Rattle.std.specs.Prelude.{◌≡◌, ◌≢◌, ◌+◌, ◌-◌, ◌^◌, ◌<◌, ◌≤◌, Some, None, IfOk, IfErr, OnSome};
 ghost use Rattle.pmt_model.specs.Traces.{event_limit};
 ghost use Rattle.pmt_text.specs.Counting.{failure_count};
-ghost use Rattle.pmt_text.specs.Lines.{IsLineAt};
+ghost use Rattle.pmt_text.specs.Lines.{IsEventAt, IsLineAt};
 ghost use Rattle.pmt_text.specs.Sources.{TakesNext, IsGivenIn, IsOfFirstLine, IsOfLaterLine, read_faults};
 ghost use Rattle.pmt_text.specs.TextSources.{coming_from, given_after, TakesHeader};
 ghost use Rattle.pmt_text.specs.Coming.{fault_at};
@@ -37,6 +37,9 @@ pub(crate) fn next_event<R: Read>(
     ensures open { IfErr result (λ e. e ≢ SourceError.Failed) }
     ensures failures { failure_count lines.new.input ≡ failure_count lines.old.input + read_faults result }
 {
+    if let Some((event, len)) = lines.plain_event(format) {
+        return give_event(lines, len, format, given, event);
+    }
     match lines.find_line() {
         Ok(Found::Line(len)) => take_event(lines, len, format, given),
         Ok(Found::End) => {
@@ -67,17 +70,38 @@ fn take_event<R: Read>(
     ensures open { IfErr result (λ e. e ≢ SourceError.Failed) }
     ensures failures { failure_count lines.new.input ≡ failure_count lines.old.input + read_faults result }
 {
-    let judged = judge_line(format, lines.line(len));
-    lines.skip_line(len);
-    match judged {
-        Ok(event) => {
-            if given == EVENT_LIMIT {
-                return Err(fault(2 + given, TextKind::TooManyEvents));
-            }
-            Ok(Some(event))
+    match judge_line(format, lines.line(len)) {
+        Ok(event) => give_event(lines, len, format, given, event),
+        Err(kind) => {
+            lines.skip_line(len);
+            Err(fault(2 + given, kind))
         }
-        Err(kind) => Err(fault(2 + given, kind)),
     }
+}
+
+// Takes the line, which was judged the event.
+#[inline(always)]
+fn give_event<R: Read>(
+    lines: &mut LineReader<R>,
+    len: usize,
+    format: Format,
+    given: u64,
+    event: Event,
+) -> Result<Option<Event>, SourceError>
+    requires found { IsEventAt format event lines.old len }
+    requires few { given ≤ event_limit }
+    ensures taken { TakesNext (coming_from R.remaining (Some format) given lines.old) result (coming_from R.remaining (Some format) (given_after given result) lines.new) }
+    ensures in_format { IsGivenIn (Some format) result }
+    ensures below { IfOk result (λ o. OnSome o (given < event_limit)) }
+    ensures later_line { IfErr result (IsOfLaterLine (Some format)) }
+    ensures open { IfErr result (λ e. e ≢ SourceError.Failed) }
+    ensures failures { failure_count lines.new.input ≡ failure_count lines.old.input + read_faults result }
+{
+    lines.skip_line(len);
+    if given == EVENT_LIMIT {
+        return Err(fault(2 + given, TextKind::TooManyEvents));
+    }
+    Ok(Some(event))
 }
 
 /// The format that the first line tells.

@@ -3,8 +3,8 @@ use Rattle.std.proofs.Common.{◌≡◌, length}
 use Rattle.pmt_text.specs.Texts.{trace_then}
 use Rattle.pmt_text.proofs.text.read_events.Given as goal
 
-abbrev pub invariant-loop-line : goal.invariant-loop-line
-invariant-loop-line l = trace_then l.trace l.rest ≡ trace_then l.fn.trace l.fn.text
+abbrev pub invariant-loop-judged : goal.invariant-loop-judged
+invariant-loop-judged l = trace_then l.trace l.rest ≡ trace_then l.fn.trace l.fn.text
 
-abbrev pub decreases-loop-line : goal.decreases-loop-line
-decreases-loop-line l = length l.rest
+abbrev pub decreases-loop-judged : goal.decreases-loop-judged
+decreases-loop-judged l = length l.rest

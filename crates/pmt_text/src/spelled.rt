@@ -1,0 +1,306 @@
+//! One pass over the bytes of a line that is spelled rightly. Where a line is not, or where that is not plain at once, these answer
+//! `None`, and the line is judged.
+ghost use Rattle.std.specs.Prelude.{◌≡◌, ◌∷◌, ◌++◌, ◌≤◌, length, take, IfOk, IfSome};
+ghost use Rattle.pmt_text.specs.Reading.{IsBase};
+ghost use Rattle.pmt_text.specs.Spelled.{IsAfterWord, IsFirstEvent, spelled_span};
+ghost use Rattle.pmt_text.specs.Spelling.{address, event_text, hex_bytes, numeral};
+
+use crate::number::digit;
+use crate::word::Word;
+use pmt_model::{Event, Format, Op, OpError, Range};
+
+/// A number below this takes one more digit of base 16 and stays below 2^48.
+const DIGIT_LIMIT: u64 = 1 << 44;
+
+/// The number at the front, and what stands after it.
+#[inline(always)]
+fn take_number(base: u64, text: &[u8]) -> Option<(u64, &[u8])>
+    requires { IsBase base }
+    ensures { IfSome result (λ p. text.now ≡ numeral base p.0 ++ p.1.now) }
+{
+    if text.is_empty() {
+        return None;
+    }
+    if text[0] == b'0' {
+        return Some((0, &text[1..]));
+    }
+    let mut number: u64 = 0;
+    let mut at = 0;
+    while at < text.len() && number < DIGIT_LIMIT {
+        let digit = digit(text[at]);
+        if digit >= base {
+            break;
+        }
+        number = number * base + digit;
+        at += 1;
+    }
+    if at == 0 {
+        return None;
+    }
+    Some((number, &text[at..]))
+}
+
+/// What stands after the word at the front.
+#[inline(always)]
+fn take_word<'a>(word: &[u8], text: &'a [u8]) -> Option<&'a [u8]>
+    ensures { IfSome result (λ rest. text.now ≡ word.now ++ rest.now) }
+{
+    if text.len() < word.len() {
+        return None;
+    }
+    for i in 0..word.len() {
+        if text[i] != word[i] {
+            return None;
+        }
+    }
+    Some(&text[word.len()..])
+}
+
+/// The address at the front, and what stands after it.
+#[inline(always)]
+fn take_address(text: &[u8]) -> Option<(u64, &[u8])>
+    ensures { IfSome result (λ p. text.now ≡ address p.0 ++ p.1.now) }
+{
+    take_number(16, take_word(b"0x", text)?)
+}
+
+/// What stands after the space at the front.
+#[inline(always)]
+fn take_space(text: &[u8]) -> Option<&[u8]>
+    ensures { IfSome result (λ rest. text.now ≡ 32 ∷ rest.now) }
+{
+    match text {
+        [b' ', rest @ ..] => Some(rest),
+        _ => None,
+    }
+}
+
+/// What stands after the LF at the front.
+#[inline(always)]
+fn take_end(text: &[u8]) -> Option<&[u8]>
+    ensures { IfSome result (λ rest. text.now ≡ 10 ∷ rest.now) }
+{
+    match text {
+        [b'\n', rest @ ..] => Some(rest),
+        _ => None,
+    }
+}
+
+/// The thread at the front, and what stands after it.
+#[inline(always)]
+fn take_thread(text: &[u8]) -> Option<(u8, &[u8])>
+    ensures { IfSome result (λ p. text.now ≡ numeral 10 p.0 ++ p.1.now) }
+{
+    let (number, rest) = take_number(10, text)?;
+    if number < 256 {
+        Some((number as u8, rest))
+    } else {
+        None
+    }
+}
+
+/// The bytes at the front, at most 8, which are put at the front of `out`: how many, and what stands after them.
+#[inline(always)]
+fn take_bytes<'a>(text: &'a [u8], out: &mut [u8; 8]) -> (usize, &'a [u8])
+    ensures given { text.now ≡ hex_bytes (take result.0 out.new) ++ result.1.now }
+    ensures few { result.0 ≤ 8 }
+    ensures eight { length out.new ≡ 8 }
+{
+    let mut count = 0;
+    while count < 8 && 2 * count + 1 < text.len() {
+        let high = digit(text[2 * count]);
+        let low = digit(text[2 * count + 1]);
+        if high == 16 || low == 16 {
+            break;
+        }
+        out[count] = (16 * high + low) as u8;
+        count += 1;
+    }
+    (count, &text[2 * count..])
+}
+
+/// The address and the length at the front, and what stands after them.
+#[inline(always)]
+fn take_span(text: &[u8]) -> Option<((u64, u64), &[u8])>
+    ensures { IfSome result (λ p. text.now ≡ spelled_span p.0.0 p.0.1 ++ p.1.now) }
+{
+    let (addr, text) = take_address(text)?;
+    let text = take_space(text)?;
+    let (len, text) = take_number(10, text)?;
+    Some(((addr, len), text))
+}
+
+/// The isPersist of the span.
+fn persist_of(addr: u64, len: u64) -> Result<Op, OpError>
+    ensures { IfOk result (λ op. op ≡ Op.IsPersist (record { addr = addr; len = len })) }
+{
+    let range = Range::new(addr, len)?;
+    Ok(Op::IsPersist(range))
+}
+
+/// The isOrderedBefore of the spans.
+fn ordered_of(addr: u64, len: u64, later_addr: u64, later_len: u64) -> Result<Op, OpError>
+    ensures { IfOk result (λ op. op ≡ Op.IsOrderedBefore (record { addr = addr; len = len }) (record { addr = later_addr; len = later_len })) }
+{
+    let first = Range::new(addr, len)?;
+    let second = Range::new(later_addr, later_len)?;
+    Ok(Op::IsOrderedBefore(first, second))
+}
+
+/// The event of a store after its word, and what stands after the line.
+#[inline(always)]
+fn after_store(text: &[u8]) -> Option<(Event, &[u8])>
+    ensures { IfSome result (λ p. IsAfterWord Word.Store text.now p.0 p.1.now) }
+{
+    let (thread, text) = take_thread(text)?;
+    let (addr, text) = take_address(take_space(text)?)?;
+    let mut bytes = [0; 8];
+    let (len, text) = take_bytes(take_space(text)?, &mut bytes);
+    let text = take_end(text)?;
+    match Op::store(addr, &bytes[..len]) {
+        Ok(op) => Some((Event { thread, op }, text)),
+        Err(_) => None,
+    }
+}
+
+/// The event of a clwb after its word, and what stands after the line.
+#[inline(always)]
+fn after_clwb(text: &[u8]) -> Option<(Event, &[u8])>
+    ensures { IfSome result (λ p. IsAfterWord Word.Clwb text.now p.0 p.1.now) }
+{
+    let (thread, text) = take_thread(text)?;
+    let (addr, text) = take_address(take_space(text)?)?;
+    let text = take_end(text)?;
+    match Op::clwb(addr) {
+        Ok(op) => Some((Event { thread, op }, text)),
+        Err(_) => None,
+    }
+}
+
+/// The event of a clflushopt after its word, and what stands after the line.
+fn after_clflushopt(text: &[u8]) -> Option<(Event, &[u8])>
+    ensures { IfSome result (λ p. IsAfterWord Word.ClflushOpt text.now p.0 p.1.now) }
+{
+    let (thread, text) = take_thread(text)?;
+    let (addr, text) = take_address(take_space(text)?)?;
+    let text = take_end(text)?;
+    match Op::clflushopt(addr) {
+        Ok(op) => Some((Event { thread, op }, text)),
+        Err(_) => None,
+    }
+}
+
+/// The event of a clflush after its word, and what stands after the line.
+fn after_clflush(text: &[u8]) -> Option<(Event, &[u8])>
+    ensures { IfSome result (λ p. IsAfterWord Word.Clflush text.now p.0 p.1.now) }
+{
+    let (thread, text) = take_thread(text)?;
+    let (addr, text) = take_address(take_space(text)?)?;
+    let text = take_end(text)?;
+    match Op::clflush(addr) {
+        Ok(op) => Some((Event { thread, op }, text)),
+        Err(_) => None,
+    }
+}
+
+/// The event of an sfence after its word, and what stands after the line.
+#[inline(always)]
+fn after_sfence(text: &[u8]) -> Option<(Event, &[u8])>
+    ensures { IfSome result (λ p. IsAfterWord Word.Sfence text.now p.0 p.1.now) }
+{
+    let (thread, text) = take_thread(text)?;
+    let text = take_end(text)?;
+    let op = Op::Sfence;
+    Some((Event { thread, op }, text))
+}
+
+/// The event of an mfence after its word, and what stands after the line.
+fn after_mfence(text: &[u8]) -> Option<(Event, &[u8])>
+    ensures { IfSome result (λ p. IsAfterWord Word.Mfence text.now p.0 p.1.now) }
+{
+    let (thread, text) = take_thread(text)?;
+    let text = take_end(text)?;
+    let op = Op::Mfence;
+    Some((Event { thread, op }, text))
+}
+
+/// The event of an isPersist after its word, and what stands after the line.
+fn after_persist(text: &[u8]) -> Option<(Event, &[u8])>
+    ensures { IfSome result (λ p. IsAfterWord Word.IsPersist text.now p.0 p.1.now) }
+{
+    let (thread, text) = take_thread(text)?;
+    let ((addr, len), text) = take_span(take_space(text)?)?;
+    let text = take_end(text)?;
+    match persist_of(addr, len) {
+        Ok(op) => Some((Event { thread, op }, text)),
+        Err(_) => None,
+    }
+}
+
+/// The event of an isOrderedBefore after its word, and what stands after the line.
+fn after_ordered(text: &[u8]) -> Option<(Event, &[u8])>
+    ensures { IfSome result (λ p. IsAfterWord Word.IsOrderedBefore text.now p.0 p.1.now) }
+{
+    let (thread, text) = take_thread(text)?;
+    let ((addr, len), text) = take_span(take_space(text)?)?;
+    let ((later_addr, later_len), text) = take_span(take_space(text)?)?;
+    let text = take_end(text)?;
+    match ordered_of(addr, len, later_addr, later_len) {
+        Ok(op) => Some((Event { thread, op }, text)),
+        Err(_) => None,
+    }
+}
+
+/// The event of the line at the front, and what stands after its LF.
+#[inline(always)]
+fn take_event(text: &[u8]) -> Option<(Event, &[u8])>
+    ensures { IfSome result (λ p. text.now ≡ event_text p.0 ++ p.1.now) }
+{
+    if let Some(rest) = take_word(b"store ", text) {
+        return after_store(rest);
+    }
+    if let Some(rest) = take_word(b"clwb ", text) {
+        return after_clwb(rest);
+    }
+    if let Some(rest) = take_word(b"sfence ", text) {
+        return after_sfence(rest);
+    }
+    take_other(text)
+}
+
+/// As `take_event`, of the words that are rarer.
+fn take_other(text: &[u8]) -> Option<(Event, &[u8])>
+    ensures { IfSome result (λ p. text.now ≡ event_text p.0 ++ p.1.now) }
+{
+    if let Some(rest) = take_word(b"isPersist ", text) {
+        return after_persist(rest);
+    }
+    if let Some(rest) = take_word(b"isOrderedBefore ", text) {
+        return after_ordered(rest);
+    }
+    if let Some(rest) = take_word(b"clflushopt ", text) {
+        return after_clflushopt(rest);
+    }
+    if let Some(rest) = take_word(b"clflush ", text) {
+        return after_clflush(rest);
+    }
+    if let Some(rest) = take_word(b"mfence ", text) {
+        return after_mfence(rest);
+    }
+    None
+}
+
+/// The event of the line at the front, where it is one of the format and that is plain in one pass, and what stands after its LF.
+#[inline(always)]
+pub(crate) fn first_event(format: Format, text: &[u8]) -> Option<(Event, &[u8])>
+    ensures { IfSome result (λ p. IsFirstEvent format p.0 text.now p.1.now) }
+{
+    let Some((event, rest)) = take_event(text) else {
+        return None;
+    };
+    if !event.is_in(format) {
+        return None;
+    }
+    let Event { thread, op } = event;
+    Some((Event { thread, op }, rest))
+}
