@@ -1,5 +1,5 @@
 #!/usr/bin/env bash
-# Builds what is measured, where that is needed, and prints the table of run.py and the times of recording.py: bench/run.sh [--events N] [KIND ..]
+# Builds what is measured, where that is needed, and prints the table of run.py and the times of recording.py and hostile.py: bench/run.sh [--events N] [KIND ..]
 set -eu
 cd "$(dirname "$0")/.."
 ./pmtrim --version > /dev/null
@@ -16,3 +16,4 @@ build text_bench pmt_text pmt_model
 build worker_bench pmt_workers pmt_trim pmt_asserts pmt_findings pmt_lines pmt_marks pmt_text pmt_model
 python3 bench/run.py "$@"
 python3 bench/recording.py crates/pmtrim/out/pmtrim
+python3 bench/hostile.py crates/pmtrim/out/pmtrim

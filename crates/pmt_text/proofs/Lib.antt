@@ -11,6 +11,7 @@ pub mod ComingLemmas
 pub mod ReaderLemmas
 pub mod NumberWriting
 pub mod LineWriting
+pub mod LinePutting
 pub mod SpelledLemmas
 pub mod SpelledReading
 pub mod WholeLemmas

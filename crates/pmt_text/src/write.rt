@@ -1,11 +1,15 @@
-ghost use Rattle.std.specs.Prelude.{◌≡◌, ◌++◌, ◌∷◌, [], ◌<◌, IfOk, OnOk, length};
-ghost use Rattle.std.specs.List.{flat_map};
+ghost use Rattle.std.specs.Prelude.{◌≡◌, ◌++◌, ◌∷◌, [], IfOk, OnOk};
 ghost use Rattle.pmt_text.specs.Reading.{IsBase};
-ghost use Rattle.pmt_text.specs.Spelling.{address, arguments_of, event_text, glyph as glyph_of, header, hex_bytes, numeral, spelling, word_of, word_text};
-ghost use Rattle.pmt_text.specs.Writing.{spaced};
+ghost use Rattle.pmt_text.specs.Spelling.{event_text, header, numeral, spelling};
 
-use pmt_model::{Addr, Event, Format, Op, OutOfMemory, Range, Trace};
+use crate::line_text::{LINE_ROOM, glyph, spell_line};
+use pmt_model::{Event, Format, OutOfMemory, Trace};
 use std::alloc::Global;
+
+/// The most bytes of a header, and of an event's line, with their LF.
+const HEADER_SIZE: usize = 14;
+
+const LINE_SIZE: usize = 60;
 
 /// The one text of the trace.
 ///
@@ -14,10 +18,11 @@ use std::alloc::Global;
 pub fn write_trace(alloc: Global, trace: &Trace) -> Result<Vec<u8>, OutOfMemory>
     ensures { IfOk result (λ text. text.items ≡ spelling trace.now) }
 {
-    let mut text = Vec::new(alloc);
+    let mut text = Vec::with_capacity(alloc, HEADER_SIZE + LINE_SIZE * trace.len())?;
     push_header(&mut text, trace.format())?;
+    let mut line = [0; LINE_ROOM];
     for event in trace.events() {
-        push_event(&mut text, event)?;
+        push_event(&mut text, &mut line, event)?;
     }
     Ok(text)
 }
@@ -30,7 +35,8 @@ pub fn write_event(alloc: Global, event: Event) -> Result<Vec<u8>, OutOfMemory>
     ensures { IfOk result (λ text. text.items ≡ event_text event) }
 {
     let mut text = Vec::new(alloc);
-    push_event(&mut text, &event)?;
+    let mut line = [0; LINE_ROOM];
+    push_event(&mut text, &mut line, &event)?;
     Ok(text)
 }
 
@@ -47,102 +53,17 @@ fn push_header(text: &mut Vec<u8>, format: Format) -> Result<(), OutOfMemory>
     Ok(())
 }
 
-/// Adds the line of the event.
-fn push_event(text: &mut Vec<u8>, event: &Event) -> Result<(), OutOfMemory>
+/// Adds the line of the event, which is spelled in the buffer.
+#[inline(always)]
+fn push_event(
+    text: &mut Vec<u8>,
+    line: &mut [u8; LINE_ROOM],
+    event: &Event,
+) -> Result<(), OutOfMemory>
     ensures { OnOk result (text.new.items ≡ text.old.items ++ event_text event.now) }
 {
-    push_word(text, &event.op)?;
-    push_count(text, event.thread as u64)?;
-    push_arguments(text, &event.op)?;
-    text.push(b'\n')?;
-    Ok(())
-}
-
-/// Adds the word of the op.
-fn push_word(text: &mut Vec<u8>, op: &Op) -> Result<(), OutOfMemory>
-    ensures { OnOk result (text.new.items ≡ text.old.items ++ word_text (word_of op.now)) }
-{
-    match op {
-        Op::Store(_) => text.extend_from_slice(b"store"),
-        Op::Clwb(_) => text.extend_from_slice(b"clwb"),
-        Op::ClflushOpt(_) => text.extend_from_slice(b"clflushopt"),
-        Op::Clflush(_) => text.extend_from_slice(b"clflush"),
-        Op::Sfence => text.extend_from_slice(b"sfence"),
-        Op::Mfence => text.extend_from_slice(b"mfence"),
-        Op::IsPersist(_) => text.extend_from_slice(b"isPersist"),
-        Op::IsOrderedBefore(_, _) => text.extend_from_slice(b"isOrderedBefore"),
-    }
-}
-
-/// Adds what the line has after the thread, each field behind a space.
-fn push_arguments(text: &mut Vec<u8>, op: &Op) -> Result<(), OutOfMemory>
-    ensures { OnOk result (text.new.items ≡ text.old.items ++ spaced (arguments_of op.now)) }
-{
-    match op {
-        Op::Store(store) => {
-            push_address(text, store.addr())?;
-            push_bytes(text, store.bytes())
-        }
-        Op::Clwb(addr) => push_address(text, *addr),
-        Op::ClflushOpt(addr) => push_address(text, *addr),
-        Op::Clflush(addr) => push_address(text, *addr),
-        Op::Sfence => Ok(()),
-        Op::Mfence => Ok(()),
-        Op::IsPersist(range) => push_range(text, range),
-        Op::IsOrderedBefore(first, second) => {
-            push_range(text, first)?;
-            push_range(text, second)
-        }
-    }
-}
-
-/// Adds the address and the length of the range, each behind a space.
-fn push_range(text: &mut Vec<u8>, range: &Range) -> Result<(), OutOfMemory>
-    ensures { OnOk result (text.new.items ≡ text.old.items ++ spaced (address range.now.addr ∷ numeral 10 range.now.len ∷ [])) }
-{
-    push_address(text, range.addr())?;
-    push_count(text, range.len())
-}
-
-/// Adds a space and the address.
-fn push_address(text: &mut Vec<u8>, addr: Addr) -> Result<(), OutOfMemory>
-    ensures { OnOk result (text.new.items ≡ text.old.items ++ (32 ∷ address addr)) }
-{
-    text.extend_from_slice(b" 0x")?;
-    push_number(text, 16, addr.get())
-}
-
-/// Adds a space and the number in base 10.
-fn push_count(text: &mut Vec<u8>, number: u64) -> Result<(), OutOfMemory>
-    ensures { OnOk result (text.new.items ≡ text.old.items ++ (32 ∷ numeral 10 number)) }
-{
-    text.push(b' ')?;
-    push_number(text, 10, number)
-}
-
-/// Adds a space and two digits for each of the bytes.
-fn push_bytes(text: &mut Vec<u8>, bytes: &[u8]) -> Result<(), OutOfMemory>
-    ensures { OnOk result (text.new.items ≡ text.old.items ++ (32 ∷ hex_bytes bytes.now)) }
-{
-    text.push(b' ')?;
-    for byte in bytes {
-        text.push(glyph((*byte / 16) as u64))?;
-        text.push(glyph((*byte % 16) as u64))?;
-    }
-    Ok(())
-}
-
-/// The character of a digit: 0 to 9, and then a to f.
-#[inline]
-fn glyph(digit: u64) -> u8
-    requires { digit < 16 }
-    ensures { result ≡ glyph_of digit }
-{
-    if digit < 10 {
-        b'0' + digit as u8
-    } else {
-        87 + digit as u8
-    }
+    let at = spell_line(line, event);
+    text.extend_from_slice(&line[at..])
 }
 
 /// Adds the number in base 10 or 16, with no leading zero.

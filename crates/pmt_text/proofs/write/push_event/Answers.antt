@@ -1,7 +1,8 @@
--- The word, the thread, the other fields and LF.
-use Rattle.std.proofs.Common.{rules, append_assoc}
-use Rattle.pmt_text.proofs.LineWriting.{event_text-parts}
+-- What stands in the buffer from there on is the line.
+use Rattle.std.proofs.Common.{rules}
+use Rattle.std.proofs.lemmas.List.{take_rest}
+use Rattle.pmt_text.proofs.LinePutting.{whole-line}
 use Rattle.pmt_text.proofs.write.push_event.Goals as goal
 
 pub returns : goal.returns
-returns c = rw (event_text-parts c.args.event.now) (search (rules, append_assoc))
+returns c = rw (← whole-line c.spell_line-at.ensures (search rules)) (search (rules, take_rest))

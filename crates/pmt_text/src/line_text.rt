@@ -1,0 +1,175 @@
+//! The line of an event, spelled from its end to its front: so the digits of a number come in the order in which division gives
+//! them, and what is spelled lies at the end of the buffer.
+ghost use Rattle.std.specs.Prelude.{◌≡◌, ◌∷◌, ◌+◌, [], ◌≤◌, ◌<◌, length};
+ghost use Rattle.pmt_text.specs.LineTexts.{Puts};
+ghost use Rattle.pmt_text.specs.Reading.{IsBase};
+ghost use Rattle.pmt_text.specs.Spelling.{address, arguments_of, event_text, glyph as glyph_of, hex_bytes, numeral, word_of, word_text};
+ghost use Rattle.pmt_text.specs.Writing.{spaced};
+
+use pmt_model::{Addr, Event, Op, Range};
+
+/// Room for every line of an event.
+pub(crate) const LINE_ROOM: usize = 128;
+
+/// The characters of the digits.
+static GLYPHS: [u8; 16] = *b"0123456789abcdef";
+
+/// The character of a digit: 0 to 9, and then a to f.
+#[inline(always)]
+pub(crate) fn glyph(digit: u64) -> u8
+    requires { digit < 16 }
+    ensures { result ≡ glyph_of digit }
+{
+    GLYPHS[digit as usize]
+}
+
+/// Puts the byte in front of what stands from `at` on; so do the others with what they put. Each answers where that begins.
+#[inline(always)]
+fn put(line: &mut [u8; LINE_ROOM], at: usize, byte: u8) -> usize
+    requires room { 1 ≤ at }
+    requires within { at ≤ 128 }
+    ensures puts { Puts line.old at (byte ∷ []) 1 result line.new }
+    ensures before { result + 1 ≡ at }
+{
+    line[at - 1] = byte;
+    at - 1
+}
+
+/// Puts the word.
+#[inline(always)]
+fn put_word(line: &mut [u8; LINE_ROOM], at: usize, word: &[u8]) -> usize
+    requires room { length word.now ≤ at }
+    requires within { at ≤ 128 }
+    ensures { Puts line.old at word.now (length word.now) result line.new }
+{
+    let mut start = at;
+    let mut left = word.len();
+    while left > 0 {
+        left -= 1;
+        start = put(line, start, word[left]);
+    }
+    start
+}
+
+/// Puts the number in base 10 or 16, of at most 20 digits.
+#[inline(always)]
+fn put_number(line: &mut [u8; LINE_ROOM], at: usize, base: u64, number: u64) -> usize
+    requires base { IsBase base }
+    requires room { 20 ≤ at }
+    requires within { at ≤ 128 }
+    ensures { Puts line.old at (numeral base number) 20 result line.new }
+{
+    let mut start = at;
+    let mut rest = number;
+    while rest >= base {
+        start = put(line, start, glyph(rest % base));
+        rest /= base;
+    }
+    put(line, start, glyph(rest))
+}
+
+/// Puts a space and the number in base 10.
+#[inline(always)]
+fn put_count(line: &mut [u8; LINE_ROOM], at: usize, number: u64) -> usize
+    requires room { 21 ≤ at }
+    requires within { at ≤ 128 }
+    ensures { Puts line.old at (32 ∷ numeral 10 number) 21 result line.new }
+{
+    let at = put_number(line, at, 10, number);
+    put(line, at, b' ')
+}
+
+/// Puts a space and the address.
+#[inline(always)]
+fn put_address(line: &mut [u8; LINE_ROOM], at: usize, addr: Addr) -> usize
+    requires room { 23 ≤ at }
+    requires within { at ≤ 128 }
+    ensures { Puts line.old at (32 ∷ address addr) 23 result line.new }
+{
+    let at = put_number(line, at, 16, addr.get());
+    put_word(line, at, b" 0x")
+}
+
+/// Puts the address and the length of the range, each behind a space.
+#[inline(always)]
+fn put_range(line: &mut [u8; LINE_ROOM], at: usize, range: &Range) -> usize
+    requires room { 44 ≤ at }
+    requires within { at ≤ 128 }
+    ensures { Puts line.old at (spaced (address range.now.addr ∷ numeral 10 range.now.len ∷ [])) 44 result line.new }
+{
+    let at = put_count(line, at, range.len());
+    put_address(line, at, range.addr())
+}
+
+/// Puts a space and two digits for each of the bytes, which are at most 8.
+#[inline(always)]
+fn put_bytes(line: &mut [u8; LINE_ROOM], at: usize, bytes: &[u8]) -> usize
+    requires few { length bytes.now ≤ 8 }
+    requires room { 17 ≤ at }
+    requires within { at ≤ 128 }
+    ensures { Puts line.old at (32 ∷ hex_bytes bytes.now) 17 result line.new }
+{
+    let mut start = at;
+    let mut left = bytes.len();
+    while left > 0 {
+        left -= 1;
+        start = put(line, start, glyph((bytes[left] % 16) as u64));
+        start = put(line, start, glyph((bytes[left] / 16) as u64));
+    }
+    put(line, start, b' ')
+}
+
+/// Puts the word of the op.
+#[inline(always)]
+fn put_name(line: &mut [u8; LINE_ROOM], at: usize, op: &Op) -> usize
+    requires room { 15 ≤ at }
+    requires within { at ≤ 128 }
+    ensures { Puts line.old at (word_text (word_of op.now)) 15 result line.new }
+{
+    match op {
+        Op::Store(_) => put_word(line, at, b"store"),
+        Op::Clwb(_) => put_word(line, at, b"clwb"),
+        Op::ClflushOpt(_) => put_word(line, at, b"clflushopt"),
+        Op::Clflush(_) => put_word(line, at, b"clflush"),
+        Op::Sfence => put_word(line, at, b"sfence"),
+        Op::Mfence => put_word(line, at, b"mfence"),
+        Op::IsPersist(_) => put_word(line, at, b"isPersist"),
+        Op::IsOrderedBefore(_, _) => put_word(line, at, b"isOrderedBefore"),
+    }
+}
+
+/// Puts what the line has after the thread, each field behind a space.
+#[inline(always)]
+fn put_arguments(line: &mut [u8; LINE_ROOM], at: usize, op: &Op) -> usize
+    requires room { 88 ≤ at }
+    requires within { at ≤ 128 }
+    ensures { Puts line.old at (spaced (arguments_of op.now)) 88 result line.new }
+{
+    match op {
+        Op::Store(store) => {
+            let at = put_bytes(line, at, store.bytes());
+            put_address(line, at, store.addr())
+        }
+        Op::Clwb(addr) => put_address(line, at, *addr),
+        Op::ClflushOpt(addr) => put_address(line, at, *addr),
+        Op::Clflush(addr) => put_address(line, at, *addr),
+        Op::Sfence => at,
+        Op::Mfence => at,
+        Op::IsPersist(range) => put_range(line, at, range),
+        Op::IsOrderedBefore(first, second) => {
+            let at = put_range(line, at, second);
+            put_range(line, at, first)
+        }
+    }
+}
+
+/// Spells the event's line, with its LF, at the end of the buffer, and answers where it begins.
+#[inline(always)]
+pub(crate) fn spell_line(line: &mut [u8; LINE_ROOM], event: &Event) -> usize
+    ensures { Puts line.old 128 (event_text event.now) 125 result line.new }
+{
+    let at = put(line, LINE_ROOM, b'\n');
+    let at = put_arguments(line, at, &event.op);
+    let at = put_count(line, at, event.thread as u64);
+    put_name(line, at, &event.op)
+}
