@@ -1,0 +1,5 @@
+pub mod CauseLemmas
+pub mod CauseLaws
+pub mod ScanLemmas
+pub mod ReasonLemmas
+pub mod ReasonLaws

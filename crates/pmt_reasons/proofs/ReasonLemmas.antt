@@ -1,0 +1,131 @@
+-- Of each dropped event one reason holds, and of a kept one none.
+use Rattle.std.proofs.Common.{◌≡◌, ℕ, ◌-◌, ◌<◌, ◌≤◌, ◌⊎◌, inl, inr, refl, sym, ap, subst, ◌∙◌, arith}
+use Rattle.std.proofs.lemmas.Bool.{cases_lt}
+use Rattle.pmt_model.specs.Machine.{Flushes, Clflushes, Fences}
+use Rattle.pmt_model.specs.Traces.{Recording, IsAct}
+use Rattle.pmt_laws.proofs.Histories.{act-unique, front-mono}
+use Rattle.pmt_reasons.specs.declared.reason.Reason.{Reason}
+use Rattle.pmt_reasons.specs.declared.reason.Reason.TheVariants.{Safe, Unfenced, Repeated, Overtaken, Empty, Useless}
+use Rattle.pmt_reasons.specs.Reasons.{IsNextFence, IsRepeated, IsOvertaken, IsFlushReason, IsClflushReason, HasFlushed, IsUseless, IsFenceReason, IsReason, OfFlush, OfClflush, OfFence, ReasonIsUnique}
+
+-- there is one next fence
+pub next-fence-unique : (T : Recording) (t i j k : ℕ) → IsNextFence T t i j → IsNextFence T t i k → j ≡ k
+next-fence-unique T t i j k x y = go (cases_lt j k) (cases_lt k j)
+  where
+    go : (j < k) ⊎ (k ≤ j) → (k < j) ⊎ (j ≤ k) → j ≡ k
+    go (inl less) q = absurd (y.none_before j x.later less x.is_fence)
+    go (inr p) (inl less) = absurd (x.none_before k y.later less y.is_fence)
+    go (inr p) (inr q) = omega arith
+
+-- a flush that repeats is one flush
+repeated-unique : (T : Recording) (t l i a b : ℕ) → IsRepeated T t l i a → IsRepeated T t l i b → Repeated a ≡ Repeated b
+repeated-unique T t l i a b x y = ap Repeated (go (cases_lt a b) (cases_lt b a))
+  where
+    go : (a < b) ⊎ (b ≤ a) → (b < a) ⊎ (a ≤ b) → a ≡ b
+    go (inl less) q = absurd (y.first a x.after less x.is_flush)
+    go (inr p) (inl less) = absurd (x.first b y.after less y.is_flush)
+    go (inr p) (inr q) = omega arith
+
+-- an event that overtakes is one event
+overtaken-unique : (T : Recording) (t l i a b : ℕ) → IsOvertaken T t l i a → IsOvertaken T t l i b → Overtaken a ≡ Overtaken b
+overtaken-unique T t l i a b x y = ap Overtaken (go (cases_lt a b) (cases_lt b a))
+  where
+    go : (a < b) ⊎ (b ≤ a) → (b < a) ⊎ (a ≤ b) → a ≡ b
+    go (inl less) q = absurd (omega (arith, x.reached, y.first, front-mono T l a (b - 1) (omega arith)))
+    go (inr p) (inl less) = absurd (omega (arith, y.reached, x.first, front-mono T l b (a - 1) (omega arith)))
+    go (inr p) (inr q) = omega arith
+
+-- a flush that repeats is none where the flush is the last one
+not-both : (T : Recording) (t l i a b : ℕ) → IsRepeated T t l i a → IsOvertaken T t l i b → ⊥
+not-both T t l i a b x y = let e : x.fence ≡ y.fence = next-fence-unique T t i x.fence y.fence x.next y.next in y.last a x.after (omega (arith, x.before, e)) x.is_flush
+
+-- a flush has one reason
+flush-reason-unique : (T : Recording) (t l i : ℕ) (r s : Reason) → IsFlushReason T t l i r → IsFlushReason T t l i s → r ≡ s
+flush-reason-unique T t l i Safe Safe x y = refl
+flush-reason-unique T t l i Safe Unfenced x y = absurd (omega (arith, x, y.marks))
+flush-reason-unique T t l i Safe (Repeated b) x y = absurd (omega (arith, x, y.marks))
+flush-reason-unique T t l i Safe (Overtaken b) x y = absurd (omega (arith, x, y.marks))
+flush-reason-unique T t l i Unfenced Safe x y = absurd (omega (arith, y, x.marks))
+flush-reason-unique T t l i Unfenced Unfenced x y = refl
+flush-reason-unique T t l i Unfenced (Repeated b) x y = absurd (x.never y.fence y.next.later y.next.is_fence)
+flush-reason-unique T t l i Unfenced (Overtaken b) x y = absurd (x.never y.fence y.next.later y.next.is_fence)
+flush-reason-unique T t l i (Repeated a) Safe x y = absurd (omega (arith, y, x.marks))
+flush-reason-unique T t l i (Repeated a) Unfenced x y = absurd (y.never x.fence x.next.later x.next.is_fence)
+flush-reason-unique T t l i (Repeated a) (Repeated b) x y = repeated-unique T t l i a b x y
+flush-reason-unique T t l i (Repeated a) (Overtaken b) x y = absurd (not-both T t l i a b x y)
+flush-reason-unique T t l i (Overtaken a) Safe x y = absurd (omega (arith, y, x.marks))
+flush-reason-unique T t l i (Overtaken a) Unfenced x y = absurd (y.never x.fence x.next.later x.next.is_fence)
+flush-reason-unique T t l i (Overtaken a) (Repeated b) x y = absurd (not-both T t l i b a y x)
+flush-reason-unique T t l i (Overtaken a) (Overtaken b) x y = overtaken-unique T t l i a b x y
+flush-reason-unique T t l i Empty s x y = absurd x
+flush-reason-unique T t l i Useless s x y = absurd x
+flush-reason-unique T t l i Safe Empty x y = absurd y
+flush-reason-unique T t l i Unfenced Empty x y = absurd y
+flush-reason-unique T t l i (Repeated a) Empty x y = absurd y
+flush-reason-unique T t l i (Overtaken a) Empty x y = absurd y
+flush-reason-unique T t l i Safe Useless x y = absurd y
+flush-reason-unique T t l i Unfenced Useless x y = absurd y
+flush-reason-unique T t l i (Repeated a) Useless x y = absurd y
+flush-reason-unique T t l i (Overtaken a) Useless x y = absurd y
+
+-- a clflush has one reason
+pub clflush-reason-safe : (T : Recording) (l i : ℕ) (r : Reason) → IsClflushReason T l i r → r ≡ Safe
+clflush-reason-safe T l i Safe x = refl
+clflush-reason-safe T l i Unfenced x = absurd x
+clflush-reason-safe T l i (Repeated b) x = absurd x
+clflush-reason-safe T l i (Overtaken b) x = absurd x
+clflush-reason-safe T l i Empty x = absurd x
+clflush-reason-safe T l i Useless x = absurd x
+
+-- the two reasons of a fence
+pub fence-reasons : (T : Recording) (t j : ℕ) (r : Reason) → IsFenceReason T t j r → ((r ≡ Empty) × (HasFlushed T t j → ⊥)) ⊎ ((r ≡ Useless) × IsUseless T t j)
+fence-reasons T t j Safe x = absurd x
+fence-reasons T t j Unfenced x = absurd x
+fence-reasons T t j (Repeated b) x = absurd x
+fence-reasons T t j (Overtaken b) x = absurd x
+fence-reasons T t j Empty x = inl (refl, x)
+fence-reasons T t j Useless x = inr (refl, x)
+
+-- a fence has one reason
+fence-reason-unique : (T : Recording) (t j : ℕ) (r s : Reason) → IsFenceReason T t j r → IsFenceReason T t j s → r ≡ s
+fence-reason-unique T t j r s x y = go (fence-reasons T t j r x) (fence-reasons T t j s y)
+  where
+    go : ((r ≡ Empty) × (HasFlushed T t j → ⊥)) ⊎ ((r ≡ Useless) × IsUseless T t j) → ((s ≡ Empty) × (HasFlushed T t j → ⊥)) ⊎ ((s ≡ Useless) × IsUseless T t j) → r ≡ s
+    go (inl p) (inl q) = p.0 ∙ sym q.0
+    go (inl p) (inr q) = absurd (p.1 q.1.flushed)
+    go (inr p) (inl q) = absurd (q.1 p.1.flushed)
+    go (inr p) (inr q) = p.0 ∙ sym q.0
+
+-- the reason of a flush
+pub reason-flush : (T : Recording) (t l i : ℕ) (r : Reason) → IsAct T i (Flushes t l) → IsReason T i r → IsFlushReason T t l i r
+reason-flush T t l i r is (OfFlush u k at why) =
+    let same = act-unique T i (Flushes u k) (Flushes t l) at is in
+    let thread : u ≡ t = cc in
+    let line : k ≡ l = cc in
+    subst (λ v. IsFlushReason T v l i r) thread (subst (λ m. IsFlushReason T u m i r) line why)
+reason-flush T t l i r is (OfClflush k at why) = let same = act-unique T i (Clflushes k) (Flushes t l) at is in cc
+reason-flush T t l i r is (OfFence u at why) = let same = act-unique T i (Fences u) (Flushes t l) at is in cc
+
+-- the reason of a clflush
+reason-clflush : (T : Recording) (l i : ℕ) (r : Reason) → IsAct T i (Clflushes l) → IsReason T i r → IsClflushReason T l i r
+reason-clflush T l i r is (OfFlush u k at why) = let same = act-unique T i (Flushes u k) (Clflushes l) at is in cc
+reason-clflush T l i r is (OfClflush k at why) =
+    let same = act-unique T i (Clflushes k) (Clflushes l) at is in
+    let line : k ≡ l = cc in
+    subst (λ m. IsClflushReason T m i r) line why
+reason-clflush T l i r is (OfFence u at why) = let same = act-unique T i (Fences u) (Clflushes l) at is in cc
+
+-- the reason of a fence
+reason-fence : (T : Recording) (t i : ℕ) (r : Reason) → IsAct T i (Fences t) → IsReason T i r → IsFenceReason T t i r
+reason-fence T t i r is (OfFlush u k at why) = let same = act-unique T i (Flushes u k) (Fences t) at is in cc
+reason-fence T t i r is (OfClflush k at why) = let same = act-unique T i (Clflushes k) (Fences t) at is in cc
+reason-fence T t i r is (OfFence u at why) =
+    let same = act-unique T i (Fences u) (Fences t) at is in
+    let thread : u ≡ t = cc in
+    subst (λ v. IsFenceReason T v i r) thread why
+
+-- an event has one reason
+pub reason_is_unique : ReasonIsUnique
+reason_is_unique T i r s (OfFlush t l is why) y = flush-reason-unique T t l i r s why (reason-flush T t l i s is y)
+reason_is_unique T i r s (OfClflush l is why) y = clflush-reason-safe T l i r why ∙ sym (clflush-reason-safe T l i s (reason-clflush T l i s is y))
+reason_is_unique T i r s (OfFence t is why) y = fence-reason-unique T t i r s why (reason-fence T t i s is y)
