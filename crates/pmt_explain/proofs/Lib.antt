@@ -1,1 +1,4 @@
 pub mod CauseOfLemmas
+pub mod LastStoreLemmas
+pub mod LosingLemmas
+pub mod FailingLemmas

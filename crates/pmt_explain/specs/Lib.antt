@@ -1,1 +1,4 @@
 pub mod CauseOf
+pub mod LastStores
+pub mod Losing
+pub mod Keeping

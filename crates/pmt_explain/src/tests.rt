@@ -1,6 +1,6 @@
-use crate::cause;
-use pmt_model::{Event, Format, Op, Trace};
-use pmt_reasons::Cause;
+use crate::{cause, failure};
+use pmt_model::{Event, Format, Op, Range, Trace};
+use pmt_reasons::{ByteStore, Cause, Failure};
 use std::alloc::Global;
 use std::test::Fail;
 
@@ -67,5 +67,70 @@ fn causes_of_stores(rt: HostRuntime) -> Result<(), Fail> {
     ];
     assert_eq!(rt; cause_by(alloc, &by_two, 6)?, unfenced(3, 1, Some(5)));
     assert_eq!(rt; cause_by(alloc, &by_two, 7)?, None);
+    Ok(())
+}
+
+fn at(store: u64, byte: u64) -> ByteStore {
+    ByteStore { store, byte }
+}
+
+fn crash(place: u64, kept: Option<ByteStore>, lost: ByteStore) -> Option<Failure> {
+    Some(Failure { place, kept, lost })
+}
+
+// A record and its mark, each flushed and then fenced: the mark may come before its record.
+#[test]
+fn mark_too_early(rt: HostRuntime) -> Result<(), Fail> {
+    let alloc = rt.alloc();
+    let record = Op::store(0x1000, &[1, 2, 3, 4, 5, 6, 7, 8])?;
+    let mark = Op::store(0x1040, &[1, 0, 0, 0, 0, 0, 0, 0])?;
+    let of_record = Range::new(0x1000, 8)?;
+    let of_mark = Range::new(0x1040, 8)?;
+    let trace = trace_of(
+        alloc,
+        &[
+            (0, record),
+            (0, mark),
+            (0, Op::clwb(0x1000)?),
+            (0, Op::clwb(0x1040)?),
+            (0, Op::Sfence),
+            (0, Op::IsPersist(of_record)),
+            (0, Op::IsOrderedBefore(of_record, of_mark)),
+        ],
+    )?;
+    assert_eq!(rt; failure(alloc, &trace, 6)?, None);
+    assert_eq!(rt;
+        failure(alloc, &trace, 7)?,
+        crash(2, Some(at(2, 0x1040)), at(1, 0x1000))
+    );
+    assert_eq!(rt; failure(alloc, &trace, 5)?, None);
+    assert_eq!(rt; failure(alloc, &trace, 8)?, None);
+    Ok(())
+}
+
+#[test]
+fn lost_and_kept(rt: HostRuntime) -> Result<(), Fail> {
+    let alloc = rt.alloc();
+    let both = Range::new(0x1000, 16)?;
+    let low = Range::new(0x1000, 8)?;
+    let high = Range::new(0x1008, 8)?;
+    let trace = trace_of(
+        alloc,
+        &[
+            (0, Op::store(0x100c, &[1, 2])?),
+            (0, Op::store(0x1004, &[3, 4])?),
+            (1, Op::IsPersist(both)),
+            (1, Op::IsPersist(low)),
+            (1, Op::IsOrderedBefore(high, low)),
+            (1, Op::IsOrderedBefore(low, high)),
+        ],
+    )?;
+    assert_eq!(rt; failure(alloc, &trace, 3)?, crash(3, None, at(1, 0x100c)));
+    assert_eq!(rt; failure(alloc, &trace, 4)?, crash(4, None, at(2, 0x1004)));
+    assert_eq!(rt; failure(alloc, &trace, 5)?, None);
+    assert_eq!(rt;
+        failure(alloc, &trace, 6)?,
+        crash(1, Some(at(1, 0x100c)), at(2, 0x1004))
+    );
     Ok(())
 }

@@ -3,3 +3,5 @@ pub mod CauseLaws
 pub mod ScanLemmas
 pub mod ReasonLemmas
 pub mod ReasonLaws
+pub mod LastStores
+pub mod FailureLaws

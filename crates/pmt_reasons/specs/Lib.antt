@@ -1,3 +1,4 @@
 pub mod Causes
 pub mod Scanning
 pub mod Reasons
+pub mod Failures

@@ -4,8 +4,11 @@
 
 pub mod cause;
 pub mod causes;
+pub mod failure;
+pub mod failures;
 pub mod reason;
 pub mod reasons;
 
 pub use crate::cause::Cause;
+pub use crate::failure::{ByteStore, Failure};
 pub use crate::reason::Reason;

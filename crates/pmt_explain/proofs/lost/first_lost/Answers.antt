@@ -1,0 +1,8 @@
+use Rattle.std.proofs.Common.{refl}
+use Rattle.pmt_reasons.specs.Failures.{IsLost}
+use Rattle.pmt_explain.proofs.LosingLemmas.{first-more}
+use Rattle.pmt_explain.proofs.lost.first_lost.Goals as goal
+
+pub loop-index-preserved : goal.loop-index-preserved
+loop-index-preserved c =
+    first-more (IsLost c.args.trace.now c.args.place c.args.full) c.args.low c.args.last.now c.loop-index.index c.loop-index.first c.earlier_lost-first.result _ refl refl c.earlier_lost-first.ensures c.loop-index.invariant
