@@ -1,0 +1,63 @@
+"""Runs programs under faults.c, some of whose calls fail then."""
+import os
+import pathlib
+import subprocess
+import sys
+import tempfile
+from concurrent.futures import ThreadPoolExecutor
+from contextlib import contextmanager
+from typing import NamedTuple
+
+SOURCE = pathlib.Path(__file__).with_name("faults.c")
+
+
+class Answer(NamedTuple):
+    """What a program did: its status, its answer, its faults."""
+
+    status: int
+    out: bytes
+    faults: bytes = b""
+
+
+def short(answer):
+    """An answer as a complaint shows it."""
+    return f"status {answer.status}, {len(answer.out)} bytes {answer.out[:80]}, faults {answer.faults[:80]}"
+
+
+@contextmanager
+def library():
+    """The library, built."""
+    with tempfile.TemporaryDirectory() as folder:
+        built = pathlib.Path(folder, "faults.so")
+        subprocess.run(["gcc", "-shared", "-fPIC", "-O2", "-o", built, SOURCE], check=True)
+        yield built
+
+
+def run(library, program, words, text=b"", **faults):
+    """The answer of a program on this text, and how many of its calls failed. Of faults.c, fault=.. is FAULT, and so on."""
+    told, tell = os.pipe()
+    environment = {name.upper(): str(value) for name, value in faults.items()}
+    environment |= {"LD_PRELOAD": str(library), "FAULT_TELL": str(tell)}
+    command = [program, *words]
+    try:
+        done = subprocess.run(command, input=text, capture_output=True, env=environment, pass_fds=[tell], timeout=60)
+    finally:
+        os.close(tell)
+        with os.fdopen(told, "rb") as pipe:
+            failed = len(pipe.read())
+    return Answer(done.returncode, done.stdout, done.stderr), failed
+
+
+def judge(judgements):
+    """Makes the calls side by side, each of which gives complaints; prints the complaints and the counts, and ends the process."""
+    passed = failed = 0
+    with ThreadPoolExecutor(os.cpu_count()) as threads:
+        for complaints in threads.map(lambda call: call(), judgements):
+            for complaint in complaints[:3]:
+                print(complaint)
+            if complaints:
+                failed += 1
+            else:
+                passed += 1
+    print(f"{passed} passed, {failed} failed")
+    sys.exit(1 if failed or not passed else 0)
