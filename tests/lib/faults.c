@@ -1,6 +1,6 @@
 /* Preloaded under a program: refuses its requests for memory or for threads, fails its reads or writes, or cuts them short.
  *
- *   FAULT        memory, thread, read, write: what fails; nothing_taken: a write that moves no byte
+ *   FAULT        memory, thread, read, write: what fails; interrupted: a read, by a signal; nothing_taken: a write that moves no byte
  *   FAULT_AT     the number of the call that fails, the calls of the kind being counted from 1
  *   FAULT_LATER  1: each later call of the kind fails too
  *   FAULT_PIECE  the most bytes that a read or a write moves
@@ -28,6 +28,7 @@ void *__libc_memalign(size_t, size_t);
 
 static enum kind failing = NONE;
 static bool takes_nothing = false;
+static int read_error = EIO;
 static bool later = false;
 static unsigned long at = 0;
 static size_t piece = 0;
@@ -48,12 +49,14 @@ __attribute__((constructor)) static void read_environment(void) {
     tell = number("FAULT_TELL", -1);
     if (!fault)
         return;
+    bool interrupted = !strcmp(fault, "interrupted");
+    read_error = interrupted ? EINTR : EIO;
     takes_nothing = !strcmp(fault, "nothing_taken");
     if (!strcmp(fault, "memory"))
         failing = MEMORY;
     else if (!strcmp(fault, "thread"))
         failing = THREAD;
-    else if (!strcmp(fault, "read"))
+    else if (!strcmp(fault, "read") || interrupted)
         failing = READ;
     else if (!strcmp(fault, "write") || takes_nothing)
         failing = WRITE;
@@ -122,7 +125,7 @@ static size_t cut(size_t size) {
 
 ssize_t read(int descriptor, void *bytes, size_t size) {
     if (fails(READ)) {
-        errno = EIO;
+        errno = read_error;
         return -1;
     }
     return syscall(SYS_read, descriptor, bytes, cut(size));

@@ -1,6 +1,6 @@
 #!/usr/bin/env python3
-"""Refuses a program each request for memory in turn, and each start of a thread: refusals.py PROGRAM. The last line is
-'N passed, M failed'.
+"""Refuses programs each request for memory in turn, and each start of a thread: refusals.py PROGRAM CALLS. PROGRAM is pmtrim, CALLS
+the program of crates/refused_calls. The last line is 'N passed, M failed'.
 
 A run whose Nth request is refused, alone or with all later ones, answers as with memory, or tells want of memory and writes nothing.
 N goes from 1 on until nothing is refused.
@@ -16,7 +16,9 @@ from typing import NamedTuple
 import faulty
 from faulty import Answer
 
-EXAMPLES = pathlib.Path(__file__).parents[2] / "examples"
+TOP = pathlib.Path(__file__).parents[2]
+EXAMPLES = TOP / "examples"
+VERDICTS = (TOP / "crates/refused_calls/stdout").read_bytes()
 WANT_OF_MEMORY = Answer(5, b"", b"out of memory\n")
 # Whether the program has `trim --stream`.
 STREAMS = False
@@ -193,7 +195,29 @@ def streams(folder):
         yield Case(["trim", "--stream", trace], {right}, stream=True)
 
 
-def finds_what_is_wrong(run):
+def sweep_of_calls(calls, right):
+    """What is wrong with the calls that are made again after a refusal: the verdicts are these, and each call was refused once at least."""
+    seen = set()
+    complaints = []
+    for at in itertools.count(1):
+        answer, refused = calls([], fault="memory", fault_at=at)
+        lines = answer.out.splitlines()
+        told = [line for line in lines if line.startswith(b"refused: ")]
+        others = [line for line in lines if line not in told]
+        # A thread that is not started for want of memory leaves its work to the caller, who tells nothing.
+        if answer._replace(out=others) != Answer(0, right.splitlines()) or len(told) > refused:
+            complaints.append(f"calls: memory {at} ({refused} refused): {faulty.short(answer)}")
+        seen.update(told)
+        if not refused:
+            break
+    for verdict in right.splitlines():
+        call = verdict.split(b": ")[0]
+        if b"refused: " + call not in seen:
+            complaints.append(f"never refused: {call}")
+    return complaints
+
+
+def finds_what_is_wrong(run, calls):
     """The sweeps complain where another answer is asked for, and where the library refuses nothing."""
     trace = EXAMPLES / "one_persist.trace"
     right = Answer(0, trace.read_bytes())
@@ -207,16 +231,19 @@ def finds_what_is_wrong(run):
     for wrong in (Answer(6, b"", b"torn recorder 0\n"), WANT_OF_MEMORY._replace(out=right.out[:28]), Answer(5, b"", b"")):
         if case.allows(wrong, True):
             complaints.append(f"this passed as want of memory: {wrong}")
+    if not sweep_of_calls(calls, VERDICTS.replace(b"right", b"wrong")):
+        complaints.append("other verdicts were asked for, and there was no complaint")
     if case.allows(WANT_OF_MEMORY, False):
         complaints.append("want of memory passed where nothing was refused")
     return complaints
 
 
 def main():
-    program = sys.argv[1]
+    program, calls = sys.argv[1:]
     with faulty.library() as library, tempfile.TemporaryDirectory() as name:
         folder = pathlib.Path(name)
         run = partial(faulty.run, library, program)
+        calls = partial(faulty.run, library, calls)
         cases = [*answers_of_many_lines(folder), *answers_of_examples(), *answers_of_fronts(), *answers_of_record(folder)]
         cases += [*faults_told(folder), *words_answered(run)]
         if STREAMS:
@@ -225,7 +252,7 @@ def main():
         limited = (["trim"], ["trim", "--workers", "4"], ["check"])
         judgements = [partial(under_a_limit, program, folder / "million", words) for words in limited]
         judgements += [judgement for case in cases for judgement in sweeps(run, case)]
-        judgements.append(partial(finds_what_is_wrong, run))
+        judgements += [partial(sweep_of_calls, calls, VERDICTS), partial(finds_what_is_wrong, run, calls)]
         faulty.judge(judgements)
 
 

@@ -1,5 +1,7 @@
 ghost use Rattle.std.specs.Prelude.{◌<◌};
 
+mod failing_devices;
+
 use crate::opener::{OpenError, Opener};
 use crate::run::run_words;
 use pmt_text::devices::{EndlessReader, LimitedWriter, PieceReader};

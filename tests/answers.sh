@@ -1,0 +1,6 @@
+#!/usr/bin/env bash
+# Answers that no file of examples/ holds, and the trimmed traces, checked and trimmed again. Last line: 'N passed, M failed'.
+set -u
+cd "$(dirname "$0")/.." || exit 1
+. tests/lib/program.sh
+exec python3 tests/lib/answers.py "$program"

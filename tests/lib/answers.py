@@ -1,0 +1,128 @@
+#!/usr/bin/env python3
+"""Asks for what no file of examples/ holds: answers.py PROGRAM. The last line is 'N passed, M failed'.
+
+The trimmed traces are checked and trimmed again; further answers stand in a table.
+"""
+import itertools
+import pathlib
+import subprocess
+import sys
+import tempfile
+
+EXAMPLES = pathlib.Path(__file__).parents[2] / "examples"
+
+# Traces of examples/, and the report of each when it is trimmed.
+TRIMMED = [
+    ("double_flush", 0, "events 3 lines 1; kept 3 dropped 0"),
+    ("flushed_again", 0, "events 3 lines 1; kept 3 dropped 0"),
+    ("flush_without_stores", 0, "events 0 lines 0; kept 0 dropped 0"),
+    ("flush_by_an_unfenced_thread", 1, "events 4 lines 1; never-persisted 3 dirty; kept 4 dropped 0"),
+    ("six_flushers", 0, "events 3 lines 1; kept 3 dropped 0"),
+    ("clflush_beats_clwb", 0, "events 2 lines 1; kept 2 dropped 0"),
+    ("sfence_after_clflush", 0, "events 2 lines 1; kept 2 dropped 0"),
+]
+
+# Words, a text, the status and the answer; a fault, where the status is 3.
+ANSWERS = [
+    ("check", "pmtrace 1; isPersist 0 0xffffffffffff 1", 0, "events 1 lines 0; persist 1 pass; kept 1 dropped 0"),
+    ("fronts /dev/stdin 4", "pmtrace 2 128; store 0 0x1000 01; clwb 0 0x1040; sfence 0; isPersist 0 0x1000 1", 0,
+     "place 4 lines 1; line 0x1000 front 1 count 1"),
+    ("fronts /dev/stdin 1", "pmtrace 2 256; store 0 0x10c0 01", 0, "place 1 lines 1; line 0x1000 front 0 count 1"),
+    ("check", "pmtrace 2 128", 0, "events 0 lines 0; kept 0 dropped 0"),
+    ("check", "pmtrace 2 96", 3, "trace line 1: bad-header"),
+    ("check", "pmtrace 2 0", 3, "trace line 1: bad-header"),
+    ("check", "pmtrace 2 16", 3, "trace line 1: bad-header"),
+    ("check", "pmtrace 2 512", 3, "trace line 1: bad-header"),
+    ("check", "pmtrace 2 064", 3, "trace line 1: bad-header"),
+    ("check", "pmtrace 2", 3, "trace line 1: bad-header"),
+    ("check", "pmtrace 1; clflush 0 0x1000", 3, "trace line 2: bad-word"),
+    ("check", "pmtrace 1; mfence 0", 3, "trace line 2: bad-word"),
+]
+
+
+class Checks:
+    """A program, and how many of its answers were right."""
+
+    def __init__(self, program):
+        self.program = program
+        self.passed = self.failed = 0
+
+    def run(self, words, text=b""):
+        """The status, the answer and the faults."""
+        done = subprocess.run([self.program, *words], input=text, capture_output=True, timeout=60)
+        return done.returncode, done.stdout, done.stderr
+
+    def expect(self, name, right, told):
+        if right:
+            self.passed += 1
+        else:
+            self.failed += 1
+            print(f"{name}: {told}")
+
+    def expect_answer(self, words, text, status, answer):
+        wanted = (status, b"", answer) if status == 3 else (status, answer, b"")
+        told = self.run(words, text)
+        self.expect(f"{words} {text[:80]}", told == wanted, f"{told}, wanted {wanted}")
+
+
+def lines(text):
+    """What stands between semicolons, as lines."""
+    return "".join(line + "\n" for line in text.split("; ")).encode()
+
+
+def check_table(checks):
+    for words, text, status, answer in ANSWERS:
+        checks.expect_answer(words.split(" "), lines(text), status, lines(answer))
+    checks.expect_answer(["check"], b"pmtrace 2 96", 3, b"trace line 1: truncated\n")
+    for name, status, report in TRIMMED:
+        _, trimmed, _ = checks.run(["trim", EXAMPLES / f"{name}.trace"])
+        checks.expect_answer(["check"], trimmed, status, lines(report))
+    _, trimmed, _ = checks.run(["trim", EXAMPLES / "six_flushers.trace"])
+    wanted = lines("pmtrace 1; store 0 0x1000 01; clwb 5 0x1000; sfence 5")
+    checks.expect("six_flushers trimmed", trimmed == wanted, trimmed)
+
+
+def entries(report, words):
+    """How many entries begin with each of these words, and with which other words they go on than a number."""
+    fields = [line.split(" ") for line in report.decode().splitlines()]
+    return [[field for field in line[2:] if field in ("pass", "fail")] for line in fields if line[0] in words]
+
+
+def check_trimmed(checks, name, text):
+    """A trimmed trace keeps its verdicts and its never-persisted stores, and nothing in it can go."""
+    _, before, _ = checks.run(["check"], text)
+    _, trimmed, _ = checks.run(["trim"], text)
+    _, after, _ = checks.run(["check"], trimmed)
+    events = trimmed.count(b"\n") - 1
+    checks.expect(f"{name}: kept", after.endswith(b"\nkept %d dropped 0\n" % events), after)
+    checks.expect(f"{name}: nothing without effect", not entries(after, ("redundant-flush", "fence-without-flush")), after)
+    for words in (("persist", "ordered"), ("never-persisted",)):
+        checks.expect(f"{name}: {words}", entries(after, words) == entries(before, words), after)
+    checks.expect_answer(["trim"], trimmed, 0, trimmed)
+
+
+def check_recorded(checks):
+    """A trace that two threads record with a hundred events each, trimmed."""
+    with tempfile.TemporaryDirectory() as folder:
+        names = []
+        for thread in range(2):
+            turn = ["store 0x%x 01" % (0x1000 + 8 * thread), "clwb 0x1000", "clwb 0x1000", "sfence", "sfence"]
+            names.append(pathlib.Path(folder, str(thread)))
+            names[-1].write_text("".join(op + "\n" for op in itertools.islice(itertools.cycle(turn), 100)))
+        status, recorded, _ = checks.run(["record", *names])
+    checks.expect("two recorders", status == 0 and recorded.count(b"\n") == 201, recorded[:80])
+    check_trimmed(checks, "two recorders", recorded)
+
+
+def main():
+    checks = Checks(sys.argv[1])
+    check_table(checks)
+    for trace in sorted(EXAMPLES.glob("*.trace")):
+        check_trimmed(checks, trace.stem, trace.read_bytes())
+    check_recorded(checks)
+    print(f"{checks.passed} passed, {checks.failed} failed")
+    return 1 if checks.failed else 0
+
+
+if __name__ == "__main__":
+    sys.exit(main())

@@ -1,0 +1,219 @@
+#!/usr/bin/env python3
+"""Runs a program over devices that fail, end early or never end: devices.py PROGRAM. The last line is 'N passed, M failed'.
+
+Each of the four commands reads its trace or script from standard input.
+"""
+import os
+import pathlib
+import subprocess
+import sys
+from functools import partial
+from typing import NamedTuple
+
+import faulty
+from faulty import Answer
+
+EXAMPLES = pathlib.Path(__file__).parents[2] / "examples"
+FILE_FAULT = Answer(4, b"", b"file fault\n")
+TRACE = [b"pmtrace 1\n", b"store 0 0x1000 01\n", b"clwb 0 0x1000\n", b"sfence 0\n"]
+SCRIPT = [b"store 0x1000 01\n", b"clwb 0x1000\n", b"sfence\n"]
+BOUND = 67_108_864
+
+
+class Command(NamedTuple):
+    """A command, the lines that it reads, what it answers to the first of the events and to more of them, and how it names its input."""
+
+    words: list
+    lines: list
+    answers: list
+    name: bytes = b"trace"
+
+    def fault(self, line, kind):
+        """The answer to an input whose line is faulty."""
+        return Answer(3, b"", b"%s line %d: %s\n" % (self.name, line, kind))
+
+    def whole(self):
+        """The input, and the answer to it."""
+        return b"".join(self.lines), self.answers[-1]
+
+    def reads_script(self):
+        """Whether there is no header, and no field for the thread."""
+        return self.lines == SCRIPT
+
+
+def commands():
+    """The commands of the program. The place of `fronts` is the end of the whole trace, where it is not named."""
+    stored, marked, fenced = (b"".join(TRACE[:count]) for count in (2, 3, 4))
+    yield Command(["trim"], TRACE, [Answer(0, text) for text in (TRACE[0], stored, stored, fenced)])
+    reports = (
+        (0, b"events 0 lines 0\nkept 0 dropped 0\n"),
+        (1, b"events 1 lines 1\nnever-persisted 1 dirty\nkept 1 dropped 0\n"),
+        (1, b"events 2 lines 1\nnever-persisted 1 flushed\nkept 1 dropped 1\n"),
+        (0, b"events 3 lines 1\nkept 3 dropped 0\n"),
+    )
+    yield Command(["check", "--workers", "2"], TRACE, [Answer(*report) for report in reports])
+    past = [Answer(2, b"", b"place past end %d\n" % events) for events in range(3)]
+    fronts = Answer(0, b"place 3 lines 1\nline 0x1000 front 1 count 1\n")
+    yield Command(["fronts", "/dev/stdin", "3"], TRACE, [*past, fronts])
+    recorded = [Answer(0, text) for text in (TRACE[0], stored, marked, fenced)]
+    yield Command(["record", "/dev/stdin"], SCRIPT, recorded, b"script 1")
+
+
+def differences(run, command, cases):
+    """What is wrong with the answers to these inputs, each with the answer that is right and the calls that must fail."""
+    complaints = []
+    for text, right, failing, faults in cases:
+        answer, failed = run(command.words, text, **faults)
+        if (answer, failed) != (right, failing):
+            complaints.append(f"{command.words} {text[:80]} {faults}: {failed} failed, {faulty.short(answer)}; wanted {faulty.short(right)}")
+    return complaints
+
+
+def every_cut(command):
+    """The first bytes of the input, as many as there may be."""
+    whole, _ = command.whole()
+    for size in range(len(whole) + 1):
+        text = whole[:size]
+        complete = text.count(b"\n")
+        events = complete if command.reads_script() else complete - 1
+        if events >= 0 and text == b"".join(command.lines[:complete]):
+            right = command.answers[events]
+        else:
+            right = command.fault(complete + 1, b"truncated")
+        yield text, right, 0, {}
+        yield text, right, 0, {"fault_piece": 1}
+
+
+def every_read(command):
+    """Reads of a byte each, one of which fails or is interrupted; the last of them would have told the end."""
+    whole, answer = command.whole()
+    for fault in ("read", "interrupted"):
+        for at in range(1, len(whole) + 2):
+            yield whole, FILE_FAULT, 1, {"fault": fault, "fault_at": at, "fault_piece": 1}
+        yield whole, answer, 0, {"fault": fault, "fault_at": len(whole) + 2, "fault_piece": 1}
+
+
+def every_write(command):
+    """Writes of a byte each, one of which fails, or takes nothing."""
+    whole, answer = command.whole()
+    for fault in ("write", "nothing_taken"):
+        for at in range(1, len(answer.out) + 1):
+            right = FILE_FAULT._replace(out=answer.out[: at - 1])
+            yield whole, right, 1, {"fault": fault, "fault_at": at, "fault_piece": 1}
+        yield whole, answer, 0, {"fault": fault, "fault_at": len(answer.out) + 1, "fault_piece": 1}
+
+
+def every_write_of_a_fault(command):
+    """The same of a fault line, which leaves the status as it is."""
+    right = command.fault(1, b"truncated")
+    for at in range(1, len(right.faults) + 1):
+        written = right._replace(faults=right.faults[: at - 1])
+        yield b"a", written, 1, {"fault": "write", "fault_at": at, "fault_piece": 1}
+
+
+def hostile_bytes(command):
+    """A carriage return, a zero byte, a byte that is no text, an empty line, a space at the end."""
+    first, rest = ([], SCRIPT) if command.reads_script() else (TRACE[:1], TRACE[1:])
+    line = len(first) + 1
+    for event, kind in (
+        (rest[0][:-1] + b"\r\n", b"bad-field"),
+        (b"\0" + rest[0][1:], b"bad-word"),
+        (b"\n" + rest[0], b"bad-word"),
+        (rest[0][:-1] + b" \n", b"bad-field"),
+    ):
+        yield b"".join([*first, event, *rest[1:]]), command.fault(line, kind), 0, {}
+    kind = b"bad-word" if command.reads_script() else b"bad-header"
+    yield b"\xff" + b"".join(command.lines)[1:], command.fault(1, kind), 0, {}
+
+
+def refused_in_pieces(command):
+    """Events that are refused, from reads of a byte each."""
+    for event, kind in (
+        (b"store 0 0x1007 0102", b"crosses-word"),
+        (b"clwb 0 0x01000", b"bad-field"),
+        (b"sfence 256", b"out-of-range"),
+        (b"clwb  0 0x1000", b"bad-field"),
+        (b"store 256 0x1007 0102", b"out-of-range"),
+        (b"isPersist 0 0x1000 0", b"out-of-range"),
+        (b"flush 0", b"bad-word"),
+        (b"isPersist 0 0xffffffffffff 2", b"out-of-range"),
+        (b"store 0 0xffffffffffff 0102", b"crosses-word"),
+    ):
+        yield TRACE[0] + event + b"\n", command.fault(2, kind), 0, {"fault_piece": 1}
+    yield b"".join(TRACE[:3]) + b"foo", command.fault(4, b"truncated"), 0, {"fault_piece": 1}
+    yield b"pmtrace 3\n", command.fault(1, b"bad-header"), 0, {"fault_piece": 1}
+
+
+def examples_in_pieces(run):
+    """`check` and `trim` of all examples, from reads of a byte each and of seven."""
+    complaints = []
+    for trace in EXAMPLES.glob("*.trace"):
+        for command in ("check", "trim"):
+            whole, _ = run([command, trace])
+            for piece in (1, 7):
+                answer, _ = run([command, trace], fault_piece=piece)
+                if answer != whole:
+                    complaints.append(f"{command} {trace.stem}, reads of {piece}: {faulty.short(answer)}")
+    return complaints
+
+
+def long_inputs(command):
+    """Shell commands that write inputs which end late or never, and the answers."""
+    too_long = Answer(3, b"", command.name + b" too long\n")
+    letters = "tr '\\0' a < /dev/zero"
+    if command.reads_script():
+        yield "yes sfence", command.fault(1_000_001, b"too-many-events")
+        yield f"echo flush; {letters}", command.fault(1, b"bad-word")
+        yield f"echo sfence; {letters}", too_long
+    else:
+        yield "echo pmtrace 1; yes sfence 0", command.fault(1_000_002, b"too-many-events")
+        yield f"echo pmtrace 3; {letters}", command.fault(1, b"bad-header")
+        yield f"echo pmtrace 1; {letters}", too_long
+    yield f"head -c {BOUND} /dev/zero | tr '\\0' a", command.fault(1, b"truncated")
+    yield f"head -c {BOUND + 1} /dev/zero | tr '\\0' a", too_long
+
+
+def differences_over_long_inputs(program, command):
+    """What is wrong with the answers to them."""
+    complaints = []
+    for shell, right in long_inputs(command):
+        writer = subprocess.Popen(["bash", "-c", shell], stdout=subprocess.PIPE, stderr=subprocess.DEVNULL)
+        with writer, writer.stdout as text:
+            done = subprocess.run([program, *command.words], stdin=text, capture_output=True, timeout=60)
+        answer = Answer(done.returncode, done.stdout, done.stderr)
+        if answer != right:
+            complaints.append(f"{command.words}, {shell}: {faulty.short(answer)}; wanted {faulty.short(right)}")
+    return complaints
+
+
+def finds_what_is_wrong(run):
+    """A complaint is made where another answer is asked for, or where a call was to fail that is not made."""
+    command = next(commands())
+    text, right = command.whole()
+    complaints = []
+    for wrong in (
+        (text, FILE_FAULT, 0, {}),
+        (text, right, 1, {"fault": "read", "fault_at": 99}),
+        (text, FILE_FAULT, 0, {"fault": "read", "fault_at": 1}),
+    ):
+        if not differences(run, command, [wrong]):
+            complaints.append(f"no complaint: {wrong}")
+    return complaints
+
+
+def main():
+    program = sys.argv[1]
+    with faulty.library() as library:
+        run = partial(faulty.run, library, program)
+        judgements = [partial(finds_what_is_wrong, run), partial(examples_in_pieces, run)]
+        for command in commands():
+            judgements.append(partial(differences_over_long_inputs, program, command))
+            tables = [every_cut, every_read, every_write, every_write_of_a_fault, hostile_bytes]
+            if not command.reads_script():
+                tables.append(refused_in_pieces)
+            judgements += [partial(differences, run, command, table(command)) for table in tables]
+        faulty.judge(judgements)
+
+
+if __name__ == "__main__":
+    main()
