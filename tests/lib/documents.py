@@ -2,7 +2,7 @@
 """Runs what documents show, and compares: documents.py PROGRAM FILE.md ..  The last line is 'N passed, M failed'.
 
 A block fenced as `console` holds commands, each after `$ `, and under each what it writes to both streams. It runs in a folder with
-`pmtrim`, `examples` and `crates`. A block fenced with two words, as `c recorder.c`, is written to a file of that name in that folder first.
+`pmtrim`, `examples`, `crates` and `recorders`. A block fenced with two words, as `c recorder.c`, is written to a file of that name in that folder first.
 """
 import pathlib
 import re
@@ -51,7 +51,7 @@ def main():
     for name in sys.argv[2:]:
         with tempfile.TemporaryDirectory() as folder:
             pathlib.Path(folder, "pmtrim").symlink_to(pathlib.Path(sys.argv[1]).resolve())
-            for shown in ("examples", "crates"):
+            for shown in ("examples", "crates", "recorders"):
                 pathlib.Path(folder, shown).symlink_to(TOP / shown)
             counts = run_document(TOP / name, folder)
         if counts == (0, 0):
