@@ -1,3 +1,4 @@
+//! The book: the events so far, with the front and count of each line.
 ghost use Rattle.std.specs.Prelude.{◌≡◌, ℕ, ◌<◌, ◌≤◌, ◌==◌, ◌↔◌, length, IfOk, OnOk, OnErr, IsTrue};
 ghost use Rattle.pmt_model.specs.Formats.{first_version};
 ghost use Rattle.pmt_model.specs.Machine.{Flushes, Fences, Asserts};

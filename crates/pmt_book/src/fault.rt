@@ -1,3 +1,4 @@
+//! Why an event was not added to a book.
 use thiserror::Error;
 
 /// Why an event was not added to a book.

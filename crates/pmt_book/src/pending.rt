@@ -1,3 +1,4 @@
+//! Of each thread, the lines that it has flushed since its last fence.
 ghost use Rattle.std.specs.Prelude.{◌≡◌, ◌≢◌, ℕ, ◌<◌, true, [], length, IfOk, OnOk};
 ghost use Rattle.pmt_model.specs.Traces.{has_line};
 ghost use Rattle.pmt_book.specs.Live.{list_at, KeepsLists, IsOnList, TellsFence};

@@ -1,3 +1,4 @@
+//! Tests of the book.
 use crate::laws::ends_are_between;
 use crate::{Book, BookError};
 use pmt_model::{Event, Format, Op, Range, Trace};

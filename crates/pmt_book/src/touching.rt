@@ -33,7 +33,13 @@ fn store_to(event: &Event, format: Format, line: u64) -> Option<WordStore>
 }
 
 // Whether none of the newest `count` stores to the line writes a byte of the range. It goes back to the oldest of them.
-pub(crate) fn none_touches(events: &[Event], format: Format, count: u64, line: u64, range: Range) -> bool
+pub(crate) fn none_touches(
+    events: &[Event],
+    format: Format,
+    count: u64,
+    line: u64,
+    range: Range,
+) -> bool
     ensures { result ≡ none_touches_range count line range (reverse (map (act format) events.now)) }
 {
     let mut left = count;

@@ -1,3 +1,4 @@
+//! Tests of causes and failures on small traces.
 use crate::{cause, failure};
 use pmt_model::{Event, Format, Op, Range, Trace};
 use pmt_reasons::{ByteStore, Cause, Failure};

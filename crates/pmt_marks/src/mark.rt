@@ -1,3 +1,4 @@
+//! The mark of a thread: what its last flush of the line covers.
 ghost use Rattle.std.specs.Prelude.{◌≡◌, ℕ, ◌≤◌, IfNone, OnOk, OnErr, IsOk, IsSome, Some, None};
 ghost use Rattle.pmt_marks.specs.Lines.{place_in, mark_in, OnePerThread, ChangesMark, KeepsMarks};
 

@@ -1,3 +1,4 @@
+//! The state of one line: its count, its front and the marks of threads.
 ghost use Rattle.std.specs.Prelude.{◌≡◌, ℕ, ◌+◌, ◌<◌, ◌↔◌, List, [], ◌∷◌, IsTrue, IsOk, IsSome, None, IfOk, OnOk, OnErr};
 ghost use Rattle.pmt_model.specs.Machine.{Act, Stores, Flushes, Clflushes, Fences};
 ghost use Rattle.pmt_model.specs.Traces.{event_limit};

@@ -1,3 +1,4 @@
+//! Addresses.
 ghost use Rattle.std.specs.Prelude.{◌≡◌, ℕ, ◌^◌, ◌<◌};
 ghost use Rattle.pmt_model.specs.Constructing.{address_of};
 

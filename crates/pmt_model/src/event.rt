@@ -1,3 +1,4 @@
+//! Ops and events.
 ghost use Rattle.std.specs.Prelude.{◌≡◌};
 ghost use Rattle.pmt_model.specs.Traces.{IsEvent, in_format};
 ghost use Rattle.pmt_model.specs.Ops.{store_of, clwb_of, clflushopt_of, clflush_of};

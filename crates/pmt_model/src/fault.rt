@@ -1,3 +1,4 @@
+//! Why a value or an event is refused.
 use std::alloc::AllocError;
 use thiserror::Error;
 

@@ -1,3 +1,5 @@
+//! Findings and verdicts.
+
 /// What is found in a trace besides its verdicts. Events go by their numbers, from 1 (own profile, in the manner of
 /// pmemcheck's reports).
 #[derive(Clone, Copy, Debug, PartialEq, Eq)]

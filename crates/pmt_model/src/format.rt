@@ -1,3 +1,4 @@
+//! The format of a trace: its version and the size of its cache lines.
 ghost use Rattle.std.specs.Prelude.{◌≡◌, ◌≢◌, ℕ, ◌<◌, ◌≤◌};
 ghost use Rattle.pmt_model.specs.Formats.{IsFormat, first_version, second_version};
 ghost use Rattle.pmt_model.specs.Values.{line_of as line_in};

@@ -1,3 +1,5 @@
+//! Gates, by which a test holds threads in an order.
+
 /// What each recorder enters before its first append and after each append that succeeds: tests hold threads there.
 pub trait Gate {
     /// Called by the recorder with this number, from 0.

@@ -1,3 +1,4 @@
+//! The ranges of assertions.
 ghost use Rattle.std.specs.Prelude.{◌≡◌, ◌+◌, ◌^◌, ◌≤◌};
 ghost use Rattle.pmt_model.specs.Constructing.{range_of};
 ghost use Rattle.pmt_model.specs.Values.{IsRange};

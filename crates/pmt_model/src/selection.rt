@@ -1,3 +1,4 @@
+//! Selections of events.
 ghost use Rattle.std.specs.Prelude.{◌≡◌, ◌==◌, length, Some, None, MatchResult};
 ghost use Rattle.pmt_model.specs.Selecting.{first_fall};
 ghost use Rattle.pmt_model.specs.Selections.{IsRising};

@@ -1,3 +1,4 @@
+//! Cutting a long store at the words.
 ghost use Rattle.std.specs.Prelude.{◌≡◌, MatchResult, IfOk};
 ghost use Rattle.pmt_model.specs.Splitting.{AreWordPieces, IsCutInWords, SplitRefuses, IsSplittable};
 

@@ -1,3 +1,4 @@
+//! The bytes of a store, and where they go.
 ghost use Rattle.std.specs.Prelude.{◌≡◌, ◌+◌, ◌%◌, ◌≤◌, length};
 ghost use Rattle.pmt_model.specs.Constructing.{payload_of, word_store_of};
 ghost use Rattle.pmt_model.specs.Values.{AreBytes, IsStore};

@@ -1,3 +1,4 @@
+//! Tests of the values at their limits.
 use crate::{
     Addr, Event, Format, FormatError, Op, OpError, Payload, PushError, Range, Selection,
     SplitStoreError, Trace, line_of, split_store,

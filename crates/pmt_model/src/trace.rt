@@ -1,3 +1,4 @@
+//! Traces.
 ghost use Rattle.std.specs.Prelude.{◌≡◌, ◌≤◌, ◌==◌, length, IfOk};
 ghost use Rattle.std.specs.List.{AllByRecursion};
 ghost use Rattle.pmt_model.specs.Formats.{first_version};

@@ -1,3 +1,5 @@
+//! Why a store is not safe at a place.
+
 /// Why a store is not safe at a place. Events go by their numbers, from 1 (own profile, in the manner of pmemcheck's reports).
 #[derive(Clone, Copy, Debug, PartialEq, Eq)]
 pub enum Cause {

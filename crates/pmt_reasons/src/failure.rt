@@ -1,3 +1,5 @@
+//! The crash that violates a failed assertion.
+
 /// A byte and the last store to it. Events go by their numbers, from 1 (own profile, in the manner of pmemcheck's reports).
 #[derive(Clone, Copy, Debug, PartialEq, Eq)]
 pub struct ByteStore {

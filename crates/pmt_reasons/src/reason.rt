@@ -1,3 +1,5 @@
+//! Why a flush or a fence is dropped.
+
 /// Why a flush or a fence is dropped: the first of these that holds of it. Events go by their numbers, from 1 (own profile, in the
 /// manner of pmemcheck's reports).
 #[derive(Clone, Copy, Debug, PartialEq, Eq)]

@@ -1,3 +1,4 @@
+//! Why a call of a session is refused.
 use thiserror::Error;
 
 /// Why an event was not appended.

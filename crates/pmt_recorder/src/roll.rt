@@ -1,3 +1,4 @@
+//! The name of a session, by which its tapes are told from all others.
 use pmt_model::Format;
 use std::marker::Brand;
 use std::sync::ledger::Ledger;

@@ -1,3 +1,4 @@
+//! Recording scripts, each by a thread of its own.
 ghost use Rattle.std.specs.Prelude.{◌≡◌, ℕ, ◌<◌, ◌≤◌, ◌↔◌, ◌⊎◌, [], length, map, slice_get, Some, Err, IfOk, IfErr, IfSome, IfNone};
 ghost use Rattle.pmt_model.specs.Formats.{first_version};
 ghost use Rattle.pmt_recorder.specs.Scripts.{IsRecorded, IsTornOf, Plays, PlaysEach, RecordFails, first_fault, AtScript};

@@ -1,3 +1,4 @@
+//! The session: its one lock, and the tapes that belong to it.
 ghost use Rattle.std.specs.Prelude.{◌≡◌, ℕ, ◌+◌, ◌<◌, ◌≤◌, ◌↔◌, ◌⊎◌, IfOk, OnOk, IfErr, Err};
 ghost use Rattle.pmt_model.specs.Formats.{first_version};
 ghost use Rattle.pmt_recorder.specs.Sealing.{IsSealed, SealFails};

@@ -1,3 +1,4 @@
+//! What lies under the lock of a session, and copies of it.
 ghost use Rattle.std.specs.Prelude.{◌≡◌, ℕ, ◌<◌, [], length, IfOk};
 ghost use Rattle.std.specs.List.{AllByRecursion};
 ghost use Rattle.pmt_model.specs.declared.event.Event.{Event};

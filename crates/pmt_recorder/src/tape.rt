@@ -1,3 +1,4 @@
+//! The tape of one thread.
 ghost use Rattle.std.specs.Prelude.{◌≡◌, ℕ, ◌-◌, ◌<◌, [], length, slice_get, Some, true, IsTrue, ◌↔◌};
 ghost use Rattle.pmt_recorder.specs.Strips.{strip, IsPart};
 

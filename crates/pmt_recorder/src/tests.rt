@@ -1,3 +1,4 @@
+//! Tests of sessions and scripts with running threads.
 ghost use Rattle.std.specs.Prelude.{◌≡◌};
 ghost use Rattle.pmt_model.specs.Formats.{first_version};
 

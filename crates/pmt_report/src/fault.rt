@@ -1,3 +1,4 @@
+//! Why a run did not write its answer, and the line that says so.
 ghost use Rattle.std.specs.Prelude.{◌≡◌, ◌≢◌, IfOk, string_bytes};
 ghost use Rattle.pmt_report.specs.Faults.{fault_line, run_fault};
 

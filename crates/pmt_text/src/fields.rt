@@ -1,3 +1,4 @@
+//! The fields of a line.
 ghost use Rattle.std.specs.Prelude.{◌≡◌, ◌∷◌};
 ghost use Rattle.std.specs.Option.{option_map};
 ghost use Rattle.pmt_text.specs.Judging.{fields_of};

@@ -1,3 +1,4 @@
+//! The first line of a trace text.
 ghost use Rattle.std.specs.Prelude.{◌≡◌};
 ghost use Rattle.pmt_text.specs.Coming.{format_in};
 

@@ -1,3 +1,4 @@
+//! Why a text is refused.
 ghost use Rattle.std.specs.Prelude.{◌≡◌};
 ghost use Rattle.pmt_text.specs.Kinds.{name_of};
 

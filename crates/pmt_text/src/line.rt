@@ -1,3 +1,4 @@
+//! Judging one line: its event, or the first check that fails.
 ghost use Rattle.std.specs.Prelude.{◌≡◌, IfOk};
 ghost use Rattle.pmt_model.specs.Traces.{IsEventIn};
 ghost use Rattle.pmt_text.specs.Judging.{line_judged, script_line_judged};

@@ -1,3 +1,4 @@
+//! The lines of a reader.
 ghost use Rattle.std.specs.Prelude.{◌≡◌, ◌+◌, ◌-◌, ◌^◌, ◌<◌, ◌≤◌, [], ◌++◌, length, take, drop, OnOk, OnErr, IfErr, IfSome, ◌==◌};
 ghost use Rattle.pmt_text.specs.Counting.{inner_device, failure_count};
 ghost use Rattle.pmt_text.specs.OneLine.{IsOneLine};

@@ -1,3 +1,4 @@
+//! The events of a trace in memory, as a source.
 ghost use Rattle.std.specs.Prelude.{◌≡◌, ◌≤◌, true, length, Some};
 ghost use Rattle.pmt_model.specs.Traces.{event_limit};
 

@@ -1,3 +1,4 @@
+//! Reading numbers, addresses and bytes.
 ghost use Rattle.std.specs.Prelude.{◌≡◌, length};
 ghost use Rattle.std.specs.Option.{option_map};
 ghost use Rattle.pmt_text.specs.Fields.{number_in, address_in, bytes_in};

@@ -1,3 +1,4 @@
+//! The piece of a reader's bytes that is at hand.
 ghost use Rattle.std.specs.Prelude.{◌≡◌, ◌+◌, ◌-◌, ◌^◌, ◌<◌, ◌≤◌, [], length, take, drop, IfOk, OnErr};
 ghost use Rattle.std.specs.Io.KnownBytes.{Consumes, Keeps, IsAtEnd};
 ghost use Rattle.pmt_text.specs.Counting.{inner_device, failure_count, failed_call};

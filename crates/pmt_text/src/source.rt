@@ -1,3 +1,4 @@
+//! Sources of events.
 ghost use Rattle.std.specs.Prelude.{◌≡◌, ℕ, ◌≤◌, Option, Some, None, IfOk, IfErr, IfSome, length};
 ghost use Rattle.pmt_model.specs.Values.{Layout};
 ghost use Rattle.pmt_model.specs.Traces.{event_limit};

@@ -1,3 +1,4 @@
+//! Reading a whole text in memory.
 ghost use Rattle.std.specs.Prelude.{◌≡◌, length, IfOk, IfSome};
 ghost use Rattle.pmt_model.specs.Traces.{IsEventIn};
 ghost use Rattle.pmt_text.specs.Coming.{GivesScript, GivesTrace, judged, script_judged};

@@ -1,3 +1,4 @@
+//! The events of a reader's text, as a source.
 ghost use Rattle.std.specs.Prelude.{◌≡◌, ◌≢◌, ◌-◌, ◌^◌, ◌<◌, ◌≤◌, false, true, is_some, option_map, Some, IfErr};
 ghost use Rattle.pmt_text.specs.Sources.{TakesNext, TellsNext, IsGivenIn, IsOfLaterLine, LeavesFewer, CountsReads};
 ghost use Rattle.pmt_model.specs.Traces.{event_limit};

@@ -1,3 +1,4 @@
+//! The words of events.
 ghost use Rattle.std.specs.Prelude.{◌≡◌};
 ghost use Rattle.pmt_text.specs.Judging.{word_in};
 

@@ -1,3 +1,4 @@
+//! Writing traces and events.
 ghost use Rattle.std.specs.Prelude.{◌≡◌, ◌++◌, ◌∷◌, [], IfOk, OnOk};
 ghost use Rattle.pmt_text.specs.Reading.{IsBase};
 ghost use Rattle.pmt_text.specs.Spelling.{event_text, header, numeral, spelling};

@@ -1,3 +1,4 @@
+//! Joining what is kept of each line with the stores and assertions.
 ghost use Rattle.std.specs.Prelude.{◌≡◌, ℕ, ◌≤◌, ◌↔◌, true, map, length, IfOk};
 ghost use Rattle.pmt_model.specs.Selections.{IsRising, Has};
 ghost use Rattle.pmt_model.specs.Keeping.{IsKeep};

@@ -1,3 +1,4 @@
+//! What is kept of one line.
 ghost use Rattle.std.specs.Prelude.{◌≡◌, ◌+◌, IfOk, MatchOption};
 ghost use Rattle.pmt_model.specs.Traces.{Recording};
 ghost use Rattle.pmt_lines.specs.Jobs.{IsJobOf};

@@ -1,3 +1,4 @@
+//! Tests of trimming.
 use crate::{all_events, line_kept, shortest_selection, trim};
 use pmt_lines::{Jobs, run_line, split};
 use pmt_model::{Event, Format, Op, Range, Trace};

@@ -1,3 +1,4 @@
+//! The words of the program, by clap.
 use clap::{Arg, ArgAction, Command};
 use std::alloc::{AllocError, Global};
 

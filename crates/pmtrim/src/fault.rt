@@ -1,3 +1,4 @@
+//! The faults of the program: their lines and statuses.
 ghost use Rattle.std.specs.Prelude.{◌≤◌};
 
 use crate::opener::OpenError;

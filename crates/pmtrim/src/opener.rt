@@ -1,3 +1,4 @@
+//! Opening named files.
 use std::fs;
 use std::io::{ErrorKind, Read};
 use std::rt::Files;

@@ -1,3 +1,4 @@
+//! What the words ask for.
 use crate::command::commands;
 use crate::fault::Fault;
 use clap::error::ErrorKind;

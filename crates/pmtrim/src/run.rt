@@ -1,3 +1,4 @@
+//! Doing what the words ask for.
 ghost use Rattle.std.specs.Prelude.{◌≤◌, IfOk};
 
 use crate::fault::Fault;

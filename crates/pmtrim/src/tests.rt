@@ -1,3 +1,4 @@
+//! Tests of the program's words, statuses and fault lines.
 ghost use Rattle.std.specs.Prelude.{◌<◌};
 
 mod failing_devices;

@@ -1,3 +1,4 @@
+//! Tests of scripts from readers.
 use crate::counted::Counted;
 use crate::devices::{EndlessReader, PieceReader};
 use crate::kind::{SourceError, TextError, TextKind};

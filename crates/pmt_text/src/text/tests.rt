@@ -1,3 +1,4 @@
+//! Tests of texts that are read and refused.
 use super::*;
 use crate::write::{write_event, write_trace};
 use std::process::Abort;

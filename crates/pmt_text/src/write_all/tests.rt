@@ -1,3 +1,4 @@
+//! Tests of writers that fail.
 use crate::counted::Counted;
 use crate::devices::LimitedWriter;
 use crate::write_all::{WriteFault, write_all_counted};

@@ -1,3 +1,4 @@
+//! Tests of the command record.
 use crate::opener::{OpenError, Opener};
 use crate::run::run_words;
 use pmt_text::devices::{EndlessReader, LimitedWriter, PieceReader};
