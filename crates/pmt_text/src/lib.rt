@@ -33,5 +33,5 @@ pub use crate::script_input::read_script_from;
 pub use crate::source::{EventSource, SourceState};
 pub use crate::text::{read_script, read_trace};
 pub use crate::text_source::TextSource;
-pub use crate::write::{write_event, write_trace};
+pub use crate::write::{push_event, push_header, write_event, write_trace};
 pub use crate::write_all::{WriteFault, write_all_counted};

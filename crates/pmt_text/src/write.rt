@@ -23,7 +23,7 @@ pub fn write_trace(alloc: Global, trace: &Trace) -> Result<Vec<u8>, OutOfMemory>
     push_header(&mut text, trace.format())?;
     let mut line = [0; LINE_ROOM];
     for event in trace.events() {
-        push_event(&mut text, &mut line, event)?;
+        push_line(&mut text, &mut line, event)?;
     }
     Ok(text)
 }
@@ -37,12 +37,15 @@ pub fn write_event(alloc: Global, event: Event) -> Result<Vec<u8>, OutOfMemory>
 {
     let mut text = Vec::new(alloc);
     let mut line = [0; LINE_ROOM];
-    push_event(&mut text, &mut line, &event)?;
+    push_line(&mut text, &mut line, &event)?;
     Ok(text)
 }
 
 /// Adds the line of the header.
-fn push_header(text: &mut Vec<u8>, format: Format) -> Result<(), OutOfMemory>
+///
+/// # Errors
+/// `OutOfMemory`: the text may then have some of the line.
+pub fn push_header(text: &mut Vec<u8>, format: Format) -> Result<(), OutOfMemory>
     ensures { OnOk result (text.new.items ≡ text.old.items ++ (header format ++ 10 ∷ [])) }
 {
     if format.version() == 1 {
@@ -54,9 +57,20 @@ fn push_header(text: &mut Vec<u8>, format: Format) -> Result<(), OutOfMemory>
     Ok(())
 }
 
+/// Adds the line of the event.
+///
+/// # Errors
+/// `OutOfMemory`: the text may then have some of the line.
+pub fn push_event(text: &mut Vec<u8>, event: &Event) -> Result<(), OutOfMemory>
+    ensures { OnOk result (text.new.items ≡ text.old.items ++ event_text event.now) }
+{
+    let mut line = [0; LINE_ROOM];
+    push_line(text, &mut line, event)
+}
+
 /// Adds the line of the event, which is spelled in the buffer.
 #[inline(always)]
-fn push_event(
+fn push_line(
     text: &mut Vec<u8>,
     line: &mut [u8; LINE_ROOM],
     event: &Event,

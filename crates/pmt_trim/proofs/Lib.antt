@@ -12,3 +12,6 @@ pub mod ListLemmas
 pub mod PassingLemmas
 pub mod FencingLemmas
 pub mod SettlingLemmas
+pub mod StreamLemmas
+pub mod FlowLemmas
+pub mod FlowEnds

@@ -6,3 +6,5 @@ pub mod LineTables
 pub mod OpenFlushes
 pub mod Passing
 pub mod Fencing
+pub mod Streaming
+pub mod Leaving

@@ -10,6 +10,10 @@ mod line_table;
 mod open;
 pub mod pass;
 pub mod shortest;
+mod stream;
+pub mod stream_error;
+pub mod stream_laws;
+pub mod streaming;
 #[cfg(test)]
 mod tests;
 pub mod trimming;
@@ -18,4 +22,6 @@ pub use crate::join::liveness;
 pub use crate::kept::line_kept;
 pub use crate::pass::Pass;
 pub use crate::shortest::{all_events, shortest_selection};
+pub use crate::stream_error::StreamError;
+pub use crate::streaming::trim_stream;
 pub use crate::trimming::trim;

@@ -2,7 +2,7 @@
 use Rattle.std.proofs.Common.{rules}
 use Rattle.std.proofs.lemmas.List.{take_rest}
 use Rattle.pmt_text.proofs.LinePutting.{whole-line}
-use Rattle.pmt_text.proofs.write.push_event.Goals as goal
+use Rattle.pmt_text.proofs.write.push_line.Goals as goal
 
 pub returns : goal.returns
 returns c = rw (← whole-line c.spell_line-at.ensures (search rules)) (search (rules, take_rest))
