@@ -240,8 +240,35 @@ def answers(head, trace):
     fronts = [f"place {place} lines {len(lines)}"]
     fronts += [f"line {line * trace.size:#x} front {least(trace, line, place)} count {len(trace.stores(line, place))}" for line in lines]
     yield ["check"], (int(bad), text_of([first, *entries, last]))
-    yield ["trim"], (0, text_of([head, *(spelled(trace.event(number)) for number in kept)]))
+    trimmed = (0, text_of([head, *(spelled(trace.event(number)) for number in kept)]))
+    yield ["trim"], trimmed
+    yield ["trim", "--stream"], trimmed
     yield ["fronts", str(place)], (0, text_of(fronts))
+
+
+def is_open(trace, number):
+    """A flush whose thread has not fenced since."""
+    word, thread = trace.event(number)[:2]
+    later = (trace.event(other)[:2] for other in range(number + 1, len(trace.events) + 1))
+    return word in FLUSHES and not any(other == thread and fence in FENCES for fence, other in later)
+
+
+def streamed(head, trace):
+    """What is out of the stream after these events: what is kept of them before the oldest open flush."""
+    settled = itertools.takewhile(lambda number: not is_open(trace, number), trace.numbers)
+    return text_of([head, *(spelled(trace.event(number)) for number in settled if is_kept(trace, number))])
+
+
+def stream_is_right(program, head, trace):
+    """At every place a faulty line shows what is out there."""
+    for place in range(len(trace.events) + 1):
+        before = Trace(trace.size, trace.events[:place])
+        text = text_of([head, *map(spelled, before.events), "faulty"])
+        done = subprocess.run([program, "trim", "--stream"], input=text, capture_output=True, timeout=120)
+        fault = f"trace line {place + 2}: bad-word\n".encode()
+        if (done.returncode, done.stdout, done.stderr) != (3, streamed(head, before), fault):
+            return False
+    return True
 
 
 def main():
@@ -254,8 +281,9 @@ def main():
             file.write_bytes(text_of([head, *map(spelled, trace.events)]))
             kept = [number for number in trace.numbers if is_kept(trace, number)]
             told = [("the selection", is_faithful(trace, kept) and none_can_go(trace, kept))]
-            for (command, *place), wanted in answers(head, trace):
-                done = subprocess.run([sys.argv[1], command, file, *place], capture_output=True, timeout=120)
+            told.append(("the stream", stream_is_right(sys.argv[1], head, trace)))
+            for (command, *words), wanted in answers(head, trace):
+                done = subprocess.run([sys.argv[1], command, file, *words], capture_output=True, timeout=120)
                 told.append((command, (done.returncode, done.stdout) == wanted))
             for what, right in told:
                 passed, failed = passed + right, failed + (not right)

@@ -21,7 +21,7 @@ EXAMPLES = TOP / "examples"
 VERDICTS = (TOP / "crates/refused_calls/stdout").read_bytes()
 WANT_OF_MEMORY = Answer(5, b"", b"out of memory\n")
 # Whether the program has `trim --stream`.
-STREAMS = False
+STREAMS = True
 
 
 class Case(NamedTuple):

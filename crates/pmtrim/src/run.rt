@@ -6,7 +6,8 @@ use crate::opener::Opener;
 use crate::record::record;
 use crate::request::{Request, request_of};
 use pmt_report::{RunError, run_check, run_fronts, run_trim};
-use pmt_text::Counted;
+use pmt_text::{Counted, SourceError, TextSource};
+use pmt_trim::{StreamError, trim_stream};
 use std::alloc::Global;
 use std::convert::AsStr;
 use std::io::{Read, Write};
@@ -72,8 +73,13 @@ where
         Request::Trim {
             workers: _,
             stream: true,
-            file: _,
-        } => not_yet(alloc, "the option '--stream'"),
+            file: Some(name),
+        } => stream(alloc, files.open(name)?, out),
+        Request::Trim {
+            workers: _,
+            stream: true,
+            file: None,
+        } => stream(alloc, input, out),
         Request::Trim {
             workers,
             stream: false,
@@ -123,6 +129,31 @@ where
     told(done)
 }
 
+// Trims the trace while it is read.
+fn stream<R: Read + Drop, W: Write>(alloc: Global, reader: R, out: &mut W) -> Result<u8, Fault>
+    ensures { IfOk result (λ status. status ≤ 1) }
+{
+    let mut source = TextSource::new(alloc, Counted::new(reader));
+    let mut writer = Counted::new(out);
+    match trim_stream(alloc, &mut source, &mut writer) {
+        Ok(()) => Ok(0),
+        Err(error) => Err(Fault::Run(run_error(error))),
+    }
+}
+
+// What a run tells in the place of the stream. A source that is fresh never answers that it failed before.
+fn run_error(error: StreamError) -> RunError {
+    match error {
+        StreamError::Source(SourceError::Text(fault)) => RunError::Text(fault),
+        StreamError::Source(SourceError::TooMany) => RunError::TooMany,
+        StreamError::Source(SourceError::Read) => RunError::Read,
+        StreamError::Source(SourceError::OutOfMemory) => RunError::OutOfMemory,
+        StreamError::Source(SourceError::Failed) => RunError::Read,
+        StreamError::OutOfMemory => RunError::OutOfMemory,
+        StreamError::Write { written } => RunError::Write { written },
+    }
+}
+
 // The status is 1 where an assertion fails or a store is never persisted.
 fn check<T, R, W>(rt: &T, workers: usize, reader: R, out: &mut W) -> Result<u8, Fault>
 where
@@ -147,11 +178,4 @@ fn told(done: Result<(), RunError>) -> Result<u8, Fault>
         Ok(()) => Ok(0),
         Err(error) => Err(Fault::Run(error)),
     }
-}
-
-fn not_yet(alloc: Global, what: &str) -> Result<u8, Fault>
-    ensures { IfOk result (λ status. status ≤ 1) }
-{
-    let message = format!(in alloc; "{what} is not there yet")?;
-    Err(Fault::usage(alloc, message.as_str())?)
 }

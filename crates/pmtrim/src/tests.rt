@@ -2,6 +2,7 @@
 ghost use Rattle.std.specs.Prelude.{◌<◌};
 
 mod failing_devices;
+mod streaming;
 
 use crate::opener::{OpenError, Opener};
 use crate::run::run_words;
@@ -140,6 +141,7 @@ fn reading_in_pieces(rt: HostRuntime) {
         for most in [1, 7, 4096] {
             expect(&rt, &["check"], text, most, status, report);
             expect(&rt, &[], text, most, 0, trimmed);
+            expect(&rt, &["trim", "--stream"], text, most, 0, trimmed);
             expect(&rt, &["trim"], trimmed, most, 0, trimmed);
         }
     }
