@@ -81,7 +81,7 @@ def answers_of_examples():
         for workers in ("1", "2"):
             threads = workers != "1"
             yield Case(["check", "--workers", workers, trace], {Answer(status, report)}, threads)
-            yield Case(["trim", "--workers", workers, trace], {Answer(0, trimmed)}, threads)
+            yield Case(["trim", "--workers", workers, trace], {Answer(0, trimmed)})
 
 
 def answers_of_fronts():
@@ -137,14 +137,14 @@ def answers_of_many_lines(folder):
     report = b"events 20002 lines 10000\nfence-without-flush 20002\nkept 20001 dropped 1\n"
     fronts = "; ".join(f"line {addr:#x} front 1 count 1" for addr in range(0x1000, 0x1000 + 64 * 10000, 64))
     yield Case(["trim", trace], {Answer(0, trimmed)}, sparse=0.3)
-    yield Case(["trim", "--workers", "8", trace], {Answer(0, trimmed)}, threads=True, sparse=0.3)
+    yield Case(["trim", "--workers", "8", trace], {Answer(0, trimmed)}, sparse=0.3)
     yield Case(["check", "--workers", "4", trace], {Answer(0, report)}, threads=True, sparse=0.3)
     yield Case(["fronts", trace, "20001"], {Answer(0, text(fronts, "place 20001 lines 10000"))}, sparse=0.3)
 
 
-def under_a_limit(program, trace, words):
+def under_a_limit(program, trace, words, kilobytes):
     """A million events, with too little memory for them."""
-    limited = ["bash", "-c", 'ulimit -v 150000; exec "$@"', "limited", program, *words, trace]
+    limited = ["bash", "-c", f'ulimit -v {kilobytes}; exec "$@"', "limited", program, *words, trace]
     done = subprocess.run(limited, capture_output=True, timeout=120)
     answer = Answer(done.returncode, done.stdout, done.stderr)
     return [] if answer == WANT_OF_MEMORY else [f"{words}, a million events: {faulty.short(answer)}"]
@@ -249,8 +249,8 @@ def main():
         if STREAMS:
             cases += streams(folder)
         (folder / "million").write_bytes(lines(499999))
-        limited = (["trim"], ["trim", "--workers", "4"], ["check"])
-        judgements = [partial(under_a_limit, program, folder / "million", words) for words in limited]
+        limited = ((["trim"], 60000), (["trim", "--workers", "4"], 60000), (["check"], 150000))
+        judgements = [partial(under_a_limit, program, folder / "million", *limit) for limit in limited]
         judgements += [judgement for case in cases for judgement in sweeps(run, case)]
         judgements += [partial(sweep_of_calls, calls, VERDICTS), partial(finds_what_is_wrong, run, calls)]
         faulty.judge(judgements)

@@ -11,6 +11,8 @@ use Rattle.pmt_text.specs.Coming.{Coming}
 use Rattle.pmt_text.specs.Sources.{Gives, HasFormat}
 use Rattle.pmt_text.specs.TextLaws.{whole}
 use Rattle.pmt_text.specs.declared.source.SourceState.{SourceState}
+use Rattle.pmt_trim.specs.Streaming.{IsTextOfTrimmed}
+use Rattle.pmt_trim.specs.WholeTexts.{IsTextOfWhole}
 use Rattle.pmt_report.specs.Reports.{fronts_head, front_entry, fronts_text}
 use Rattle.pmt_report.specs.Taking.{IsAllOf, EndsAfter, TakesFirst}
 use Rattle.pmt_report.specs.declared.fault.RunError.{RunError}
@@ -86,3 +88,12 @@ runs-written IsAnswer IsFault coming old new text (Err TooMany) computed writes 
 runs-written IsAnswer IsFault coming old new text (Err Read) computed writes = absurd writes
 runs-written IsAnswer IsFault coming old new text (Err (PastEnd events)) computed writes = absurd writes
 runs-written IsAnswer IsFault coming old new text (Err OutOfMemory) computed writes = absurd writes
+
+-- the text of the trimmed trace of all that comes was computed
+pub text-computed : (told coming : Option Coming) (text bytes : List ℕ) → told ≡ coming → bytes ≡ text → IsTextOfWhole told text → IsComputed IsTextOfTrimmed coming bytes
+text-computed told coming text bytes same is whole =
+    record {
+      trace = whole.trace;
+      all = subst (λ (o : Option Coming). IsAllOf o whole.trace) same whole.come;
+      answer = subst (IsTextOfTrimmed whole.trace) (sym is) whole.right;
+    }

@@ -5,8 +5,6 @@ use Rattle.std.specs.Io.KnownBytes.{Keeps, Appends}
 use Rattle.pmt_model.specs.Traces.{Recording}
 use Rattle.pmt_text.specs.declared.kind.SourceError.TheVariants as sources
 use Rattle.pmt_text.specs.Coming.{Coming, judged_within}
-use Rattle.pmt_text.specs.Spelling.{spelling}
-use Rattle.pmt_trim.specs.Headline.{IsTrimmed}
 use Rattle.pmt_report.specs.declared.fault.RunError.{RunError}
 use Rattle.pmt_report.specs.declared.fault.RunError.TheVariants.{BadWorkers, Text, TooMany, Read, PastEnd, OutOfMemory, Write}
 use Rattle.pmt_report.specs.Reports.{fronts_text}
@@ -120,13 +118,6 @@ pub record IsFrontsAt (place : ℕ) (T : Recording) (text : List ℕ) : Type 0 w
 abbrev pub CountsRuns : {A : Type 0} → Option ℕ → Result A RunError → Option ℕ → Type 0
 CountsRuns None result new = Unit {0}
 CountsRuns (Some n) result new = new ≡ Some (n + run_read_faults result)
-
--- The text is that of the trimmed trace.
-pub record IsTrimmedText (T : Recording) (text : List ℕ) : Type 0 where
-  pub selection : List ℕ
-  pub trimmed : Recording
-  pub trim : IsTrimmed T selection trimmed
-  pub spelled : text ≡ spelling trimmed
 
 -- The numbers of workers that are allowed.
 abbrev pub is_worker_count : ℕ → Bool

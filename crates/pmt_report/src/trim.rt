@@ -1,20 +1,21 @@
 //! The run that trims a trace.
-ghost use Rattle.std.specs.Prelude.{◌≡◌, ◌+◌, ◌-◌, ◌^◌, ◌<◌, true, not, IfOk};
+ghost use Rattle.std.specs.Prelude.{◌≡◌, ◌+◌, ◌-◌, ◌^◌, ◌<◌, true, not};
 ghost use Rattle.pmt_text.specs.Counting.{failure_count, inner_device};
-ghost use Rattle.pmt_report.specs.Runs.{IsAnalysisFault, IsTrimmedText, Runs, coming_from_reader, is_worker_count, run_read_faults, tells_workers, write_faults};
+ghost use Rattle.pmt_trim.specs.Streaming.{IsTextOfTrimmed};
+ghost use Rattle.pmt_report.specs.Runs.{IsAnalysisFault, Runs, coming_from_reader, is_worker_count, run_read_faults, tells_workers, write_faults};
 
-use crate::analysed::analysed;
-use crate::fault::RunError;
+use crate::fault::{RunError, run_error};
 use crate::output::write_answer;
-use pmt_model::OutOfMemory;
-use pmt_text::{Counted, write_trace};
-use pmt_workers::Analysis;
+use pmt_text::{Counted, TextSource};
+use pmt_trim::{TrimError, trimmed_text};
+use pmt_workers::are_allowed;
 use std::alloc::Global;
 use std::io::{Read, Write};
 use std::sync::Wait;
 use std::thread::Threads;
 
-/// Writes the trimmed trace of the trace whose text the reader gives, by this many workers. The reader is handed back.
+/// Writes the trimmed trace of the trace whose text the reader gives. It is the same for every number of workers: one pass forward, in the
+/// calling thread, takes less time than splitting the trace for them would. The reader is handed back.
 ///
 /// # Errors
 /// In this order: `BadWorkers` unless there are 1, 2, 4, 8 or 16, in which case nothing is read; `Text`, `TooMany` and `Read` as
@@ -30,24 +31,19 @@ pub fn run_trim<T: Threads + Wait + Sync, R: Read, W: Write>(
     requires writes { failure_count writer.old < 2 ^ 64 - 1 }
     ensures workers { tells_workers result.1 ≡ not (is_worker_count workers) }
     ensures unread { tells_workers result.1 ≡ true → result.0 ≡ reader }
-    ensures runs { Runs IsTrimmedText IsAnalysisFault (coming_from_reader (R.remaining (inner_device reader))) (W.contents (inner_device writer.old)) (W.contents (inner_device writer.new)) result.1 }
+    ensures runs { Runs IsTextOfTrimmed IsAnalysisFault (coming_from_reader (R.remaining (inner_device reader))) (W.contents (inner_device writer.old)) (W.contents (inner_device writer.new)) result.1 }
     ensures read_failures { failure_count result.0 ≡ failure_count reader + run_read_faults result.1 }
     ensures write_failures { failure_count writer.new ≡ failure_count writer.old + write_faults result.1 }
 {
-    let (reader, found) = analysed(rt, alloc, workers, reader);
-    match found {
-        Ok(analysis) => match trimmed_text(alloc, &analysis) {
-            Ok(text) => (reader, write_answer(writer, text.as_slice())),
-            Err(_) => (reader, Err(RunError::OutOfMemory)),
-        },
-        Err(error) => (reader, Err(error)),
+    if !are_allowed(workers) {
+        return (reader, Err(RunError::BadWorkers));
     }
-}
-
-// The text of the trimmed trace.
-fn trimmed_text(alloc: Global, analysis: &Analysis) -> Result<Vec<u8>, OutOfMemory>
-    ensures { IfOk result (λ text. IsTrimmedText analysis.now.trace text.items) }
-{
-    let trimmed = analysis.trimmed()?;
-    write_trace(alloc, &trimmed)
+    let mut source = TextSource::new(alloc, reader);
+    let found = trimmed_text(alloc, &mut source);
+    let reader = source.into_input();
+    match found {
+        Ok(text) => (reader, write_answer(writer, text.as_slice())),
+        Err(TrimError::Source(fault)) => (reader, Err(run_error(fault))),
+        Err(TrimError::OutOfMemory) => (reader, Err(RunError::OutOfMemory)),
+    }
 }

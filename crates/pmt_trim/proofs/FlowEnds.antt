@@ -54,7 +54,7 @@ comes-first : (first now : Option Coming) (T : Recording) → Gives first T.even
 comes-first None now T given format = tt
 comes-first (Some c) now T given format = (format, (given.0, given.1))
 
-comes-over : (first now : Option Coming) (T : Recording) (fault : Option SourceError) → Gives first T.events now → HasFormat first (Some T.format) → IsOver now fault →
+pub comes-over : (first now : Option Coming) (T : Recording) (fault : Option SourceError) → Gives first T.events now → HasFormat first (Some T.format) → IsOver now fault →
     IfSome first (λ c. c ≡ record { format = Some T.format; events = T.events; fault = fault })
 comes-over first now T fault given format over = go first format (Gives-over first now T.events fault given over)
   where

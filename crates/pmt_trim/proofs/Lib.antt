@@ -15,3 +15,4 @@ pub mod SettlingLemmas
 pub mod StreamLemmas
 pub mod FlowLemmas
 pub mod FlowEnds
+pub mod WholeTextLemmas

@@ -8,3 +8,4 @@ pub mod Passing
 pub mod Fencing
 pub mod Streaming
 pub mod Leaving
+pub mod WholeTexts

@@ -17,6 +17,7 @@ pub mod streaming;
 #[cfg(test)]
 mod tests;
 pub mod trimming;
+pub mod whole_text;
 
 pub use crate::join::liveness;
 pub use crate::kept::line_kept;
@@ -25,3 +26,4 @@ pub use crate::shortest::{all_events, shortest_selection};
 pub use crate::stream_error::StreamError;
 pub use crate::streaming::trim_stream;
 pub use crate::trimming::trim;
+pub use crate::whole_text::{TrimError, trimmed_text};

@@ -80,7 +80,7 @@ pub fn analyse_with<R: Threads + Sync, S: EventSource, G: ShardGate + Sync>(
     ensures told { TellsSource (S.state source.old) result (S.state source.new) }
     ensures failures { CountsReads (S.failures source.old) (told_by result) (S.failures source.new) }
 {
-    if !is_allowed(workers) {
+    if !are_allowed(workers) {
         return Err(AnalyseError::BadWorkers);
     }
     let jobs = split_source(alloc, source)?;
@@ -88,8 +88,8 @@ pub fn analyse_with<R: Threads + Sync, S: EventSource, G: ShardGate + Sync>(
     Ok(analysis)
 }
 
-// Whether there may be this many workers.
-fn is_allowed(workers: usize) -> bool
+/// Whether there may be this many workers.
+pub fn are_allowed(workers: usize) -> bool
     ensures { result ≡ is_worker_count workers }
 {
     matches!(workers, 1 | 2 | 4 | 8 | 16)

@@ -9,7 +9,7 @@ mod judging;
 mod results;
 pub mod shard;
 
-pub use crate::analyse::{AnalyseError, analyse_with};
+pub use crate::analyse::{AnalyseError, analyse_with, are_allowed};
 pub use crate::analysis::Analysis;
 pub use crate::shard::{LineAnswer, ShardGate, run_shard};
 
