@@ -1,7 +1,6 @@
 //! The report of an analysis.
 ghost use Rattle.std.specs.Prelude.{◌≡◌, ◌++◌, IfOk, OnOk};
 ghost use Rattle.std.specs.List.{flat_map};
-ghost use Rattle.pmt_model.specs.Analyses.{reported_at};
 ghost use Rattle.pmt_report.specs.Entries.{entries, verdict_entry, verdicts_before, verdicts_from};
 ghost use Rattle.pmt_report.specs.Reports.{report};
 
@@ -37,22 +36,10 @@ fn push_entries(
 {
     let mut rest = verdicts;
     for finding in findings {
-        rest = push_earlier(text, event_of(*finding), rest)?;
+        rest = push_earlier(text, finding.event(), rest)?;
         push_finding(text, *finding)?;
     }
     push_verdicts(text, rest)
-}
-
-// The event at which the finding is reported.
-fn event_of(finding: Finding) -> u64
-    ensures { result ≡ reported_at finding }
-{
-    match finding {
-        Finding::Overwritten { earlier: _, later } => later,
-        Finding::NeverPersisted { event, flushed: _ } => event,
-        Finding::RedundantFlush { event } => event,
-        Finding::FenceWithoutFlush { event } => event,
-    }
 }
 
 // Adds the entries of the verdicts of earlier events, and gives the others.

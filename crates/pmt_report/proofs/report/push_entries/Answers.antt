@@ -23,7 +23,7 @@ loop-finding-preserved c =
     let within : i < length fs = omega arith in
     let split : drop i fs ≡ f ∷ drop (i + 1) fs = drop-cons fs i (Overwritten 0 0) within ∙ ap (λ (n : ℕ). f ∷ drop n fs) (sym (add-one i)) in
     let before : s ++ entries (f ∷ drop (i + 1) fs) vs ≡ total = ap (λ (l : List Finding). s ++ entries l vs) (sym split) ∙ c.loop-finding.invariant in
-    let number : c.event_of.result ≡ reported_at f = c.event_of.ensures in
+    let number : c.event.result ≡ reported_at f = c.event.ensures in
     let earlier : s1 ≡ s ++ flat_map verdict_entry (verdicts_before (reported_at f) vs) =
     c.in_ok-rest.ensures.pushed ∙ ap (λ (n : ℕ). s ++ flat_map verdict_entry (verdicts_before n vs)) number in
     let others : rest ≡ verdicts_from (reported_at f) vs = c.in_ok-rest.ensures.others ∙ ap (λ (n : ℕ). verdicts_from n vs) number in
