@@ -1,5 +1,5 @@
 -- What a run did, by its answer: what was written, and which calls of its devices failed.
-use Rattle.std.specs.Prelude.{◌≡◌, ℕ, ◌+◌, ◌<◌, ◌≤◌, List, length, take, Option, Some, None, IfSome, Result, Ok, Err, Bool, true, false, ◌==◌, ◌||◌}
+use Rattle.std.specs.Prelude.{◌≡◌, ℕ, ◌+◌, ◌<◌, ◌≤◌, List, length, take, Option, Some, None, IfSome, Result, Ok, Err, Bool, true, false}
 use Rattle.std.specs.Option.{option_map}
 use Rattle.std.specs.Io.KnownBytes.{Keeps, Appends}
 use Rattle.pmt_model.specs.Traces.{Recording}
@@ -118,10 +118,6 @@ pub record IsFrontsAt (place : ℕ) (T : Recording) (text : List ℕ) : Type 0 w
 abbrev pub CountsRuns : {A : Type 0} → Option ℕ → Result A RunError → Option ℕ → Type 0
 CountsRuns None result new = Unit {0}
 CountsRuns (Some n) result new = new ≡ Some (n + run_read_faults result)
-
--- The numbers of workers that are allowed.
-abbrev pub is_worker_count : ℕ → Bool
-is_worker_count n = (n == 1) || (n == 2) || (n == 4) || (n == 8) || (n == 16)
 
 -- ---- What a run tells
 

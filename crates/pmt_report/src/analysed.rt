@@ -2,8 +2,9 @@
 ghost use Rattle.std.specs.Prelude.{◌≡◌, ◌+◌, ◌-◌, ◌^◌, ◌<◌, IfOk, IfErr, true, not};
 ghost use Rattle.pmt_text.specs.Counting.{failure_count, inner_device};
 ghost use Rattle.pmt_workers.specs.Analysing.{IsAnalysed};
+ghost use Rattle.pmt_workers.specs.Halving.{is_worker_count};
 ghost use Rattle.pmt_report.specs.Taking.{IsAllOf};
-ghost use Rattle.pmt_report.specs.Runs.{IsAnalysisFault, coming_from_reader, is_worker_count, run_read_faults, tells_workers};
+ghost use Rattle.pmt_report.specs.Runs.{IsAnalysisFault, coming_from_reader, run_read_faults, tells_workers};
 
 use crate::fault::{RunError, run_error};
 use pmt_model::NoGate;

@@ -2,8 +2,9 @@
 ghost use Rattle.std.specs.Prelude.{◌≡◌, ◌+◌, ◌-◌, ◌^◌, ◌<◌, true, not, IfOk};
 ghost use Rattle.std.specs.List.{list_any};
 ghost use Rattle.pmt_text.specs.Counting.{failure_count, inner_device};
+ghost use Rattle.pmt_workers.specs.Halving.{is_worker_count};
 ghost use Rattle.pmt_report.specs.Checks.{IsJudgedAs, IsReportOf, has_failed, is_failure, is_loss, report_for, unanswered};
-ghost use Rattle.pmt_report.specs.Runs.{IsAnalysisFault, Runs, coming_from_reader, is_worker_count, run_read_faults, tells_workers, write_faults};
+ghost use Rattle.pmt_report.specs.Runs.{IsAnalysisFault, Runs, coming_from_reader, run_read_faults, tells_workers, write_faults};
 
 use crate::analysed::analysed;
 use crate::fault::RunError;

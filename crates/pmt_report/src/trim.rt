@@ -2,7 +2,8 @@
 ghost use Rattle.std.specs.Prelude.{◌≡◌, ◌+◌, ◌-◌, ◌^◌, ◌<◌, true, not};
 ghost use Rattle.pmt_text.specs.Counting.{failure_count, inner_device};
 ghost use Rattle.pmt_trim.specs.Streaming.{IsTextOfTrimmed};
-ghost use Rattle.pmt_report.specs.Runs.{IsAnalysisFault, Runs, coming_from_reader, is_worker_count, run_read_faults, tells_workers, write_faults};
+ghost use Rattle.pmt_workers.specs.Halving.{is_worker_count};
+ghost use Rattle.pmt_report.specs.Runs.{IsAnalysisFault, Runs, coming_from_reader, run_read_faults, tells_workers, write_faults};
 
 use crate::fault::{RunError, run_error};
 use crate::output::write_answer;
