@@ -4,7 +4,7 @@ use Rattle.std.specs.Option.{option_map}
 use Rattle.std.specs.Io.KnownBytes.{Keeps, Appends}
 use Rattle.pmt_model.specs.Traces.{Recording}
 use Rattle.pmt_text.specs.declared.kind.SourceError.TheVariants as sources
-use Rattle.pmt_text.specs.Coming.{Coming, judged_within}
+use Rattle.pmt_text.specs.Coming.{Coming, byte_limit, judged_within}
 use Rattle.pmt_report.specs.declared.fault.RunError.{RunError}
 use Rattle.pmt_report.specs.declared.fault.RunError.TheVariants.{BadWorkers, Text, TooMany, Read, PastEnd, OutOfMemory, Write}
 use Rattle.pmt_report.specs.Reports.{fronts_text}
@@ -57,10 +57,6 @@ tells_workers (Err OutOfMemory) = false
 tells_workers (Err (Write written)) = false
 
 -- ---- What is read
-
--- Of a text so many bytes are judged.
-abbrev pub byte_limit : ℕ
-byte_limit = 67108864
 
 -- What comes from the bytes, where they are known.
 abbrev pub coming_from_reader : Option (List ℕ) → Option Coming

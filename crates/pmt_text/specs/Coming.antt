@@ -91,6 +91,10 @@ trace_coming more bytes = lines_of_trace more (text_lines bytes)
 abbrev pub judged : List ℕ → Coming
 judged bytes = trace_coming false bytes
 
+-- Of a text that a reader gives so many bytes are judged.
+abbrev pub byte_limit : ℕ
+byte_limit = 67108864
+
 -- A text of which at most so many bytes are judged.
 abbrev pub judged_within : ℕ → List ℕ → Coming
 judged_within bound bytes = trace_coming (nat_lt bound (length bytes)) (take bound bytes)

@@ -1,5 +1,6 @@
 //! The lines of a reader.
 ghost use Rattle.std.specs.Prelude.{◌≡◌, ◌+◌, ◌-◌, ◌^◌, ◌<◌, ◌≤◌, [], ◌++◌, length, take, drop, OnOk, OnErr, IfErr, IfSome, ◌==◌};
+ghost use Rattle.pmt_text.specs.Coming.{byte_limit};
 ghost use Rattle.pmt_text.specs.Counting.{inner_device, failure_count};
 ghost use Rattle.pmt_text.specs.OneLine.{IsOneLine};
 ghost use Rattle.pmt_text.specs.Sources.{read_faults};
@@ -45,7 +46,7 @@ impl<R> LineReader<R> {
     pub(crate) fn new(alloc: Global, input: Counted<R>) -> Self
         ensures input { result.input ≡ input }
         ensures held { held result ≡ [] }
-        ensures room { result.room ≡ 67108864 }
+        ensures room { result.room ≡ byte_limit }
     {
         LineReader {
             input,

@@ -1,6 +1,6 @@
 //! A script from a reader.
 ghost use Rattle.std.specs.Prelude.{◌≡◌, ◌≢◌, ◌+◌, ◌-◌, ◌^◌, ◌<◌, true, [], Some, IfErr};
-ghost use Rattle.pmt_text.specs.Coming.{script_coming};
+ghost use Rattle.pmt_text.specs.Coming.{byte_limit, script_coming};
 ghost use Rattle.pmt_text.specs.Counting.{inner_device, failure_count};
 ghost use Rattle.pmt_text.specs.ScriptInputs.{GivesOps, ReadsScript, ReadsWithin, ReadsText, long_fault};
 ghost use Rattle.pmt_text.specs.Sources.{read_faults};
@@ -30,8 +30,8 @@ pub fn read_script_from<R: Read>(
     input: &mut Counted<R>,
 ) -> Result<Vec<Op>, SourceError>
     requires { failure_count input.old < 2 ^ 64 - 1 }
-    ensures script { ReadsScript 67108864 (R.remaining (inner_device input.old)) result }
-    ensures within { ReadsWithin 67108865 (R.remaining (inner_device input.old)) (R.remaining (inner_device input.new)) }
+    ensures script { ReadsScript byte_limit (R.remaining (inner_device input.old)) result }
+    ensures within { ReadsWithin (byte_limit + 1) (R.remaining (inner_device input.old)) (R.remaining (inner_device input.new)) }
     ensures failures { failure_count input.new ≡ failure_count input.old + read_faults result }
     ensures told { IfErr result (λ e. e ≢ SourceError.Failed) }
 {
@@ -44,8 +44,8 @@ pub fn read_script_from<R: Read>(
 fn read_text<R: Read>(text: &mut Vec<u8>, input: &mut Counted<R>) -> Result<bool, SourceError>
     requires none { text.old.items ≡ [] }
     requires counted { failure_count input.old < 2 ^ 64 - 1 }
-    ensures text { ReadsText 67108864 (R.remaining (inner_device input.old)) text.new.items result }
-    ensures within { ReadsWithin 67108865 (R.remaining (inner_device input.old)) (R.remaining (inner_device input.new)) }
+    ensures text { ReadsText byte_limit (R.remaining (inner_device input.old)) text.new.items result }
+    ensures within { ReadsWithin (byte_limit + 1) (R.remaining (inner_device input.old)) (R.remaining (inner_device input.new)) }
     ensures failures { failure_count input.new ≡ failure_count input.old + read_faults result }
 {
     let mut piece = Piece::new();

@@ -5,7 +5,7 @@ ghost use Rattle.pmt_model.specs.Traces.{event_limit};
 ghost use Rattle.pmt_text.specs.declared.source.SourceState.{SourceState};
 ghost use Rattle.pmt_text.specs.declared.source.SourceState.TheVariants as states;
 ghost use Rattle.pmt_text.specs.Counting.{failure_count, inner_device};
-ghost use Rattle.pmt_text.specs.Coming.{judged_within};
+ghost use Rattle.pmt_text.specs.Coming.{byte_limit, judged_within};
 
 use crate::counted::Counted;
 use crate::kind::SourceError;
@@ -36,7 +36,7 @@ impl<R: Read> TextSource<R> {
     /// The source of this reader's text.
     pub fn new(alloc: Global, input: Counted<R>) -> Self
         requires { failure_count input < 2 ^ 64 - 1 }
-        ensures coming { text_coming R.remaining result ≡ option_map (judged_within 67108864) (R.remaining (inner_device input)) }
+        ensures coming { text_coming R.remaining result ≡ option_map (judged_within byte_limit) (R.remaining (inner_device input)) }
         ensures state { text_state result ≡ states.Open }
         ensures input { text_input result ≡ input }
     {
