@@ -1,6 +1,5 @@
 -- What the split of a source tells.
-use Rattle.std.specs.Prelude.{◌≡◌, ◌≢◌, ◌⊎◌, Option, Some, None, IfSome, Result, Ok, Err}
-use Rattle.pmt_model.specs.Traces.{Recording}
+use Rattle.std.specs.Prelude.{◌≡◌, ◌≢◌, ◌⊎◌, Some, Result, Ok, Err}
 use Rattle.pmt_text.specs.declared.kind.SourceError.{SourceError}
 use Rattle.pmt_text.specs.declared.kind.SourceError.TheVariants.{Text, TooMany, Read, OutOfMemory, Failed}
 use Rattle.pmt_text.specs.declared.source.SourceState.{SourceState}
@@ -10,12 +9,6 @@ use Rattle.pmt_lines.specs.declared.splitting.SplitError.{SplitError}
 use Rattle.pmt_lines.specs.declared.splitting.SplitError.TheVariants as splits
 
 -- ---- What came
-
--- All that came: the format, the events, and no fault.
-pub record IsWhole (c : Coming) (T : Recording) : Type 0 where
-  pub format : c.format ≡ Some T.format
-  pub events : c.events ≡ T.events
-  pub fault : c.fault ≡ None
 
 -- A fault of the text is the one that came, at whatever event.
 abbrev pub IsFaultOf : Coming → SourceError → Type 0

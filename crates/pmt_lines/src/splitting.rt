@@ -1,8 +1,9 @@
 //! Splitting a trace into jobs by line.
 ghost use Rattle.std.specs.Prelude.{◌≡◌, IfOk, IfErr, IfSome};
+ghost use Rattle.pmt_text.specs.Coming.{ComesWhole};
 ghost use Rattle.pmt_text.specs.Sources.{CountsReads};
 ghost use Rattle.pmt_lines.specs.Splitting.{IsSplit};
-ghost use Rattle.pmt_lines.specs.Sourcing.{IsWhole, IsFaultOf, TellsSplit, TellsWhole, told_by};
+ghost use Rattle.pmt_lines.specs.Sourcing.{IsFaultOf, TellsSplit, TellsWhole, told_by};
 ghost use Rattle.pmt_lines.specs.declared.splitting.SplitError.TheVariants.{Source, OutOfMemory};
 
 use crate::job::LineJob;
@@ -58,7 +59,7 @@ impl From<AllocError> for SplitError {
 /// split itself, and the source told nothing then. The source stands past the events that were taken.
 pub fn split<S: EventSource>(alloc: Global, source: &mut S) -> Result<Jobs, SourceError>
     ensures apart { IfOk result (λ jobs. IsSplit jobs.trace jobs.lines.items jobs.fences) }
-    ensures whole { IfOk result (λ jobs. IfSome (S.coming source.old) (λ c. IsWhole c jobs.trace)) }
+    ensures whole { IfOk result (λ jobs. ComesWhole (S.coming source.old) jobs.trace) }
     ensures fault { IfErr result (λ e. IfSome (S.coming source.old) (λ c. IsFaultOf c e)) }
     ensures told { TellsWhole (S.state source.old) result (S.state source.new) }
     ensures failures { CountsReads (S.failures source.old) result (S.failures source.new) }
@@ -77,7 +78,7 @@ pub fn split<S: EventSource>(alloc: Global, source: &mut S) -> Result<Jobs, Sour
 /// was refused to the split itself; the source told nothing then. The source stands past the events that were taken.
 pub fn split_source<S: EventSource>(alloc: Global, source: &mut S) -> Result<Jobs, SplitError>
     ensures apart { IfOk result (λ jobs. IsSplit jobs.trace jobs.lines.items jobs.fences) }
-    ensures whole { IfOk result (λ jobs. IfSome (S.coming source.old) (λ c. IsWhole c jobs.trace)) }
+    ensures whole { IfOk result (λ jobs. ComesWhole (S.coming source.old) jobs.trace) }
     ensures fault { IfErr (told_by result) (λ e. IfSome (S.coming source.old) (λ c. IsFaultOf c e)) }
     ensures told { TellsSplit (S.state source.old) result (S.state source.new) }
     ensures failures { CountsReads (S.failures source.old) (told_by result) (S.failures source.new) }

@@ -7,14 +7,14 @@ use Rattle.pmt_model.specs.Values.{Layout}
 use Rattle.pmt_model.specs.Machine.{Act, count}
 use Rattle.pmt_model.specs.Traces.{Recording, history, lines_of, act}
 use Rattle.pmt_model.specs.Fronts.{front}
-use Rattle.pmt_text.specs.Coming.{Coming}
+use Rattle.pmt_text.specs.Coming.{Coming, ComesWhole}
 use Rattle.pmt_text.specs.Sources.{Gives, HasFormat}
-use Rattle.pmt_text.specs.TextLaws.{whole}
+use Rattle.pmt_text.proofs.SourceLemmas.{whole-parts}
 use Rattle.pmt_text.specs.declared.source.SourceState.{SourceState}
 use Rattle.pmt_trim.specs.Streaming.{IsTextOfTrimmed}
 use Rattle.pmt_trim.specs.WholeTexts.{IsTextOfWhole}
 use Rattle.pmt_report.specs.Reports.{fronts_head, front_entry, fronts_text}
-use Rattle.pmt_report.specs.Taking.{IsAllOf, EndsAfter, TakesFirst}
+use Rattle.pmt_report.specs.Taking.{EndsAfter, TakesFirst}
 use Rattle.pmt_report.specs.declared.fault.RunError.{RunError}
 use Rattle.pmt_report.specs.declared.fault.RunError.TheVariants.{BadWorkers, Text, TooMany, Read, PastEnd, OutOfMemory, Write}
 use Rattle.pmt_report.specs.Runs.{IsComputed, IsFrontsAt, WritesText, Runs}
@@ -43,15 +43,12 @@ fronts-longer P es =
     ∙ ap (λ (h : List Act). fronts_after P.format (length P.events) h) (sym (history-longer P es))
     ∙ sym (fronts-history (longer P es) (length P.events))
 
-coming-parts : (c : Coming) (T : Recording) → c.format ≡ Some T.format → c.events ≡ T.events → c.fault ≡ None → c ≡ whole T
-coming-parts c T f e d = λ i. record { format = f i; events = e i; fault = d i }
-
 -- the first events and the others are all that comes
-all-from_parts : (a b : Option Coming) (P : Recording) (es : List Event) → HasFormat a (Some P.format) → Gives a P.events b → EndsAfter b es → IsAllOf a (longer P es)
+all-from_parts : (a b : Option Coming) (P : Recording) (es : List Event) → HasFormat a (Some P.format) → Gives a P.events b → EndsAfter b es → ComesWhole a (longer P es)
 all-from_parts None b P es f given ends = tt
 all-from_parts (Some c) b P es f given ends =
     let left : EndsAfter (Some (record { format = c.format; events = given.0; fault = c.fault })) es = subst (λ (o : Option Coming). EndsAfter o es) given.2 ends in
-    coming-parts c (longer P es) f (given.1 ∙ ap (λ (l : List Event). P.events ++ l) left.0) left.1
+    whole-parts c (longer P es) f (given.1 ∙ ap (λ (l : List Event). P.events ++ l) left.0) left.1
 
 -- the first events reach the place
 reached : (most : ℕ) (a b : Option Coming) (P : Recording) (s : SourceState) → TakesFirst most a P b s → most ≤ length P.events → length P.events ≡ most
@@ -72,10 +69,10 @@ fronts-computed place a b P s es text taken enough ends is =
     }
 
 -- where fewer events came than were asked for, they are all
-pub all-taken : (most : ℕ) (a b : Option Coming) (P : Recording) (s : SourceState) → TakesFirst most a P b s → length P.events < most → IsAllOf a P
+pub all-taken : (most : ℕ) (a b : Option Coming) (P : Recording) (s : SourceState) → TakesFirst most a P b s → length P.events < most → ComesWhole a P
 all-taken most None b P s taken few = tt
 all-taken most (Some c) b P s taken few =
-    elim taken.few [ inl fewer ↦ coming-parts c P taken.format fewer.1.0 fewer.1.1 | inr full ↦ absurd (omega (arith, full.0)) ]
+    elim taken.few [ inl fewer ↦ whole-parts c P taken.format fewer.1.0 fewer.1.1 | inr full ↦ absurd (omega (arith, full.0)) ]
 
 -- an answer that was computed and then written
 pub runs-written : (IsAnswer : Recording → List ℕ → Type 0) (IsFault : Option Coming → RunError → Type 0) (coming : Option Coming) (old new : Option (List ℕ)) (text : List ℕ)
@@ -94,6 +91,6 @@ pub text-computed : (told coming : Option Coming) (text bytes : List ℕ) → to
 text-computed told coming text bytes same is whole =
     record {
       trace = whole.trace;
-      all = subst (λ (o : Option Coming). IsAllOf o whole.trace) same whole.come;
+      all = subst (λ (o : Option Coming). ComesWhole o whole.trace) same whole.come;
       answer = subst (IsTextOfTrimmed whole.trace) (sym is) whole.right;
     }

@@ -5,10 +5,9 @@ use Rattle.pmt_model.specs.declared.finding.Finding.{Finding}
 use Rattle.pmt_model.specs.declared.finding.Finding.TheVariants.{Overwritten, NeverPersisted, RedundantFlush, FenceWithoutFlush}
 use Rattle.pmt_model.specs.declared.finding.Verdict.{Verdict}
 use Rattle.pmt_model.specs.Traces.{Recording}
-use Rattle.pmt_text.specs.Coming.{Coming}
+use Rattle.pmt_text.specs.Coming.{Coming, ComesWhole}
 use Rattle.pmt_workers.specs.Analysing.{Analysed, IsAnalysed}
 use Rattle.pmt_report.specs.Reports.{report}
-use Rattle.pmt_report.specs.Taking.{IsAllOf}
 
 -- The report of an analysis.
 abbrev pub report_for : Analysed → List ℕ
@@ -44,7 +43,7 @@ pub record IsJudged (T : Recording) (failed : Bool) : Type 0 where
 -- What comes is a trace, whose analysis has failed or has not.
 pub record IsJudgedAs (coming : Option Coming) (failed : Bool) : Type 0 where
   pub trace : Recording
-  pub all : IsAllOf coming trace
+  pub all : ComesWhole coming trace
   pub judged : IsJudged trace failed
 
 -- The result without its answer.

@@ -4,11 +4,10 @@ use Rattle.std.specs.Option.{option_map}
 use Rattle.std.specs.Io.KnownBytes.{Keeps, Appends}
 use Rattle.pmt_model.specs.Traces.{Recording}
 use Rattle.pmt_text.specs.declared.kind.SourceError.TheVariants as sources
-use Rattle.pmt_text.specs.Coming.{Coming, byte_limit, judged_within}
+use Rattle.pmt_text.specs.Coming.{Coming, ComesWhole, byte_limit, judged_within}
 use Rattle.pmt_report.specs.declared.fault.RunError.{RunError}
 use Rattle.pmt_report.specs.declared.fault.RunError.TheVariants.{BadWorkers, Text, TooMany, Read, PastEnd, OutOfMemory, Write}
 use Rattle.pmt_report.specs.Reports.{fronts_text}
-use Rattle.pmt_report.specs.Taking.{IsAllOf}
 
 -- ---- What is written
 
@@ -67,13 +66,13 @@ coming_from_reader bytes = option_map (judged_within byte_limit) bytes
 -- The text is an answer on the trace that comes.
 pub record IsComputed (IsAnswer : Recording → List ℕ → Type 0) (coming : Option Coming) (text : List ℕ) : Type 0 where
   pub trace : Recording
-  pub all : IsAllOf coming trace
+  pub all : ComesWhole coming trace
   pub answer : IsAnswer trace text
 
 -- The place lies past the events of the trace that comes.
 pub record IsPast (place : ℕ) (coming : Option Coming) (events : ℕ) : Type 0 where
   pub trace : Recording
-  pub all : IsAllOf coming trace
+  pub all : ComesWhole coming trace
   pub many : length trace.events ≡ events
   pub past : events < place
 

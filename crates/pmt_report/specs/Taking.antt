@@ -8,11 +8,6 @@ use Rattle.pmt_text.specs.declared.source.SourceState.{SourceState}
 use Rattle.pmt_text.specs.declared.source.SourceState.TheVariants as states
 use Rattle.pmt_text.specs.Coming.{Coming}
 use Rattle.pmt_text.specs.Sources.{Gives, HasFormat}
-use Rattle.pmt_text.specs.TextLaws.{whole}
-
--- All that comes is the trace, and then the end.
-abbrev pub IsAllOf : Option Coming → Recording → Type 0
-IsAllOf coming T = IfSome coming (λ c. c ≡ whole T)
 
 -- A fault of the text is the one that comes. A failed read and want of memory may come at any time.
 abbrev pub IsTakingFault : Option Coming → SourceError → Type 0

@@ -1,9 +1,9 @@
 //! The analysis of the trace that a reader gives.
 ghost use Rattle.std.specs.Prelude.{◌≡◌, ◌+◌, ◌-◌, ◌^◌, ◌<◌, IfOk, IfErr, true, not};
+ghost use Rattle.pmt_text.specs.Coming.{ComesWhole};
 ghost use Rattle.pmt_text.specs.Counting.{failure_count, inner_device};
 ghost use Rattle.pmt_workers.specs.Analysing.{IsAnalysed};
 ghost use Rattle.pmt_workers.specs.Halving.{is_worker_count};
-ghost use Rattle.pmt_report.specs.Taking.{IsAllOf};
 ghost use Rattle.pmt_report.specs.Runs.{IsAnalysisFault, coming_from_reader, run_read_faults, tells_workers};
 
 use crate::fault::{RunError, run_error};
@@ -26,7 +26,7 @@ pub(crate) fn analysed<T: Threads + Wait + Sync, R: Read>(
     ensures workers { tells_workers result.1 ≡ not (is_worker_count workers) }
     ensures unread { tells_workers result.1 ≡ true → result.0 ≡ reader }
     ensures right { IfOk result.1 IsAnalysed }
-    ensures all { IfOk result.1 (λ a. IsAllOf (coming_from_reader (R.remaining (inner_device reader))) a.trace) }
+    ensures all { IfOk result.1 (λ a. ComesWhole (coming_from_reader (R.remaining (inner_device reader))) a.trace) }
     ensures fault { IfErr result.1 (IsAnalysisFault (coming_from_reader (R.remaining (inner_device reader)))) }
     ensures read_failures { failure_count result.0 ≡ failure_count reader + run_read_faults result.1 }
 {

@@ -3,7 +3,8 @@ use Rattle.std.proofs.Common.{◌≡◌, List, [], ◌++◌, Option, Some, None,
 use Rattle.pmt_model.specs.declared.event.Event.{Event}
 use Rattle.pmt_model.specs.Values.{Layout}
 use Rattle.pmt_text.specs.declared.kind.SourceError.{SourceError}
-use Rattle.pmt_text.specs.Coming.{Coming}
+use Rattle.pmt_model.specs.Traces.{Recording}
+use Rattle.pmt_text.specs.Coming.{Coming, whole}
 use Rattle.pmt_text.specs.Sources.{Gives, IsOver, HasFormat}
 
 -- nothing was taken yet
@@ -32,6 +33,10 @@ Gives-over None b es fault p q = tt
 Gives-over (Some c) b es fault p q =
     let q' : IsOver (left_of c p.0) fault = subst (λ (o : Option Coming). IsOver o fault) p.2 q in
     (p.1 ∙ ap (λ l. es ++ l) q'.0 ∙ append-nil es, q'.1)
+
+-- what came, from its parts
+pub whole-parts : (c : Coming) (T : Recording) → c.format ≡ Some T.format → c.events ≡ T.events → c.fault ≡ None → c ≡ whole T
+whole-parts c T f e d = λ i. record { format = f i; events = e i; fault = d i }
 
 -- the format that comes is that which came
 pub HasFormat-Gives : (a b : Option Coming) (es : List Event) (f : Option Layout) → Gives a es b → HasFormat b f → HasFormat a f

@@ -18,8 +18,8 @@ use Rattle.pmt_text.specs.declared.word.Word.TheVariants as words
 use Rattle.pmt_text.specs.Spelling.{ended, header, numeral, event_line, event_text, op_line, op_text, spelling, script_spelling, word_text}
 use Rattle.pmt_text.specs.Fields.{event_in}
 use Rattle.pmt_text.specs.Judging.{fields_of, required, is_known, event_checked, event_judged, line_judged, script_line_judged}
-use Rattle.pmt_text.specs.Coming.{text_lines, fault_at, Items, ends_with, item_then, rest_fault, lines_coming, Coming, lines_of_trace, header_then, with_format, all_formats, format_in, trace_coming, judged, script_coming, script_judged}
-use Rattle.pmt_text.specs.TextLaws.{whole, is_of_first_version, IsScript, whole_script, SpelledIsRead, ReadIsSpelled, OneTraceOfText, OneTextOfTrace, FirstVersionStays, NewWordsAreBad, ScriptsAreSpelled, WithinBound}
+use Rattle.pmt_text.specs.Coming.{text_lines, fault_at, Items, ends_with, item_then, rest_fault, lines_coming, Coming, lines_of_trace, header_then, with_format, all_formats, format_in, trace_coming, judged, whole, script_coming, script_judged}
+use Rattle.pmt_text.specs.TextLaws.{is_of_first_version, IsScript, whole_script, SpelledIsRead, ReadIsSpelled, OneTraceOfText, OneTextOfTrace, FirstVersionStays, NewWordsAreBad, ScriptsAreSpelled, WithinBound}
 use Rattle.pmt_text.proofs.LineLemmas.{IsFree, parts-append}
 use Rattle.pmt_text.proofs.ComingLemmas.{text_lines-nonempty, lines_coming-line}
 use Rattle.pmt_text.proofs.ReaderLemmas.{judged-lines}

@@ -1,5 +1,5 @@
 -- What comes from bytes: events in order, and then the end or one fault.
-use Rattle.std.specs.Prelude.{◌≡◌, ℕ, ◌+◌, nat_lt, Bool, true, false, ◌==◌, if◌then◌else◌, List, [], ◌∷◌, length, take, find, Option, Some, None, Result, Ok, Err, Vec}
+use Rattle.std.specs.Prelude.{◌≡◌, ℕ, ◌+◌, nat_lt, Bool, true, false, ◌==◌, if◌then◌else◌, List, [], ◌∷◌, length, take, find, Option, Some, None, IfSome, Result, Ok, Err, Vec}
 use Rattle.std.specs.List.{slice_split}
 use Rattle.std.specs.Str.{bytes_eq}
 use Rattle.pmt_model.specs.declared.event.Op.{Op}
@@ -99,6 +99,14 @@ byte_limit = 67108864
 abbrev pub judged_within : ℕ → List ℕ → Coming
 judged_within bound bytes = trace_coming (nat_lt bound (length bytes)) (take bound bytes)
 
+-- A whole trace comes, without a fault.
+abbrev pub whole : Recording → Coming
+whole T = record { format = Some T.format; events = T.events; fault = None }
+
+-- All that comes, where that is known, is the trace, and then the end.
+abbrev pub ComesWhole : Option Coming → Recording → Type 0
+ComesWhole coming T = IfSome coming (λ c. c ≡ whole T)
+
 -- ---- Scripts
 
 -- A script has no header. One of no bytes has no ops.
@@ -117,7 +125,7 @@ Refuses answers.OutOfMemory fault = Unit {0}
 
 -- An Ok is what a text without fault is.
 abbrev pub GivesTrace : Result Recording ReadError → Coming → Type 0
-GivesTrace (Ok T) c = c ≡ record { format = Some T.format; events = T.events; fault = None }
+GivesTrace (Ok T) c = c ≡ whole T
 GivesTrace (Err e) c = Refuses e c.fault
 
 abbrev pub GivesScript : {Z : Type 0} → Result (Vec Op Z) ReadError → Items Op → Type 0

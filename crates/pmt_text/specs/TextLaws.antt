@@ -8,11 +8,7 @@ use Rattle.pmt_model.specs.Traces.{Recording, IsTrace, IsOp, event_limit}
 use Rattle.pmt_text.specs.declared.kind.TextKind.TheVariants.{BadWord}
 use Rattle.pmt_text.specs.Spelling.{spelling, script_spelling}
 use Rattle.pmt_text.specs.Judging.{fields_of, line_judged}
-use Rattle.pmt_text.specs.Coming.{Coming, Items, judged, judged_within, script_judged}
-
--- A whole trace comes, without a fault.
-abbrev pub whole : Recording → Coming
-whole T = record { format = Some T.format; events = T.events; fault = None }
+use Rattle.pmt_text.specs.Coming.{Items, judged, judged_within, whole, script_judged}
 
 -- The spelling of a trace is read as the trace.
 abbrev pub SpelledIsRead : Type 0

@@ -15,15 +15,14 @@ use Rattle.pmt_text.specs.declared.kind.SourceError.{SourceError}
 use Rattle.pmt_text.specs.declared.kind.SourceError.TheVariants as sources
 use Rattle.pmt_text.specs.declared.source.SourceState.{SourceState}
 use Rattle.pmt_text.specs.declared.source.SourceState.TheVariants as states
-use Rattle.pmt_text.specs.Coming.{Coming}
+use Rattle.pmt_text.specs.Coming.{Coming, ComesWhole}
 use Rattle.pmt_text.specs.Sources.{Gives, IsOver, Faults, TakesNext, HasFormat, TakesFormat, TellsNext, TellsFormat, KeepsFormat, IsGivenIn, IsOfLaterLine, LeavesFewer, read_faults, CountsReads}
-use Rattle.pmt_text.specs.TextLaws.{whole, longest_text}
 use Rattle.pmt_text.proofs.SourceLemmas.{Gives-trans, Gives-over}
 use Rattle.pmt_lines.proofs.SourceRunLemmas.{Shown, SoFar, SameReads}
 use Rattle.pmt_trim.specs.declared.stream.Stream.{Stream}
 use Rattle.pmt_trim.specs.declared.stream_error.StreamError.{StreamError}
 use Rattle.pmt_trim.specs.declared.stream_error.StreamError.TheVariants.{Source, OutOfMemory, Write}
-use Rattle.pmt_trim.specs.Streaming.{IsOut, IsTextOfTrimmed, ComesFirst, ComesWhole, ComesBefore, Writes, WritesFirst, Streams, TellsStream, CountsStream, stream_write_faults}
+use Rattle.pmt_trim.specs.Streaming.{IsOut, IsTextOfTrimmed, ComesFirst, ComesBefore, Writes, WritesFirst, Streams, TellsStream, CountsStream, stream_write_faults}
 use Rattle.pmt_trim.specs.Leaving.{IsSoFar, IsStreamOf, WritesPiece, WritesRest, Closes, piece_faults}
 use Rattle.pmt_trim.proofs.FlowLemmas.{out-short}
 

@@ -12,8 +12,8 @@ use Rattle.pmt_model.specs.Pushing.{empty, with_event}
 use Rattle.pmt_model.specs.Selections.{Has, cut}
 use Rattle.pmt_model.proofs.SelectLemmas.{cut-is-trace}
 use Rattle.pmt_text.specs.Spelling.{spelling}
-use Rattle.pmt_text.specs.TextLaws.{whole, longest_text}
 use Rattle.pmt_text.proofs.BoundLemmas.{spelled_is_short}
+use Rattle.pmt_text.specs.TextLaws.{longest_text}
 use Rattle.pmt_trim.specs.declared.stream.Stream.{Stream}
 use Rattle.pmt_trim.specs.declared.stream_error.StreamError.{StreamError}
 use Rattle.pmt_trim.specs.declared.stream_error.StreamError.TheVariants.{Source, OutOfMemory, Write}

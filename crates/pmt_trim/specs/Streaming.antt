@@ -10,10 +10,9 @@ use Rattle.pmt_text.specs.declared.kind.SourceError.{SourceError}
 use Rattle.pmt_text.specs.declared.kind.SourceError.TheVariants as sources
 use Rattle.pmt_text.specs.declared.source.SourceState.{SourceState}
 use Rattle.pmt_text.specs.declared.source.SourceState.TheVariants as states
-use Rattle.pmt_text.specs.Coming.{Coming}
+use Rattle.pmt_text.specs.Coming.{Coming, ComesWhole}
 use Rattle.pmt_text.specs.Sources.{IsOfFirstLine, IsOfLaterLine, read_faults}
 use Rattle.pmt_text.specs.Spelling.{spelling}
-use Rattle.pmt_text.specs.TextLaws.{whole}
 use Rattle.pmt_trim.specs.declared.stream_error.StreamError.{StreamError}
 use Rattle.pmt_trim.specs.declared.stream_error.StreamError.TheVariants.{Source, OutOfMemory, Write}
 use Rattle.pmt_trim.specs.Headline.{IsTrimmed}
@@ -53,10 +52,6 @@ pub record IsTextOfTrimmed (T : Recording) (text : List ℕ) : Type 0 where
 -- The events of T are the first that come.
 abbrev pub ComesFirst : Option Coming → Recording → Type 0
 ComesFirst coming T = IfSome coming (λ c. (c.format ≡ Some T.format) × ((later : List Event) × (c.events ≡ T.events ++ later)))
-
--- All that comes is T, and then the end.
-abbrev pub ComesWhole : Option Coming → Recording → Type 0
-ComesWhole coming T = IfSome coming (λ c. c ≡ whole T)
 
 -- The events of T come, and then the fault. A failed read and want of memory may come after any event.
 abbrev pub ComesBefore : Option Coming → SourceError → Recording → Type 0

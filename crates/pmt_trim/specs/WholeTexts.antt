@@ -3,11 +3,11 @@ use Rattle.std.specs.Prelude.{ℕ, ◌⊎◌, List, Option, Result, Ok, Err}
 use Rattle.pmt_model.specs.Traces.{Recording}
 use Rattle.pmt_text.specs.declared.kind.SourceError.{SourceError}
 use Rattle.pmt_text.specs.declared.source.SourceState.{SourceState}
-use Rattle.pmt_text.specs.Coming.{Coming}
+use Rattle.pmt_text.specs.Coming.{Coming, ComesWhole}
 use Rattle.pmt_lines.specs.Sourcing.{TellsEnd, TellsFault, TellsNothing}
 use Rattle.pmt_trim.specs.declared.whole_text.TrimError.{TrimError}
 use Rattle.pmt_trim.specs.declared.whole_text.TrimError.TheVariants.{Source, OutOfMemory}
-use Rattle.pmt_trim.specs.Streaming.{ComesWhole, IsTextOfTrimmed}
+use Rattle.pmt_trim.specs.Streaming.{IsTextOfTrimmed}
 
 -- The text is that of the trimmed trace of all that comes, and then the end comes.
 pub record IsTextOfWhole (coming : Option Coming) (text : List ℕ) : Type 0 where

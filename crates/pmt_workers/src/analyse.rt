@@ -1,9 +1,10 @@
 //! The analysis of a source's trace by any number of workers.
 ghost use Rattle.std.specs.Prelude.{◌≡◌, ◌↔◌, IfOk, IfErr, IfSome, IsTrue, IsFalse, IsErrOf};
 ghost use Rattle.pmt_model.specs.Selections.{cut};
+ghost use Rattle.pmt_text.specs.Coming.{ComesWhole};
 ghost use Rattle.pmt_text.specs.Sources.{CountsReads};
 ghost use Rattle.pmt_lines.specs.Splitting.{IsSplit};
-ghost use Rattle.pmt_lines.specs.Sourcing.{IsWhole, IsFaultOf};
+ghost use Rattle.pmt_lines.specs.Sourcing.{IsFaultOf};
 ghost use Rattle.pmt_trim.specs.Headline.{IsTrimmed};
 ghost use Rattle.pmt_workers.specs.Analysing.{IsAnalysed};
 ghost use Rattle.pmt_workers.specs.Asking.{TellsSource, error_of, told_by};
@@ -75,7 +76,7 @@ pub fn analyse_with<R: Threads + Sync, S: EventSource, G: ShardGate + Sync>(
     ensures unasked { IsErrOf result AnalyseError.BadWorkers → source.new ≡ source.old }
     ensures right { IfOk result IsAnalysed }
     ensures trimmed { IfOk result (λ a. IsTrimmed a.trace a.selection (cut a.trace a.selection)) }
-    ensures whole { IfOk result (λ a. IfSome (S.coming source.old) (λ c. IsWhole c a.trace)) }
+    ensures whole { IfOk result (λ a. ComesWhole (S.coming source.old) a.trace) }
     ensures fault { IfErr (told_by result) (λ e. IfSome (S.coming source.old) (λ c. IsFaultOf c e)) }
     ensures told { TellsSource (S.state source.old) result (S.state source.new) }
     ensures failures { CountsReads (S.failures source.old) (told_by result) (S.failures source.new) }
