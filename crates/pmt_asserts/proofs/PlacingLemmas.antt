@@ -8,7 +8,8 @@ use Rattle.pmt_model.specs.Values.{line_of}
 use Rattle.pmt_model.specs.Machine.{Act, Stores, Flushes, Clflushes, Fences, Asserts, count}
 use Rattle.pmt_model.specs.Traces.{Recording, IsTrace, history, count_at, lines_of, has_line, with_line}
 use Rattle.pmt_lines.specs.Raises.{LineFound}
-use Rattle.pmt_asserts.specs.Tables.{found_line, IsOfJob, AreResultsOf, IsUnwritten}
+use Rattle.pmt_lines.specs.Splitting.{IsJob}
+use Rattle.pmt_asserts.specs.Tables.{found_line, AreResultsOf, IsUnwritten}
 use Rattle.pmt_asserts.specs.Placing.{IsPlacing}
 use Rattle.pmt_asserts.proofs.LastLemmas.{LastIs, NoLast, LastAt, last-is}
 
@@ -110,5 +111,8 @@ unwritten-line T l results i b trace are none in_line = go (last-is T l [] b i t
     go (LastAt r some rank within below by_now past) = absurd (omega arith)
 
 -- a result among them is of its job
-pub of-job : (T : Recording) (results : List LineFound) (found : LineFound) → AreResultsOf T results → Contains results found → IsOfJob T found
-of-job T results found are c = All-contains (IsOfJob T) results found (All-from_recursion (IsOfJob T) results are.jobs) c
+pub of-job : (T : Recording) (results : List LineFound) (found : LineFound) → AreResultsOf T results → Contains results found → IsJob T found.job
+of-job T results found are c = All-contains of results found (All-from_recursion of results are.jobs) c
+  where
+    of : LineFound → Type 0
+    of found = IsJob T found.job

@@ -11,10 +11,11 @@ use Rattle.pmt_model.specs.Assertions.{last_store, up_to_last}
 use Rattle.pmt_lines.specs.declared.step.Step.{Step}
 use Rattle.pmt_lines.specs.declared.raises.Raise.{Raise}
 use Rattle.pmt_lines.specs.Jobs.{IsJobOf}
+use Rattle.pmt_lines.specs.Splitting.{IsJob}
 use Rattle.pmt_lines.specs.Raises.{LineFound, IsLineResult, RaisesBetween}
 use Rattle.pmt_asserts.specs.declared.put.Put.{Put}
 use Rattle.pmt_asserts.specs.Puts.{puts_of, no_put, put_at, last_in, IsGreatestIn, IsLeastIn}
-use Rattle.pmt_asserts.specs.Tables.{IsOfJob, LieIn, EachFrom, PersistedBy, RankedBy, ComesFrom, IsLastAt, IsOldest, IsUnwritten}
+use Rattle.pmt_asserts.specs.Tables.{LieIn, EachFrom, PersistedBy, RankedBy, ComesFrom, IsLastAt, IsOldest, IsUnwritten}
 use Rattle.pmt_asserts.proofs.TraceLemmas.{ArePuts, job-puts, counted, numbers-rise}
 use Rattle.pmt_asserts.proofs.RaiseLemmas.{no_raise, front_after, front-raised, places-rise}
 use Rattle.pmt_asserts.proofs.LastLemmas.{LastIs, NoLast, LastAt, last-is}
@@ -38,18 +39,18 @@ count-found T l steps puts n i job is within point =
     counted T l n i puts are within (λ k h. leb-true (put_at puts k).number n (point.0 k no_put (omega arith) h)) (λ k h m. past-from (put_at puts k).number n (point.1 k no_put h m))
 
 -- the raises are those of the line
-raises-are : (T : Recording) (found : LineFound) (raises : List Raise) → raises ≡ found.raises → IsLineResult found → IsOfJob T found → RaisesBetween T found.job.line 0 (length T.events) raises
+raises-are : (T : Recording) (found : LineFound) (raises : List Raise) → raises ≡ found.raises → IsLineResult found → IsJob T found.job → RaisesBetween T found.job.line 0 (length T.events) raises
 raises-are T found raises same right job = subst (RaisesBetween T found.job.line 0 (length T.events)) (sym same) (right.raises T job)
 
 -- the raises can be searched by their places
-pub raises-partitioned : (T : Recording) (found : LineFound) (raises : List Raise) (n : ℕ) → raises ≡ found.raises → IsLineResult found → IsOfJob T found → IsPartitionedBy (λ r. nat_le r.place n) raises
+pub raises-partitioned : (T : Recording) (found : LineFound) (raises : List Raise) (n : ℕ) → raises ≡ found.raises → IsLineResult found → IsJob T found.job → IsPartitionedBy (λ r. nat_le r.place n) raises
 raises-partitioned T found raises n same right job =
     IsPartitionedBy-leb (λ (r : Raise). r.place) raises n
     (IsNonDecreasingBy-from_default (λ (r : Raise). r.place) raises no_raise (places-rise T found.job.line 0 (length T.events) raises (raises-are T found raises same right job)))
 
 -- the front after those that come by a place
 pub front-found :
-    (T : Recording) (found : LineFound) (raises : List Raise) (n i : ℕ) → raises ≡ found.raises → IsLineResult found → IsOfJob T found → n ≤ length T.events → i ≤ length raises →
+    (T : Recording) (found : LineFound) (raises : List Raise) (n i : ℕ) → raises ≡ found.raises → IsLineResult found → IsJob T found.job → n ≤ length T.events → i ≤ length raises →
     IsPartitionPoint (λ r. nat_le r.place n ≡ true) (λ r. nat_le r.place n ≡ false) raises i → front_at T found.job.line n ≡ front_after 0 raises i
 front-found T found raises n i same right job by_end within point =
     front-raised T found.job.line 0 (length T.events) n i raises (raises-are T found raises same right job) (omega arith) by_end within

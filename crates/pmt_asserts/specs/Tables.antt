@@ -5,24 +5,21 @@ use Rattle.pmt_model.specs.Values.{line_of}
 use Rattle.pmt_model.specs.Traces.{Recording, IsTrace, history, lines_of}
 use Rattle.pmt_model.specs.Fronts.{front_at}
 use Rattle.pmt_model.specs.Assertions.{last_store, up_to_last}
-use Rattle.pmt_lines.specs.Jobs.{IsJobOf}
+use Rattle.pmt_lines.specs.Splitting.{IsJob}
 use Rattle.pmt_lines.specs.Raises.{LineFound}
 use Rattle.pmt_asserts.specs.declared.oldest.Oldest.{Oldest}
 
 abbrev pub found_line : LineFound → ℕ
 found_line found = found.job.line
 
-abbrev pub IsOfJob : Recording → LineFound → Type 0
-IsOfJob T found = IsJobOf T found.job.line found.job.steps
-
 -- The results of the jobs of the trace: one for each line that is stored or flushed, in order of first appearance.
 pub record AreResultsOf (T : Recording) (results : List LineFound) : Type 0 where
   pub covering : map found_line results ≡ lines_of (history T (length T.events))
-  pub jobs : AllByRecursion (IsOfJob T) results
+  pub jobs : AllByRecursion (λ found. IsJob T found.job) results
 
 -- Where the result is of the trace, p holds of the trace and its line.
 abbrev pub OfEachTrace : LineFound → (Recording → ℕ → Type 0) → Type 0
-OfEachTrace found p = (T : Recording) → IsTrace T → IsOfJob T found → p T found.job.line
+OfEachTrace found p = (T : Recording) → IsTrace T → IsJob T found.job → p T found.job.line
 
 -- The bytes from low to high lie in line l.
 abbrev pub LieIn : Recording → ℕ → ℕ → ℕ → Type 0

@@ -11,9 +11,13 @@ use Rattle.pmt_lines.specs.declared.step.Step.{Step}
 use Rattle.pmt_lines.specs.Steps.{LineWork, last_number, with_step}
 use Rattle.pmt_lines.specs.Jobs.{IsJobOf, EachTouches, IsThreadJobOf}
 
--- The job of a line of the trace, with no step that does not matter to the line.
+-- The job is that of its line in the trace.
+abbrev pub IsJob : Recording → LineWork → Type 0
+IsJob T job = IsJobOf T job.line job.steps
+
+-- And it has no step that does not matter to the line.
 abbrev pub IsLeanJob : Recording → LineWork → Type 0
-IsLeanJob T job = IsJobOf T job.line job.steps × EachTouches T job.line job.steps
+IsLeanJob T job = IsJob T job × EachTouches T job.line job.steps
 
 abbrev pub line_in : LineWork → ℕ
 line_in job = job.line

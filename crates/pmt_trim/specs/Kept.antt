@@ -5,8 +5,6 @@ use Rattle.pmt_model.specs.Traces.{Recording, IsAct, history, lines_of}
 use Rattle.pmt_model.specs.Fronts.{front_at}
 use Rattle.pmt_model.specs.Selections.{IsRising, Has}
 use Rattle.pmt_model.specs.Keeping.{IsUsefulFlush, IsUsefulClflush}
-use Rattle.pmt_lines.specs.Steps.{LineWork}
-use Rattle.pmt_lines.specs.Jobs.{IsJobOf}
 
 -- Event n is kept for line l: a useful flush or clflush of it, or a fence that raises its front.
 pub data IsKeptFor (T : Recording) (l n : ℕ) : Type 0 where
@@ -18,10 +16,6 @@ pub data IsKeptFor (T : Recording) (l n : ℕ) : Type 0 where
 pub record IsLineKept (T : Recording) (l : ℕ) (kept : List ℕ) : Type 0 where
   pub rising : IsRising 0 kept
   pub just : (n : ℕ) → Has kept n ↔ IsKeptFor T l n
-
--- The job is that of its line in the trace.
-abbrev pub IsJob : Recording → LineWork → Type 0
-IsJob T job = IsJobOf T job.line job.steps
 
 -- One such list for each of these lines, in their order.
 abbrev pub AreLinesKept : Recording → List ℕ → List (List ℕ) → Type 0

@@ -4,12 +4,12 @@ use Rattle.std.specs.List.{AllByRecursion}
 use Rattle.pmt_model.specs.Traces.{Recording, history, lines_of}
 use Rattle.pmt_lines.specs.Steps.{LineWork}
 use Rattle.pmt_lines.specs.Raises.{LineFound}
-use Rattle.pmt_lines.specs.Splitting.{IsLeanJob, line_in}
+use Rattle.pmt_lines.specs.Splitting.{IsJob, IsLeanJob, line_in}
 use Rattle.pmt_findings.specs.Merging.{job_in}
-use Rattle.pmt_trim.specs.Kept.{IsJob, AreLinesKept}
+use Rattle.pmt_trim.specs.Kept.{AreLinesKept}
 use Rattle.pmt_workers.specs.declared.shard.LineAnswer.{LineAnswer}
 use Rattle.pmt_workers.specs.Answering.{AreAnswersTo}
-use Rattle.pmt_asserts.specs.Tables.{found_line as line_found, IsOfJob, AreResultsOf}
+use Rattle.pmt_asserts.specs.Tables.{found_line as line_found, AreResultsOf}
 use Rattle.pmt_workers.specs.Results.{result_in, kept_in}
 
 -- the results have the jobs that were answered
@@ -25,7 +25,7 @@ lines-same [] = refl
 lines-same (r ∷ results) = ap (λ (ls : List ℕ). r.job.line ∷ ls) (lines-same results)
 
 of-jobs : (T : Recording) (jobs : List LineWork) (answers : List LineAnswer) → AllByRecursion (IsLeanJob T) jobs → AreAnswersTo jobs answers →
-    AllByRecursion (IsOfJob T) (map result_in answers)
+    AllByRecursion (λ (found : LineFound). IsJob T found.job) (map result_in answers)
 of-jobs T [] [] lean all = tt
 of-jobs T [] (a ∷ answers) lean all = absurd all
 of-jobs T (j ∷ jobs) [] lean all = absurd all

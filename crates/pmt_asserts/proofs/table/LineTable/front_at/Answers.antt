@@ -5,14 +5,14 @@ use Rattle.pmt_model.specs.Traces.{Recording}
 use Rattle.pmt_model.specs.Fronts.{front_at}
 use Rattle.pmt_lines.specs.Raises.{LineFound, IsLineResult}
 use Rattle.pmt_lines.specs.declared.raises.Raise.{Raise}
-use Rattle.pmt_asserts.specs.Tables.{IsOfJob}
+use Rattle.pmt_lines.specs.Splitting.{IsJob}
 use Rattle.pmt_asserts.proofs.RaiseLemmas.{front_after}
 use Rattle.pmt_asserts.proofs.TableLemmas.{raises-partitioned, front-found, front_after-some}
 use Rattle.pmt_asserts.proofs.table.LineTable.front_at.Goals as goal
 use Rattle.pmt_asserts.proofs.table.LineTable.front_at.Goals.{After-partition_point-count}
 
 -- the front after the raises that come by the place
-found : (c : After-partition_point-count) (T : Recording) → IsOfJob T c.args.self.now → c.args.place ≤ length T.events → front_at T c.args.self.now.job.line c.args.place ≡ front_after 0 c.raises-raises.result.now c.partition_point-count.result
+found : (c : After-partition_point-count) (T : Recording) → IsJob T c.args.self.now.job → c.args.place ≤ length T.events → front_at T c.args.self.now.job.line c.args.place ≡ front_after 0 c.raises-raises.result.now c.partition_point-count.result
 found c T job by_end =
     let f = c.args.self.now in
     let raises = c.raises-raises.result.now in
