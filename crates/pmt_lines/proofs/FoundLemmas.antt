@@ -139,7 +139,7 @@ scanned-start T l steps scan state stores flush job = record {
     none f h first = omega (arith, first, finding-numbered T l f h)
 
 -- the front after the last raise is that of the end
-ending-front : (T : Recording) (l low high : ℕ) (raises : List Raise) → RaisesBetween T l low high raises → last_front_of (front_at T l low) raises ≡ front_at T l high
+pub ending-front : (T : Recording) (l low high : ℕ) (raises : List Raise) → RaisesBetween T l low high raises → last_front_of (front_at T l low) raises ≡ front_at T l high
 ending-front T l low high [] r = sym (r.1 high r.0 (omega arith))
 ending-front T l low high (x ∷ raises) r =
     ap (λ f. last_front_of f raises) (sym r.3) ∙ ending-front T l x.place high raises r.4

@@ -1,20 +1,21 @@
 -- The front and the number of stores of a line, from its job and the raises of its front.
-use Rattle.std.proofs.Common.{◌≡◌, ℕ, zero, suc, ◌+◌, ◌-◌, ◌<◌, ◌≤◌, inl, inr, ◌==◌, List, [], ◌∷◌, length, slice_get, Some, refl, sym, ap, ◌∙◌, subst, arith, ne_eqb, eq-eqb}
+use Rattle.std.proofs.Common.{◌≡◌, ℕ, zero, suc, ◌+◌, ◌-◌, ◌<◌, ◌≤◌, inl, inr, ◌==◌, List, [], ◌∷◌, length, Some, refl, sym, ap, ◌∙◌, subst, arith, ne_eqb, eq-eqb}
 use Rattle.std.proofs.lemmas.Bool.{cond-true, cond-false, cases_lt}
 use Rattle.pmt_model.specs.Values.{Written}
 use Rattle.pmt_model.specs.Machine.{Act, Stores, Flushes, Clflushes, Fences, Asserts, count}
 use Rattle.pmt_model.specs.Traces.{Recording, IsAct, history, count_at}
 use Rattle.pmt_model.specs.Fronts.{front_at}
 use Rattle.pmt_laws.proofs.Histories.{history-act, history-step}
-use Rattle.pmt_lines.specs.declared.raises.Raise.{Raise}
 use Rattle.pmt_lines.specs.declared.step.StepKind.{StepKind}
 use Rattle.pmt_lines.specs.declared.step.StepKind.TheVariants.{Store, Flush, Clflush, Fence}
 use Rattle.pmt_lines.specs.declared.step.Step.{Step}
 use Rattle.pmt_lines.specs.Steps.{LineWork}
 use Rattle.pmt_lines.specs.Jobs.{IsKind, IsStepOf, Touches, ByStore, IsWalkFrom, IsJobOf}
-use Rattle.pmt_lines.specs.Raises.{RaisesBetween, LineFound, IsLineResult}
+use Rattle.pmt_lines.specs.Raises.{LineFound, IsLineResult}
+use Rattle.pmt_lines.specs.Scans.{last_front_of}
+use Rattle.pmt_lines.proofs.FoundLemmas.{ending-front}
 use Rattle.pmt_lines.proofs.RunLemmas.{kind-within}
-use Rattle.pmt_report.specs.FrontsOf.{stores_of_step, stores_in, front_after}
+use Rattle.pmt_report.specs.FrontsOf.{stores_of_step, stores_in}
 
 -- ---- Stores
 
@@ -73,29 +74,12 @@ count-walk T l low (s ∷ steps) within walk =
 
 -- ---- Fronts
 
--- the last raise gives the front
-pub front-after_raises : (T : Recording) (l low high : ℕ) (raises : List Raise) → RaisesBetween T l low high raises → front_at T l high ≡ front_after (front_at T l low) raises
-front-after_raises T l low high [] r = r.1 high r.0 (omega arith)
-front-after_raises T l low high (x ∷ raises) r = front-after_raises T l x.place high raises r.4 ∙ ap (λ (f : ℕ). front_after f raises) r.3
-
-pub front-last : (front : ℕ) (raises : List Raise) (k : ℕ) (r : Raise) → k + 1 ≡ length raises → slice_get raises k ≡ Some r → front_after front raises ≡ r.front
-front-last front [] k r e is = absurd (omega arith)
-front-last front (x ∷ []) zero r e is = cc
-front-last front (x ∷ []) (suc k) r e is = absurd (omega arith)
-front-last front (x ∷ y ∷ raises) zero r e is = absurd (omega arith)
-front-last front (x ∷ y ∷ raises) (suc k) r e is = front-last x.front (y ∷ raises) k r (omega arith) is
-
--- the last of the raises gives the front
-pub front-from_last : (front : ℕ) (raises : List Raise) (r : Raise) → slice_get raises (length raises - 1) ≡ Some r → front_after front raises ≡ r.front
-front-from_last front [] r is = cc
-front-from_last front (x ∷ raises) r is = front-last front (x ∷ raises) (length (x ∷ raises) - 1) r (omega arith) is
-
 -- the result of a line's job tells the front
 pub front-told : (T : Recording) (job : LineWork) (found : LineFound) → found.job ≡ job → IsLineResult found → IsJobOf T job.line job.steps →
-    front_at T job.line (length T.events) ≡ front_after 0 found.raises
+    front_at T job.line (length T.events) ≡ last_front_of 0 found.raises
 front-told T job found same right is =
     let told : IsJobOf T found.job.line found.job.steps = subst (λ (j : LineWork). IsJobOf T j.line j.steps) (sym same) is in
-    ap (λ (j : LineWork). front_at T j.line (length T.events)) (sym same) ∙ front-after_raises T found.job.line 0 (length T.events) found.raises (right.raises T told)
+    ap (λ (j : LineWork). front_at T j.line (length T.events)) (sym same) ∙ sym (ending-front T found.job.line 0 (length T.events) found.raises (right.raises T told))
 
 -- and the job its number of stores
 pub stores-told : (T : Recording) (job : LineWork) → IsJobOf T job.line job.steps → count_at T job.line (length T.events) ≡ stores_in job.steps

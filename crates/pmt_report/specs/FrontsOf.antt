@@ -1,17 +1,16 @@
 -- The fronts of a trace, line by line, from the jobs of its lines.
 use Rattle.std.specs.Prelude.{ℕ, ◌+◌, ◌*◌, ◌^◌, ◌<◌, List, [], ◌∷◌, length}
 use Rattle.pmt_model.specs.Traces.{Recording}
-use Rattle.pmt_lines.specs.declared.raises.Raise.{Raise}
 use Rattle.pmt_lines.specs.declared.step.StepKind.{StepKind}
 use Rattle.pmt_lines.specs.declared.step.StepKind.TheVariants.{Store, Flush, Clflush, Fence}
 use Rattle.pmt_lines.specs.declared.step.Step.{Step}
 use Rattle.pmt_lines.specs.Steps.{LineWork}
-use Rattle.pmt_lines.specs.Jobs.{IsJobOf}
+use Rattle.pmt_lines.specs.Splitting.{IsJob}
 use Rattle.pmt_report.specs.Reports.{line_entry}
 
 -- The job of a line of the trace, whose first address has 48 bits.
 pub record IsLineOf (T : Recording) (job : LineWork) : Type 0 where
-  pub job_of : IsJobOf T job.line job.steps
+  pub job_of : IsJob T job
   pub low : job.line * T.format.line_size < 2 ^ 48
 
 -- The line's entry at the end of the trace.
@@ -29,8 +28,3 @@ stores_of_step Fence = 0
 abbrev pub stores_in : List Step → ℕ
 stores_in [] = 0
 stores_in (s ∷ steps) = stores_of_step s.kind + stores_in steps
-
--- the front after the raises
-abbrev pub front_after : ℕ → List Raise → ℕ
-front_after front [] = front
-front_after front (r ∷ raises) = front_after r.front raises

@@ -1,8 +1,9 @@
 //! The fronts of a trace.
 ghost use Rattle.std.specs.Prelude.{◌≡◌, ◌++◌, IfOk, OnOk, length, map};
 ghost use Rattle.std.specs.List.{AllByRecursion, flat_map};
+ghost use Rattle.pmt_lines.specs.Scans.{last_front_of};
 ghost use Rattle.pmt_lines.specs.Splitting.{IsLeanJob, line_in};
-ghost use Rattle.pmt_report.specs.FrontsOf.{IsLineOf, job_entry, stores_in, front_after};
+ghost use Rattle.pmt_report.specs.FrontsOf.{IsLineOf, job_entry, stores_in};
 ghost use Rattle.pmt_report.specs.Reports.{fronts_text, lines_at};
 
 use crate::texts::{push_front_entry, push_fronts_head};
@@ -78,7 +79,7 @@ fn stores_of(job: &LineJob) -> u64
 
 // The front after the last raise.
 fn front_of(found: &LineResult) -> u64
-    ensures { result ≡ front_after 0 found.now.raises }
+    ensures { result ≡ last_front_of 0 found.now.raises }
 {
     match found.raises().last() {
         Some(raise) => raise.front,
