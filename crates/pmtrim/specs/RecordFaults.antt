@@ -2,8 +2,8 @@
 use Rattle.std.specs.Prelude.{ℕ, List, ◌++◌, codes}
 use Rattle.std.specs.Fmt.{decimal}
 use Rattle.pmt_text.specs.Kinds.{name_of}
-use Rattle.pmtrim.specs.declared.record.RecordFault.{RecordFault}
-use Rattle.pmtrim.specs.declared.record.RecordFault.TheVariants.{Line, TooLong, Full, Torn}
+use Rattle.pmtrim.specs.declared.fault.record.RecordFault.{RecordFault}
+use Rattle.pmtrim.specs.declared.fault.record.RecordFault.TheVariants.{Line, TooLong, Full, Torn}
 
 abbrev pub record_line : RecordFault → List ℕ
 record_line (Line script error) = codes "script " ++ (decimal script ++ (codes " line " ++ (decimal error.line ++ (codes ": " ++ name_of error.kind))))

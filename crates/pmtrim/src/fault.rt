@@ -1,8 +1,10 @@
 //! The faults of the program: their lines and statuses.
 ghost use Rattle.std.specs.Prelude.{◌≤◌};
 
+mod record;
+
+pub use crate::fault::record::RecordFault;
 use crate::opener::OpenError;
-use crate::record::RecordFault;
 use pmt_model::OutOfMemory;
 use pmt_report::{RunError, fault_text};
 use std::alloc::{AllocError, Global};

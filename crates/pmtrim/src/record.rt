@@ -1,80 +1,16 @@
 //! Recording scripts: each is run in a thread of its own, and the trace that they record is written.
 
-ghost use Rattle.std.specs.Prelude.{◌≡◌, IfOk, string_bytes};
-ghost use Rattle.pmtrim.specs.RecordFaults.{record_line, record_status};
+ghost use Rattle.std.specs.Prelude.{◌≡◌, IfOk};
 
-use crate::fault::Fault;
+use crate::fault::{Fault, RecordFault};
 use crate::opener::Opener;
-use pmt_model::{NoGate, Op, OutOfMemory, Trace};
+use pmt_model::{NoGate, Op, Trace};
 use pmt_recorder::{RecordError, record_scripts};
-use pmt_text::{Counted, SourceError, TextError, read_script_from, write_all_counted, write_trace};
+use pmt_text::{Counted, SourceError, read_script_from, write_all_counted, write_trace};
 use std::alloc::Global;
 use std::io::Write;
 use std::sync::Wait;
 use std::thread::Threads;
-
-/// Why scripts were not recorded.
-#[derive(Clone, Copy, Debug, PartialEq, Eq)]
-pub enum RecordFault {
-    /// A line of a script is faulty.
-    Line {
-        /// The number of the script, from 1.
-        script: u64,
-        error: TextError,
-    },
-    /// More bytes come of a script than are judged, and no complete line among those is faulty.
-    TooLong {
-        /// The number of the script, from 1.
-        script: u64,
-    },
-    /// The scripts have more events than a trace can have.
-    Full,
-    /// What a recorder noted is not its part of the trace.
-    Torn {
-        /// The number of the recorder, from 0.
-        recorder: u8,
-    },
-}
-
-impl RecordFault {
-    /// The exit status.
-    pub fn status(&self) -> u8
-        ensures { result ≡ record_status self.now }
-    {
-        match self {
-            RecordFault::Line {
-                script: _,
-                error: _,
-            } => 3,
-            RecordFault::TooLong { script: _ } => 3,
-            RecordFault::Full => 3,
-            RecordFault::Torn { recorder: _ } => 6,
-        }
-    }
-
-    /// The fault line, without its LF.
-    ///
-    /// # Errors
-    /// `OutOfMemory`.
-    pub fn line(&self, alloc: Global) -> Result<String, OutOfMemory>
-        ensures { IfOk result (λ text. string_bytes text ≡ record_line self.now) }
-    {
-        match *self {
-            RecordFault::Line { script, error } => line_fault(alloc, script, &error),
-            RecordFault::TooLong { script } => format!(in alloc; "script {script} too long"),
-            RecordFault::Full => String::from_str(alloc, "trace full"),
-            RecordFault::Torn { recorder } => format!(in alloc; "torn recorder {recorder}"),
-        }
-    }
-}
-
-fn line_fault(alloc: Global, script: u64, error: &TextError) -> Result<String, OutOfMemory>
-    ensures { IfOk result (λ text. string_bytes text ≡ record_line (RecordFault.Line script error.now)) }
-{
-    let line = error.line;
-    let name = error.kind.name();
-    format!(in alloc; "script {script} line {line}: {name}")
-}
 
 /// Reads the scripts with these names, records them, and writes the trace. One script after another is opened, read whole and
 /// judged, in the order of the names. Nothing is written unless the trace is there. The status is 0.

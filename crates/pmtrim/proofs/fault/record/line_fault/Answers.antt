@@ -1,6 +1,6 @@
 use Rattle.std.proofs.Common.{◌≡◌, List, ℕ, ◌++◌, ap, subst, IfOk, codes, string_bytes}
 use Rattle.std.specs.Fmt.{decimal}
-use Rattle.pmtrim.proofs.record.line_fault.Goals as goal
+use Rattle.pmtrim.proofs.fault.record.line_fault.Goals as goal
 
 pub returns : goal.returns
 returns c =
