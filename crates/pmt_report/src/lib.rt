@@ -7,15 +7,15 @@ mod analysed;
 pub mod check;
 pub mod fault;
 mod fronts;
+pub mod fronts_run;
 pub mod listing;
 mod output;
 mod report;
-pub mod run;
 mod taking;
 mod texts;
 pub mod trim;
 
 pub use crate::check::{failed, report_text, run_check};
 pub use crate::fault::{RunError, fault_text};
-pub use crate::run::run_fronts;
+pub use crate::fronts_run::run_fronts;
 pub use crate::trim::run_trim;

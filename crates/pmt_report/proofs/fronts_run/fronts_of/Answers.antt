@@ -1,6 +1,6 @@
 use Rattle.std.proofs.Common.{◌≤◌, length, arith}
 use Rattle.pmt_report.proofs.RunLemmas.{fronts-computed}
-use Rattle.pmt_report.proofs.run.fronts_of.Goals as goal
+use Rattle.pmt_report.proofs.fronts_run.fronts_of.Goals as goal
 
 pub returns-in-Ok-fronts_of_trace-clause-ok : goal.returns-in-Ok-fronts_of_trace-clause-ok
 returns-in-Ok-fronts_of_trace-clause-ok g c =
