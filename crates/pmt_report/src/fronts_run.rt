@@ -7,7 +7,7 @@ ghost use Rattle.pmt_report.specs.Runs.{CountsRuns, IsComputed, IsFrontsAt, IsFr
 use crate::fault::{RunError, run_error};
 use crate::fronts::fronts_of_trace;
 use crate::output::write_answer;
-use crate::taking::{first_events, skip_events};
+use crate::taking::{TakeError, first_events, skip_events};
 use pmt_text::{Counted, EventSource, TextSource};
 use std::alloc::Global;
 use std::io::{Read, Write};
@@ -47,7 +47,8 @@ fn fronts_of<S: EventSource>(alloc: Global, place: u64, source: &mut S) -> Resul
 {
     let first = match first_events(alloc, source, place) {
         Ok(first) => first,
-        Err(error) => return Err(run_error(error)),
+        Err(TakeError::Source(fault)) => return Err(run_error(fault)),
+        Err(TakeError::OutOfMemory) => return Err(RunError::OutOfMemory),
     };
     let events = first.len() as u64;
     if events < place {

@@ -12,7 +12,7 @@ pub take-preserved : goal.take-preserved
 take-preserved g c =
     let given = rw c.in-Some.is at c.in_ok-event.ensures in
     let before = c.take.invariant in
-    let added : c.add.new.trace ≡ with_event c.take.taken c.in-Some.event = c.in_ok-add-in-Some.ensures.ok in
+    let added : c.add.new.trace ≡ with_event c.take.taken c.in-Some.event = c.in_ok-add-in-Some.ensures in
     let same_format : c.take.taken.format ≡ c.add.new.trace.format = sym (ap (λ (T : Recording). T.format) added) in
     let longer : c.add.new.trace.events ≡ c.take.taken.events ++ c.in-Some.event ∷ [] = ap (λ (T : Recording). T.events) added in
     let size : length c.add.new.trace.events ≡ length c.take.taken.events + 1 = ap length longer ∙ length-append c.take.taken.events (c.in-Some.event ∷ []) in
