@@ -1,5 +1,5 @@
 #!/usr/bin/env bash
-# Answers that no file of examples/ holds, and the trimmed traces, checked and trimmed again. Last line: 'N passed, M failed'.
+# Answers that no worked trace has, and the trimmed traces, checked and trimmed again. Last line: 'N passed, M failed'.
 set -u
 cd "$(dirname "$0")/.." || exit 1
 . tests/lib/program.sh

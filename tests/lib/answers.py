@@ -1,5 +1,5 @@
 #!/usr/bin/env python3
-"""Asks for what no file of examples/ holds: answers.py PROGRAM. The last line is 'N passed, M failed'.
+"""Asks for what no worked trace has: answers.py PROGRAM. The last line is 'N passed, M failed'.
 
 The trimmed traces are checked and trimmed again; further answers stand in a table.
 """
@@ -9,9 +9,9 @@ import subprocess
 import sys
 import tempfile
 
-EXAMPLES = pathlib.Path(__file__).parents[2] / "examples"
+from traces import all_traces, trace_of
 
-# Traces of examples/, and the report of each when it is trimmed.
+# Worked traces, and the report of each when it is trimmed.
 TRIMMED = [
     ("double_flush", 0, "events 3 lines 1; kept 3 dropped 0"),
     ("flushed_again", 0, "events 3 lines 1; kept 3 dropped 0"),
@@ -75,9 +75,9 @@ def check_table(checks):
         checks.expect_answer(words.split(" "), lines(text), status, lines(answer))
     checks.expect_answer(["check"], b"pmtrace 2 96", 3, b"trace line 1: truncated\n")
     for name, status, report in TRIMMED:
-        _, trimmed, _ = checks.run(["trim", EXAMPLES / f"{name}.trace"])
+        _, trimmed, _ = checks.run(["trim", trace_of(name)])
         checks.expect_answer(["check"], trimmed, status, lines(report))
-    _, trimmed, _ = checks.run(["trim", EXAMPLES / "six_flushers.trace"])
+    _, trimmed, _ = checks.run(["trim", trace_of("six_flushers")])
     wanted = lines("pmtrace 1; store 0 0x1000 01; clwb 5 0x1000; sfence 5")
     checks.expect("six_flushers trimmed", trimmed == wanted, trimmed)
 
@@ -117,7 +117,7 @@ def check_recorded(checks):
 def main():
     checks = Checks(sys.argv[1])
     check_table(checks)
-    for trace in sorted(EXAMPLES.glob("*.trace")):
+    for trace in all_traces():
         check_trimmed(checks, trace.stem, trace.read_bytes())
     check_recorded(checks)
     print(f"{checks.passed} passed, {checks.failed} failed")

@@ -4,7 +4,6 @@
 Each of the four commands reads its trace or script from standard input.
 """
 import os
-import pathlib
 import subprocess
 import sys
 from functools import partial
@@ -12,8 +11,8 @@ from typing import NamedTuple
 
 import faulty
 from faulty import Answer
+from traces import all_traces
 
-EXAMPLES = pathlib.Path(__file__).parents[2] / "examples"
 FILE_FAULT = Answer(4, b"", b"file fault\n")
 TRACE = [b"pmtrace 1\n", b"store 0 0x1000 01\n", b"clwb 0 0x1000\n", b"sfence 0\n"]
 SCRIPT = [b"store 0x1000 01\n", b"clwb 0x1000\n", b"sfence\n"]
@@ -145,9 +144,9 @@ def refused_in_pieces(command):
 
 
 def examples_in_pieces(run):
-    """`check` and `trim` of all examples, from reads of a byte each and of seven."""
+    """`check` and `trim` of all worked traces, from reads of a byte each and of seven."""
     complaints = []
-    for trace in EXAMPLES.glob("*.trace"):
+    for trace in all_traces():
         for command in ("check", "trim"):
             whole, _ = run([command, trace])
             for piece in (1, 7):

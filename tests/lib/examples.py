@@ -1,8 +1,8 @@
 #!/usr/bin/env python3
-"""Runs a program on every trace of examples/: examples.py PROGRAM. The last line is 'N passed, M failed'.
+"""Runs a program on every trace of examples/ and tests/traces/: examples.py PROGRAM. The last line is 'N passed, M failed'.
 
-A trace NAME.trace has either NAME.report and NAME.trimmed, which the answers must equal, or NAME.md, a note by generate.py from
-whose statements both are put together here.
+A trace NAME.trace has either tests/traces/NAME.report and NAME.trimmed, which the answers must equal, or NAME.md beside it, a note
+by generate.py from whose statements both are put together here.
 """
 import pathlib
 import re
@@ -10,7 +10,8 @@ import subprocess
 import sys
 import tempfile
 
-EXAMPLES = pathlib.Path(__file__).parents[2] / "examples"
+from traces import EXAMPLES, all_traces, report_of, trimmed_of
+
 COMMANDS = ["check", "trim"]
 WORKERS = ["1", "2", "4", "8", "16"]
 
@@ -68,8 +69,8 @@ def wanted_by_note(name, note, trace, counts):
 
 def wanted(trace, counts):
     """The report and the trimmed text that the program must write."""
-    if trace.with_suffix(".report").exists():
-        return trace.with_suffix(".report").read_bytes(), trace.with_suffix(".trimmed").read_bytes()
+    if report_of(trace).exists():
+        return report_of(trace).read_bytes(), trimmed_of(trace).read_bytes()
     return wanted_by_note(trace.stem, trace.with_suffix(".md").read_text(), trace.read_bytes(), counts)
 
 
@@ -100,7 +101,7 @@ def main():
     program = sys.argv[1]
     counts = Counts()
     run_generator(counts)
-    for trace in sorted(EXAMPLES.glob("*.trace")):
+    for trace in all_traces():
         run_example(program, trace, counts)
     print(f"{counts.passed} passed, {counts.failed} failed")
     return 1 if counts.failed else 0

@@ -15,9 +15,9 @@ from typing import NamedTuple
 
 import faulty
 from faulty import Answer
+from traces import report_of, trace_of, trimmed_of
 
 TOP = pathlib.Path(__file__).parents[2]
-EXAMPLES = TOP / "examples"
 VERDICTS = (TOP / "crates/refused_calls/stdout").read_bytes()
 WANT_OF_MEMORY = Answer(5, b"", b"out of memory\n")
 # Whether the program has `trim --stream`.
@@ -72,12 +72,12 @@ def text(events, header="pmtrace 1"):
 
 
 def answers_of_examples():
-    """`check` and `trim` of traces of examples/, by one worker and by two."""
+    """`check` and `trim` of worked traces, by one worker and by two."""
     for name in ("fence_of_another_thread", "flushed_by_two_threads", "forty_lines", "six_flushers"):
-        trace = EXAMPLES / f"{name}.trace"
-        report = trace.with_suffix(".report").read_bytes()
+        trace = trace_of(name)
+        report = report_of(trace).read_bytes()
         status = 1 if b" fail\n" in report or b"never-persisted" in report else 0
-        trimmed = trace.with_suffix(".trimmed").read_bytes()
+        trimmed = trimmed_of(trace).read_bytes()
         for workers in ("1", "2"):
             threads = workers != "1"
             yield Case(["check", "--workers", workers, trace], {Answer(status, report)}, threads)
@@ -86,7 +86,7 @@ def answers_of_examples():
 
 def answers_of_fronts():
     """`fronts` of the same traces."""
-    yield Case(["fronts", EXAMPLES / "flushed_by_two_threads.trace", "0"], {Answer(0, b"place 0 lines 0\n")})
+    yield Case(["fronts", trace_of("flushed_by_two_threads"), "0"], {Answer(0, b"place 0 lines 0\n")})
     forty = "".join(f"line {addr:#x} front 1 count 1; " for addr in range(0x1000, 0x1A00, 64))
     for name, place, fronts in (
         ("fence_of_another_thread", 4, "line 0x1000 front 0 count 1"),
@@ -96,7 +96,7 @@ def answers_of_fronts():
         ("forty_lines", 82, forty),
     ):
         lines = fronts.count("line")
-        yield Case(["fronts", EXAMPLES / f"{name}.trace", str(place)], {Answer(0, text(fronts, f"place {place} lines {lines}"))})
+        yield Case(["fronts", trace_of(name), str(place)], {Answer(0, text(fronts, f"place {place} lines {lines}"))})
 
 
 def interleavings(*scripts):
@@ -158,7 +158,7 @@ def faults_told(folder):
     for words in (["trim", trace], ["check", "--workers", "2", trace], ["fronts", trace, "0"]):
         yield Case(words, {line})
     past = Answer(2, b"", b"place past end 5\n")
-    yield Case(["fronts", EXAMPLES / "flushed_by_two_threads.trace", "6"], {past})
+    yield Case(["fronts", trace_of("flushed_by_two_threads"), "6"], {past})
     yield Case(["trim", folder / "none"], {Answer(4, b"", b"file fault\n")})
 
 
@@ -219,7 +219,7 @@ def sweep_of_calls(calls, right):
 
 def finds_what_is_wrong(run, calls):
     """The sweeps complain where another answer is asked for, and where the library refuses nothing."""
-    trace = EXAMPLES / "one_persist.trace"
+    trace = trace_of("one_persist")
     right = Answer(0, trace.read_bytes())
     case = Case(["trim", trace], {right})
     other = case._replace(right={right._replace(out=right.out + b"\n")})
