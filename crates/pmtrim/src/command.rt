@@ -4,6 +4,12 @@ use std::alloc::{AllocError, Global};
 
 const WORKERS: &[&str] = &["1", "2", "4", "8", "16"];
 
+const SHARED: &str =
+    "How many threads share lines and verdicts; one reads, so more pay only where these are most of the work";
+
+const UNUSED: &str =
+    "Accepted as check has it, and changes nothing: trim is one pass in one thread";
+
 /// The words of the program and of its commands.
 pub fn commands<'a>(alloc: Global) -> Result<Command<'a>, AllocError> {
     Command::new(alloc, "pmtrim")
@@ -32,7 +38,7 @@ fn check<'a>(alloc: Global) -> Result<Command<'a>, AllocError> {
         .after_help(
             "Writes the number of events and lines, an entry for each finding and each assertion, and how many events trim keeps.{n}Statuses: 0 done; 1 an assertion fails or a store is never persisted; 2 wrong words; 3 trace refused; 4 file fault; 5 out of memory{n}Example: pmtrim check --workers 4 run.trace",
         )
-        .arg(workers(alloc))?
+        .arg(workers(alloc, SHARED))?
         .arg(file(alloc))
 }
 
@@ -47,7 +53,7 @@ fn trim<'a>(alloc: Global) -> Result<Command<'a>, AllocError> {
         .after_help(
             "Statuses: 0 done; 2 wrong words; 3 trace refused; 4 file fault; 5 out of memory{n}Example: pmtrim trim run.trace > trimmed.trace",
         )
-        .arg(workers(alloc))?
+        .arg(workers(alloc, UNUSED))?
         .arg(stream)?
         .arg(file(alloc))
 }
@@ -83,13 +89,13 @@ fn record<'a>(alloc: Global) -> Result<Command<'a>, AllocError> {
         .arg(scripts)
 }
 
-fn workers<'a>(alloc: Global) -> Arg<'a> {
+fn workers<'a>(alloc: Global, help: &'a str) -> Arg<'a> {
     Arg::new(alloc, "workers")
         .long("workers")
         .value_name("N")
         .value_parser(WORKERS)
         .default_value("1")
-        .help("How many threads to use")
+        .help(help)
 }
 
 fn file<'a>(alloc: Global) -> Arg<'a> {
