@@ -1,14 +1,10 @@
 -- What a stream tells, by the calls that it made.
-use Rattle.std.proofs.Common.{◌≡◌, ◌≢◌, ℕ, zero, suc, ◌+◌, ◌-◌, ◌^◌, ◌<◌, ◌≤◌, ◌⊎◌, inl, inr, ⊎_elim, List, [], ◌∷◌, ◌++◌, length, take, Option, Some, None, Result, Ok, Err, refl, sym, ap, ◌∙◌, subst, arith, length-append}
-use Rattle.std.specs.Prelude.{IfSome}
+use Rattle.std.proofs.Common.{◌≡◌, ℕ, ◌+◌, ◌-◌, ◌^◌, ◌<◌, ◌≤◌, ◌⊎◌, inl, inr, ⊎_elim, List, [], ◌∷◌, ◌++◌, length, take, Option, Result, Ok, Err, refl, sym, ap, ◌∙◌, subst, arith, length-append}
 use Rattle.std.specs.List.{AllByRecursion}
 use Rattle.std.proofs.lemmas.List.{take_all}
 use Rattle.std.specs.Io.KnownBytes.{Keeps, Appends}
-use Rattle.std.proofs.KnownBytes.{Appends-kept, Appends-trans, Keeps-refl}
-use Rattle.pmt_model.specs.declared.event.Event.{Event}
-use Rattle.pmt_model.specs.Values.{Layout}
-use Rattle.pmt_model.specs.Traces.{Recording, IsTrace, IsEventIn, event_limit}
-use Rattle.pmt_model.specs.Pushing.{empty, with_event}
+use Rattle.std.proofs.KnownBytes.{Appends-kept}
+use Rattle.pmt_model.specs.Traces.{Recording, IsTrace}
 use Rattle.pmt_model.specs.Selections.{Has, cut}
 use Rattle.pmt_model.proofs.SelectLemmas.{cut-is-trace}
 use Rattle.pmt_text.specs.Spelling.{spelling}

@@ -1,5 +1,5 @@
 -- What leaves a stream, event by event.
-use Rattle.std.proofs.Common.{◌≡◌, ◌≢◌, ℕ, zero, suc, ◌+◌, ◌-◌, ◌<◌, ◌≤◌, ◌⊎◌, inl, inr, Bool, true, false, List, [], ◌∷◌, ◌++◌, length, take, drop, map, reverse, Option, Some, None, refl, sym, ap, ◌∙◌, subst, arith, append_assoc, append-nil, filter_map, get_or, length-drop}
+use Rattle.std.proofs.Common.{◌≡◌, ◌≢◌, ℕ, zero, suc, ◌+◌, ◌-◌, ◌<◌, ◌≤◌, ◌⊎◌, inl, inr, Bool, true, false, List, [], ◌∷◌, ◌++◌, length, drop, Option, Some, None, refl, sym, ap, ◌∙◌, subst, arith, append_assoc, append-nil, filter_map, get_or, length-drop}
 use Rattle.std.specs.Prelude.{◌↔◌, slice_get}
 use Rattle.std.specs.List.{flat_map}
 use Rattle.std.proofs.lemmas.Bool.{cases_lt, cases_eq, false≢true}
@@ -8,8 +8,8 @@ use Rattle.std.proofs.lemmas.List.Elements.{filter_map-append}
 use Rattle.std.proofs.lemmas.Grind.{flat_map-append}
 use Rattle.pmt_model.specs.declared.event.Event.{Event}
 use Rattle.pmt_model.specs.Values.{Layout}
-use Rattle.pmt_model.specs.Machine.{Act, Flushes, Clflushes, Fences}
-use Rattle.pmt_model.specs.Traces.{Recording, event, IsAct}
+use Rattle.pmt_model.specs.Machine.{Flushes, Clflushes, Fences}
+use Rattle.pmt_model.specs.Traces.{Recording, event}
 use Rattle.pmt_model.specs.Pushing.{empty, with_event}
 use Rattle.pmt_model.specs.Selections.{IsRising, Has, cut}
 use Rattle.pmt_model.specs.Keeping.{IsKept, Stays, ByFence, ByFlush, ByClflush, IsKeep}
@@ -19,8 +19,8 @@ use Rattle.pmt_laws.proofs.DecidedLemmas.{event-more, decided_stays, decided_or_
 use Rattle.pmt_laws.proofs.Histories.{act-within}
 use Rattle.pmt_laws.proofs.CutLemmas.{has-above}
 use Rattle.pmt_trim.specs.Passing.{AreFlags, Settles}
-use Rattle.pmt_trim.specs.Streaming.{IsBeforeOpen, AreOut, IsOut, OutComesFirst, IsTextOfTrimmed}
-use Rattle.pmt_trim.specs.Leaving.{AreKeptBy, HaveLeft, kept_line, kept_lines}
+use Rattle.pmt_trim.specs.Streaming.{IsBeforeOpen, IsOut, OutComesFirst, IsTextOfTrimmed}
+use Rattle.pmt_trim.specs.Leaving.{HaveLeft, kept_line, kept_lines}
 use Rattle.pmt_trim.proofs.HeadlineLemmas.{keep-is-trimmed}
 use Rattle.pmt_trim.proofs.MarkingLemmas.{marked_from, marked-rise, has-marked}
 
