@@ -1,42 +1,68 @@
 //! Why a run did not write its answer, and the line that says so.
-ghost use Rattle.std.specs.Prelude.{◌≡◌, ◌≢◌, IfOk, string_bytes};
+ghost use Rattle.std.specs.Prelude.{◌≡◌, ◌≢◌, IfOk, Some, string_bytes};
 ghost use Rattle.pmt_report.specs.Faults.{fault_line, run_fault};
 
 use pmt_model::OutOfMemory;
 use pmt_text::{SourceError, TextError};
 use std::alloc::Global;
-use thiserror::Error;
+use std::error::Error;
+use std::fmt;
 
 /// Why a run did not write its answer.
-#[derive(Clone, Copy, Debug, PartialEq, Eq, Error)]
+#[derive(Clone, Copy, Debug, PartialEq, Eq)]
 pub enum RunError {
     /// The number of workers is none of 1, 2, 4, 8 and 16.
-    #[error("bad workers")]
     BadWorkers,
     /// A line of the trace is faulty.
-    #[error("{0}")]
     Text(TextError),
     /// More bytes come than are judged.
-    #[error("the trace is too long")]
     TooMany,
     /// A read failed.
-    #[error("a read failed")]
     Read,
     /// The place lies past the last event.
-    #[error("the place lies past the last of {events} events")]
     PastEnd {
         /// How many events there are.
         events: u64,
     },
     /// A growth was refused.
-    #[error("out of memory")]
     OutOfMemory,
     /// A write or the last flush failed.
-    #[error("a write failed once {written} bytes were out")]
     Write {
         /// How many bytes of the answer are out: its first ones.
         written: u64,
     },
+}
+
+// Shown as its fault line, without its LF.
+impl fmt::Display for RunError {
+    ghost use Rattle.pmt_report.specs.Faults.{fault_line};
+
+    ghost output = { λ error. Some (fault_line error) };
+
+    fn fmt<W: fmt::Write>(&self, f: &mut fmt::Formatter<W>) -> fmt::Result {
+        match *self {
+            RunError::BadWorkers => f.write_str("bad workers"),
+            RunError::Text(fault) => {
+                let line = line_of(&fault);
+                let name = fault.kind.name();
+                write!(f, "trace line {line}: {name}")
+            }
+            RunError::TooMany => f.write_str("trace too long"),
+            RunError::Read => f.write_str("file fault"),
+            RunError::PastEnd { events } => write!(f, "place past end {events}"),
+            RunError::OutOfMemory => f.write_str("out of memory"),
+            RunError::Write { written: _ } => f.write_str("file fault"),
+        }
+    }
+}
+
+impl Error for RunError {}
+
+// The number of the faulty line.
+fn line_of(fault: &TextError) -> u64
+    ensures { result ≡ fault.now.line }
+{
+    fault.line
 }
 
 /// The fault line of the error, without its LF.
@@ -46,23 +72,7 @@ pub enum RunError {
 pub fn fault_text(alloc: Global, error: &RunError) -> Result<String, OutOfMemory>
     ensures { IfOk result (λ text. string_bytes text ≡ fault_line error.now) }
 {
-    match *error {
-        RunError::BadWorkers => String::from_str(alloc, "bad workers"),
-        RunError::Text(fault) => text_fault(alloc, &fault),
-        RunError::TooMany => String::from_str(alloc, "trace too long"),
-        RunError::Read => String::from_str(alloc, "file fault"),
-        RunError::PastEnd { events } => format!(in alloc; "place past end {events}"),
-        RunError::OutOfMemory => String::from_str(alloc, "out of memory"),
-        RunError::Write { written: _ } => String::from_str(alloc, "file fault"),
-    }
-}
-
-fn text_fault(alloc: Global, fault: &TextError) -> Result<String, OutOfMemory>
-    ensures { IfOk result (λ text. string_bytes text ≡ fault_line (RunError.Text fault.now)) }
-{
-    let line = fault.line;
-    let name = fault.kind.name();
-    format!(in alloc; "trace line {line}: {name}")
+    error.to_string(alloc)
 }
 
 /// What a run tells where its source told this fault.

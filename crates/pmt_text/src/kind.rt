@@ -2,31 +2,25 @@
 ghost use Rattle.std.specs.Prelude.{◌≡◌};
 ghost use Rattle.pmt_text.specs.Kinds.{name_of};
 
+use std::fmt;
 use thiserror::Error;
 
 /// Why a line of a text is refused: the first check that fails there.
-#[derive(Clone, Copy, Debug, PartialEq, Eq, Error)]
+#[derive(Clone, Copy, Debug, PartialEq, Eq)]
 pub enum TextKind {
     /// The line has no LF.
-    #[error("truncated")]
     Truncated,
     /// Line 1 is not the header of a format.
-    #[error("bad-header")]
     BadHeader,
     /// The first field is none of the words of the format.
-    #[error("bad-word")]
     BadWord,
     /// The number of fields is wrong, or a field is not spelled rightly.
-    #[error("bad-field")]
     BadField,
     /// A field is spelled rightly and out of its range.
-    #[error("out-of-range")]
     OutOfRange,
     /// A store does not lie inside one aligned word of 8 bytes.
-    #[error("crosses-word")]
     CrossesWord,
     /// A million events stand before this one.
-    #[error("too-many-events")]
     TooManyEvents,
 }
 
@@ -46,6 +40,15 @@ impl TextKind {
         }
     }
 }
+
+// Shown by its name.
+impl fmt::Display for TextKind {
+    fn fmt<W: fmt::Write>(&self, f: &mut fmt::Formatter<W>) -> fmt::Result {
+        f.write_str(self.name())
+    }
+}
+
+impl std::error::Error for TextKind {}
 
 /// The first faulty line of a text, and the first check that fails there. Lines are numbered from 1; the header is line 1.
 #[derive(Clone, Copy, Debug, PartialEq, Eq, Error)]
