@@ -1,6 +1,7 @@
 pub mod Values
 pub mod Formats
 pub mod Stored
+pub mod Parts
 pub mod Constructing
 pub mod Ops
 pub mod Splitting

@@ -8,6 +8,7 @@ use crate::fault::OpError;
 use crate::format::Format;
 use crate::range::Range;
 use crate::store::{Payload, WordStore};
+use std::mem::size_of;
 
 /// What one event does.
 #[derive(Clone, Copy, Debug, PartialEq, Eq)]
@@ -83,6 +84,9 @@ pub struct Event {
     /// What it does.
     pub op: Op,
 }
+
+// An event is held a million times.
+const _: () = prove!(size_of::<Event>() == 20);
 
 impl Event {
     /// Whether the event is in the format: clflush and mfence are in version 2 alone.
