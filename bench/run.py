@@ -4,7 +4,8 @@
 Without KIND all kinds of traces.py are run. Traces and the plain Rust program are made in bench/out/ on first use. Of each run the
 table gives seconds, events and megabytes of trace text per second, the peak of memory, and that peak by events (a peak of some 15 MB
 or less is this script's own, and says nothing), and how many times what the plain program takes for the same that is: for a command,
-for reading and writing. Beside it stand the times of reading from memory, and those of the part that workers share, with 1 and with 4.
+for reading and writing. Beside it stand the times of reading from memory, those of the part that workers share, with 1 and with 4, and
+what an event costs in traces of 125,000 to 1,000,000 events.
 """
 import argparse
 import hashlib
@@ -20,7 +21,8 @@ TEXT_BENCH = BENCH.parent / "crates" / "text_bench" / "out" / "text_bench"
 WORKER_BENCH = BENCH.parent / "crates" / "worker_bench" / "out" / "worker_bench"
 WANTED_BYTES = {"log_appends": 400, "many_lines": 700}
 SHARED_KINDS = ("tree_inserts", "many_lines", "long_intervals")
-COMMANDS = (["check"], ["trim"], ["trim", "--workers", "4"])
+COMMANDS = (["check"], ["trim"], ["trim", "--stream"], ["trim", "--workers", "4"])
+GROWTH = (125_000, 250_000, 500_000, 1_000_000)
 
 
 def built_floor():
@@ -54,6 +56,15 @@ def timed(words, text=None):
         seconds = time.perf_counter() - start
     process.returncode = os.waitstatus_to_exitcode(status)
     return process.returncode, seconds, used.ru_maxrss * 1024, answer
+
+
+def small_peak(words):
+    """The peak bytes of a run as GNU time tells them, which a peak of this script does not hide; None without GNU time."""
+    told = OUT / "peak"
+    if not os.access("/usr/bin/time", os.X_OK):
+        return None
+    subprocess.run(["/usr/bin/time", "-f", "%M", "-o", told, *words], stdout=subprocess.DEVNULL, stderr=subprocess.DEVNULL)
+    return int(told.read_text().split()[-1]) * 1024
 
 
 def digest(file):
@@ -90,11 +101,14 @@ def run_kind(kind, trace, events, plain, program):
         text_read, text_write, peak = read_and_write([TEXT_BENCH, "time"], trace)
         row(kind, "pmt_text read", text_read / 1e9, size, events, peak, read)
         row(kind, "pmt_text write", text_write / 1e9, size, events, peak, write)
+        print(f"{kind:18} {'read trace':18} {(peak - 2 * size) / events:.0f} bytes an event, as the peak shows it beside both texts (wanted: at most 40)", flush=True)
     trimmed = None
     for command in COMMANDS:
         status, seconds, peak, answer = timed([program, *command, trace])
         if status in (0, 1):
             row(kind, " ".join(command), seconds, size, events, peak, read + write)
+            if command == ["trim", "--stream"] and (streamed := small_peak([program, *command, trace])):
+                print(f"{kind:18} {'streams in':18} {streamed / 1e6:.1f} MB (wanted of log_appends: under 20)", flush=True)
             if command == ["trim"]:
                 peak_of_trim = peak / events
                 trimmed = digest(answer)
@@ -137,6 +151,19 @@ def compare_workers(traces):
         print(f"{kind:18} {one:10.3f} {four:10.3f} {four / one:7.2f} {around[0]:10.3f} {around[1]:10.3f}", flush=True)
 
 
+def show_growth(kind, program):
+    """Seconds and peak bytes by event of each command, the best of three runs, on longer and longer traces of the kind."""
+    print(f"\nGrowth on {kind}: microseconds and peak bytes by event")
+    print(f"{'events':>10} " + " ".join(f"{' '.join(command):>20}" for command in COMMANDS))
+    for events in GROWTH:
+        trace, cells = made_traces([kind], events)[kind], []
+        for command in COMMANDS:
+            runs = [timed([program, *command, trace]) for _ in range(3)]
+            seconds, peak = min(run[1] for run in runs), min(run[2] for run in runs)
+            cells.append(f"{seconds / events * 1e6:10.3f} {peak / events:9.0f}")
+        print(f"{events:10} " + " ".join(cells), flush=True)
+
+
 def shared_and_around(trace):
     """For 1 and for 4 workers the seconds of the slowest worker, and those of the rest of the analysis."""
     status, _, _, answer = timed([WORKER_BENCH, "time"], trace)
@@ -166,6 +193,7 @@ def main():
     peaks = {kind: run_kind(kind, trace, asked.events, plain, asked.program) for kind, trace in traces.items()}
     compare_reading(plain, traces.get("tree_inserts", next(iter(traces.values()))))
     compare_workers(traces)
+    show_growth("log_appends" if "log_appends" in traces else next(iter(traces)), asked.program)
     for kind, wanted in WANTED_BYTES.items():
         if peaks.get(kind):
             print(f"memory of trim, {kind}: {peaks[kind]:.0f} bytes an event (wanted: at most {wanted})")
