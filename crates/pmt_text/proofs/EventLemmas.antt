@@ -1,7 +1,8 @@
 -- What a line that was found takes from what was coming.
-use Rattle.std.proofs.Common.{◌≡◌, ℕ, zero, suc, ◌+◌, ◌-◌, ◌<◌, ◌≤◌, List, [], ◌∷◌, ◌++◌, length, take, drop, get_or, true, false, ◌==◌, Option, Some, None, Ok, Err, refl, sym, ap, ap₂, ◌∙◌, subst, arith, add-one, append_assoc, length-append}
+use Rattle.std.proofs.Common.{◌≡◌, ℕ, zero, suc, ◌+◌, ◌-◌, ◌<◌, ◌≤◌, List, [], ◌∷◌, ◌++◌, length, take, drop, get_or, true, false, ◌==◌, Option, Some, None, IfSome, Ok, Err, refl, sym, ap, ap₂, ◌∙◌, subst, arith, add-one, append_assoc, length-append}
 use Rattle.std.proofs.Math.Seq.{drop-cons, take-append_seam}
 use Rattle.std.proofs.lemmas.List.{take-append-drop, nil_from_length}
+use Rattle.std.proofs.lemmas.Grind.{take_at_read}
 use Rattle.std.proofs.lemmas.Bool.{eqb-true, eqb-false}
 use Rattle.pmt_model.specs.declared.event.Event.{Event}
 use Rattle.pmt_model.specs.Values.{Layout}
@@ -17,9 +18,10 @@ use Rattle.pmt_text.specs.Coming.{format_in, fault_at, rest_fault}
 use Rattle.pmt_text.specs.Lines.{Ahead, ahead, known_ahead, known_of, held, unread, IsLineAt, IsEventAt, Finds}
 use Rattle.pmt_text.specs.OneLine.{IsOneLine}
 use Rattle.pmt_text.specs.Spelled.{IsFirstEvent}
-use Rattle.pmt_text.specs.Spelling.{event_line}
-use Rattle.pmt_text.specs.Sources.{Gives, IsOver, HasFormat, Faults}
+use Rattle.pmt_text.specs.Spelling.{event_line, event_text}
+use Rattle.pmt_text.specs.Sources.{Gives, IsOver, HasFormat, Faults, Lends}
 use Rattle.pmt_text.specs.TextSources.{coming_of, coming_from}
+use Rattle.pmt_text.proofs.JudgedLemmas.{line_judged-ok}
 use Rattle.pmt_text.proofs.LineLemmas.{IsFree}
 use Rattle.pmt_text.proofs.SpelledLemmas.{event_line_free, line_judged-event_line}
 use Rattle.pmt_text.proofs.SpelledReading.{line-and-rest}
@@ -64,6 +66,20 @@ plain-at f e r text rest is none h =
       };
       judged = ap (line_judged f) found ∙ line_judged-event_line f e h.0;
     }
+
+-- the line that is judged this event is its spelling, with the LF after it
+pub line-is_text : {R : Type 0} (f : Layout) (e : Event) (r : LineReader R) (len : ℕ) → IsEventAt f e r len → r.front.items ++ take (len + 1) (unread r.piece) ≡ event_text e
+unfolding event_text
+line-is_text f e r len at =
+    let bytes : List ℕ = unread r.piece in
+    let last : take (len + 1) bytes ≡ take len bytes ++ 10 ∷ [] = (take_at_read bytes len 0 at.found.within).1 ∙ ap (λ (b : ℕ). take len bytes ++ b ∷ []) at.found.ends in
+    ap (λ (l : List ℕ). r.front.items ++ l) last ∙ sym (append_assoc r.front.items (take len bytes) (10 ∷ []))
+    ∙ ap (λ (l : List ℕ). l ++ 10 ∷ []) (sym (line_judged-ok f (r.front.items ++ take len bytes) e at.judged).spelled)
+
+-- so it may be lent
+pub lends-text : (e : Event) (lent : Option (List ℕ)) (line : List ℕ) → IfSome lent (λ l. l ≡ line) → line ≡ event_text e → Lends (Ok (Some e)) lent
+lends-text e None line is text = tt
+lends-text e (Some l) line is text = is ∙ text
 
 -- some bytes after the last LF
 rest_truncated : (number : ℕ) (front : List ℕ) → (length front == 0) ≡ false → rest_fault false number front ≡ Some (fault_at number Truncated)

@@ -1,5 +1,5 @@
 -- What a reader of lines still has to give.
-use Rattle.std.specs.Prelude.{◌≡◌, ℕ, ◌+◌, ◌<◌, Bool, true, false, nat_lt, List, [], ◌++◌, length, take, slice_index, slice_range, Option, Some, None, IfSome, option_map, Result, Ok, Err}
+use Rattle.std.specs.Prelude.{◌≡◌, ℕ, ◌+◌, ◌-◌, ◌<◌, ◌==◌, Bool, true, false, if◌then◌else◌, nat_lt, nat_le, List, [], ◌++◌, length, take, slice_index, slice_range, Option, Some, None, IfSome, option_map, Result, Ok, Err}
 use Rattle.std.specs.Io.KnownBytes.{Consumes, IsAtEnd}
 use Rattle.pmt_model.specs.declared.event.Event.{Event}
 use Rattle.pmt_model.specs.Values.{Layout}
@@ -26,7 +26,15 @@ pub record Ahead : Type 0 where
 abbrev pub known_ahead : Option (List ℕ) → List ℕ → ℕ → Option Ahead
 known_ahead known held room = option_map (λ xs. record { bytes = held ++ take room xs; more = nat_lt room (length xs) }) known
 
+-- the bytes that were taken last, where so many of them are still at hand
+abbrev pub taken_last : Piece → ℕ → Option (List ℕ)
+taken_last p count = if nat_le count p.start then Some (slice_range p.bytes (p.start - count) p.start) else None
+
 module _ {R : Type 0} where
+  -- the line that was taken last, with its LF, where it is still at hand
+  abbrev pub last_line : LineReader R → Option (List ℕ)
+  last_line r = if r.last == 0 then None else taken_last r.piece r.last
+
   -- what was read and not taken yet
   abbrev pub held : LineReader R → List ℕ
   held r = r.front.items ++ unread r.piece

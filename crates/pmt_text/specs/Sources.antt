@@ -8,6 +8,7 @@ use Rattle.pmt_text.specs.declared.kind.SourceError.TheVariants.{Text, TooMany, 
 use Rattle.pmt_text.specs.declared.source.SourceState.{SourceState}
 use Rattle.pmt_text.specs.declared.source.SourceState.TheVariants as states
 use Rattle.pmt_text.specs.Coming.{Coming}
+use Rattle.pmt_text.specs.Spelling.{event_text}
 
 -- ---- What was coming, where that is known
 
@@ -61,6 +62,15 @@ TellsFormat states.Open (Err e) new = (new ≡ states.Failed e) × (e ≢ Failed
 TellsFormat states.Ended (Ok f) new = new ≡ states.Ended
 TellsFormat states.Ended (Err e) new = ⊥
 TellsFormat (states.Failed told) result new = (result ≡ Err Failed) × (new ≡ states.Failed told)
+
+-- ---- Lent lines
+
+-- of an event that was given the line is lent, or nothing is
+abbrev pub Lends : Result (Option Event) SourceError → Option (List ℕ) → Type 0
+Lends (Ok (Some e)) (Some line) = line ≡ event_text e
+Lends (Ok (Some e)) None = Unit {0}
+Lends (Ok None) lent = Unit {0}
+Lends (Err e) lent = Unit {0}
 
 -- ---- The format
 

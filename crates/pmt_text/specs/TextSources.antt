@@ -14,7 +14,7 @@ use Rattle.pmt_text.specs.Counting.{failure_count}
 use Rattle.pmt_text.specs.Judging.{line_judged}
 use Rattle.pmt_text.specs.Coming.{Coming, text_lines, lines_coming, trace_coming, with_format, ends_with}
 use Rattle.pmt_text.specs.Sources.{HasFormat, Gives, Faults}
-use Rattle.pmt_text.specs.Lines.{Ahead, ahead}
+use Rattle.pmt_text.specs.Lines.{Ahead, ahead, last_line}
 
 -- what comes from the bytes ahead: from the header on, or, where it was read, from the event after those that were given
 abbrev pub coming_of : Option Layout → ℕ → Ahead → Coming
@@ -68,6 +68,10 @@ module _ {R : Type 0} where
 
   abbrev pub text_failures : TextSource R → Option ℕ
   text_failures s = Some (failure_count (text_input s))
+
+  -- the line of the event that it gave last
+  abbrev pub text_lent : TextSource R → Option (List ℕ)
+  text_lent s = last_line s.lines
 
   pub text_few : (s : TextSource R) → text_room s ≤ event_limit
   text_few s = omega arith

@@ -25,6 +25,7 @@ pub(crate) struct LineReader<R> {
     piece: Piece,
     front: Vec<u8>,
     room: usize,
+    last: usize,
     ghost one_line: { IsOneLine front.items },
 }
 
@@ -41,7 +42,7 @@ pub(crate) enum Found {
 
 impl<R> LineReader<R> {
     ghost use Rattle.std.specs.Prelude.{Some, slice_index};
-    ghost use Rattle.pmt_text.specs.Lines.{unread, held, IsEventAt, IsLineAt};
+    ghost use Rattle.pmt_text.specs.Lines.{unread, held, last_line, IsEventAt, IsLineAt};
 
     pub(crate) fn new(alloc: Global, input: Counted<R>) -> Self
         ensures input { result.input ≡ input }
@@ -53,6 +54,7 @@ impl<R> LineReader<R> {
             piece: Piece::new(),
             front: Vec::new(alloc),
             room: BYTE_LIMIT,
+            last: 0,
         }
     }
 
@@ -64,6 +66,7 @@ impl<R> LineReader<R> {
             piece: _,
             front: _,
             room: _,
+            last: _,
         } = self;
         input
     }
@@ -112,9 +115,23 @@ impl<R> LineReader<R> {
         ensures held { held self.new ≡ drop (len + 1) (unread self.old.piece) }
         ensures input { self.new.input ≡ self.old.input }
         ensures room { self.new.room ≡ self.old.room }
+        ensures last { IfSome (last_line self.new) (λ line. line ≡ self.old.front.items ++ take (len + 1) (unread self.old.piece)) }
     {
+        self.last = if self.front.is_empty() { len + 1 } else { 0 };
         self.front.clear();
         self.piece.skip(len + 1);
+    }
+
+    // The line that was taken last, with its LF, where it lay in one piece, which is still at hand.
+    #[inline(always)]
+    pub(crate) fn last_line(&self) -> Option<&[u8]>
+        ensures { IfSome result (λ line. last_line self.now ≡ Some line.now) }
+    {
+        if self.last == 0 {
+            None
+        } else {
+            self.piece.last_taken(self.last)
+        }
     }
 
     // Moves the first `count` bytes of the piece to the front.

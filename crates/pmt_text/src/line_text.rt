@@ -9,7 +9,7 @@ ghost use Rattle.pmt_text.specs.Writing.{spaced};
 use pmt_model::{Addr, Event, Op, Range};
 
 /// Room for every line of an event.
-pub(crate) const LINE_ROOM: usize = 128;
+pub const LINE_ROOM: usize = 128;
 
 /// The characters of the digits.
 static GLYPHS: [u8; 16] = *b"0123456789abcdef";

@@ -1,5 +1,5 @@
 //! The piece of a reader's bytes that is at hand.
-ghost use Rattle.std.specs.Prelude.{◌≡◌, ◌+◌, ◌-◌, ◌^◌, ◌<◌, ◌≤◌, [], length, take, drop, IfOk, OnErr};
+ghost use Rattle.std.specs.Prelude.{◌≡◌, ◌+◌, ◌-◌, ◌^◌, ◌<◌, ◌≤◌, [], length, take, drop, Some, IfOk, IfSome, OnErr};
 ghost use Rattle.std.specs.Io.KnownBytes.{Consumes, Keeps, IsAtEnd};
 ghost use Rattle.pmt_text.specs.Counting.{inner_device, failure_count, failed_call};
 
@@ -21,7 +21,7 @@ pub(crate) struct Piece {
 }
 
 impl Piece {
-    ghost use Rattle.pmt_text.specs.Lines.{unread};
+    ghost use Rattle.pmt_text.specs.Lines.{taken_last, unread};
 
     pub(crate) fn new() -> Self
         ensures { unread result ≡ [] }
@@ -42,9 +42,21 @@ impl Piece {
     // Takes the first `count` bytes.
     pub(crate) fn skip(&mut self, count: usize)
         requires { count ≤ length (unread self.old) }
-        ensures { unread self.new ≡ drop count (unread self.old) }
+        ensures left { unread self.new ≡ drop count (unread self.old) }
+        ensures last { taken_last self.new count ≡ Some (take count (unread self.old)) }
     {
         self.start += count;
+    }
+
+    // The `count` bytes that were taken last, where they are still at hand.
+    pub(crate) fn last_taken(&self, count: usize) -> Option<&[u8]>
+        ensures { IfSome result (λ bytes. taken_last self.now count ≡ Some bytes.now) }
+    {
+        if count <= self.start {
+            Some(&self.bytes[self.start - count..self.start])
+        } else {
+            None
+        }
     }
 
     // Makes one read of at most `most` bytes, in place of what it held.

@@ -1,9 +1,9 @@
 //! Sources of events.
-ghost use Rattle.std.specs.Prelude.{◌≡◌, ℕ, ◌≤◌, Option, Some, None, IfOk, IfErr, IfSome, length};
+ghost use Rattle.std.specs.Prelude.{◌≡◌, ℕ, ◌≤◌, List, Option, Some, None, IfOk, IfErr, IfSome, length};
 ghost use Rattle.pmt_model.specs.Values.{Layout};
 ghost use Rattle.pmt_model.specs.Traces.{event_limit};
 ghost use Rattle.pmt_text.specs.Coming.{Coming};
-ghost use Rattle.pmt_text.specs.Sources.{TakesNext, TakesFormat, TellsNext, TellsFormat, KeepsFormat, IsGivenIn, IsOfFirstLine, IsOfLaterLine, LeavesFewer, CountsReads};
+ghost use Rattle.pmt_text.specs.Sources.{TakesNext, TakesFormat, TellsNext, TellsFormat, KeepsFormat, IsGivenIn, IsOfFirstLine, IsOfLaterLine, LeavesFewer, CountsReads, Lends};
 ghost use Rattle.pmt_text.specs.declared.source.SourceState.{SourceState};
 
 use crate::kind::SourceError;
@@ -38,6 +38,9 @@ pub trait EventSource {
     // How many reads failed, where that is counted.
     ghost failures: { Self → Option ℕ } = { λ _. None };
 
+    // The line that it lends of the event given last; None where it lends none.
+    ghost lent: { Self → Option (List ℕ) } = { λ _. None };
+
     /// The format of all its events. It takes none of them.
     ///
     /// # Errors
@@ -62,7 +65,16 @@ pub trait EventSource {
         ensures kept { KeepsFormat (known_format self.old) (known_format self.new) }
         ensures later_line { IfErr result (IsOfLaterLine (known_format self.old)) }
         ensures room { LeavesFewer (room self.old) result (room self.new) }
-        ensures failures { CountsReads (failures self.old) result (failures self.new) };
+        ensures failures { CountsReads (failures self.old) result (failures self.new) }
+        ensures lent { Lends result (lent self.new) };
+
+    /// The line of the event that `next` gave last, with its LF, where the source has it at hand: the one spelling of that event. A source
+    /// may lend none. What it answers before the first event, after the end or after a fault is the line of no event.
+    fn last_line(&self) -> Option<&[u8]>
+        ensures { IfSome result (λ line. lent self.now ≡ Some line.now) }
+    {
+        None
+    }
 
     // There is room for no more than a million.
     ghost few: { (s : Self) → room s ≤ event_limit };

@@ -2,8 +2,8 @@
 ghost use Rattle.std.specs.Prelude.{◌≡◌, ◌≢◌, ◌+◌, ◌-◌, ◌^◌, ◌<◌, ◌≤◌, Some, None, IfOk, IfErr, OnSome};
 ghost use Rattle.pmt_model.specs.Traces.{event_limit};
 ghost use Rattle.pmt_text.specs.Counting.{failure_count};
-ghost use Rattle.pmt_text.specs.Lines.{IsEventAt, IsLineAt};
-ghost use Rattle.pmt_text.specs.Sources.{TakesNext, IsGivenIn, IsOfFirstLine, IsOfLaterLine, read_faults};
+ghost use Rattle.pmt_text.specs.Lines.{IsEventAt, IsLineAt, last_line};
+ghost use Rattle.pmt_text.specs.Sources.{TakesNext, IsGivenIn, IsOfFirstLine, IsOfLaterLine, Lends, read_faults};
 ghost use Rattle.pmt_text.specs.TextSources.{coming_from, given_after, TakesHeader};
 ghost use Rattle.pmt_text.specs.Coming.{fault_at};
 
@@ -36,6 +36,7 @@ pub(crate) fn next_event<R: Read>(
     ensures later_line { IfErr result (IsOfLaterLine (Some format)) }
     ensures open { IfErr result (λ e. e ≢ SourceError.Failed) }
     ensures failures { failure_count lines.new.input ≡ failure_count lines.old.input + read_faults result }
+    ensures lent { Lends result (last_line lines.new) }
 {
     if let Some((event, len)) = lines.plain_event(format) {
         return give_event(lines, len, format, given, event);
@@ -69,6 +70,7 @@ fn take_event<R: Read>(
     ensures later_line { IfErr result (IsOfLaterLine (Some format)) }
     ensures open { IfErr result (λ e. e ≢ SourceError.Failed) }
     ensures failures { failure_count lines.new.input ≡ failure_count lines.old.input + read_faults result }
+    ensures lent { Lends result (last_line lines.new) }
 {
     match judge_line(format, lines.line(len)) {
         Ok(event) => give_event(lines, len, format, given, event),
@@ -96,6 +98,7 @@ fn give_event<R: Read>(
     ensures later_line { IfErr result (IsOfLaterLine (Some format)) }
     ensures open { IfErr result (λ e. e ≢ SourceError.Failed) }
     ensures failures { failure_count lines.new.input ≡ failure_count lines.old.input + read_faults result }
+    ensures lent { Lends result (last_line lines.new) }
 {
     lines.skip_line(len);
     if given == EVENT_LIMIT {

@@ -1,6 +1,6 @@
 //! The events of a reader's text, as a source.
 ghost use Rattle.std.specs.Prelude.{◌≡◌, ◌≢◌, ◌-◌, ◌^◌, ◌<◌, ◌≤◌, false, true, is_some, option_map, Some, IfErr};
-ghost use Rattle.pmt_text.specs.Sources.{TakesNext, TellsNext, IsGivenIn, IsOfLaterLine, LeavesFewer, CountsReads};
+ghost use Rattle.pmt_text.specs.Sources.{TakesNext, TellsNext, IsGivenIn, IsOfLaterLine, LeavesFewer, CountsReads, Lends};
 ghost use Rattle.pmt_model.specs.Traces.{event_limit};
 ghost use Rattle.pmt_text.specs.declared.source.SourceState.{SourceState};
 ghost use Rattle.pmt_text.specs.declared.source.SourceState.TheVariants as states;
@@ -31,7 +31,7 @@ pub struct TextSource<R> {
 }
 
 impl<R: Read> TextSource<R> {
-    ghost use Rattle.pmt_text.specs.TextSources.{text_coming, text_state, text_input, text_format, text_room, text_failures};
+    ghost use Rattle.pmt_text.specs.TextSources.{text_coming, text_state, text_input, text_format, text_room, text_failures, text_lent};
 
     /// The source of this reader's text.
     pub fn new(alloc: Global, input: Counted<R>) -> Self
@@ -72,6 +72,7 @@ impl<R: Read> TextSource<R> {
         ensures later_line { IfErr result (IsOfLaterLine (Some format)) }
         ensures room { LeavesFewer (text_room self.old) result (text_room self.new) }
         ensures failures { CountsReads (text_failures self.old) result (text_failures self.new) }
+        ensures lent { Lends result (text_lent self.new) }
     {
         match next_event(&mut self.lines, format, self.given) {
             Ok(Some(event)) => {
@@ -91,7 +92,7 @@ impl<R: Read> TextSource<R> {
 }
 
 impl<R: Read> EventSource for TextSource<R> {
-    ghost use Rattle.pmt_text.specs.TextSources.{text_coming, text_state, text_format, text_room, text_failures, text_few};
+    ghost use Rattle.pmt_text.specs.TextSources.{text_coming, text_state, text_format, text_room, text_failures, text_lent, text_few};
     ghost use Rattle.pmt_text.specs.SourceLaws.{text_listed, text_same_format};
 
     ghost coming = { text_coming R.remaining };
@@ -103,6 +104,8 @@ impl<R: Read> EventSource for TextSource<R> {
     ghost room = { text_room };
 
     ghost failures = { text_failures };
+
+    ghost lent = { text_lent };
 
     ghost few = { text_few };
 
@@ -142,6 +145,10 @@ impl<R: Read> EventSource for TextSource<R> {
                 Err(e) => Err(e),
             },
         }
+    }
+
+    fn last_line(&self) -> Option<&[u8]> {
+        self.lines.last_line()
     }
 }
 

@@ -1,9 +1,10 @@
 //! Writing traces and events.
-ghost use Rattle.std.specs.Prelude.{◌≡◌, ◌++◌, ◌∷◌, [], IfOk, OnOk};
+ghost use Rattle.std.specs.Prelude.{◌≡◌, ◌++◌, ◌∷◌, [], ◌≤◌, length, IfOk, OnOk};
 ghost use Rattle.pmt_text.specs.Reading.{IsBase};
 ghost use Rattle.pmt_text.specs.Spelling.{event_text, header, numeral, spelling};
 
-use crate::line_text::{LINE_ROOM, glyph, spell_line};
+pub use crate::line_text::LINE_ROOM;
+use crate::line_text::{glyph, spell_line};
 use pmt_model::{Event, Format, OutOfMemory, Trace};
 use std::alloc::Global;
 
@@ -55,6 +56,15 @@ pub fn push_header(text: &mut Vec<u8>, format: Format) -> Result<(), OutOfMemory
     push_number(text, 10, format.line_size())?;
     text.push(b'\n')?;
     Ok(())
+}
+
+/// The event's line, with its LF, spelled in the buffer: at most 125 bytes.
+pub fn spell_event<'a>(line: &'a mut [u8; LINE_ROOM], event: &Event) -> &'a [u8]
+    ensures value { result.now ≡ event_text event.now }
+    ensures few { length result.now ≤ 125 }
+{
+    let at = spell_line(line, event);
+    &line[at..]
 }
 
 /// Adds the line of the event.

@@ -1,7 +1,7 @@
 use Rattle.std.proofs.Common.{◌<◌, ◌≤◌, ◌++◌, take, Ok, sym, arith}
 use Rattle.pmt_model.specs.Traces.{event_limit}
-use Rattle.pmt_text.proofs.EventLemmas.{found-taken, found-late}
-use Rattle.pmt_text.specs.Lines.{unread}
+use Rattle.pmt_text.proofs.EventLemmas.{found-taken, found-late, lends-text, line-is_text}
+use Rattle.pmt_text.specs.Lines.{last_line, unread}
 use Rattle.pmt_text.proofs.JudgedLemmas.{allowed_line}
 use Rattle.pmt_text.proofs.text_events.give_event.Goals as goal
 
@@ -21,3 +21,7 @@ pub returns-clause-in_format : goal.returns-clause-in_format
 returns-clause-in_format g c =
     let old = c.args.lines.now in
     allowed_line c.args.format (old.front.items ++ take c.args.len (unread old.piece)) (Ok c.args.event) (sym c.requires.found.judged)
+
+pub returns-clause-lent : goal.returns-clause-lent
+returns-clause-lent g c =
+    lends-text c.args.event (last_line c.skip_line.new.self) _ c.skip_line.ensures.last (line-is_text c.args.format c.args.event c.args.lines.now c.args.len c.requires.found)
