@@ -12,6 +12,7 @@ pub mod ListLemmas
 pub mod PassingLemmas
 pub mod FencingLemmas
 pub mod SettlingLemmas
+pub mod QueueLemmas
 pub mod StreamLemmas
 pub mod FlowLemmas
 pub mod FlowEnds

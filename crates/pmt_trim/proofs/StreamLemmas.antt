@@ -1,6 +1,6 @@
 -- What leaves a stream, event by event.
-use Rattle.std.proofs.Common.{◌≡◌, ◌≢◌, ℕ, zero, suc, ◌+◌, ◌-◌, ◌<◌, ◌≤◌, ◌⊎◌, inl, inr, Bool, true, false, List, [], ◌∷◌, ◌++◌, length, drop, Option, Some, None, refl, sym, ap, ◌∙◌, subst, arith, append_assoc, append-nil, filter_map, get_or, length-drop}
-use Rattle.std.specs.Prelude.{◌↔◌, slice_get}
+use Rattle.std.proofs.Common.{◌≡◌, ◌≢◌, ℕ, zero, suc, ◌+◌, ◌-◌, ◌<◌, ◌≤◌, ◌⊎◌, inl, inr, Bool, true, false, List, [], ◌∷◌, ◌++◌, length, take, drop, map, reverse, Option, Some, None, Ok, Bor, refl, sym, ap, ap₂, ◌∙◌, subst, arith, append_assoc, append-nil, filter_map, get_or, length-drop}
+use Rattle.std.specs.Prelude.{◌↔◌, slice_get, IfSome}
 use Rattle.std.specs.List.{flat_map}
 use Rattle.std.proofs.lemmas.Bool.{cases_lt, cases_eq, false≢true}
 use Rattle.std.proofs.lemmas.List.{drop-append-le}
@@ -8,19 +8,21 @@ use Rattle.std.proofs.lemmas.List.Elements.{filter_map-append}
 use Rattle.std.proofs.lemmas.Grind.{flat_map-append}
 use Rattle.pmt_model.specs.declared.event.Event.{Event}
 use Rattle.pmt_model.specs.Values.{Layout}
-use Rattle.pmt_model.specs.Machine.{Flushes, Clflushes, Fences}
-use Rattle.pmt_model.specs.Traces.{Recording, event}
+use Rattle.pmt_model.specs.Machine.{Act, Flushes, Clflushes, Fences}
+use Rattle.pmt_model.specs.Traces.{Recording, event, IsAct}
 use Rattle.pmt_model.specs.Pushing.{empty, with_event}
 use Rattle.pmt_model.specs.Selections.{IsRising, Has, cut}
 use Rattle.pmt_model.specs.Keeping.{IsKept, Stays, ByFence, ByFlush, ByClflush, IsKeep}
 use Rattle.pmt_text.specs.Spelling.{event_text, header, ended, spelling}
+use Rattle.pmt_text.specs.Sources.{Lends}
 use Rattle.pmt_laws.specs.Passing.{with_events, IsOpenFlush, IsDecided}
 use Rattle.pmt_laws.proofs.DecidedLemmas.{event-more, decided_stays, decided_or_open, open-or_decided}
 use Rattle.pmt_laws.proofs.Histories.{act-within}
 use Rattle.pmt_laws.proofs.CutLemmas.{has-above}
 use Rattle.pmt_trim.specs.Passing.{AreFlags, Settles}
-use Rattle.pmt_trim.specs.Streaming.{IsBeforeOpen, IsOut, OutComesFirst, IsTextOfTrimmed}
-use Rattle.pmt_trim.specs.Leaving.{HaveLeft, kept_line, kept_lines}
+use Rattle.pmt_trim.specs.Streaming.{IsBeforeOpen, AreOut, IsOut, OutComesFirst, IsTextOfTrimmed}
+use Rattle.pmt_trim.specs.Leaving.{AreKeptBy, HaveLeft, kept_line, kept_lines}
+use Rattle.pmt_trim.specs.LineQueues.{kept_text, kept_texts, Pops}
 use Rattle.pmt_trim.proofs.HeadlineLemmas.{keep-is-trimmed}
 use Rattle.pmt_trim.proofs.MarkingLemmas.{marked_from, marked-rise, has-marked}
 
@@ -343,15 +345,37 @@ left-pop T place next kept result e waiting others text longer told settles fron
     let left' : HaveLeft T place (e ∷ others) text = subst (λ (es : List Event). HaveLeft T place es text) front left in
     subst (HaveLeft T next others) (sym more) (left-leave T place next kept e others text settles' left')
 
--- an event waits for each that is decided
-pub none-waits : (T : Recording) (place next : ℕ) (kept : Bool) (result : Option Bool) (waiting : List Event) (text : List ℕ) → result ≡ Some kept → Settles T place result next →
-    HaveLeft T place waiting text → waiting ≡ drop 1 waiting → ⊥
-none-waits T place next kept result waiting text told settles left same =
+kept-is : (kept : Bool) (e : Event) → kept_text kept (event_text e) ≡ kept_line kept e
+kept-is true e = refl
+kept-is false e = refl
+
+-- the line at the front of the queue leaves
+pub left-popped : (T : Recording) (place next : ℕ) (kept : Bool) (result : Option Bool) (events : List Event) (lines others : List (List ℕ)) (base text longer : List ℕ) → result ≡ Some kept →
+    Settles T place result next → lines ≡ map event_text events → Pops lines kept text others longer → HaveLeft T place events (base ++ text) →
+    (rest : List Event) × (others ≡ map event_text rest) × HaveLeft T next rest (base ++ longer)
+left-popped T place next kept result [] lines others base text longer told settles are pops left =
     let settles' : Settles T place (Some kept) next = subst (λ (o : Option Bool). Settles T place o next) told settles in
     let more : suc place ≤ length T.events = settles'.1 in
-    let size : length waiting ≡ length T.events - place = ap length left.others ∙ length-drop place T.events in
-    let size' : length waiting ≡ length waiting - 1 = ap length same ∙ length-drop 1 waiting in
-    omega (arith, more, size, size')
+    let size : 0 ≡ length T.events - place = ap length left.others ∙ length-drop place T.events in
+    absurd (omega (arith, more, size))
+left-popped T place next kept result (e ∷ events) lines others base text longer told settles are pops left =
+    let of : (others ≡ map event_text events) × (longer ≡ text ++ kept_text kept (event_text e)) = subst (λ (ls : List (List ℕ)). Pops ls kept text others longer) are pops in
+    let is : base ++ longer ≡ (base ++ text) ++ kept_line kept e =
+    ap (λ (bytes : List ℕ). base ++ bytes) of.1 ∙ sym (append_assoc base text (kept_text kept (event_text e))) ∙ ap (λ (bytes : List ℕ). (base ++ text) ++ bytes) (kept-is kept e) in
+    (events, of.0, left-pop T place next kept result e (e ∷ events) events (base ++ text) (base ++ longer) told settles refl is left)
+
+-- a line comes
+lines-append : (events : List Event) (e : Event) → map event_text events ++ event_text e ∷ [] ≡ map event_text (events ++ e ∷ [])
+lines-append [] e = refl
+lines-append (x ∷ events) e = ap (λ (ls : List (List ℕ)). event_text x ∷ ls) (lines-append events e)
+
+pub lines-more : (events : List Event) (e : Event) (old new : List (List ℕ)) → old ≡ map event_text events → new ≡ old ++ event_text e ∷ [] → new ≡ map event_text (events ++ e ∷ [])
+lines-more events e old new are is = is ∙ ap (λ (ls : List (List ℕ)). ls ++ event_text e ∷ []) are ∙ lines-append events e
+
+-- a line that the source lends
+pub lent-is : (e : Event) (lent : Option (List ℕ)) (result : Option (Bor (List ℕ))) → Lends (Ok (Some e)) lent → IfSome result (λ l. lent ≡ Some l.now) → IfSome result (λ l. l.now ≡ event_text e)
+lent-is e lent None lends is = tt
+lent-is e lent (Some l) lends is = subst (λ (o : Option (List ℕ)). Lends (Ok (Some e)) o) is lends
 
 -- nothing more is decided
 pub all-left : (T : Recording) (place next : ℕ) (result : Option Bool) → result ≡ None → Settles T place result next → (next ≡ place) × ((place ≡ length T.events) ⊎ IsOpenFlush T (suc place))
@@ -373,17 +397,11 @@ left-next T e place next all waiting longer text same is decided within left =
     let Q : List Event → Type 0 = λ es. HaveLeft (with_event T e) place es text in
     subst P (sym same) (subst Q (sym is) (left-take T e place waiting text decided (omega arith) left))
 
--- no line where no event waits
-no-lines : (flags : List Bool) → kept_lines flags [] ≡ []
-no-lines [] = refl
-no-lines (b ∷ flags) = refl
-
-pub lines-none : (flags : List Bool) (kept : Bool) (old new : List Event) → old ≡ new → new ≡ drop 1 old → kept_lines flags new ≡ kept_lines (kept ∷ flags) old
-lines-none flags kept [] new same rest = ap (kept_lines flags) (sym same) ∙ no-lines flags
-lines-none flags kept (e ∷ old) new same rest =
-    let size : length (e ∷ old) ≡ length new = ap length same in
-    let size' : length new ≡ length (e ∷ old) - 1 = ap length rest ∙ length-drop 1 (e ∷ old) in
-    absurd (omega (arith, size, size'))
+-- the lines of the events whose flag is set
+pub texts-lines : (flags : List Bool) (events : List Event) → kept_texts flags (map event_text events) ≡ kept_lines flags events
+texts-lines [] events = refl
+texts-lines (b ∷ flags) [] = refl
+texts-lines (b ∷ flags) (e ∷ events) = ap₂ (λ (x y : List ℕ). x ++ y) (kept-is b e) (texts-lines flags events)
 
 -- all has left
 pub left-all : (T : Recording) (place : ℕ) (flags : List Bool) (waiting : List Event) (text rest : List ℕ) → AreFlags T place flags → rest ≡ kept_lines flags waiting →

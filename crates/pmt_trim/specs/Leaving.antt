@@ -1,5 +1,5 @@
 -- What a stream holds once some events have come.
-use Rattle.std.specs.Prelude.{◌≡◌, ℕ, ◌+◌, ◌<◌, ◌≤◌, ◌⊎◌, ◌↔◌, Bool, true, false, List, [], ◌∷◌, ◌++◌, length, take, drop, Option, Some, None, Result, Ok, Err}
+use Rattle.std.specs.Prelude.{◌≡◌, ℕ, ◌+◌, ◌<◌, ◌≤◌, ◌⊎◌, ◌↔◌, Bool, true, false, List, [], ◌∷◌, ◌++◌, length, take, drop, map, Option, Some, None, Result, Ok, Err}
 use Rattle.std.specs.Io.KnownBytes.{Keeps, Appends}
 use Rattle.pmt_model.specs.declared.event.Event.{Event}
 use Rattle.pmt_model.specs.Traces.{Recording, IsTrace}
@@ -27,7 +27,9 @@ pub record HaveLeft (T : Recording) (place : ℕ) (waiting : List Event) (text :
 -- The events of T have come, and the text of those that have left is this.
 pub record IsStreamOf (T : Recording) (s : Stream) (text : List ℕ) : Type 0 where
   pub pass : IsPassOf T s.pass
-  pub left : HaveLeft T s.pass.settled s.waiting.items text
+  pub waiting : List Event
+  pub lines : s.waiting ≡ map event_text waiting
+  pub left : HaveLeft T s.pass.settled waiting text
 
 -- It is the stream of some events.
 abbrev pub IsStream : Stream → Type 0

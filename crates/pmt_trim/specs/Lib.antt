@@ -7,5 +7,6 @@ pub mod OpenFlushes
 pub mod Passing
 pub mod Fencing
 pub mod Streaming
+pub mod LineQueues
 pub mod Leaving
 pub mod WholeTexts

@@ -6,6 +6,7 @@
 pub mod join;
 pub mod kept;
 pub mod laws;
+mod line_queue;
 mod line_table;
 mod open;
 pub mod pass;

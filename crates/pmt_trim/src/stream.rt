@@ -1,22 +1,24 @@
 //! The events of a stream: those that wait, and the text of those that leave.
-ghost use Rattle.std.specs.Prelude.{◌≡◌, ◌++◌, ◌<◌, ◌≤◌, ℕ, Bool, List, [], ◌∷◌, IfOk, OnOk};
+ghost use Rattle.std.specs.Prelude.{◌≡◌, ◌++◌, ◌<◌, ◌≤◌, ℕ, Bool, List, [], ◌∷◌, IfOk, IfSome, OnOk};
 ghost use Rattle.pmt_model.specs.Pushing.{empty, with_event};
 ghost use Rattle.pmt_model.specs.Traces.{Recording, event_limit};
 ghost use Rattle.pmt_trim.specs.Passing.{taken};
 ghost use Rattle.pmt_trim.specs.Streaming.{IsOut, IsTextOfTrimmed};
-ghost use Rattle.pmt_trim.specs.Leaving.{IsStream, IsStreamOf, kept_lines};
+ghost use Rattle.pmt_text.specs.Spelling.{event_text};
+ghost use Rattle.pmt_trim.specs.Leaving.{IsStream, IsStreamOf};
+ghost use Rattle.pmt_trim.specs.LineQueues.{kept_texts};
 
+use crate::line_queue::LineQueue;
 use crate::pass::Pass;
 use pmt_model::{Event, Format, OutOfMemory};
-use pmt_text::write::{push_event, push_header};
+use pmt_text::write::{LINE_ROOM, push_header, spell_event};
 use std::alloc::Global;
-use std::collections::VecDeque;
 
-/// The events that have come and not left, in their order, and what leaves with the newest one.
+/// The lines of the events that have come and not left, in their order, and what leaves with the newest one.
 #[derive(Drop)]
 pub(crate) struct Stream {
     pub(crate) pass: Pass,
-    pub(crate) waiting: VecDeque<Event>,
+    pub(crate) waiting: LineQueue,
     pub(crate) text: Vec<u8>,
 }
 
@@ -30,19 +32,20 @@ impl Stream {
         push_header(&mut text, format)?;
         Ok(Stream {
             pass: Pass::new(alloc, format)?,
-            waiting: VecDeque::new(alloc),
+            waiting: LineQueue::new(alloc),
             text,
         })
     }
 
-    // The next event comes. Each event leaves before which no flush is left whose thread has not fenced since.
-    pub(crate) fn take(&mut self, event: Event) -> Result<(), OutOfMemory>
+    // The next event comes, perhaps with its line, which is not spelled again then. Each event leaves before which no flush is left whose thread has not fenced since.
+    pub(crate) fn take(&mut self, event: Event, line: Option<&[u8]>) -> Result<(), OutOfMemory>
         requires stream { IsStream self.old }
+        requires line { IfSome line (λ bytes. bytes.now ≡ event_text event) }
         requires room { taken self.old.pass < event_limit }
         ensures stream { (T : Recording) (text : List ℕ) → IsStreamOf T self.old text → OnOk result (IsStreamOf (with_event T event) self.new (text ++ self.new.text.items)) }
         ensures out { (T : Recording) (text : List ℕ) → IsStreamOf T self.old text → OnOk result (IsOut (with_event T event) (text ++ self.new.text.items)) }
     {
-        wait(&mut self.waiting, &event)?;
+        wait(&mut self.waiting, &event, line)?;
         self.pass.take(event)?;
         self.text.clear();
         self.leave()
@@ -57,12 +60,7 @@ impl Stream {
         ensures out { (T : Recording) (text : List ℕ) → IsStreamOf T self.old text → OnOk result (IsOut T (text ++ self.new.text.items)) }
     {
         while let Some(kept) = self.pass.next_settled() {
-            let Some(event) = self.waiting.pop_front() else {
-                unreachable!()
-            };
-            if kept {
-                push_event(&mut self.text, &event)?;
-            }
+            self.waiting.pop_into(kept, &mut self.text)?;
         }
         Ok(())
     }
@@ -82,39 +80,43 @@ impl Stream {
     }
 }
 
-// The event waits.
-fn wait(waiting: &mut VecDeque<Event>, event: &Event) -> Result<(), OutOfMemory>
-    ensures { OnOk result (waiting.new.items ≡ waiting.old.items ++ event.now ∷ []) }
+// The line of the event waits. It is spelled where none was given that fits the queue.
+#[inline(always)]
+fn wait(waiting: &mut LineQueue, event: &Event, line: Option<&[u8]>) -> Result<(), OutOfMemory>
+    requires { IfSome line (λ bytes. bytes.now ≡ event_text event.now) }
+    ensures { OnOk result (waiting.new ≡ waiting.old ++ event_text event.now ∷ []) }
 {
-    let Event { thread, op } = *event;
-    waiting.push_back(Event { thread, op })?;
-    Ok(())
+    if let Some(bytes) = line {
+        if bytes.len() < 256 {
+            return waiting.push(bytes);
+        }
+    }
+    wait_spelled(waiting, event)
 }
 
-// The lines of the events whose flag is set.
-fn kept_text(
-    alloc: Global,
-    flags: &[bool],
-    mut events: VecDeque<Event>,
-) -> Result<Vec<u8>, OutOfMemory>
-    ensures { IfOk result (λ text. text.items ≡ kept_lines flags.now events.items) }
+// The line of the event is spelled, and waits.
+fn wait_spelled(waiting: &mut LineQueue, event: &Event) -> Result<(), OutOfMemory>
+    ensures { OnOk result (waiting.new ≡ waiting.old ++ event_text event.now ∷ []) }
+{
+    let mut room = [0; LINE_ROOM];
+    waiting.push(spell_event(&mut room, event))
+}
+
+// The lines whose flag is set.
+fn kept_text(alloc: Global, flags: &[bool], mut lines: LineQueue) -> Result<Vec<u8>, OutOfMemory>
+    ensures { IfOk result (λ text. text.items ≡ kept_texts flags.now lines) }
 {
     let mut text = Vec::new(alloc);
     for kept in flags {
-        add_line(&mut text, *kept, &mut events)?;
+        add_line(&mut text, *kept, &mut lines)?;
     }
     Ok(text)
 }
 
-// The line of the first of the events, where it is kept. The event is gone then.
-fn add_line(text: &mut Vec<u8>, kept: bool, events: &mut VecDeque<Event>) -> Result<(), OutOfMemory>
-    ensures { OnOk result ((flags : List Bool) → text.new.items ++ kept_lines flags events.new.items ≡ text.old.items ++ kept_lines (kept ∷ flags) events.old.items) }
+// The first of the lines, where it is kept. It is gone then.
+fn add_line(text: &mut Vec<u8>, kept: bool, lines: &mut LineQueue) -> Result<(), OutOfMemory>
+    ensures { OnOk result ((flags : List Bool) → text.new.items ++ kept_texts flags lines.new ≡ text.old.items ++ kept_texts (kept ∷ flags) lines.old) }
 {
-    let Some(event) = events.pop_front() else {
-        return Ok(());
-    };
-    if kept {
-        push_event(text, &event)?;
-    }
+    lines.pop_into(kept, text)?;
     Ok(())
 }

@@ -1,11 +1,17 @@
 //! The trimmer that gives the whole text.
-ghost use Rattle.std.specs.Prelude.{◌≡◌, IfOk, IfErr, IfSome};
+ghost use Rattle.std.specs.Prelude.{◌≡◌, ◌<◌, IfOk, IfErr, IfSome, OnOk};
+ghost use Rattle.pmt_model.specs.Pushing.{with_event};
+ghost use Rattle.pmt_model.specs.Traces.{Recording, event_limit};
+ghost use Rattle.pmt_text.specs.Spelling.{event_text};
 ghost use Rattle.pmt_text.specs.Sources.{CountsReads};
 ghost use Rattle.pmt_lines.specs.Sourcing.{IsFaultOf};
+ghost use Rattle.pmt_trim.specs.Leaving.{IsStream, IsStreamOf};
+ghost use Rattle.pmt_trim.specs.Passing.{taken};
 ghost use Rattle.pmt_trim.specs.WholeTexts.{IsTextOfWhole, TellsText, told_by};
 ghost use Rattle.pmt_trim.specs.declared.whole_text.TrimError.TheVariants.{Source, OutOfMemory};
 
 use crate::stream::Stream;
+use pmt_model::{Event, OutOfMemory};
 use pmt_text::{EventSource, SourceError};
 use std::alloc::{AllocError, Global};
 use thiserror::Error;
@@ -53,10 +59,26 @@ pub fn trimmed_text<S: EventSource>(alloc: Global, source: &mut S) -> Result<Vec
     let mut text = Vec::new(alloc);
     text.extend_from_slice(stream.text.as_slice())?;
     while let Some(event) = source.next()? {
-        stream.take(event)?;
-        text.extend_from_slice(stream.text.as_slice())?;
+        take_into(&mut stream, event, source.last_line(), &mut text)?;
     }
     let rest = stream.finish(alloc)?;
     text.extend_from_slice(rest.as_slice())?;
     Ok(text)
+}
+
+// The next event comes, perhaps with its line. What leaves with it is put after the text.
+fn take_into(
+    stream: &mut Stream,
+    event: Event,
+    line: Option<&[u8]>,
+    text: &mut Vec<u8>,
+) -> Result<(), OutOfMemory>
+    requires stream { IsStream stream.old }
+    requires room { taken stream.old.pass < event_limit }
+    requires line { IfSome line (λ bytes. bytes.now ≡ event_text event) }
+    ensures { (T : Recording) → IsStreamOf T stream.old text.old.items → OnOk result (IsStreamOf (with_event T event) stream.new text.new.items) }
+{
+    stream.take(event, line)?;
+    text.extend_from_slice(stream.text.as_slice())?;
+    Ok(())
 }

@@ -4,6 +4,7 @@ use Rattle.pmt_model.specs.Pushing.{empty}
 use Rattle.pmt_text.specs.Counting.{inner_device}
 use Rattle.pmt_lines.proofs.SourceRunLemmas.{shown_by, so_far-none, so_far-more}
 use Rattle.pmt_trim.proofs.FlowEnds.{memory-streams, source-streams, rest-streams, rest-told, rest-counts, first-streams, event-in, piece-fits, piece-streams, flow-more, showed}
+use Rattle.pmt_trim.proofs.StreamLemmas.{lent-is}
 use Rattle.pmt_trim.proofs.streaming.trim_stream.Goals as goal
 
 pub returns-in_default-take-clause-streams : goal.returns-in_default-take-clause-streams
@@ -88,3 +89,8 @@ take-init g c =
       out = subst (λ (bytes : List ℕ). Appends (g.W.Write.contents (inner_device c.args.out.now)) (g.W.Write.contents (inner_device c.write_piece.new.out)) bytes) c.as_slice.ensures.value writes.0;
       unfailed = search rules;
     }
+
+pub take-requires-clause-line : goal.take-requires-clause-line
+take-requires-clause-line g c =
+    let lent = rw c.in-Ok-Some.field-0-is at c.in-Ok-Some.ensures.lent in
+    lent-is c.in-Ok-Some.event _ _ lent c.last_line.ensures

@@ -1,6 +1,7 @@
 use Rattle.pmt_model.specs.Pushing.{empty, with_event}
 use Rattle.pmt_lines.proofs.SourceRunLemmas.{shown_by, so_far-more, so_far-none}
-use Rattle.pmt_trim.proofs.WholeTextLemmas.{stream-first, stream-text, text-whole}
+use Rattle.pmt_trim.proofs.WholeTextLemmas.{stream-first, text-whole}
+use Rattle.pmt_trim.proofs.StreamLemmas.{lent-is}
 use Rattle.pmt_trim.proofs.whole_text.trimmed_text.Goals as goal
 
 pub loop-text-init : goal.loop-text-init
@@ -25,11 +26,16 @@ loop-text-preserved g c =
     let of = c.loop-text.invariant in (
       with_event of.0 c.in-Some.event,
       so_far-more (shown c.args.source.now) (shown c.loop-text.source) (shown c.next.new.self) of.0 c.in-Some.event of.1 taken told said.kept counted fewer,
-      stream-text (with_event of.0 c.in-Some.event) c.take.new.self _ _ _ c.in_ok-extend_from_slice-2.ensures.items c.as_slice-in-Some.ensures.value (c.in_ok-take.ensures.stream of.0 c.loop-text.text.items of.2),
+      c.in_ok-take_into.ensures of.0 of.2,
     )
 
 pub returns-clause-text : goal.returns-clause-text
 returns-clause-text g c =
     let of = c.loop-text.invariant in
     let taken = rw c.in_default.is at c.in_ok-event.ensures.taken in
-    text-whole _ _ of.0 _ _ _ _ of.1.given of.1.format taken.0 c.in_ok-extend_from_slice-3.ensures.items c.as_slice-2.ensures.value (c.in_ok-rest.ensures of.0 c.loop-text.text.items of.2)
+    text-whole _ _ of.0 _ _ _ _ of.1.given of.1.format taken.0 c.in_ok-extend_from_slice-2.ensures.items c.as_slice-2.ensures.value (c.in_ok-rest.ensures of.0 c.loop-text.text.items of.2)
+
+pub take_into-requires-clause-line : goal.take_into-requires-clause-line
+take_into-requires-clause-line g c =
+    let lent = rw c.in-Some.is at c.in_ok-event.ensures.lent in
+    lent-is c.in-Some.event _ _ lent c.last_line.ensures

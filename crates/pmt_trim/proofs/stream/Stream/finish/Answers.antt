@@ -1,8 +1,10 @@
-use Rattle.std.proofs.Common.{◌∙◌, List, Bool, ap}
-use Rattle.pmt_trim.specs.Leaving.{kept_lines}
-use Rattle.pmt_trim.proofs.StreamLemmas.{left-all}
+use Rattle.std.proofs.Common.{◌∙◌, List, ℕ, Bool, ap}
+use Rattle.pmt_trim.specs.LineQueues.{kept_texts}
+use Rattle.pmt_trim.proofs.StreamLemmas.{left-all, texts-lines}
 use Rattle.pmt_trim.proofs.stream.Stream.finish.Goals as goal
 
 pub returns : goal.returns
 returns c = λ T text is.
-    left-all T _ _ _ text _ (c.in_ok-flags.ensures T is.pass) (c.in_ok-rest.ensures ∙ ap (λ (flags : List Bool). kept_lines flags c.args.self.waiting.items) c.as_slice.ensures.value) is.left
+    let flags = c.in_ok-flags.flags.items in
+    left-all T _ flags is.waiting text _ (c.in_ok-flags.ensures T is.pass)
+    (c.in_ok-rest.ensures ∙ ap (λ (bs : List Bool). kept_texts bs c.args.self.waiting) c.as_slice.ensures.value ∙ ap (λ (ls : List (List ℕ)). kept_texts flags ls) is.lines ∙ texts-lines flags is.waiting) is.left

@@ -1,0 +1,27 @@
+-- Lines that lie in a row, and what leaves their front.
+use Rattle.std.specs.Prelude.{◌≡◌, ℕ, ◌+◌, Bool, true, false, List, [], ◌∷◌, ◌++◌, length, take, drop, sum}
+
+-- These bytes, cut into lines of these lengths.
+abbrev pub cut_by : List ℕ → List ℕ → List (List ℕ)
+cut_by [] bytes = []
+cut_by (n ∷ lengths) bytes = take n bytes ∷ cut_by lengths (drop n bytes)
+
+-- The bytes from this place on are just those of the lines.
+abbrev pub AreCut : List ℕ → ℕ → List ℕ → Type 0
+AreCut lengths start bytes = start + sum lengths ≡ length bytes
+
+-- A line that is kept; nothing of one that is not.
+abbrev pub kept_text : Bool → List ℕ → List ℕ
+kept_text true line = line
+kept_text false line = []
+
+-- The lines whose flag is set.
+abbrev pub kept_texts : List Bool → List (List ℕ) → List ℕ
+kept_texts [] lines = []
+kept_texts (b ∷ flags) [] = []
+kept_texts (b ∷ flags) (line ∷ lines) = kept_text b line ++ kept_texts flags lines
+
+-- The first line has left, and stands after the text where it is kept.
+abbrev pub Pops : List (List ℕ) → Bool → List ℕ → List (List ℕ) → List ℕ → Type 0
+Pops [] kept text lines new = (lines ≡ []) × (new ≡ text)
+Pops (line ∷ rest) kept text lines new = (lines ≡ rest) × (new ≡ text ++ kept_text kept line)
