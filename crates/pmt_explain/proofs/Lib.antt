@@ -6,3 +6,8 @@ pub mod GroupingLemmas
 pub mod AtEndLemmas
 pub mod LostGroupLemmas
 pub mod OverwrittenGroupLemmas
+pub mod FirstLemmas
+pub mod FollowingLemmas
+pub mod ReachLemmas
+pub mod KnownLemmas
+pub mod DroppingLemmas

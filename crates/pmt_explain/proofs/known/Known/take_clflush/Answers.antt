@@ -1,0 +1,21 @@
+use Rattle.std.proofs.Common.{sym, subst}
+use Rattle.pmt_explain.specs.Following.{IsFirst, past_of}
+use Rattle.pmt_explain.specs.Known.{IsSafeBy}
+use Rattle.pmt_explain.proofs.KnownLemmas.{known-clflush, clflush-safe, clflush-kept}
+use Rattle.pmt_explain.proofs.known.Known.take_clflush.Goals as goal
+
+pub returns-then-safe-number-clause-tells : goal.returns-then-safe-number-clause-tells
+returns-then-safe-number-clause-tells c = λ T n is number before.
+    clflush-safe T c.args.line n c.number_of-safe.result c.args.number number is (subst (IsFirst (IsSafeBy T c.args.line n) (past_of T)) (sym c.number_of-safe.ensures) (before.safe c.args.line)) c.if-safe-number.true
+
+pub returns-then-safe-number-clause-known : goal.returns-then-safe-number-clause-known
+returns-then-safe-number-clause-known c = λ T n is number before.
+    known-clflush T n c.args.line c.args.number c.number_of-safe.result c.args.self.now c.put.new.numbers is number before c.number_of-safe.ensures (rw c.min.ensures at c.in_ok-put.ensures)
+
+pub returns-clause-tells : goal.returns-clause-tells
+returns-clause-tells c = λ T n is number before.
+    clflush-kept T c.args.line n c.number_of-safe.result c.args.number number is (subst (IsFirst (IsSafeBy T c.args.line n) (past_of T)) (sym c.number_of-safe.ensures) (before.safe c.args.line)) c.if-safe-number.false
+
+pub returns-clause-known : goal.returns-clause-known
+returns-clause-known c = λ T n is number before.
+    known-clflush T n c.args.line c.args.number c.number_of-safe.result c.args.self.now c.put.new.numbers is number before c.number_of-safe.ensures (rw c.min.ensures at c.in_ok-put.ensures)
