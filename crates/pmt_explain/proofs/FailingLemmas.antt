@@ -13,7 +13,7 @@ use Rattle.pmt_reasons.specs.Failures.{IsLost, IsLastIn, IsFirstLost, IsKeptWith
 use Rattle.pmt_reasons.proofs.FailureLaws.{persist-passes, ordered-passes}
 use Rattle.pmt_explain.specs.LastStores.{AreLastStores}
 use Rattle.pmt_explain.specs.Losing.{IsFirstWith, IsFirstOption, IsFirstOf}
-use Rattle.pmt_explain.specs.Keeping.{KeepsWithout, IsCrashAfter}
+use Rattle.pmt_explain.specs.Keeping.{KeepsWithout, IsCrashAfter, IsFirstCrash}
 
 -- the list has the last stores to the bytes of A
 pub record AreOf (T : Recording) (i : ℕ) (A : Span) (last : List ℕ) : Type 0 where
@@ -111,13 +111,6 @@ ordered-some T i A B last kept y f all others first crash = record {
       ];
 }
 
--- the answer of the crash after the first kept store
-pub ordered-found : (T : Recording) (i : ℕ) (A B : Span) (last kept : List ℕ) (y : ByteStore) (o : Option Failure) → AreOf T i A last → AreOf T i B kept →
-    IsFirstOption (KeepsWithout T last) B.addr kept (length kept) (Some y) → MatchOption o (KeepsWithout T last y.store → ⊥) (IsCrashAfter T A.addr last y) →
-    MatchOption o (OrderedPasses (history T i) A B) (IsOrderedFailure T i A B)
-ordered-found T i A B last kept y None all others first crash = absurd (crash first.has)
-ordered-found T i A B last kept y (Some f) all others first crash = ordered-some T i A B last kept y f all others first crash
-
 -- the line of a kept store
 pub keeps-line : (T : Recording) (last : List ℕ) (y l : ℕ) (w : Written) (k : KeepsWithout T last y) → IsAct T y (Stores l w) → IsLost T y (Some l) (get_or last k.index 0)
 keeps-line T last y l w k is =
@@ -128,11 +121,6 @@ keeps-line T last y l w k is =
 -- no such store, where there is none to its line's crash
 pub keeps-none : (T : Recording) (low : ℕ) (last : List ℕ) (y l : ℕ) (w : Written) → IsAct T y (Stores l w) → IsFirstOf T low last y (Some l) (length last) None → KeepsWithout T last y → ⊥
 keeps-none T low last y l w is none k = none k.index k.below (keeps-line T last y l w k is)
-
--- such a store
-pub keeps-some : (T : Recording) (low : ℕ) (last : List ℕ) (y l : ℕ) (w : Written) (x : ByteStore) → IsAct T y (Stores l w) → IsFirstOf T low last y (Some l) (length last) (Some x) → KeepsWithout T last y
-keeps-some T low last y l w x is f =
-    record { line = l; what = w; is_store = is; index = f.index; below = f.below; is_lost = subst (IsLost T y (Some l)) (sym f.store) f.has }
 
 -- an event that is no store keeps nothing
 pub keeps-no_store : (T : Recording) (last : List ℕ) (y : ℕ) → ((l : ℕ) (w : Written) → ¬ IsAct T y (Stores l w)) → KeepsWithout T last y → ⊥
@@ -148,19 +136,13 @@ persist-found T i low A last slice o start same all found =
     go None none = persist-none T i A last all none
     go (Some x) f = persist-some T i A last x all f
 
-pub ordered-passed : (T : Recording) (i low : ℕ) (A B : Span) (last kept lasts kepts : List ℕ) → low ≡ B.addr → lasts ≡ last → kepts ≡ kept → AreOf T i A last → AreOf T i B kept →
-    IsFirstOption (KeepsWithout T lasts) low kepts (length kepts) None → OrderedPasses (history T i) A B
-ordered-passed T i low A B last kept lasts kepts start same others_same all others none =
-    ordered-none T i A B last kept all others (subst (λ xs. IsFirstOption (KeepsWithout T xs) B.addr kept (length kept) None) same
-    (subst (λ ys. IsFirstOption (KeepsWithout T lasts) B.addr ys (length ys) None) others_same none))
-
-pub ordered-failed : (T : Recording) (i start low : ℕ) (A B : Span) (last kept lasts again kepts : List ℕ) (y : ByteStore) (o : Option Failure) → start ≡ A.addr → low ≡ B.addr → lasts ≡ last → again ≡ last → kepts ≡ kept →
-    AreOf T i A last → AreOf T i B kept → IsFirstOption (KeepsWithout T lasts) low kepts (length kepts) (Some y) →
-    MatchOption o (KeepsWithout T again y.store → ⊥) (IsCrashAfter T start again y) → MatchOption o (OrderedPasses (history T i) A B) (IsOrderedFailure T i A B)
-ordered-failed T i start low A B last kept lasts again kepts y o first_start second_start same once_more others_same all others found crash =
-    ordered-found T i A B last kept y o all others
-    (subst (λ xs. IsFirstOption (KeepsWithout T xs) B.addr kept (length kept) (Some y)) same
-    (subst (λ ys. IsFirstOption (KeepsWithout T lasts) B.addr ys (length ys) (Some y)) others_same
-    (subst (λ b. IsFirstOption (KeepsWithout T lasts) b kepts (length kepts) (Some y)) second_start found)))
-    (subst (λ xs. MatchOption o (KeepsWithout T xs y.store → ⊥) (IsCrashAfter T A.addr xs y)) once_more
-    (subst (λ b. MatchOption o (KeepsWithout T again y.store → ⊥) (IsCrashAfter T b again y)) first_start crash))
+pub ordered-found : (T : Recording) (i start low : ℕ) (A B : Span) (last kept lasts kepts : List ℕ) (o : Option Failure) → start ≡ A.addr → low ≡ B.addr → lasts ≡ last → kepts ≡ kept →
+    AreOf T i A last → AreOf T i B kept → IsFirstCrash T start lasts low kepts o → MatchOption o (OrderedPasses (history T i) A B) (IsOrderedFailure T i A B)
+ordered-found T i start low A B last kept lasts kepts o first_start second_start same others_same all others found =
+    go o (subst (λ xs. IsFirstCrash T A.addr xs B.addr kept o) same
+    (subst (λ ys. IsFirstCrash T A.addr lasts B.addr ys o) others_same
+    (subst (λ b. IsFirstCrash T A.addr lasts b kepts o) second_start (subst (λ b. IsFirstCrash T b lasts low kepts o) first_start found))))
+  where
+    go : (p : Option Failure) → IsFirstCrash T A.addr last B.addr kept p → MatchOption p (OrderedPasses (history T i) A B) (IsOrderedFailure T i A B)
+    go None none = ordered-none T i A B last kept all others none
+    go (Some f) x = ordered-some T i A B last kept x.y f all others x.first x.crash

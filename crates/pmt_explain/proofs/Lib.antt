@@ -11,3 +11,8 @@ pub mod FollowingLemmas
 pub mod ReachLemmas
 pub mod KnownLemmas
 pub mod DroppingLemmas
+pub mod CompletedLemmas
+pub mod CrashLemmas
+pub mod CountingLemmas
+pub mod KeptLemmas
+pub mod KeepingLemmas

@@ -1,57 +1,34 @@
--- Which stores a crash loses, by their causes, and which of them is the first.
-use Rattle.std.proofs.Common.{◌≡◌, ◌↔◌, ℕ, ◌+◌, ◌<◌, ◌≤◌, ◌⊎◌, ◌==◌, inl, inr, true, List, Option, None, Some, refl, sym, ap, subst, ◌∙◌, arith, get_or}
-use Rattle.std.specs.Prelude.{IsTrue, IsSome}
-use Rattle.std.proofs.lemmas.Bool.{false≢true, cases_lt, cond_both, cond-true, eq-eqb, ltb-true, lt-ltb}
+-- Which stores a crash loses, and which of them is the first.
+use Rattle.std.proofs.Common.{◌≡◌, ◌↔◌, ℕ, ◌+◌, ◌<◌, ◌≤◌, ◌==◌, inl, inr, List, Option, None, Some, refl, sym, ap, subst, ◌∙◌, arith, get_or}
+use Rattle.std.specs.Prelude.{IsTrue}
+use Rattle.std.proofs.lemmas.Bool.{cases_lt, cond_both, ltb-true, lt-ltb}
 use Rattle.pmt_model.specs.Values.{Written}
 use Rattle.pmt_model.specs.Machine.{Stores}
 use Rattle.pmt_model.specs.Traces.{Recording, IsAct, history, count_at}
 use Rattle.pmt_model.specs.Fronts.{front_at}
-use Rattle.pmt_laws.proofs.Histories.{count-mono, front-le-count}
-use Rattle.pmt_reasons.specs.declared.cause.Cause.{Cause}
+use Rattle.pmt_laws.proofs.Histories.{act-unique, count-mono, front-le-count}
 use Rattle.pmt_reasons.specs.declared.failure.ByteStore.{ByteStore}
 use Rattle.pmt_reasons.specs.Failures.{persisted_at, IsLost}
-use Rattle.pmt_reasons.proofs.CauseLemmas.{pending_by_fronts, cause-unsafe, rank-above}
-use Rattle.pmt_explain.specs.CauseOf.{IsCauseOf}
+use Rattle.pmt_reasons.proofs.CauseLemmas.{rank-above}
+use Rattle.pmt_explain.specs.declared.crash.Crash.{Crash}
+use Rattle.pmt_explain.specs.Keepers.{persisted_to, IsCrashAt}
 use Rattle.pmt_explain.specs.Losing.{comes_before, Picks, IsFirstWith, IsFirstOption}
 
--- the full line loses no store up to the place
-pub full-kept : (T : Recording) (n x : ℕ) (full : Option ℕ) → ((l : ℕ) (w : Written) → IsAct T x (Stores l w) → full ≡ Some l) → x ≤ n → IsLost T n full x → ⊥
-full-kept T n x full own within lost =
-    let is : full ≡ Some lost.line = own lost.line lost.what lost.is_store in
-    let missing : persisted_at T n (Some lost.line) lost.line < count_at T lost.line x = subst (λ o. persisted_at T n o lost.line < count_at T lost.line x) is lost.missing in
-    let all : persisted_at T n (Some lost.line) lost.line ≡ count_at T lost.line n = cond-true (lost.line == lost.line) (count_at T lost.line n) (front_at T lost.line n) (eq-eqb lost.line lost.line refl) in
-    absurd (omega (arith, missing, all, count-mono T lost.line x n within))
-
 -- no line has fewer stores persisted than are safe
-front-le-persisted : (T : Recording) (n l : ℕ) (full : Option ℕ) → front_at T l n ≤ persisted_at T n full l
+pub front-le-persisted : (T : Recording) (n l : ℕ) (full : Option ℕ) → front_at T l n ≤ persisted_at T n full l
 front-le-persisted T n l None = omega arith
 front-le-persisted T n l (Some k) =
     cond_both (l == k) (count_at T l n) (front_at T l n) (λ v. front_at T l n ≤ v) (λ same. front-le-count l (history T n)) (λ other. omega arith)
 
--- a store above the front, of another line than the full one or after the place, is lost
-above-lost : (T : Recording) (n x l : ℕ) (w : Written) (full : Option ℕ) → IsAct T x (Stores l w) → (full ≡ Some l → ⊥) ⊎ (n < x) → front_at T l n < count_at T l x → persisted_at T n full l < count_at T l x
-above-lost T n x l w None store apart above = above
-above-lost T n x l w (Some k) store apart above = cond_both (l == k) (count_at T l n) (front_at T l n) (λ v. v < count_at T l x)
-    (λ same. elim apart [ inl other ↦ absurd (other (ap Some (sym (eqb-line l k same)))) | inr later ↦ rank-above T l n x w store later ]) (λ other. above)
-  where
-    eqb-line : (a b : ℕ) → (a == b) ≡ true → a ≡ b
-    eqb-line a b e = grind (arith, e)
-
--- elsewhere a store is lost exactly where it has a cause
-pub cause-lost : (T : Recording) (n x : ℕ) (full : Option ℕ) (o : Option Cause) → IsCauseOf T n x o → ((l : ℕ) (w : Written) → IsAct T x (Stores l w) → (full ≡ Some l → ⊥) ⊎ (n < x)) →
-    IsSome o ↔ IsLost T n full x
-cause-lost T n x full None none apart = (
-  λ some. absurd (false≢true some),
-  λ lost. absurd (none lost.line lost.what lost.is_store ((pending_by_fronts T lost.line n x).1 (omega (arith, lost.missing, front-le-persisted T n lost.line full)))),
-)
-cause-lost T n x full (Some c) why apart = (
-  λ some. record {
-    line = why.line;
-    what = why.what;
-    is_store = why.is_store;
-    missing = above-lost T n x why.line why.what full why.is_store (apart why.line why.what why.is_store) (cause-unsafe T why.line n x why.what c why.is_store why.why);
-  },
-  λ lost. refl,
+-- a store is lost exactly where it comes after the persisted ones of its line
+pub lost-by : (T : Recording) (n : ℕ) (full : Option ℕ) (c : Crash) (x l : ℕ) (w : Written) → IsCrashAt T n full c → IsAct T x (Stores l w) → (persisted_to c l < x) ↔ IsLost T n full x
+lost-by T n full c x l w crash is = (
+  λ before. record { line = l; what = w; is_store = is; missing = omega (arith, crash.persisted l, rank-above T l (persisted_to c l) x w is before) },
+  λ lost.
+      let same = act-unique T x (Stores lost.line lost.what) (Stores l w) lost.is_store is in
+      let line : lost.line ≡ l = cc in
+      let missing : persisted_at T n full l < count_at T l x = subst (λ k. persisted_at T n full k < count_at T k x) line lost.missing in
+      elim (cases_lt (persisted_to c l) x) [ inl before ↦ before | inr upto ↦ absurd (omega (arith, missing, crash.persisted l, count-mono T l x (persisted_to c l) upto)) ],
 )
 
 -- the first one so far, with one more that is judged

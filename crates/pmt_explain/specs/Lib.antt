@@ -10,3 +10,8 @@ pub mod Numbers
 pub mod Dropping
 pub mod Following
 pub mod Known
+pub mod Completed
+pub mod Crashes
+pub mod Keepers
+pub mod Counting
+pub mod Kept

@@ -1,12 +1,15 @@
 //! The crash that violates a failed assertion.
 
-ghost use Rattle.std.specs.Prelude.{◌≡◌, ◌+◌, ◌^◌, ◌≤◌, ◌↔◌, length, IsTrue, IfOk, MatchOption};
-ghost use Rattle.pmt_model.specs.Traces.{history};
+ghost use Rattle.std.specs.Prelude.{◌≡◌, ◌+◌, ◌^◌, ◌≤◌, ◌↔◌, length, IsTrue, IfOk, MatchOption, None};
+ghost use Rattle.pmt_model.specs.Machine.{Stores};
+ghost use Rattle.pmt_model.specs.Traces.{IsAct, history};
+ghost use Rattle.pmt_model.specs.Values.{Written};
 ghost use Rattle.pmt_model.specs.Assertions.{PersistPasses, OrderedPasses};
 ghost use Rattle.pmt_reasons.specs.Failures.{IsFailureAt, IsPersistFailure, IsOrderedFailure};
-ghost use Rattle.pmt_explain.specs.Losing.{IsFirstOption, Picks};
-ghost use Rattle.pmt_explain.specs.Keeping.{KeepsWithout, IsCrashAfter};
+ghost use Rattle.pmt_explain.specs.Losing.{IsFirstOption, IsFirstWith, Picks};
+ghost use Rattle.pmt_explain.specs.Keeping.{IsStoreOff, KeepsWithout, IsCrashAfter, IsFirstCrash};
 
+use crate::crash::Crash;
 use crate::last_stores::last_stores;
 use crate::lost::{comes_first, first_lost, line_of_store};
 use pmt_model::{Op, OutOfMemory, Range, Trace};
@@ -17,6 +20,8 @@ use std::alloc::Global;
 /// can; of an isOrderedBefore one right after the first store that can be kept without another, which loses the first such one.
 /// Stores go by their numbers, and then the lowest byte is told. None where the assertion passes, and where the event is no
 /// assertion or there is none.
+///
+/// It takes at most four looks at each event up to the assertion.
 ///
 /// # Errors
 /// Where memory was refused.
@@ -46,8 +51,9 @@ fn persist_failure(
     ensures { IfOk result (λ o. MatchOption o (PersistPasses (history trace.now number) range) (IsPersistFailure trace.now number range)) }
 {
     let last = last_stores(alloc, trace, range, number)?;
+    let crash = Crash::new(alloc, trace, number, None)?;
     let _len = range.len();
-    match first_lost(trace, range.addr().get(), last.as_slice(), number, None) {
+    match first_lost(trace, range.addr().get(), last.as_slice(), &crash) {
         None => Ok(None),
         Some(lost) => Ok(Some(Failure {
             place: number,
@@ -71,88 +77,140 @@ fn ordered_failure(
     let _lens = (first.len(), second.len());
     let last = last_stores(alloc, trace, first, number)?;
     let kept = last_stores(alloc, trace, second, number)?;
-    let low = first.addr().get();
-    match first_kept(
+    first_kept(
+        alloc,
         trace,
-        low,
+        first.addr().get(),
         last.as_slice(),
         second.addr().get(),
         kept.as_slice(),
-    ) {
-        None => Ok(None),
-        Some(found) => Ok(crash_after(trace, low, last.as_slice(), found)),
-    }
+    )
 }
 
-// Whether the crash right after the store loses one of the stores at the bytes from `low` on, all stores to its line being
-// persisted.
-fn keeps_without(trace: &Trace, low: u64, last: &[u64], store: u64) -> bool
-    requires { low + length last.now ≤ 2 ^ 48 }
-    ensures { IsTrue result ↔ KeepsWithout trace.now last.now store }
-{
-    match line_of_store(trace, store) {
-        None => false,
-        Some(line) => match first_lost(trace, low, last, store, Some(line)) {
-            None => false,
-            Some(_) => true,
-        },
-    }
-}
-
-// The first such store so far, with one more to be judged.
-fn earlier_kept(
-    trace: &Trace,
-    low: u64,
-    last: &[u64],
-    first: Option<ByteStore>,
-    found: ByteStore,
-) -> Option<ByteStore>
-    requires { low + length last.now ≤ 2 ^ 48 }
-    ensures { Picks (KeepsWithout trace.now last.now found.store) first found result }
-{
-    if comes_first(found.store, first) && keeps_without(trace, low, last, found.store) {
-        return Some(found);
-    }
-    first
-}
-
-// Of the stores at the bytes from `kept_low` on, the first such one, with its first byte.
+// The crash after the first of the kept stores that can be kept without another one. Later stores to a line need no look, since
+// what is lost after them is lost after the line's first one; nor do any after the first one of a second line, since what is lost
+// after them is lost after one of these two.
 fn first_kept(
+    alloc: Global,
     trace: &Trace,
     low: u64,
     last: &[u64],
     kept_low: u64,
     kept: &[u64],
-) -> Option<ByteStore>
+) -> Result<Option<Failure>, OutOfMemory>
     requires last { low + length last.now ≤ 2 ^ 48 }
     requires kept { kept_low + length kept.now ≤ 2 ^ 48 }
-    ensures { IsFirstOption (KeepsWithout trace.now last.now) kept_low kept.now (length kept.now) result }
+    ensures { IfOk result (IsFirstCrash trace.now low last.now kept_low kept.now) }
+{
+    match first_off(trace, kept_low, kept, None) {
+        None => Ok(None),
+        Some(first) => match crash_after(alloc, trace, low, last, first)? {
+            Some(failure) => Ok(Some(failure)),
+            None => second_kept(alloc, trace, low, last, kept_low, kept, first),
+        },
+    }
+}
+
+// The same, where the first store can not be kept without another.
+fn second_kept(
+    alloc: Global,
+    trace: &Trace,
+    low: u64,
+    last: &[u64],
+    kept_low: u64,
+    kept: &[u64],
+    first: ByteStore,
+) -> Result<Option<Failure>, OutOfMemory>
+    requires last { low + length last.now ≤ 2 ^ 48 }
+    requires kept { kept_low + length kept.now ≤ 2 ^ 48 }
+    requires first { IsFirstWith (IsStoreOff trace.now None) kept_low kept.now (length kept.now) first }
+    requires none { ¬ KeepsWithout trace.now last.now first.store }
+    ensures { IfOk result (IsFirstCrash trace.now low last.now kept_low kept.now) }
+{
+    match first_off(trace, kept_low, kept, line_of_store(trace, first.store)) {
+        None => Ok(None),
+        Some(second) => crash_after(alloc, trace, low, last, second),
+    }
+}
+
+// Whether the event is a store to another line than this one.
+fn is_store_off(trace: &Trace, store: u64, line: Option<u64>) -> bool
+    ensures { IsTrue result ↔ IsStoreOff trace.now line store }
+{
+    match line_of_store(trace, store) {
+        None => false,
+        Some(own) => line != Some(own),
+    }
+}
+
+// The first such store so far, with one more to be judged.
+fn earlier_off(
+    trace: &Trace,
+    line: Option<u64>,
+    first: Option<ByteStore>,
+    found: ByteStore,
+) -> Option<ByteStore>
+    ensures { Picks (IsStoreOff trace.now line found.store) first found result }
+{
+    if comes_first(found.store, first) && is_store_off(trace, found.store, line) {
+        return Some(found);
+    }
+    first
+}
+
+// Of the stores at the bytes from `low` on, the first one to another line than this one, with its first byte.
+fn first_off(trace: &Trace, low: u64, stores: &[u64], line: Option<u64>) -> Option<ByteStore>
+    requires { low + length stores.now ≤ 2 ^ 48 }
+    ensures { IsFirstOption (IsStoreOff trace.now line) low stores.now (length stores.now) result }
 {
     let mut first = None;
-    for (index, store) in kept.iter().enumerate() {
+    for (index, store) in stores.iter().enumerate() {
         let found = ByteStore {
             store: *store,
-            byte: kept_low + index as u64,
+            byte: low + index as u64,
         };
-        first = earlier_kept(trace, low, last, first, found);
+        first = earlier_off(trace, line, first, found);
     }
     first
 }
 
 // The crash right after the kept store, all stores to its line being persisted.
-fn crash_after(trace: &Trace, low: u64, last: &[u64], kept: ByteStore) -> Option<Failure>
+fn crash_after(
+    alloc: Global,
+    trace: &Trace,
+    low: u64,
+    last: &[u64],
+    kept: ByteStore,
+) -> Result<Option<Failure>, OutOfMemory>
     requires { low + length last.now ≤ 2 ^ 48 }
-    ensures { MatchOption result (KeepsWithout trace.now last.now kept.store → ⊥) (IsCrashAfter trace.now low last.now kept) }
+    ensures { IfOk result (λ o. MatchOption o (KeepsWithout trace.now last.now kept.store → ⊥) (IsCrashAfter trace.now low last.now kept)) }
 {
     match line_of_store(trace, kept.store) {
-        None => None,
-        Some(line) => match first_lost(trace, low, last, kept.store, Some(line)) {
-            None => None,
-            Some(lost) => Some(Failure {
-                place: kept.store,
-                kept: Some(kept),
-                lost,
-            }),
-        },
+        None => Ok(None),
+        Some(line) => crash_keeping(alloc, trace, low, last, kept, line),
+    }
+}
+
+// The same, where this is the line of the kept store.
+fn crash_keeping(
+    alloc: Global,
+    trace: &Trace,
+    low: u64,
+    last: &[u64],
+    kept: ByteStore,
+    line: u64,
+) -> Result<Option<Failure>, OutOfMemory>
+    requires last { low + length last.now ≤ 2 ^ 48 }
+    requires store { (w : Written) × IsAct trace.now kept.store (Stores line w) }
+    ensures { IfOk result (λ o. MatchOption o (KeepsWithout trace.now last.now kept.store → ⊥) (IsCrashAfter trace.now low last.now kept)) }
+{
+    let crash = Crash::new(alloc, trace, kept.store, Some(line))?;
+    match first_lost(trace, low, last, &crash) {
+        None => Ok(None),
+        Some(lost) => Ok(Some(Failure {
+            place: kept.store,
+            kept: Some(kept),
+            lost,
+        })),
     }
 }

@@ -85,20 +85,17 @@ fn groups_of_lost_stores(rt: HostRuntime) -> Result<(), Fail> {
 // A flush whose thread has fenced since makes all stores before it safe.
 #[test]
 fn fenced_flush_saves_stores_before_it(rt: HostRuntime) -> Result<(), Fail> {
-    let p = Op::store(0x1000, &[1])?;
-    let flush = Op::clwb(0x1000)?;
-    let trace = trace_of(
-        rt.alloc(),
-        &[
-            (0, p),
-            (1, flush),
-            (0, p),
-            (0, flush),
-            (0, Op::Sfence),
-            (0, p),
-        ],
-    )?;
-    let groups = lost_groups(rt.alloc(), &trace, &[1, 3, 6])?;
+    let alloc = rt.alloc();
+    let events = [
+        (0, Op::store(0x1000, &[1])?),
+        (1, Op::clwb(0x1000)?),
+        (0, Op::store(0x1000, &[2])?),
+        (0, Op::clwb(0x1000)?),
+        (0, Op::Sfence),
+        (0, Op::store(0x1000, &[3])?),
+    ];
+    let trace = trace_of(alloc, &events)?;
+    let groups = lost_groups(alloc, &trace, &[1, 3, 6])?;
     assert_eq!(rt; groups.len(), 1);
     assert_eq!(rt; groups.get(0).copied(), lost(64, Cause::Unflushed, 6, 6, 1));
     Ok(())

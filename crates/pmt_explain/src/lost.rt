@@ -1,13 +1,14 @@
 //! Which last stores a crash loses.
 
-ghost use Rattle.std.specs.Prelude.{◌≡◌, ◌+◌, ◌^◌, ◌≤◌, ◌↔◌, ℕ, length, IsTrue, MatchOption, Some};
+ghost use Rattle.std.specs.Prelude.{◌≡◌, ◌+◌, ◌^◌, ◌≤◌, ◌↔◌, ℕ, length, IsTrue, MatchOption, Option};
 ghost use Rattle.pmt_model.specs.Values.{Written};
 ghost use Rattle.pmt_model.specs.Machine.{Stores};
 ghost use Rattle.pmt_model.specs.Traces.{IsAct};
 ghost use Rattle.pmt_reasons.specs.Failures.{IsLost};
+ghost use Rattle.pmt_explain.specs.Keepers.{IsCrashAt};
 ghost use Rattle.pmt_explain.specs.Losing.{comes_before, IsFirstOf, Picks};
 
-use crate::causing::cause;
+use crate::crash::Crash;
 use pmt_model::{Op, Trace, line_of};
 use pmt_reasons::ByteStore;
 
@@ -22,29 +23,13 @@ pub(crate) fn line_of_store(trace: &Trace, store: u64) -> Option<u64>
     }
 }
 
-// Whether the event is a store to this line, if one is told.
-fn is_of_full(trace: &Trace, store: u64, full: Option<u64>) -> bool
-    ensures { (l : ℕ) (w : Written) → IsAct trace.now store (Stores l w) → IsTrue result ↔ (full ≡ Some l) }
+// Whether the crash loses the store.
+fn is_lost(trace: &Trace, crash: &Crash, store: u64) -> bool
+    ensures { (n : ℕ) (full : Option ℕ) → IsCrashAt trace.now n full crash.now → IsTrue result ↔ IsLost trace.now n full store }
 {
-    let Some(line) = full else {
-        return false;
-    };
     match line_of_store(trace, store) {
         None => false,
-        Some(own) => own == line,
-    }
-}
-
-// Whether the crash at the place loses the store, all stores to the full line being persisted.
-fn is_lost(trace: &Trace, store: u64, place: u64, full: Option<u64>) -> bool
-    ensures { IsTrue result ↔ IsLost trace.now place full store }
-{
-    if store <= place && is_of_full(trace, store, full) {
-        return false;
-    }
-    match cause(trace, store, place) {
-        None => false,
-        Some(_) => true,
+        Some(line) => crash.persisted_to(line) < store,
     }
 }
 
@@ -61,29 +46,22 @@ pub(crate) fn comes_first(store: u64, first: Option<ByteStore>) -> bool
 // The first lost store so far, with one more to be judged.
 fn earlier_lost(
     trace: &Trace,
-    place: u64,
-    full: Option<u64>,
+    crash: &Crash,
     first: Option<ByteStore>,
     found: ByteStore,
 ) -> Option<ByteStore>
-    ensures { Picks (IsLost trace.now place full found.store) first found result }
+    ensures { (n : ℕ) (full : Option ℕ) → IsCrashAt trace.now n full crash.now → Picks (IsLost trace.now n full found.store) first found result }
 {
-    if comes_first(found.store, first) && is_lost(trace, found.store, place, full) {
+    if comes_first(found.store, first) && is_lost(trace, crash, found.store) {
         return Some(found);
     }
     first
 }
 
 // Of the stores at the bytes from `low` on, the first that the crash loses, with its first byte.
-pub(crate) fn first_lost(
-    trace: &Trace,
-    low: u64,
-    last: &[u64],
-    place: u64,
-    full: Option<u64>,
-) -> Option<ByteStore>
+pub(crate) fn first_lost(trace: &Trace, low: u64, last: &[u64], crash: &Crash) -> Option<ByteStore>
     requires { low + length last.now ≤ 2 ^ 48 }
-    ensures { IsFirstOf trace.now low last.now place full (length last.now) result }
+    ensures { (n : ℕ) (full : Option ℕ) → IsCrashAt trace.now n full crash.now → IsFirstOf trace.now low last.now n full (length last.now) result }
 {
     let mut first = None;
     for (index, store) in last.iter().enumerate() {
@@ -91,7 +69,7 @@ pub(crate) fn first_lost(
             store: *store,
             byte: low + index as u64,
         };
-        first = earlier_lost(trace, place, full, first, found);
+        first = earlier_lost(trace, crash, first, found);
     }
     first
 }

@@ -1,0 +1,14 @@
+use Rattle.std.proofs.Common.{None, Some, refl}
+use Rattle.std.proofs.lemmas.Result.{IfOk-weaker}
+use Rattle.pmt_explain.proofs.KeepingLemmas.{crash-second}
+use Rattle.pmt_explain.proofs.failing.second_kept.Goals as goal
+
+pub returns-in-None : goal.returns-in-None
+returns-in-None c =
+    crash-second c.args.trace.now c.args.low c.args.last.now c.args.kept_low c.args.kept.now c.args.first c.line_of_store.result None None c.requires.first c.requires.none c.line_of_store.ensures c.in-None.ensures refl
+
+pub returns-in-Some : goal.returns-in-Some
+returns-in-Some c =
+    IfOk-weaker c.crash_after.result _ _
+    (λ p found. crash-second c.args.trace.now c.args.low c.args.last.now c.args.kept_low c.args.kept.now c.args.first c.line_of_store.result (Some c.in-Some.second) p c.requires.first c.requires.none c.line_of_store.ensures c.in-Some.ensures found)
+    c.crash_after.ensures
