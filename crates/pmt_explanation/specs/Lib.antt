@@ -1,0 +1,3 @@
+pub mod Ignoring
+pub mod Labelling
+pub mod Mending
