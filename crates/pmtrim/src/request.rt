@@ -1,5 +1,6 @@
 //! What the words ask for.
 use crate::command::commands;
+use crate::explain_words::{ExplainWords, explain_words};
 use crate::fault::Fault;
 use clap::error::ErrorKind;
 use clap::{ArgMatches, Error};
@@ -16,6 +17,8 @@ pub enum Request<'a> {
         workers: usize,
         file: Option<&'a str>,
     },
+    /// What is wrong in a trace, why, and what to do.
+    Explain(ExplainWords<'a>),
     /// The trimmed trace.
     Trim {
         workers: usize,
@@ -36,10 +39,11 @@ pub enum Request<'a> {
 impl Request<'_> {
     /// Whether standard input is read for it.
     pub fn reads_input(&self) -> bool {
-        matches!(
-            self,
-            Request::Check { file: None, .. } | Request::Trim { file: None, .. }
-        )
+        match self {
+            Request::Check { file, .. } | Request::Trim { file, .. } => file.is_none(),
+            Request::Explain(words) => words.file.is_none(),
+            Request::Show(_) | Request::Fronts { .. } | Request::Record { .. } => false,
+        }
     }
 }
 
@@ -72,6 +76,7 @@ fn asked<'a>(alloc: Global, matches: &ArgMatches<'a>) -> Result<Request<'a>, Fau
             workers: workers_of(given),
             file: given.get_str("FILE"),
         }),
+        Some(("explain", given)) => Ok(Request::Explain(explain_words(alloc, given)?)),
         Some(("fronts", given)) => fronts(alloc, given),
         Some(("record", given)) => record(alloc, given),
         Some((_, given)) => Ok(Request::Trim {

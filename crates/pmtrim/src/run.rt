@@ -1,6 +1,7 @@
 //! Doing what the words ask for.
 ghost use Rattle.std.specs.Prelude.{◌≤◌, IfOk};
 
+use crate::explain::run_explain;
 use crate::fault::Fault;
 use crate::opener::Opener;
 use crate::record::record;
@@ -70,6 +71,7 @@ where
             workers,
             file: None,
         } => check(rt, workers, input, out),
+        Request::Explain(words) => run_explain(rt, words, files, input, out),
         Request::Trim {
             workers: _,
             stream: true,
