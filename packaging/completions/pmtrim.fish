@@ -1,10 +1,11 @@
 # Completion of pmtrim for fish.
-set -l commands check explain trim fronts record help
+set -l commands check explain trim fronts record draw help
 complete -c pmtrim -n "not __fish_seen_subcommand_from $commands" -f -a check -d 'Judge the assertions and report findings'
 complete -c pmtrim -n "not __fish_seen_subcommand_from $commands" -f -a explain -d 'Say what is wrong, why, and what to do'
 complete -c pmtrim -n "not __fish_seen_subcommand_from $commands" -f -a trim -d 'Drop the flushes and fences without effect'
 complete -c pmtrim -n "not __fish_seen_subcommand_from $commands" -f -a fronts -d 'What is safe at a place'
 complete -c pmtrim -n "not __fish_seen_subcommand_from $commands" -f -a record -d 'Record scripts'
+complete -c pmtrim -n "not __fish_seen_subcommand_from $commands" -f -a draw -d 'Draw what is safe when'
 complete -c pmtrim -n "not __fish_seen_subcommand_from $commands" -f -a help -d 'What a command does'
 complete -c pmtrim -n "not __fish_seen_subcommand_from $commands" -l version -d 'The version'
 complete -c pmtrim -l help -d 'What it does'
@@ -14,4 +15,9 @@ complete -c pmtrim -n "__fish_seen_subcommand_from explain" -l limit -x -d 'How 
 complete -c pmtrim -n "__fish_seen_subcommand_from explain" -l labels -r -d 'What to call the events'
 complete -c pmtrim -n "__fish_seen_subcommand_from explain" -l json -d 'Write a JSON object a line'
 complete -c pmtrim -n "__fish_seen_subcommand_from trim" -l stream -d 'Write the trace as it is read'
-complete -c pmtrim -n "__fish_seen_subcommand_from help" -f -a 'check explain trim fronts record'
+complete -c pmtrim -n "__fish_seen_subcommand_from help" -f -a 'check explain trim fronts record draw'
+complete -c pmtrim -n "__fish_seen_subcommand_from draw" -l around -x -d 'An event'
+complete -c pmtrim -n "__fish_seen_subcommand_from draw" -l from -x -d 'The first event'
+complete -c pmtrim -n "__fish_seen_subcommand_from draw" -l to -x -d 'The last event'
+complete -c pmtrim -n "__fish_seen_subcommand_from draw" -l line -x -d 'An address of a line'
+complete -c pmtrim -n "__fish_seen_subcommand_from draw" -l labels -r -d 'Names of events'

@@ -47,13 +47,7 @@ where
         json,
         file,
     } = words;
-    let labels = match labels {
-        Some(name) => {
-            let bytes = read_file(alloc, files, name)?;
-            read_labels(alloc, name, bytes.as_slice())?
-        }
-        None => Labels::new(alloc),
-    };
+    let labels = labels_of(alloc, files, labels)?;
     let (name, bytes) = match file {
         Some(name) => (name, read_file(alloc, files, name)?),
         None => (STANDARD_INPUT, read_whole(alloc, STANDARD_INPUT, input)?),
@@ -65,6 +59,20 @@ where
         Ok(1)
     } else {
         Ok(0)
+    }
+}
+
+/// The labels of the named file; none, where none is named.
+///
+/// # Errors
+/// The fault of the file, or that of its first faulty line; `OutOfMemory`.
+pub fn labels_of<O: Opener>(alloc: Global, files: &O, name: Option<&str>) -> Result<Labels, Fault> {
+    match name {
+        Some(name) => {
+            let bytes = read_file(alloc, files, name)?;
+            read_labels(alloc, name, bytes.as_slice())
+        }
+        None => Ok(Labels::new(alloc)),
     }
 }
 

@@ -1,5 +1,6 @@
 //! What the words ask for.
 use crate::command::commands;
+use crate::draw_words::{Drawing, drawing_of};
 use crate::explain_words::{ExplainWords, explain_words};
 use crate::fault::Fault;
 use clap::error::ErrorKind;
@@ -30,6 +31,8 @@ pub enum Request<'a> {
         file: &'a str,
         place: u64,
     },
+    /// The picture of a trace.
+    Draw(Drawing<'a>),
     /// The trace that these scripts record.
     Record {
         scripts: Vec<&'a str>,
@@ -42,6 +45,7 @@ impl Request<'_> {
         match self {
             Request::Check { file, .. } | Request::Trim { file, .. } => file.is_none(),
             Request::Explain(words) => words.file.is_none(),
+            Request::Draw(drawing) => drawing.file.is_none(),
             Request::Show(_) | Request::Fronts { .. } | Request::Record { .. } => false,
         }
     }
@@ -79,6 +83,7 @@ fn asked<'a>(alloc: Global, matches: &ArgMatches<'a>) -> Result<Request<'a>, Fau
         Some(("explain", given)) => Ok(Request::Explain(explain_words(alloc, given)?)),
         Some(("fronts", given)) => fronts(alloc, given),
         Some(("record", given)) => record(alloc, given),
+        Some(("draw", given)) => Ok(Request::Draw(drawing_of(alloc, given)?)),
         Some((_, given)) => Ok(Request::Trim {
             workers: workers_of(given),
             stream: given.get_flag("stream"),
