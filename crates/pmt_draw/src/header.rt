@@ -4,7 +4,7 @@ use crate::layout::{Layout, Slot};
 use crate::picture::{Column, Picture};
 use crate::spans::{address_of, line_of_op};
 use crate::svg::Page;
-use crate::words::{push_escaped, push_event_words, word_of};
+use crate::words::{push_escaped, push_event_words, push_reason, word_of};
 use pmt_model::{Op, OutOfMemory};
 use std::alloc::Global;
 
@@ -103,10 +103,10 @@ fn push_judgement(text: &mut String, column: &Column) -> Result<(), OutOfMemory>
         Some(false) => text.push_str(": fails")?,
         None => {}
     }
-    if column.dropped {
-        text.push_str(": dropped")?;
+    match column.dropped {
+        Some(reason) => push_reason(text, reason),
+        None => Ok(()),
     }
-    Ok(())
 }
 
 // Adds the number, the word and the label over the column.
@@ -165,7 +165,7 @@ fn push_cut(text: &mut String, label: &str, most: usize) -> Result<(), OutOfMemo
 
 /// Adds the mark of the event, around this point.
 pub fn push_mark(text: &mut String, column: &Column, x: u64, y: u64) -> Result<(), OutOfMemory> {
-    let class = if column.dropped {
+    let class = if column.dropped.is_some() {
         "mark dropped"
     } else {
         "mark"

@@ -6,8 +6,10 @@ use crate::related::related;
 use crate::spans::{line_of_op, lines_of_addresses, lines_of_assertion};
 use crate::view::{MOST_COLUMNS, MOST_ROWS, Span, View};
 use crate::window::window;
+use pmt_explain::Dropped;
 use pmt_lines::{Jobs, run_line, split};
 use pmt_model::{Event, Format, Op, OutOfMemory, Trace, Verdict};
+use pmt_reasons::Reason;
 use pmt_text::ListSource;
 use std::alloc::{AllocError, Global};
 
@@ -23,8 +25,8 @@ pub struct Known<'a> {
     pub lines: u64,
     /// The verdicts of its assertions, in event order.
     pub verdicts: &'a [Verdict],
-    /// The events that trim keeps, by rising number.
-    pub kept: &'a [u64],
+    /// The events that are dropped, by rising number, each with its reason.
+    pub dropped: &'a [Dropped],
 }
 
 /// An event that is drawn.
@@ -34,8 +36,8 @@ pub struct Column {
     pub number: u64,
     /// What it is.
     pub event: Event,
-    /// Whether it is dropped.
-    pub dropped: bool,
+    /// Why it is dropped, if it is.
+    pub dropped: Option<Reason>,
     /// Of an assertion, whether it passes.
     pub pass: Option<bool>,
     /// Of a clwb or clflushopt, the next fence of its thread, if one comes up to the last event that is drawn.
@@ -186,7 +188,6 @@ fn columns_of(
     known: Known<'_>,
     numbers: &[u64],
 ) -> Result<Vec<Column>, OutOfMemory> {
-    let kept = known.kept;
     let mut columns: Vec<Column> = Vec::with_capacity(alloc, numbers.len())?;
     for number in numbers {
         let Some(Event { thread, op }) = known.trace.get(*number) else {
@@ -198,7 +199,7 @@ fn columns_of(
         columns.push(Column {
             number: *number,
             event: Event { thread, op },
-            dropped: !is_listed(kept, *number),
+            dropped: reason_of(known.dropped, *number),
             pass: verdict_of(known.verdicts, *number),
             fence: None,
         })?;
@@ -213,6 +214,14 @@ fn note_fence(columns: &mut [Column], thread: u8, number: u64) {
         if is_flush && column.event.thread == thread && column.fence.is_none() {
             column.fence = Some(number);
         }
+    }
+}
+
+// Why the event with this number is dropped, if it is.
+fn reason_of(dropped: &[Dropped], number: u64) -> Option<Reason> {
+    match dropped.binary_search_by_key(&number, |other| other.event) {
+        Ok(index) => dropped.get(index).map(|other| other.reason),
+        Err(_) => None,
     }
 }
 

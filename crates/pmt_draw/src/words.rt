@@ -4,7 +4,7 @@ use crate::crash::Crash;
 use crate::labels::{Label, label_of};
 use crate::picture::Column;
 use pmt_model::{Event, Op, OutOfMemory};
-use pmt_reasons::Cause;
+use pmt_reasons::{Cause, Reason};
 use pmt_text::write_event;
 use std::alloc::Global;
 
@@ -151,4 +151,26 @@ pub fn assertion_word(crash: Crash) -> &'static str {
 pub fn assertion_words(alloc: Global, crash: Crash) -> Result<String, OutOfMemory> {
     let (number, word) = (crash.assertion, assertion_word(crash));
     format!(in alloc; "{word} {number} fails.")
+}
+
+/// Adds why an event is dropped.
+///
+/// # Errors
+/// Where memory was refused; the text may then have some of it.
+pub fn push_reason(text: &mut String, reason: Reason) -> Result<(), OutOfMemory> {
+    text.push_str(": dropped, since ")?;
+    match reason {
+        Reason::Safe => text.push_str("all stores to its line are safe already"),
+        Reason::Unfenced => text.push_str("its thread makes no fence after it"),
+        Reason::Repeated { by } => write!(
+            text,
+            "event {by} flushes the line again before the fence"
+        ),
+        Reason::Overtaken { by } => write!(
+            text,
+            "event {by} makes its stores safe before the fence"
+        ),
+        Reason::Empty => text.push_str("its thread has flushed nothing since its last fence"),
+        Reason::Useless => text.push_str("it makes no store safe"),
+    }
 }

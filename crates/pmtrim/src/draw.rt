@@ -6,6 +6,7 @@ use crate::explain::labels_of;
 use crate::fault::Fault;
 use crate::opener::Opener;
 use pmt_draw::{Known, Label, Picture, View, picture_of, svg_text};
+use pmt_explain::dropped;
 use pmt_explanation::Labels;
 use pmt_model::{NoGate, OutOfMemory};
 use pmt_report::RunError;
@@ -78,11 +79,12 @@ fn write_picture<W: Write>(
     labels: &Labels,
     out: &mut W,
 ) -> Result<(), Fault> {
+    let reasons = dropped(alloc, analysis.trace())?;
     let known = Known {
         trace: analysis.trace(),
         lines: analysis.lines() as u64,
         verdicts: analysis.verdicts(),
-        kept: analysis.selection().numbers(),
+        dropped: reasons.as_slice(),
     };
     let drawn = picture_of(alloc, known, view)?;
     let shown = drawn_labels(alloc, &drawn, labels)?;
