@@ -2,3 +2,5 @@ pub mod CauseOfLemmas
 pub mod LastStoreLemmas
 pub mod LosingLemmas
 pub mod FailingLemmas
+pub mod FirstLemmas
+pub mod FollowingLemmas

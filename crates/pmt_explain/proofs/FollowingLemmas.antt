@@ -1,0 +1,210 @@
+-- What comes after a place, as events are read from the last to the first.
+use Rattle.std.proofs.Common.{◌≡◌, ◌≢◌, ℕ, suc, ◌+◌, ◌*◌, ◌<◌, ◌≤◌, ◌⊎◌, inl, inr, min, List, [], length, Option, None, Some, refl, sym, ap, subst, ◌∙◌, arith, get_or, set, get_or-set_same, get_or-set_other}
+use Rattle.std.specs.Prelude.{nat_eq, unwrap_or, replicate, slice_get}
+use Rattle.std.proofs.lemmas.Option.{slice_get-get_or, get_or_from_slice_get, slice_get_within}
+use Rattle.std.proofs.lemmas.Bool.{cases_lt, cases_eq, eq-eqb, ne_eqb}
+use Rattle.std.proofs.lemmas.List.{length-set, get_or-replicate, length-replicate}
+use Rattle.std.specs.HashMap.{get, Updates}
+use Rattle.pmt_model.specs.Machine.{Act, Stores, Flushes, Clflushes, Fences, Asserts}
+use Rattle.pmt_model.specs.declared.event.Event.{Event}
+use Rattle.pmt_model.specs.Values.{Layout}
+use Rattle.pmt_model.specs.Traces.{Recording, IsAct, act_of}
+use Rattle.pmt_laws.proofs.Histories.{act-unique, act-within}
+use Rattle.pmt_explain.specs.declared.following.Ahead.{Ahead}
+use Rattle.pmt_explain.specs.declared.following.Following.{Following}
+use Rattle.pmt_explain.specs.Numbers.{Numbers, number_at, Puts}
+use Rattle.pmt_explain.specs.Following.{IsFirst, past_of, IsFenceAfter, IsFlushAfter, IsCompleteBy, ByFence, ByItself, IsCompletedAfter, pair_of, IsAhead, TellsFollowing}
+use Rattle.pmt_explain.proofs.FirstLemmas.{first-same, first-either, first-upward, first-none, first-here, first-over}
+
+-- what flushes a line
+flushes-act : (T : Recording) (l i p : ℕ) (a : Act) → IsAct T i a → IsCompleteBy T l i p → ((t : ℕ) × (a ≡ Flushes t l)) ⊎ (a ≡ Clflushes l)
+flushes-act T l i p a is (ByFence t fence flush f later by_now) = inl (t, act-unique T i a (Flushes t l) is flush)
+flushes-act T l i p a is (ByItself flush by_now) = inr (act-unique T i a (Clflushes l) is flush)
+
+-- the flushes of a line after an event that is none of them
+completed-over : (T : Recording) (l n past first : ℕ) (a : Act) → IsAct T (suc n) a → ((t : ℕ) → a ≢ Flushes t l) → a ≢ Clflushes l → IsFirst (IsCompletedAfter T l (suc n)) past first →
+    IsFirst (IsCompletedAfter T l n) past first
+completed-over T l n past first a is no_flush no_clflush x =
+    first-same (IsCompletedAfter T l (suc n)) (IsCompletedAfter T l n) past first (λ p c. (c.0, omega (arith, c.1), c.2)) (λ p c. (c.0, later p c (cases_lt (suc n) c.0), c.2)) x
+  where
+    later : (p : ℕ) → (c : IsCompletedAfter T l n p) → (suc n < c.0) ⊎ (c.0 ≤ suc n) → suc n < c.0
+    later p c (inl after) = after
+    later p c (inr here) =
+        let e : c.0 ≡ suc n = omega (arith, c.1) in
+        absurd (elim (flushes-act T l (suc n) p a is (subst (λ i. IsCompleteBy T l i p) e c.2)) [ inl f ↦ no_flush f.0 f.1 | inr f ↦ no_clflush f ])
+
+-- after a flush of the line
+completed-flush : (T : Recording) (t l n past fence first : ℕ) → IsAct T (suc n) (Flushes t l) → IsFirst (IsFenceAfter T t (suc n)) past fence →
+    IsFirst (IsCompletedAfter T l (suc n)) past first → IsFirst (IsCompletedAfter T l n) past (min first fence)
+completed-flush T t l n past fence first is next x =
+    first-either (IsCompletedAfter T l (suc n)) Own (IsCompletedAfter T l n) past first fence (λ p c. (c.0, omega (arith, c.1), c.2))
+    (λ p o. (suc n, omega arith, ByFence t o.0 is o.1.1 o.1.0 o.2)) (λ p c. split p c (cases_lt (suc n) c.0)) x (first-upward (IsFenceAfter T t (suc n)) past fence next)
+  where
+    Own : ℕ → Type 0
+    Own p = (j : ℕ) × IsFenceAfter T t (suc n) j × (j ≤ p)
+
+    own : (p : ℕ) → IsCompleteBy T l (suc n) p → (j : ℕ) × IsFenceAfter T t (suc n) j × (j ≤ p)
+    own p (ByFence u j flush f later by_now) =
+        let same = act-unique T (suc n) (Flushes u l) (Flushes t l) flush is in
+        let thread : u ≡ t = cc in
+        (j, (later, subst (λ v. IsAct T j (Fences v)) thread f), by_now)
+    own p (ByItself flush by_now) = let same = act-unique T (suc n) (Clflushes l) (Flushes t l) flush is in cc
+
+    split : (p : ℕ) → (c : IsCompletedAfter T l n p) → (suc n < c.0) ⊎ (c.0 ≤ suc n) → IsCompletedAfter T l (suc n) p ⊎ Own p
+    split p c (inl after) = inl (c.0, after, c.2)
+    split p c (inr here) = let e : c.0 ≡ suc n = omega (arith, c.1) in inr (own p (subst (λ i. IsCompleteBy T l i p) e c.2))
+
+-- after a clflush of the line
+completed-clflush : (T : Recording) (l n : ℕ) → IsAct T (suc n) (Clflushes l) → IsFirst (IsCompletedAfter T l n) (past_of T) (suc n)
+completed-clflush T l n is = record {
+  within = omega (arith, (act-within T (suc n) (Clflushes l) is).1);
+  has = λ h. (suc n, omega arith, ByItself is (omega arith));
+  none_before = λ p below c. early p below c.0 c.1 c.2;
+}
+  where
+    early : (p : ℕ) → p < suc n → (i : ℕ) → n < i → IsCompleteBy T l i p → ⊥
+    early p below i after (ByFence t j flush f later by_now) = absurd (omega arith)
+    early p below i after (ByItself flush by_now) = absurd (omega arith)
+
+-- no thread and line have the number of others
+pair-same : (t u l k : ℕ) → t < 256 → u < 256 → pair_of t l ≡ pair_of u k → (t ≡ u) × (l ≡ k)
+pair-same t u l k small below e = let line : l ≡ k = omega arith in let thread : t ≡ u = omega arith in (thread, line)
+
+-- a number is put at a key
+get-put : (old new : Rattle.std.specs.HashMap.HashMap ℕ ℕ (Rattle.std.specs.declared.hash.BuildHasherDefault.BuildHasherDefault Rattle.std.specs.declared.hash.FoldHasher.FoldHasher)) (key j number other : ℕ) →
+    Updates nat_eq old new key (Some number) → (key ≡ j) ⊎ (key ≢ j) → ((key ≡ j) × (unwrap_or (get nat_eq new j) other ≡ number)) ⊎ ((key ≢ j) × (unwrap_or (get nat_eq new j) other ≡ unwrap_or (get nat_eq old j) other))
+get-put old new key j number other up (inl same) = inl (same, subst (λ k. unwrap_or (get nat_eq new k) other ≡ number) same (ap (λ o. unwrap_or o other) up.1))
+get-put old new key j number other up (inr apart) = inr (apart, ap (λ o. unwrap_or o other) (up.2 j (ne_eqb key j apart)))
+
+-- before any event is read
+pub ahead-start : (T : Recording) (a : Ahead) → a.past ≡ past_of T → a.fences ≡ replicate 256 a.past → a.flushes.entries ≡ [] → a.completed.entries ≡ [] → IsAhead T (length T.events) a
+ahead-start T a past fences flushes completed = record {
+  past = past;
+  threads = ap (λ xs. length xs) fences ∙ length-replicate 256 a.past;
+  fences = λ t small.
+      let value : get_or a.fences t 0 ≡ past_of T = ap (λ xs. get_or xs t 0) fences ∙ get_or-replicate 256 t a.past 0 small ∙ past in
+      subst (IsFirst (IsFenceAfter T t (length T.events)) (past_of T)) (sym value)
+      (first-none (IsFenceAfter T t (length T.events)) (past_of T) (λ k f. absurd (omega (arith, f.0, (act-within T k (Fences t) f.1).1))));
+  flushes = λ t l small.
+      let value : unwrap_or (get nat_eq a.flushes (pair_of t l)) (past_of T) ≡ past_of T = rw flushes refl in
+      subst (IsFirst (IsFlushAfter T t l (length T.events)) (past_of T)) (sym value)
+      (first-none (IsFlushAfter T t l (length T.events)) (past_of T) (λ k f. absurd (omega (arith, f.0, (act-within T k (Flushes t l) f.1).1))));
+  completed = λ l.
+      let value : number_at (past_of T) a.completed l ≡ past_of T = rw completed refl in
+      subst (IsFirst (IsCompletedAfter T l (length T.events)) (past_of T)) (sym value) (first-none (IsCompletedAfter T l (length T.events)) (past_of T) (λ p c. none p c.0 c.1 c.2));
+}
+  where
+    none : {l : ℕ} (p i : ℕ) → length T.events < i → IsCompleteBy T l i p → ⊥
+    none {l} p i after (ByFence t j flush f later by_now) = absurd (omega (arith, (act-within T i (Flushes t l) flush).1))
+    none {l} p i after (ByItself flush by_now) = absurd (omega (arith, (act-within T i (Clflushes l) flush).1))
+
+-- over an act that is neither a flush nor a fence
+pub ahead-other : (T : Recording) (n : ℕ) (a : Ahead) (x : Act) → IsAct T (suc n) x → ((t l : ℕ) → x ≢ Flushes t l) → ((l : ℕ) → x ≢ Clflushes l) → ((t : ℕ) → x ≢ Fences t) → IsAhead T (suc n) a →
+    IsAhead T n a
+ahead-other T n a x is no_flush no_clflush no_fence old = record {
+  past = old.past;
+  threads = old.threads;
+  fences = λ t small. first-over (λ k. IsAct T k (Fences t)) (past_of T) n _ (λ f. no_fence t (act-unique T (suc n) x (Fences t) is f)) (old.fences t small);
+  flushes = λ t l small. first-over (λ k. IsAct T k (Flushes t l)) (past_of T) n _ (λ f. no_flush t l (act-unique T (suc n) x (Flushes t l) is f)) (old.flushes t l small);
+  completed = λ l. completed-over T l n (past_of T) _ x is (λ t. no_flush t l) (no_clflush l) (old.completed l);
+}
+
+-- over a fence
+pub ahead-fence : (T : Recording) (n t number : ℕ) (a : Ahead) → t < 256 → IsAct T (suc n) (Fences t) → number ≡ suc n → IsAhead T (suc n) a →
+    IsAhead T n (record { past = a.past; fences = set a.fences t number; flushes = a.flushes; completed = a.completed })
+ahead-fence T n t number a small is same old = record {
+  past = old.past;
+  threads = length-set a.fences t number ∙ old.threads;
+  fences = λ u below. fence u below (cases_eq u t);
+  flushes = λ u l below. first-over (λ k. IsAct T k (Flushes u l)) (past_of T) n _ (λ f. let e = act-unique T (suc n) (Fences t) (Flushes u l) is f in cc) (old.flushes u l below);
+  completed = λ l. completed-over T l n (past_of T) _ (Fences t) is (λ u e. cc) (λ e. cc) (old.completed l);
+}
+  where
+    fence : (u : ℕ) → u < 256 → (u ≡ t) ⊎ (u ≢ t) → IsFirst (IsFenceAfter T u n) (past_of T) (get_or (set a.fences t number) u 0)
+    fence u below (inl e) =
+        let value : get_or (set a.fences t number) u 0 ≡ suc n = ap (λ k. get_or (set a.fences t number) k 0) e ∙ get_or-set_same a.fences t number 0 (omega (arith, old.threads)) ∙ same in
+        subst (IsFirst (IsFenceAfter T u n) (past_of T)) (sym value)
+        (first-here (λ k. IsAct T k (Fences u)) (past_of T) n (omega (arith, (act-within T (suc n) (Fences t) is).1)) (subst (λ v. IsAct T (suc n) (Fences v)) (sym e) is))
+    fence u below (inr apart) =
+        subst (IsFirst (IsFenceAfter T u n) (past_of T)) (sym (get_or-set_other a.fences t u number 0 apart))
+        (first-over (λ k. IsAct T k (Fences u)) (past_of T) n _ (λ f. let e = act-unique T (suc n) (Fences t) (Fences u) is f in apart (cc)) (old.fences u below))
+
+-- over a clflush
+pub ahead-clflush : (T : Recording) (n l number : ℕ) (a : Ahead) (completed : Numbers) → IsAct T (suc n) (Clflushes l) → number ≡ suc n → IsAhead T (suc n) a → Puts l number a.completed completed →
+    IsAhead T n (record { past = a.past; fences = a.fences; flushes = a.flushes; completed = completed })
+ahead-clflush T n l number a completed is same old put = record {
+  past = old.past;
+  threads = old.threads;
+  fences = λ t small. first-over (λ k. IsAct T k (Fences t)) (past_of T) n _ (λ f. let e = act-unique T (suc n) (Clflushes l) (Fences t) is f in cc) (old.fences t small);
+  flushes = λ t k small. first-over (λ j. IsAct T j (Flushes t k)) (past_of T) n _ (λ f. let e = act-unique T (suc n) (Clflushes l) (Flushes t k) is f in cc) (old.flushes t k small);
+  completed = λ k. elim (cases_eq k l) [
+    | inl e ↦
+        let value : number_at (past_of T) completed k ≡ suc n = ap (number_at (past_of T) completed) e ∙ put.here (past_of T) ∙ same in
+        subst (IsFirst (IsCompletedAfter T k n) (past_of T)) (sym value) (completed-clflush T k n (subst (λ j. IsAct T (suc n) (Clflushes j)) (sym e) is))
+    | inr apart ↦
+        subst (IsFirst (IsCompletedAfter T k n) (past_of T)) (sym (put.others (past_of T) k apart))
+        (completed-over T k n (past_of T) _ (Clflushes l) is (λ t e. cc) (λ e. apart (cc)) (old.completed k))
+  ];
+}
+
+-- over a flush
+pub ahead-flush : (T : Recording) (n t l key number fence first : ℕ) (a b : Ahead) → t < 256 → IsAct T (suc n) (Flushes t l) → number ≡ suc n → IsAhead T (suc n) a →
+    key ≡ pair_of t l → fence ≡ get_or a.fences t 0 → first ≡ number_at (past_of T) a.completed l →
+    b.past ≡ a.past → b.fences ≡ a.fences → Updates nat_eq a.flushes b.flushes key (Some number) → Puts l (min first fence) a.completed b.completed → IsAhead T n b
+ahead-flush T n t l key number fence first a b small is same old pair next so_far past fences up put = record {
+  past = past ∙ old.past;
+  threads = ap (λ xs. length xs) fences ∙ old.threads;
+  fences = λ u below.
+      subst (λ xs. IsFirst (IsFenceAfter T u n) (past_of T) (get_or xs u 0)) (sym fences)
+      (first-over (λ k. IsAct T k (Fences u)) (past_of T) n _ (λ f. let e = act-unique T (suc n) (Flushes t l) (Fences u) is f in cc) (old.fences u below));
+  flushes = λ u k below. flush u k below (get-put a.flushes b.flushes key (pair_of u k) number (past_of T) up (cases_eq key (pair_of u k)));
+  completed = λ k. elim (cases_eq k l) [
+    | inl e ↦
+        let value : number_at (past_of T) b.completed k ≡ min first fence = ap (number_at (past_of T) b.completed) e ∙ put.here (past_of T) in
+        subst (IsFirst (IsCompletedAfter T k n) (past_of T)) (sym value)
+        (completed-flush T t k n (past_of T) fence first (subst (λ j. IsAct T (suc n) (Flushes t j)) (sym e) is)
+        (subst (IsFirst (IsFenceAfter T t (suc n)) (past_of T)) (sym next) (old.fences t small))
+        (subst (IsFirst (IsCompletedAfter T k (suc n)) (past_of T)) (ap (number_at (past_of T) a.completed) e ∙ sym so_far) (old.completed k)))
+    | inr apart ↦
+        subst (IsFirst (IsCompletedAfter T k n) (past_of T)) (sym (put.others (past_of T) k apart))
+        (completed-over T k n (past_of T) _ (Flushes t l) is (λ u e. apart (cc)) (λ e. cc) (old.completed k))
+  ];
+}
+  where
+    flush : (u k : ℕ) → u < 256 →
+        ((key ≡ pair_of u k) × (unwrap_or (get nat_eq b.flushes (pair_of u k)) (past_of T) ≡ number)) ⊎
+        ((key ≢ pair_of u k) × (unwrap_or (get nat_eq b.flushes (pair_of u k)) (past_of T) ≡ unwrap_or (get nat_eq a.flushes (pair_of u k)) (past_of T))) →
+        IsFirst (IsFlushAfter T u k n) (past_of T) (unwrap_or (get nat_eq b.flushes (pair_of u k)) (past_of T))
+    flush u k below (inl (e, value)) =
+        let both = pair-same t u l k small below (sym pair ∙ e) in
+        let thread = both.0 in
+        let line = both.1 in
+        subst (IsFirst (IsFlushAfter T u k n) (past_of T)) (sym (value ∙ same))
+        (first-here (λ j. IsAct T j (Flushes u k)) (past_of T) n (omega (arith, (act-within T (suc n) (Flushes t l) is).1))
+        (subst (λ v. IsAct T (suc n) (Flushes v k)) thread (subst (λ j. IsAct T (suc n) (Flushes t j)) line is)))
+    flush u k below (inr (apart, value)) =
+        subst (IsFirst (IsFlushAfter T u k n) (past_of T)) (sym value)
+        (first-over (λ j. IsAct T j (Flushes u k)) (past_of T) n _
+        (λ f. let e = act-unique T (suc n) (Flushes t l) (Flushes u k) is f in let f1 : t ≡ u = cc in let f2 : l ≡ k = cc in apart (pair ∙ ap (λ v. pair_of v l) f1 ∙ ap (pair_of u) f2)) (old.flushes u k below))
+
+-- the event at an index
+pub event-at : (T : Recording) (f : Layout) (es : List Event) (i : ℕ) (e : Event) → f ≡ T.format → es ≡ T.events → i < length es → e ≡ get_or es i e → IsAct T (suc i) (act_of f e.thread e.op)
+event-at T f es i e format events within is =
+    (e, ap (λ xs. slice_get xs i) (sym events) ∙ slice_get-get_or es i e within ∙ ap Some (sym is), ap (λ g. act_of g e.thread e.op) (sym format))
+
+-- one more of what follows
+pub following-set : (T : Recording) (list : List Following) (i n : ℕ) (x f : Following) → i < length list → TellsFollowing T (suc i) x →
+    ((m : ℕ) (g : Following) → suc i ≤ m → slice_get list m ≡ Some g → TellsFollowing T (suc m) g) → i ≤ n → slice_get (set list i x) n ≡ Some f → TellsFollowing T (suc n) f
+following-set T list i n x f within tells rest from is = go (cases_eq n i)
+  where
+    value : get_or (set list i x) n x ≡ f
+    value = get_or_from_slice_get (set list i x) n f x is
+
+    inside : n < length list
+    inside = omega (arith, slice_get_within (set list i x) n f is, length-set list i x)
+
+    go : (n ≡ i) ⊎ (n ≢ i) → TellsFollowing T (suc n) f
+    go (inl e) =
+        let found : x ≡ f = sym (get_or-set_same list i x x within) ∙ ap (λ k. get_or (set list i x) k x) (sym e) ∙ value in
+        subst (λ k. TellsFollowing T (suc k) f) (sym e) (subst (TellsFollowing T (suc i)) found tells)
+    go (inr apart) = rest n f (omega arith) (slice_get-get_or list n x inside ∙ ap Some (sym (get_or-set_other list i n x x apart) ∙ value))

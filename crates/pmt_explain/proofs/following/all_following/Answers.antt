@@ -1,0 +1,36 @@
+use Rattle.std.proofs.Common.{◌≡◌, ◌-◌, suc, ◌<◌, length, subst, sym, ap, ◌∙◌, arith}
+use Rattle.std.proofs.lemmas.List.{length-set}
+use Rattle.std.proofs.lemmas.Option.{slice_get_within}
+use Rattle.pmt_explain.specs.Following.{past_of, IsAhead}
+use Rattle.pmt_explain.proofs.FollowingLemmas.{event-at, following-set}
+use Rattle.pmt_explain.proofs.following.all_following.Goals as goal
+
+pub loop-index-init : goal.loop-index-init
+loop-index-init c =
+    let T = c.args.trace.now in
+    let size : length c.in_ok-list.list.items ≡ length T.events = omega (arith, c.in_ok-list.ensures.len, ap (λ xs. length xs) c.events-events.ensures.value) in
+    record {
+      size = size;
+      ahead = subst (λ xs. IsAhead T (length xs) c.new-ahead.result) (sym c.events-events.ensures.value) (c.new-ahead.ensures T (omega (arith, ap (λ xs. length xs) c.events-events.ensures.value)));
+      each = λ n f from is. absurd (omega (arith, slice_get_within c.in_ok-list.list.items n f is, size, ap (λ xs. length xs) c.events-events.ensures.value));
+    }
+
+pub loop-index-preserved : goal.loop-index-preserved
+loop-index-preserved c =
+    let T = c.args.trace.now in
+    let i = c.loop-index.index - 1 in
+    let before : c.loop-index.index ≡ suc (c.loop-index.index - 1) = omega arith in
+    let within : c.loop-index.index - 1 < length c.events-events.result.now = omega arith in
+    let inside : c.loop-index.index - 1 < length c.loop-index.list.items = omega (arith, c.loop-index.invariant.size, ap (λ xs. length xs) c.events-events.ensures.value) in
+    let is = event-at T c.format-format.result c.events-events.result.now i c.index-events-index.result c.format-format.ensures.value c.events-events.ensures.value within c.index-events-index.is in
+    let old = subst (λ k. IsAhead T k c.loop-index.ahead) before c.loop-index.invariant.ahead in
+    record {
+      size = length-set c.loop-index.list.items i c.in_ok-list-2.field-0 ∙ c.loop-index.invariant.size;
+      ahead = c.in_ok-list-2.ensures.ahead T i is (omega arith) old;
+      each = λ n f from at.
+          following-set T c.loop-index.list.items i n c.in_ok-list-2.field-0 f inside (c.in_ok-list-2.ensures.tells T i is (omega arith) old)
+          (λ m g later here. c.loop-index.invariant.each m g (omega arith) here) from at;
+    }
+
+pub returns : goal.returns
+returns c = record { size = c.loop-index.invariant.size; each = λ n f is. c.loop-index.invariant.each n f (omega arith) is }

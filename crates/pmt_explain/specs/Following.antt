@@ -1,0 +1,61 @@
+-- What comes after the flushes of a trace.
+use Rattle.std.specs.Prelude.{◌≡◌, ℕ, suc, ◌+◌, ◌*◌, ◌<◌, ◌≤◌, List, length, nat_eq, unwrap_or, slice_get, slice_index, Some}
+use Rattle.std.specs.HashMap.{get}
+use Rattle.pmt_model.specs.Machine.{Flushes, Clflushes, Fences}
+use Rattle.pmt_model.specs.Traces.{Recording, IsAct}
+use Rattle.pmt_explain.specs.declared.following.Following.{Following}
+use Rattle.pmt_explain.specs.declared.following.Ahead.{Ahead}
+use Rattle.pmt_explain.specs.Numbers.{number_at}
+
+-- This is the first number below `past` that has the property, or `past` where none has it.
+pub record IsFirst (P : ℕ → Type 0) (past first : ℕ) : Type 0 where
+  pub within : first ≤ past
+  pub has : first < past → P first
+  pub none_before : (k : ℕ) → k < first → P k → ⊥
+
+-- One more than the number of the last event.
+abbrev pub past_of : Recording → ℕ
+past_of T = suc (length T.events)
+
+-- Event k is a fence of thread t after event n.
+abbrev pub IsFenceAfter : Recording → ℕ → ℕ → ℕ → Type 0
+IsFenceAfter T t n k = (n < k) × IsAct T k (Fences t)
+
+-- Event k is a flush of line l by thread t after event n.
+abbrev pub IsFlushAfter : Recording → ℕ → ℕ → ℕ → ℕ → Type 0
+IsFlushAfter T t l n k = (n < k) × IsAct T k (Flushes t l)
+
+-- Event i flushes line l and is complete by place p: it is a clflush, or its thread has fenced since.
+pub data IsCompleteBy (T : Recording) (l i p : ℕ) : Type 0 where
+  ByFence : (t fence : ℕ) → IsAct T i (Flushes t l) → IsAct T fence (Fences t) → i < fence → fence ≤ p → IsCompleteBy T l i p
+  ByItself : IsAct T i (Clflushes l) → i ≤ p → IsCompleteBy T l i p
+
+-- Some flush of line l after event n is complete by place p.
+abbrev pub IsCompletedAfter : Recording → ℕ → ℕ → ℕ → Type 0
+IsCompletedAfter T l n p = (i : ℕ) × (n < i) × IsCompleteBy T l i p
+
+-- This is what comes after the flush of line l by thread t at i.
+pub record IsFollowing (T : Recording) (t l i : ℕ) (f : Following) : Type 0 where
+  pub fence : IsFirst (IsFenceAfter T t i) (past_of T) f.fence
+  pub again : IsFirst (IsFlushAfter T t l i) (past_of T) f.again
+  pub completed : IsFirst (IsCompletedAfter T l i) (past_of T) f.completed
+
+-- This is what comes after event i, if it is a flush.
+abbrev pub TellsFollowing : Recording → ℕ → Following → Type 0
+TellsFollowing T i f = (t l : ℕ) → IsAct T i (Flushes t l) → IsFollowing T t l i f
+
+-- What comes after each event that is a flush, the first one being event 1.
+pub record AreFollowing (T : Recording) (list : List Following) : Type 0 where
+  pub size : length list ≡ length T.events
+  pub each : (n : ℕ) (f : Following) → slice_get list n ≡ Some f → TellsFollowing T (suc n) f
+
+abbrev pub pair_of : ℕ → ℕ → ℕ
+pair_of t l = l * 256 + t
+
+-- What comes after place n.
+pub record IsAhead (T : Recording) (n : ℕ) (a : Ahead) : Type 0 where
+  pub past : a.past ≡ past_of T
+  pub threads : length a.fences ≡ 256
+  pub fences : (t : ℕ) → t < 256 → IsFirst (IsFenceAfter T t n) (past_of T) (slice_index a.fences t)
+  pub flushes : (t l : ℕ) → t < 256 → IsFirst (IsFlushAfter T t l n) (past_of T) (unwrap_or (get nat_eq a.flushes (pair_of t l)) (past_of T))
+  pub completed : (l : ℕ) → IsFirst (IsCompletedAfter T l n) (past_of T) (number_at (past_of T) a.completed l)

@@ -1,0 +1,141 @@
+//! What comes after each flush of a trace.
+
+ghost use Rattle.std.specs.Prelude.{◌≡◌, ℕ, ◌+◌, suc, length, IfOk, OnOk};
+ghost use Rattle.pmt_model.specs.Machine.{Flushes, Clflushes, Fences};
+ghost use Rattle.pmt_model.specs.Traces.{Recording, IsAct, act_of};
+ghost use Rattle.pmt_explain.specs.Following.{past_of, pair_of as pair_in, TellsFollowing, AreFollowing, IsAhead};
+
+use crate::numbers::{Numbers, number_of, put};
+use pmt_model::{Format, Op, OutOfMemory, Trace, line_of};
+use std::alloc::Global;
+use std::collections::HashMap;
+
+/// What comes after a flush, by numbers of events; one more than the last number where there is no such event.
+#[derive(Clone, Copy, Debug, PartialEq, Eq)]
+pub(crate) struct Following {
+    /// The next fence of its thread.
+    pub(crate) fence: u64,
+    /// The next flush of its line by its thread.
+    pub(crate) again: u64,
+    /// The first event that completes a later flush of its line: a fence by that one's thread, or a clflush.
+    pub(crate) completed: u64,
+}
+
+/// What comes after a place, as events are read from the last to the first.
+#[derive(Drop)]
+pub(crate) struct Ahead {
+    past: u64,
+    // of each thread, its next fence
+    fences: [u64; 256],
+    // of each thread and line, the next flush
+    flushes: HashMap<u128, u64>,
+    // of each line, the first event that completes a flush after the place
+    completed: Numbers,
+}
+
+// Of each flush what comes after it; of another event any numbers.
+pub(crate) fn all_following(alloc: Global, trace: &Trace) -> Result<Vec<Following>, OutOfMemory>
+    ensures { IfOk result (λ list. AreFollowing trace.now list.items) }
+{
+    let format = trace.format();
+    let events = trace.events();
+    let past = events.len() as u64 + 1;
+    let mut ahead = Ahead::new(alloc, past);
+    let mut list = vec![in alloc; none(past); events.len()]?;
+    for index in (0..events.len()).rev() {
+        let event = events[index];
+        list[index] = ahead.go_back(format, event.thread, event.op, index as u64 + 1)?;
+    }
+    Ok(list)
+}
+
+// Nothing comes.
+fn none(past: u64) -> Following {
+    Following {
+        fence: past,
+        again: past,
+        completed: past,
+    }
+}
+
+// The number of a thread and a line.
+fn pair_of(thread: u8, line: u64) -> u128
+    ensures { result ≡ pair_in thread line }
+{
+    line as u128 * 256 + thread as u128
+}
+
+impl Ahead {
+    // Before any event is read.
+    fn new(alloc: Global, past: u64) -> Self
+        ensures { (T : Recording) → past ≡ past_of T → IsAhead T (length T.events) result }
+    {
+        Ahead {
+            past,
+            fences: [past; 256],
+            flushes: HashMap::new(alloc),
+            completed: HashMap::new(alloc),
+        }
+    }
+
+    // Goes back over the event with this number: what comes after it, if it is a flush.
+    fn go_back(
+        &mut self,
+        format: Format,
+        thread: u8,
+        op: Op,
+        number: u64,
+    ) -> Result<Following, OutOfMemory>
+        ensures tells { (T : Recording) (n : ℕ) → IsAct T (suc n) (act_of format thread op) → number ≡ suc n → IsAhead T (suc n) self.old → IfOk result (TellsFollowing T (suc n)) }
+        ensures ahead { (T : Recording) (n : ℕ) → IsAct T (suc n) (act_of format thread op) → number ≡ suc n → IsAhead T (suc n) self.old → OnOk result (IsAhead T n self.new) }
+    {
+        match op {
+            Op::Clwb(addr) => self.over_flush(thread, line_of(format, addr), number),
+            Op::ClflushOpt(addr) => self.over_flush(thread, line_of(format, addr), number),
+            Op::Clflush(addr) => self.over_clflush(line_of(format, addr), number),
+            Op::Sfence => Ok(self.over_fence(thread, number)),
+            Op::Mfence => Ok(self.over_fence(thread, number)),
+            Op::Store(_) => Ok(none(self.past)),
+            Op::IsPersist(_) => Ok(none(self.past)),
+            Op::IsOrderedBefore(_, _) => Ok(none(self.past)),
+        }
+    }
+
+    // A flush of the line by the thread.
+    fn over_flush(
+        &mut self,
+        thread: u8,
+        line: u64,
+        number: u64,
+    ) -> Result<Following, OutOfMemory>
+        ensures tells { (T : Recording) (n : ℕ) → IsAct T (suc n) (Flushes thread line) → number ≡ suc n → IsAhead T (suc n) self.old → IfOk result (TellsFollowing T (suc n)) }
+        ensures ahead { (T : Recording) (n : ℕ) → IsAct T (suc n) (Flushes thread line) → number ≡ suc n → IsAhead T (suc n) self.old → OnOk result (IsAhead T n self.new) }
+    {
+        let fence = self.fences[thread as usize];
+        let completed = number_of(&self.completed, line, self.past);
+        let again = self.flushes.insert(pair_of(thread, line), number)?;
+        put(&mut self.completed, line, completed.min(fence))?;
+        Ok(Following {
+            fence,
+            again: again.unwrap_or(self.past),
+            completed,
+        })
+    }
+
+    // A clflush of the line.
+    fn over_clflush(&mut self, line: u64, number: u64) -> Result<Following, OutOfMemory>
+        ensures tells { (T : Recording) (n : ℕ) → IsAct T (suc n) (Clflushes line) → number ≡ suc n → IsAhead T (suc n) self.old → IfOk result (TellsFollowing T (suc n)) }
+        ensures ahead { (T : Recording) (n : ℕ) → IsAct T (suc n) (Clflushes line) → number ≡ suc n → IsAhead T (suc n) self.old → OnOk result (IsAhead T n self.new) }
+    {
+        put(&mut self.completed, line, number)?;
+        Ok(none(self.past))
+    }
+
+    // A fence by the thread.
+    fn over_fence(&mut self, thread: u8, number: u64) -> Following
+        ensures { (T : Recording) (n : ℕ) → IsAct T (suc n) (Fences thread) → number ≡ suc n → IsAhead T (suc n) self.old → IsAhead T n self.new }
+    {
+        self.fences[thread as usize] = number;
+        none(self.past)
+    }
+}
