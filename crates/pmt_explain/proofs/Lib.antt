@@ -4,3 +4,5 @@ pub mod LosingLemmas
 pub mod FailingLemmas
 pub mod FirstLemmas
 pub mod FollowingLemmas
+pub mod GroupingLemmas
+pub mod AtEndLemmas

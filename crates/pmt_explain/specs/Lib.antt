@@ -6,3 +6,7 @@ pub mod Numbers
 pub mod Dropping
 pub mod Following
 pub mod Known
+pub mod AtEnd
+pub mod Grouping
+pub mod LostGroups
+pub mod OverwrittenGroups

@@ -5,7 +5,7 @@ use pmt_reasons::{ByteStore, Cause, Failure};
 use std::alloc::Global;
 use std::test::Fail;
 
-fn trace_of(alloc: Global, events: &[(u8, Op)]) -> Result<Trace, Fail> {
+pub(crate) fn trace_of(alloc: Global, events: &[(u8, Op)]) -> Result<Trace, Fail> {
     let mut trace = Trace::new_with(alloc, Format::v2(64)?);
     for event in events {
         let (thread, op) = *event;

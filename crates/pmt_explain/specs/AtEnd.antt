@@ -1,0 +1,61 @@
+-- The causes of all events at the end of a trace, event by event from there back.
+use Rattle.std.specs.Prelude.{◌≡◌, ℕ, suc, Bool, true, false, if◌then◌else◌, ◌==◌, List, Option, None, Some, length, slice_get, slice_index_or, slice_set, unwrap_or, nat_eq}
+use Rattle.std.specs.declared.hash.FoldHasher.{FoldHasher}
+use Rattle.std.specs.declared.hash.BuildHasherDefault.{BuildHasherDefault}
+use Rattle.indexmap.specs.IndexMap.{IndexMap, get}
+use Rattle.pmt_model.specs.Machine.{Act, Stores, Flushes, Clflushes, Fences, Asserts}
+use Rattle.pmt_model.specs.Traces.{Recording}
+use Rattle.pmt_reasons.specs.declared.cause.Cause.{Cause}
+use Rattle.pmt_reasons.specs.declared.cause.Cause.TheVariants.{Unflushed, Unfenced}
+use Rattle.pmt_explain.specs.CauseOf.{IsCauseOf}
+
+-- Of each event, in order, its cause at the end of the trace, if it has one.
+pub record AreCausesAtEnd (T : Recording) (causes : List (Option Cause)) : Type 0 where
+  pub all : length causes ≡ length T.events
+  pub each : (k : ℕ) (o : Option Cause) → slice_get causes k ≡ Some o → IsCauseOf T (length T.events) (suc k) o
+
+-- Of each line that is flushed after a place, the cause of a store to it there; none where it would be safe.
+abbrev pub Causes : Type 0
+Causes = IndexMap ℕ (Option Cause) (BuildHasherDefault FoldHasher)
+
+-- The cause of a store to the line.
+abbrev pub cause_in : Causes → ℕ → Option Cause
+cause_in causes line = unwrap_or (get nat_eq causes line) (Some Unflushed)
+
+-- The cause before a flush of the line, by the cause after it.
+abbrev pub before_flush : ℕ → ℕ → List Bool → Option ℕ → Option Cause → Option Cause
+before_flush number thread fenced fence None = None
+before_flush number thread fenced fence (Some c) = if slice_index_or fenced thread false then None else Some (Unfenced number thread fence)
+
+-- The cause of a store to the line before the event with this number, by those after it, the threads that fence and the first
+-- fence.
+abbrev pub cause_before : Act → ℕ → List Bool → Option ℕ → (ℕ → Option Cause) → ℕ → Option Cause
+cause_before (Stores k w) number fenced fence causes line = causes line
+cause_before (Flushes t k) number fenced fence causes line = if k == line then before_flush number t fenced fence (causes k) else causes line
+cause_before (Clflushes k) number fenced fence causes line = if k == line then None else causes line
+cause_before (Fences t) number fenced fence causes line = causes line
+cause_before Asserts number fenced fence causes line = causes line
+
+-- The threads that fence, with one more event.
+abbrev pub fenced_before : Act → List Bool → List Bool
+fenced_before (Stores k w) fenced = fenced
+fenced_before (Flushes t k) fenced = fenced
+fenced_before (Clflushes k) fenced = fenced
+fenced_before (Fences t) fenced = slice_set fenced t true
+fenced_before Asserts fenced = fenced
+
+-- The first fence, with one more event, which has this number.
+abbrev pub fence_before : Act → ℕ → Option ℕ → Option ℕ
+fence_before (Stores k w) number fence = fence
+fence_before (Flushes t k) number fence = fence
+fence_before (Clflushes k) number fence = fence
+fence_before (Fences t) number fence = Some number
+fence_before Asserts number fence = fence
+
+-- The cause of the event.
+abbrev pub cause_told : Act → (ℕ → Option Cause) → Option Cause
+cause_told (Stores k w) causes = causes k
+cause_told (Flushes t k) causes = None
+cause_told (Clflushes k) causes = None
+cause_told (Fences t) causes = None
+cause_told Asserts causes = None
