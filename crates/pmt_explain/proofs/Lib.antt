@@ -6,3 +6,6 @@ pub mod FirstLemmas
 pub mod FollowingLemmas
 pub mod GroupingLemmas
 pub mod AtEndLemmas
+pub mod CompletedLemmas
+pub mod CrashLemmas
+pub mod CountingLemmas

@@ -10,3 +10,7 @@ pub mod AtEnd
 pub mod Grouping
 pub mod LostGroups
 pub mod OverwrittenGroups
+pub mod Completed
+pub mod Crashes
+pub mod Keepers
+pub mod Counting

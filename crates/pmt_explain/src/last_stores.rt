@@ -46,7 +46,7 @@ fn note_op(last: &mut [u64], first: u64, op: Op, number: u64)
 }
 
 // Notes this number at each byte of the store; the first byte is at `first`.
-fn note_store(last: &mut [u64], first: u64, store: WordStore, number: u64)
+pub(crate) fn note_store(last: &mut [u64], first: u64, store: WordStore, number: u64)
     requires { first + length last.old ≤ 2 ^ 48 }
     ensures { (k : ℕ) → k < length last.old → slice_index last.new k ≡ (if writes store (first + k) then number else slice_index last.old k) }
 {

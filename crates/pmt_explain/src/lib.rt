@@ -1,10 +1,13 @@
-//! Which crash violates an assertion, why a store is not safe, and why flushes and fences are dropped.
+//! Which crash violates an assertion, what it leaves, why a store is not safe, and why flushes and fences are dropped.
 //!
 //! The definitions stand in `specs/`, and in those of pmt_reasons.
 #![tactic(auto)]
 
 pub mod at_end;
+pub mod bytes;
 pub mod causing;
+mod completed;
+mod crash;
 pub mod dropped_event;
 pub mod dropping;
 #[cfg(test)]
@@ -13,16 +16,19 @@ pub mod failing;
 mod following;
 mod known;
 mod last_stores;
+pub mod lines;
 mod lost;
-mod numbers;
 pub mod lost_grouping;
+mod numbers;
 pub mod overwritten_grouping;
 
 pub use crate::at_end::causes_at_end;
+pub use crate::bytes::{CrashByte, StoredByte, crash_bytes};
 pub use crate::causing::cause;
 pub use crate::dropped_event::Dropped;
 pub use crate::dropping::dropped;
 pub use crate::failing::failure;
+pub use crate::lines::{LineCount, crash_lines};
 pub use crate::lost_grouping::{LostGroup, lost_groups};
 pub use crate::overwritten_grouping::{Overwriting, OverwrittenGroup, overwritten_groups};
 

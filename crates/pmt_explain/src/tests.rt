@@ -1,5 +1,5 @@
 //! Tests of causes and failures on small traces.
-use crate::{cause, failure};
+use crate::{CrashByte, LineCount, StoredByte, cause, crash_bytes, crash_lines, failure};
 use pmt_model::{Event, Format, Op, Range, Trace};
 use pmt_reasons::{ByteStore, Cause, Failure};
 use std::alloc::Global;
@@ -132,6 +132,109 @@ fn lost_and_kept(rt: HostRuntime) -> Result<(), Fail> {
     assert_eq!(rt;
         failure(alloc, &trace, 6)?,
         crash(1, Some(at(1, 0x100c)), at(2, 0x1004))
+    );
+    Ok(())
+}
+
+// Line 64 with a flush that is fenced and a store after it, line 65 with a store alone, line 66 with a flush alone.
+fn three_lines(alloc: Global) -> Result<Trace, Fail> {
+    trace_of(
+        alloc,
+        &[
+            (0, Op::store(0x1000, &[1])?),
+            (0, Op::store(0x1001, &[2, 3])?),
+            (0, Op::clwb(0x1000)?),
+            (1, Op::store(0x1002, &[4])?),
+            (0, Op::store(0x1040, &[5])?),
+            (1, Op::clwb(0x1080)?),
+            (0, Op::Sfence),
+            (0, Op::store(0x1000, &[6])?),
+            (1, Op::clwb(0x1040)?),
+        ],
+    )
+}
+
+fn line(line: u64, stores: u64, persisted: u64) -> LineCount {
+    LineCount {
+        line,
+        stores,
+        persisted,
+    }
+}
+
+fn after(place: u64, kept: Option<ByteStore>) -> Failure {
+    let lost = at(1, 0x1000);
+    Failure { place, kept, lost }
+}
+
+#[test]
+fn lines_after_crashes(rt: HostRuntime) -> Result<(), Fail> {
+    let alloc = rt.alloc();
+    let trace = three_lines(alloc)?;
+    assert_eq!(rt; crash_lines(alloc, &trace, &after(0, None))?.len(), 0);
+    assert_eq!(rt;
+        crash_lines(alloc, &trace, &after(6, None))?.as_slice(),
+        [line(64, 3, 0), line(65, 1, 0), line(66, 0, 0)].as_slice()
+    );
+    assert_eq!(rt;
+        crash_lines(alloc, &trace, &after(7, None))?.as_slice(),
+        [line(64, 3, 2), line(65, 1, 0), line(66, 0, 0)].as_slice()
+    );
+    assert_eq!(rt;
+        crash_lines(alloc, &trace, &after(8, Some(at(8, 0x1000))))?.as_slice(),
+        [line(64, 4, 4), line(65, 1, 0), line(66, 0, 0)].as_slice()
+    );
+    assert_eq!(rt;
+        crash_lines(alloc, &trace, &after(99, Some(at(3, 0x1000))))?.as_slice(),
+        [line(64, 4, 2), line(65, 1, 0), line(66, 0, 0)].as_slice()
+    );
+    Ok(())
+}
+
+fn held(byte: u64, store: u64, value: u8) -> CrashByte {
+    CrashByte {
+        byte,
+        last: Some(StoredByte { store, value }),
+    }
+}
+
+fn nothing(byte: u64) -> CrashByte {
+    CrashByte { byte, last: None }
+}
+
+#[test]
+fn bytes_after_crashes(rt: HostRuntime) -> Result<(), Fail> {
+    let alloc = rt.alloc();
+    let trace = three_lines(alloc)?;
+    let first = Range::new(0x1000, 4)?;
+    let second = Range::new(0x1040, 1)?;
+    assert_eq!(rt;
+        crash_bytes(alloc, &trace, &after(7, None), first)?.as_slice(),
+        [
+            held(0x1000, 1, 1),
+            held(0x1001, 2, 2),
+            held(0x1002, 2, 3),
+            nothing(0x1003)
+        ]
+        .as_slice()
+    );
+    assert_eq!(rt;
+        crash_bytes(alloc, &trace, &after(8, Some(at(8, 0x1000))), first)?.as_slice(),
+        [
+            held(0x1000, 8, 6),
+            held(0x1001, 2, 2),
+            held(0x1002, 4, 4),
+            nothing(0x1003)
+        ]
+        .as_slice()
+    );
+    assert_eq!(rt;
+        crash_bytes(alloc, &trace, &after(8, Some(at(8, 0x1000))), second)?.as_slice(),
+        [nothing(0x1040)].as_slice()
+    );
+    assert_eq!(rt;
+        crash_bytes(alloc, &trace, &after(8, Some(at(5, 0x1040))), second)?.as_slice(),
+        [held(0x1040, 5, 5)].as_slice()
     );
     Ok(())
 }

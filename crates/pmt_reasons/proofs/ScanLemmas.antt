@@ -155,7 +155,7 @@ scan-start T l i flushed start = record {
 }
 
 -- the thread of an event is below 256
-thread-fits : (f : Layout) (t : ℕ) (op : Op) → t < 256 → IsThreadFit (act_of f t op)
+pub thread-fits : (f : Layout) (t : ℕ) (op : Op) → t < 256 → IsThreadFit (act_of f t op)
 thread-fits f t (Store w) h = tt
 thread-fits f t (Clwb a) h = h
 thread-fits f t (ClflushOpt a) h = h
@@ -166,7 +166,7 @@ thread-fits f t (IsPersist r) h = tt
 thread-fits f t (IsOrderedBefore r q) h = tt
 
 -- what holds of each event of a list holds of the one at an index
-each-at : (f : Layout) (es : List Event) (n : ℕ) (e : Event) → AllByRecursion (IsEventIn f) es → slice_get es n ≡ Some e → IsEventIn f e
+pub each-at : (f : Layout) (es : List Event) (n : ℕ) (e : Event) → AllByRecursion (IsEventIn f) es → slice_get es n ≡ Some e → IsEventIn f e
 each-at f [] n e all is = absurd (none-some e is)
 each-at f (x ∷ es) zero e all is = subst (IsEventIn f) (same_Some x e is) all.0
 each-at f (x ∷ es) (suc n) e all is = each-at f es n e all.1 is
