@@ -1,0 +1,132 @@
+-- The entries of an explanation as JSON.
+use Rattle.std.specs.Prelude.{ℕ, ◌-◌, List, [], ◌∷◌, ◌++◌, length, take, map, Option, None, Some, false, codes}
+use Rattle.std.specs.List.{flat_map}
+use Rattle.serde_json.specs.Data.{Data, null, string}
+use Rattle.pmt_model.specs.declared.range.Range.{Range}
+use Rattle.pmt_model.specs.Values.{Span}
+use Rattle.pmt_model.specs.Traces.{Recording}
+use Rattle.pmt_explain.specs.declared.lines.LineCount.{LineCount}
+use Rattle.pmt_explain.specs.declared.bytes.StoredByte.{StoredByte}
+use Rattle.pmt_explain.specs.declared.bytes.CrashByte.{CrashByte}
+use Rattle.pmt_explain.specs.declared.dropped_event.Dropped.{Dropped}
+use Rattle.pmt_explain.specs.declared.lost_grouping.LostGroup.{LostGroup}
+use Rattle.pmt_explain.specs.declared.overwritten_grouping.OverwrittenGroup.{OverwrittenGroup}
+use Rattle.pmt_explanation.specs.declared.explaining.Explanation.{Explanation}
+use Rattle.pmt_explanation.specs.declared.failures.RangeAfter.{RangeAfter}
+use Rattle.pmt_explanation.specs.declared.failures.ShownFailure.{ShownFailure}
+use Rattle.pmt_explanation.specs.declared.labels.Labels.{Labels}
+use Rattle.pmt_explanation.specs.declared.summary.Summary.{Summary}
+use Rattle.pmt_explanation.specs.declared.unwritten.Unwritten.{Unwritten}
+use Rattle.pmt_explanation.specs.Counting.{per_cent}
+use Rattle.pmt_explanation.specs.Mending.{mend_of}
+use Rattle.pmt_explanation.specs.Parts.{json_line, object_of, array_of, count_data, or_null, address_data, line_data, event_data, byte_store_data, range_data, cause_data, reason_data, mend_data}
+
+-- How many entries are not shown.
+abbrev pub more_data : Explanation → Data
+more_data x = object_of
+    ( (codes "dropped", count_data (length x.dropped.items - x.limit))
+    ∷ (codes "failure", count_data (length x.failing.items - x.limit))
+    ∷ (codes "never_persisted", count_data (length x.lost.items - x.limit))
+    ∷ (codes "overwritten", count_data (length x.overwritten.items - x.limit))
+    ∷ (codes "unwritten", count_data (length x.unwritten.items - x.limit))
+    ∷ [])
+
+abbrev pub line_count_data : Recording → LineCount → Data
+line_count_data T c = object_of
+    ( (codes "cache_line", line_data T c.line)
+    ∷ (codes "persisted", count_data c.persisted)
+    ∷ (codes "stores", count_data c.stores)
+    ∷ [])
+
+abbrev pub byte_data : CrashByte → Data
+byte_data b = object_of
+    ( (codes "byte", address_data b.byte)
+    ∷ (codes "store", or_null (λ (s : StoredByte). count_data s.store) b.last)
+    ∷ (codes "value", or_null (λ (s : StoredByte). count_data s.value) b.last)
+    ∷ [])
+
+abbrev pub range_after_data : RangeAfter → Data
+range_after_data r = object_of
+    ( (codes "address", address_data r.range.addr)
+    ∷ (codes "bytes", array_of (map byte_data r.bytes.items))
+    ∷ (codes "length", count_data r.range.len)
+    ∷ [])
+
+-- A failed assertion in full.
+abbrev pub failure_data : Recording → Labels → ShownFailure → Data
+failure_data T labels f = object_of
+    ( (codes "cause", cause_data T labels f.cause)
+    ∷ (codes "event", event_data T labels f.event)
+    ∷ (codes "kept", or_null (byte_store_data T labels) f.failure.kept)
+    ∷ (codes "kind", string (codes "failure"))
+    ∷ (codes "lines", array_of (map (line_count_data T) f.lines.items))
+    ∷ (codes "lost", byte_store_data T labels f.failure.lost)
+    ∷ (codes "mend", mend_data T f.mend)
+    ∷ (codes "place", count_data f.failure.place)
+    ∷ (codes "ranges", array_of (map range_after_data f.ranges.items))
+    ∷ [])
+
+-- Stores that are never persisted.
+abbrev pub lost_data : Recording → Labels → LostGroup → Data
+lost_data T labels g = object_of
+    ( (codes "cache_line", line_data T g.line)
+    ∷ (codes "cause", cause_data T labels g.cause)
+    ∷ (codes "count", count_data g.count)
+    ∷ (codes "first", event_data T labels g.first)
+    ∷ (codes "kind", string (codes "never_persisted"))
+    ∷ (codes "last", event_data T labels g.last)
+    ∷ (codes "mend", mend_data T (mend_of g.cause g.line g.last None false))
+    ∷ [])
+
+-- A flush or fence that is dropped.
+abbrev pub dropped_data : Recording → Labels → Dropped → Data
+dropped_data T labels d = object_of
+    ( (codes "event", event_data T labels d.event)
+    ∷ (codes "kind", string (codes "dropped"))
+    ∷ (codes "reason", reason_data T labels d.reason)
+    ∷ [])
+
+-- Stores that are overwritten.
+abbrev pub overwritten_data : Recording → Labels → OverwrittenGroup → Data
+overwritten_data T labels g = object_of
+    ( (codes "cache_line", line_data T g.line)
+    ∷ (codes "count", count_data g.count)
+    ∷ (codes "earlier", event_data T labels g.first.earlier)
+    ∷ (codes "kind", string (codes "overwritten"))
+    ∷ (codes "later", event_data T labels g.first.later)
+    ∷ (codes "same", count_data g.same)
+    ∷ [])
+
+abbrev pub ranges_of : Option Span → List Span
+ranges_of None = []
+ranges_of (Some r) = r ∷ []
+
+-- An assertion on bytes that no store has written.
+abbrev pub unwritten_data : Recording → Labels → Unwritten → Data
+unwritten_data T labels u = object_of
+    ( (codes "event", event_data T labels u.event)
+    ∷ (codes "kind", string (codes "unwritten"))
+    ∷ (codes "ranges", array_of (map range_data (ranges_of u.first ++ ranges_of u.second)))
+    ∷ [])
+
+abbrev pub summary_data : Summary → ℕ → Data → Data
+summary_data s limit more = object_of
+    ( (codes "assertions", count_data s.assertions)
+    ∷ (codes "cache_lines", count_data s.cache_lines)
+    ∷ (codes "events", count_data s.events)
+    ∷ (codes "failing", count_data s.failing)
+    ∷ (codes "fences", count_data s.fences)
+    ∷ (codes "fences_dropped", count_data s.fences_dropped)
+    ∷ (codes "fences_dropped_percent", count_data (per_cent s.fences_dropped s.fences))
+    ∷ (codes "flushes", count_data s.flushes)
+    ∷ (codes "flushes_dropped", count_data s.flushes_dropped)
+    ∷ (codes "flushes_dropped_percent", count_data (per_cent s.flushes_dropped s.flushes))
+    ∷ (codes "ignored_never_persisted", count_data s.ignored_never_persisted)
+    ∷ (codes "ignored_overwritten", count_data s.ignored_overwritten)
+    ∷ (codes "kind", string (codes "summary"))
+    ∷ (codes "limit", count_data limit)
+    ∷ (codes "more", more)
+    ∷ (codes "never_persisted", count_data s.never_persisted)
+    ∷ (codes "stores", count_data s.stores)
+    ∷ (codes "threads", count_data s.threads)
+    ∷ [])

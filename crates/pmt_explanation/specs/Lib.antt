@@ -1,0 +1,7 @@
+pub mod Counting
+pub mod Entries
+pub mod Explaining
+pub mod Ignoring
+pub mod Labelling
+pub mod Mending
+pub mod Parts

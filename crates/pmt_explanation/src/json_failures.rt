@@ -1,0 +1,98 @@
+//! Failed assertions as JSON.
+
+use crate::failures::{RangeAfter, ShownFailure};
+use crate::json_parts::{byte_store_value, cause_value, event_value, line_value, mend_value};
+use crate::labels::Labels;
+use crate::words::address_text;
+use pmt_explain::{CrashByte, LineCount};
+use pmt_model::{OutOfMemory, Trace};
+use pmt_reasons::ByteStore;
+use serde_json::{Value, json};
+use std::alloc::Global;
+
+// The failed assertion in full.
+pub(crate) fn failure_value(
+    alloc: Global,
+    trace: &Trace,
+    labels: &Labels,
+    shown: &ShownFailure,
+) -> Result<Value, OutOfMemory> {
+    let event = event_value(alloc, trace, labels, shown.event)?;
+    let kept = kept_value(alloc, trace, labels, shown.failure.kept)?;
+    let lost = byte_store_value(alloc, trace, labels, shown.failure.lost)?;
+    let cause = cause_value(alloc, trace, labels, shown.cause)?;
+    let mend = mend_value(alloc, trace, shown.mend)?;
+    let lines = lines_value(alloc, trace, shown.lines.as_slice())?;
+    let ranges = ranges_value(alloc, shown.ranges.as_slice())?;
+    json!(in alloc; {
+        "cause": cause,
+        "event": event,
+        "kept": kept,
+        "kind": "failure",
+        "lines": lines,
+        "lost": lost,
+        "mend": mend,
+        "place": shown.failure.place,
+        "ranges": ranges
+    })
+}
+
+// The store that the crash keeps, if it is told.
+fn kept_value(
+    alloc: Global,
+    trace: &Trace,
+    labels: &Labels,
+    kept: Option<ByteStore>,
+) -> Result<Value, OutOfMemory> {
+    match kept {
+        Some(kept) => byte_store_value(alloc, trace, labels, kept),
+        None => Ok(Value::Null),
+    }
+}
+
+// How many stores of each line the crash leaves persisted.
+fn lines_value(alloc: Global, trace: &Trace, lines: &[LineCount]) -> Result<Value, OutOfMemory> {
+    let mut values = Vec::with_capacity(alloc, lines.len())?;
+    for line in lines {
+        values.push(line_count_value(alloc, trace, *line)?)?;
+    }
+    Ok(Value::Array(values))
+}
+
+fn line_count_value(alloc: Global, trace: &Trace, count: LineCount) -> Result<Value, OutOfMemory> {
+    let line = line_value(alloc, trace, count.line)?;
+    json!(in alloc; {"cache_line": line, "persisted": count.persisted, "stores": count.stores})
+}
+
+// What memory holds in the ranges.
+fn ranges_value(alloc: Global, ranges: &[RangeAfter]) -> Result<Value, OutOfMemory> {
+    let mut values = Vec::with_capacity(alloc, ranges.len())?;
+    for range in ranges {
+        values.push(range_after_value(alloc, range)?)?;
+    }
+    Ok(Value::Array(values))
+}
+
+fn range_after_value(alloc: Global, after: &RangeAfter) -> Result<Value, OutOfMemory> {
+    let address = address_text(alloc, after.range.addr().get())?;
+    let bytes = bytes_value(alloc, after.bytes.as_slice())?;
+    json!(in alloc; {"address": &address, "bytes": bytes, "length": after.range.len()})
+}
+
+fn bytes_value(alloc: Global, bytes: &[CrashByte]) -> Result<Value, OutOfMemory> {
+    let mut values = Vec::with_capacity(alloc, bytes.len())?;
+    for byte in bytes {
+        values.push(byte_value(alloc, *byte)?)?;
+    }
+    Ok(Value::Array(values))
+}
+
+fn byte_value(alloc: Global, byte: CrashByte) -> Result<Value, OutOfMemory> {
+    let address = address_text(alloc, byte.byte)?;
+    match byte.last {
+        Some(last) => {
+            json!(in alloc; {"byte": &address, "store": last.store, "value": last.value})
+        }
+        None => json!(in alloc; {"byte": &address, "store": null, "value": null}),
+    }
+}

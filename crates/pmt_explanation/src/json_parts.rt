@@ -1,0 +1,210 @@
+//! Events, causes, reasons and mends as JSON.
+ghost use Rattle.std.specs.Prelude.{◌≡◌, IfOk, string_bytes};
+ghost use Rattle.serde_json.specs.Data.{string};
+ghost use Rattle.serde_json.specs.View.{view};
+ghost use Rattle.pmt_explanation.specs.Labelling.{label_of};
+ghost use Rattle.pmt_explanation.specs.Parts.{address_data, by_of as by_in, byte_store_data, cause_data, event_data, line_address as line_start, line_data, mend_data, or_null, range_data, reason_data, reason_name as name_in};
+
+use crate::labels::Labels;
+use crate::mending::Mend;
+use crate::words::{address_of, address_text, words_of};
+use pmt_model::{OutOfMemory, Range, Trace};
+use pmt_reasons::{ByteStore, Cause, Reason};
+use serde_json::{Value, json};
+use std::alloc::Global;
+
+// The event as a person finds it again; null where there is none with this number.
+pub(crate) fn event_value(
+    alloc: Global,
+    trace: &Trace,
+    labels: &Labels,
+    number: u64,
+) -> Result<Value, OutOfMemory>
+    ensures { IfOk result (λ v. view v ≡ event_data trace.now labels.now number) }
+{
+    let Some(event) = trace.get(number) else {
+        return Ok(Value::Null);
+    };
+    let thread = event.thread;
+    let op = event.op;
+    let address = address_value(alloc, address_of(op))?;
+    let label = label_value(alloc, labels, number)?;
+    let words = words_of(alloc, event)?;
+    json!(in alloc; {
+        "address": address,
+        "event": number,
+        "label": label,
+        "line": number.saturating_add(1),
+        "thread": thread,
+        "words": &words
+    })
+}
+
+// The event, if there is a number.
+pub(crate) fn event_or_null(
+    alloc: Global,
+    trace: &Trace,
+    labels: &Labels,
+    number: Option<u64>,
+) -> Result<Value, OutOfMemory>
+    ensures { IfOk result (λ v. view v ≡ or_null (event_data trace.now labels.now) number) }
+{
+    match number {
+        Some(number) => event_value(alloc, trace, labels, number),
+        None => Ok(Value::Null),
+    }
+}
+
+// The address, if there is one.
+fn address_value(alloc: Global, addr: Option<u64>) -> Result<Value, OutOfMemory>
+    ensures { IfOk result (λ v. view v ≡ or_null address_data addr) }
+{
+    match addr {
+        Some(addr) => Ok(Value::String(address_text(alloc, addr)?)),
+        None => Ok(Value::Null),
+    }
+}
+
+// The label of the event, if it has one.
+fn label_value(alloc: Global, labels: &Labels, number: u64) -> Result<Value, OutOfMemory>
+    ensures { IfOk result (λ v. view v ≡ or_null string (label_of labels.now number)) }
+{
+    match labels.get(number) {
+        Some(label) => Value::try_from_str(alloc, label.as_str()),
+        None => Ok(Value::Null),
+    }
+}
+
+// The address of the line's first byte.
+pub(crate) fn line_address(trace: &Trace, line: u64) -> u64
+    ensures { result ≡ line_start trace.now line }
+{
+    line.saturating_mul(trace.format().line_size())
+}
+
+// The line by the address of its first byte.
+pub(crate) fn line_value(alloc: Global, trace: &Trace, line: u64) -> Result<Value, OutOfMemory>
+    ensures { IfOk result (λ v. view v ≡ line_data trace.now line) }
+{
+    Ok(Value::String(address_text(
+        alloc,
+        line_address(trace, line),
+    )?))
+}
+
+// A byte, and the store that writes it.
+pub(crate) fn byte_store_value(
+    alloc: Global,
+    trace: &Trace,
+    labels: &Labels,
+    found: ByteStore,
+) -> Result<Value, OutOfMemory>
+    ensures { IfOk result (λ v. view v ≡ byte_store_data trace.now labels.now found) }
+{
+    let byte = address_text(alloc, found.byte)?;
+    let store = event_value(alloc, trace, labels, found.store)?;
+    json!(in alloc; {"byte": &byte, "store": store})
+}
+
+// The range by its address and length.
+pub(crate) fn range_value(alloc: Global, range: &Range) -> Result<Value, OutOfMemory>
+    ensures { IfOk result (λ v. view v ≡ range_data range.now) }
+{
+    let address = address_text(alloc, range.addr().get())?;
+    json!(in alloc; {"address": &address, "length": range.len()})
+}
+
+// Why a store is not safe.
+pub(crate) fn cause_value(
+    alloc: Global,
+    trace: &Trace,
+    labels: &Labels,
+    cause: Cause,
+) -> Result<Value, OutOfMemory>
+    ensures { IfOk result (λ v. view v ≡ cause_data trace.now labels.now cause) }
+{
+    match cause {
+        Cause::Later => json!(in alloc; {"cause": "later"}),
+        Cause::Unflushed => json!(in alloc; {"cause": "unflushed"}),
+        Cause::Unfenced {
+            flush,
+            thread,
+            other,
+        } => {
+            let flush = event_value(alloc, trace, labels, flush)?;
+            let other = event_or_null(alloc, trace, labels, other)?;
+            json!(in alloc; {"cause": "unfenced", "flush": flush, "other": other, "thread": thread})
+        }
+    }
+}
+
+// Why an event is dropped.
+pub(crate) fn reason_value(
+    alloc: Global,
+    trace: &Trace,
+    labels: &Labels,
+    reason: Reason,
+) -> Result<Value, OutOfMemory>
+    ensures { IfOk result (λ v. view v ≡ reason_data trace.now labels.now reason) }
+{
+    let by = event_or_null(alloc, trace, labels, by_of(reason))?;
+    json!(in alloc; {"by": by, "reason": reason_name(reason)})
+}
+
+// The name of the reason.
+pub(crate) fn reason_name(reason: Reason) -> &'static str
+    ensures { result.now ≡ name_in reason }
+{
+    match reason {
+        Reason::Safe => "safe",
+        Reason::Unfenced => "unfenced",
+        Reason::Repeated { by: _ } => "repeated",
+        Reason::Overtaken { by: _ } => "overtaken",
+        Reason::Empty => "empty",
+        Reason::Useless => "useless",
+    }
+}
+
+// The event in whose favour the other is dropped.
+pub(crate) fn by_of(reason: Reason) -> Option<u64>
+    ensures { result ≡ by_in reason }
+{
+    match reason {
+        Reason::Repeated { by } => Some(by),
+        Reason::Overtaken { by } => Some(by),
+        Reason::Safe => None,
+        Reason::Unfenced => None,
+        Reason::Empty => None,
+        Reason::Useless => None,
+    }
+}
+
+// What mends a store.
+pub(crate) fn mend_value(alloc: Global, trace: &Trace, mend: Mend) -> Result<Value, OutOfMemory>
+    ensures { IfOk result (λ v. view v ≡ mend_data trace.now mend) }
+{
+    match mend {
+        Mend::Fence {
+            thread,
+            after,
+            before,
+        } => {
+            json!(in alloc; {"after": after, "before": before, "mend": "fence", "thread": thread})
+        }
+        Mend::FlushAndFence {
+            line,
+            after,
+            before,
+        } => {
+            let line = line_value(alloc, trace, line)?;
+            json!(in alloc; {"after": after, "before": before, "cache_line": line, "mend": "flush_and_fence"})
+        }
+        Mend::StoreFirst {
+            store,
+            before,
+            same_line,
+        } => {
+            json!(in alloc; {"before": before, "mend": "store_first", "same_line": same_line, "store": store})
+        }
+    }
+}
