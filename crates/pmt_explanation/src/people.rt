@@ -29,11 +29,21 @@ pub fn text(
     for shown in explanation.failures.as_slice() {
         push_failure(alloc, &mut out, trace, labels, shown)?;
     }
-    push_more(&mut out, explanation.failing.len(), limit, "failed assertion")?;
+    push_more(
+        &mut out,
+        explanation.failing.len(),
+        limit,
+        "failed assertion",
+    )?;
     for group in first(explanation.lost.as_slice(), limit) {
         push_lost(alloc, &mut out, trace, labels, group)?;
     }
-    push_more(&mut out, explanation.lost.len(), limit, "group of stores that are never persisted")?;
+    push_more(
+        &mut out,
+        explanation.lost.len(),
+        limit,
+        "group of stores that are never persisted",
+    )?;
     push_waste(alloc, &mut out, explanation, labels)?;
     Vec::from_slice(alloc, out.as_bytes())
 }
@@ -50,40 +60,76 @@ fn push_waste(
     for entry in first(explanation.dropped.as_slice(), limit) {
         push_dropped(alloc, out, trace, labels, *entry)?;
     }
-    push_more(out, explanation.dropped.len(), limit, "flush or fence that does nothing")?;
+    push_more(
+        out,
+        explanation.dropped.len(),
+        limit,
+        "flush or fence that does nothing",
+    )?;
     for group in first(explanation.overwritten.as_slice(), limit) {
         push_overwritten(alloc, out, trace, labels, group)?;
     }
-    push_more(out, explanation.overwritten.len(), limit, "group of overwritten stores")?;
+    push_more(
+        out,
+        explanation.overwritten.len(),
+        limit,
+        "group of overwritten stores",
+    )?;
     for found in first(explanation.unwritten.as_slice(), limit) {
         push_unwritten(alloc, out, trace, labels, found)?;
     }
-    push_more(out, explanation.unwritten.len(), limit, "assertion on bytes that were never stored")
+    push_more(
+        out,
+        explanation.unwritten.len(),
+        limit,
+        "assertion on bytes that were never stored",
+    )
 }
 
 fn push_summary(out: &mut String, counts: &Summary, line_size: u64) -> Result<(), OutOfMemory> {
-    let Summary { events, threads, cache_lines, assertions, failing, stores, .. } = *counts;
+    let Summary {
+        events,
+        threads,
+        cache_lines,
+        assertions,
+        failing,
+        stores,
+        ..
+    } = *counts;
     let never = counts.never_persisted;
-    writeln!(out, "{events} event{}, {threads} thread{}, {cache_lines} cache line{} of {line_size} bytes", plural(events), plural(threads), plural(cache_lines))?;
-    writeln!(out, "  {failing} of {assertions} assertion{} can be violated by a crash", plural(assertions))?;
-    writeln!(out, "  {never} of {stores} store{} may be lost by a crash at the end (never persisted)", plural(stores))?;
-    push_share(out, counts.flushes_dropped, counts.flushes, "flush", "flushes")?;
-    push_share(out, counts.fences_dropped, counts.fences, "fence", "fences")?;
+    writeln!(
+        out,
+        "{events} event{}, {threads} thread{}, {cache_lines} cache line{} of {line_size} bytes",
+        plural(events),
+        plural(threads),
+        plural(cache_lines)
+    )?;
+    writeln!(
+        out,
+        "  assertions that a crash can violate: {failing} of {assertions}"
+    )?;
+    writeln!(
+        out,
+        "  stores never persisted, which a crash at the end can lose: {never} of {stores}"
+    )?;
+    push_share(out, counts.flushes_dropped, counts.flushes, "flushes")?;
+    push_share(out, counts.fences_dropped, counts.fences, "fences")?;
     push_ignored(out, counts)?;
     out.push_str(LEGEND)
 }
 
 const LEGEND: &str = "
-A store is persisted, safe from a crash, once its cache line was flushed after it and the thread that flushed has fenced since.
-Before that a crash may keep it or lose it. Event N is the Nth event, on line N + 1 of the trace.
+A store is persisted, safe from a crash, once its cache line was flushed after it and the thread that flushed has fenced since; a
+clflush needs no fence. Before that a crash may keep it or lose it. Event N is the Nth event, on line N + 1 of the trace.
 ";
 
 // Adds how many of them do nothing.
-fn push_share(out: &mut String, part: u64, whole: u64, one: &str, many: &str) -> Result<(), OutOfMemory> {
-    let word = if whole == 1 { one } else { many };
+fn push_share(out: &mut String, part: u64, whole: u64, what: &str) -> Result<(), OutOfMemory> {
     let share = per_cent(part, whole);
-    let verb = if part == 1 { "does" } else { "do" };
-    writeln!(out, "  {part} of {whole} {word} {verb} nothing ({share}%)")
+    writeln!(
+        out,
+        "  {what} that do nothing: {part} of {whole} ({share}%)"
+    )
 }
 
 // Adds how many findings are ignored, if any are.
@@ -93,5 +139,8 @@ fn push_ignored(out: &mut String, counts: &Summary) -> Result<(), OutOfMemory> {
     if lost == 0 && overwritten == 0 {
         return Ok(());
     }
-    writeln!(out, "  ignored, as asked: {lost} store{} that may be lost, {overwritten} overwritten", plural(lost))
+    writeln!(
+        out,
+        "  left out as ignored: {lost} never persisted, {overwritten} overwritten"
+    )
 }

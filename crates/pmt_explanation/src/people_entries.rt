@@ -21,7 +21,11 @@ pub(crate) fn push_lost(
     let count = group.count;
     let line = line_address(trace, group.line);
     let verb = if count == 1 { "is" } else { "are" };
-    writeln!(out, "\nerror: {count} store{} to cache line {line:#x} {verb} never persisted: a crash at the end can lose them", plural(count))?;
+    writeln!(
+        out,
+        "\nerror: {count} store{} to cache line {line:#x} {verb} never persisted: a crash at the end can lose them",
+        plural(count)
+    )?;
     out.push_str("  first:  ")?;
     push_event(alloc, out, trace, labels, group.first)?;
     if count > 1 {
@@ -31,7 +35,12 @@ pub(crate) fn push_lost(
     out.push_str("  why:    ")?;
     push_cause(alloc, out, trace, labels, group.cause, group.line)?;
     out.push_str("  fix:    ")?;
-    push_mend(out, trace, mend_for(group.cause, group.line, group.last, None, false))
+    push_mend(
+        out,
+        trace,
+        labels,
+        mend_for(group.cause, group.line, group.last, None, false),
+    )
 }
 
 // Adds a flush or fence that is dropped.
@@ -43,7 +52,11 @@ pub(crate) fn push_dropped(
     dropped: Dropped,
 ) -> Result<(), OutOfMemory> {
     let number = dropped.event;
-    writeln!(out, "\nnote: event {number} does nothing, and can go")?;
+    let how = match dropped.reason {
+        Reason::Unfenced => "since no fence completes it",
+        _ => "and can go",
+    };
+    writeln!(out, "\nnote: event {number} does nothing, {how}")?;
     out.push_str("  event:  ")?;
     push_event(alloc, out, trace, labels, number)?;
     out.push_str("  why:    ")?;
@@ -60,17 +73,27 @@ fn push_reason(
 ) -> Result<(), OutOfMemory> {
     match reason {
         Reason::Safe => out.push_str("its cache line has no store that is not persisted already\n"),
-        Reason::Unfenced => out.push_str("its thread makes no fence after it, and a flush is complete only by a fence of its own thread\n"),
+        Reason::Unfenced => out.push_str(
+            "its thread makes no fence after it, and a flush is complete only by a fence of its own thread\n",
+        ),
         Reason::Repeated { by } => {
-            out.push_str("its thread flushes the cache line again before its next fence, which does the same:\n          ")?;
+            out.push_str(
+                "its thread flushes the cache line again before its next fence, which does the same:\n          ",
+            )?;
             push_event(alloc, out, trace, labels, by)
         }
         Reason::Overtaken { by } => {
-            out.push_str("before its thread's next fence, all that it flushes is persisted by another flush, complete at\n          ")?;
+            out.push_str(
+                "before its thread's next fence, all that it flushes is persisted by another flush, complete at\n          ",
+            )?;
             push_event(alloc, out, trace, labels, by)
         }
-        Reason::Empty => out.push_str("its thread has made no clwb or clflushopt since its last fence\n"),
-        Reason::Useless => out.push_str("all that its thread has flushed since its last fence is persisted already\n"),
+        Reason::Empty => out.push_str(
+            "its thread has made no clwb or clflushopt since its last fence\n",
+        ),
+        Reason::Useless => out.push_str(
+            "all that its thread has flushed since its last fence is persisted already\n",
+        ),
     }
 }
 
@@ -85,7 +108,11 @@ pub(crate) fn push_overwritten(
     let count = group.count;
     let same = group.same;
     let line = line_address(trace, group.line);
-    writeln!(out, "\nnote: {count} time{} a store to cache line {line:#x} is overwritten before any flush of the line ({same} with the same bytes)", plural(count))?;
+    writeln!(
+        out,
+        "\nnote: {count} time{} a store to cache line {line:#x} is overwritten before any flush of the line ({same} with the same bytes)",
+        plural(count)
+    )?;
     out.push_str("  first:  ")?;
     push_event(alloc, out, trace, labels, group.first.earlier)?;
     out.push_str("  by:     ")?;
@@ -101,7 +128,10 @@ pub(crate) fn push_unwritten(
     found: &Unwritten,
 ) -> Result<(), OutOfMemory> {
     let number = found.event;
-    writeln!(out, "\nwarning: the assertion of event {number} speaks of bytes that no store has written by then: it checks nothing there")?;
+    writeln!(
+        out,
+        "\nwarning: the assertion of event {number} speaks of bytes that no store has written by then: it checks nothing there"
+    )?;
     out.push_str("  assertion: ")?;
     push_event(alloc, out, trace, labels, number)?;
     push_never_stored(out, found.first)?;
@@ -115,5 +145,9 @@ fn push_never_stored(out: &mut String, range: Option<Range>) -> Result<(), OutOf
     };
     let addr = range.addr().get();
     let len = range.len();
-    writeln!(out, "  never stored: {len} byte{} from {addr:#x} on", plural(len))
+    writeln!(
+        out,
+        "  never stored: {len} byte{} from {addr:#x} on",
+        plural(len)
+    )
 }

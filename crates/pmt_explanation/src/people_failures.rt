@@ -21,7 +21,10 @@ pub(crate) fn push_failure(
 ) -> Result<(), OutOfMemory> {
     let event = shown.event;
     let place = shown.failure.place;
-    writeln!(out, "\nerror: a crash can violate the assertion of event {event}")?;
+    writeln!(
+        out,
+        "\nerror: a crash can violate the assertion of event {event}"
+    )?;
     out.push_str("  assertion: ")?;
     push_event(alloc, out, trace, labels, event)?;
     writeln!(out, "  crash:  right after event {place}")?;
@@ -38,7 +41,7 @@ pub(crate) fn push_failure(
     let line = line_of_store(trace, lost.store).unwrap_or(0);
     push_cause(alloc, out, trace, labels, shown.cause, line)?;
     out.push_str("  fix:    ")?;
-    push_mend(out, trace, shown.mend)?;
+    push_mend(out, trace, labels, shown.mend)?;
     push_after(out, trace, shown)
 }
 
@@ -113,7 +116,11 @@ fn push_run(out: &mut String, bytes: &[CrashByte]) -> Result<(), OutOfMemory> {
         }
         None => {
             let count = bytes.len() as u64;
-            writeln!(out, " {count} byte{} without a persisted store", plural(count))
+            writeln!(
+                out,
+                " {count} byte{} without a persisted store",
+                plural(count)
+            )
         }
     }
 }

@@ -24,7 +24,10 @@ pub(crate) fn push_more(
         return Ok(());
     }
     let more = count - limit;
-    writeln!(out, "\n... and {more} more: {what} (a higher --limit shows them)")
+    writeln!(
+        out,
+        "\n... and {more} more: {what} (a higher --limit shows them)"
+    )
 }
 
 // Adds the event as a person finds it again: its number, line, thread, label and words.
@@ -60,9 +63,19 @@ pub(crate) fn push_cause(
     let line = line_address(trace, line);
     match cause {
         Cause::Later => writeln!(out, "the store comes later than the crash"),
-        Cause::Unflushed => writeln!(out, "no flush of cache line {line:#x} follows the store by then"),
-        Cause::Unfenced { flush, thread, other } => {
-            writeln!(out, "cache line {line:#x} is flushed after the store, but thread {thread} makes no fence after its flush by then")?;
+        Cause::Unflushed => writeln!(
+            out,
+            "no flush of cache line {line:#x} follows the store by then"
+        ),
+        Cause::Unfenced {
+            flush,
+            thread,
+            other,
+        } => {
+            writeln!(
+                out,
+                "cache line {line:#x} is flushed after the store, but thread {thread} makes no fence after its flush by then"
+            )?;
             out.push_str("  flush:  ")?;
             push_event(alloc, out, trace, labels, flush)?;
             push_other(alloc, out, trace, labels, other)
@@ -81,42 +94,78 @@ fn push_other(
     let Some(number) = other else {
         return Ok(());
     };
-    out.push_str("  note:   a fence completes the flushes of its own thread alone, so this one does not help: ")?;
+    out.push_str(
+        "  note:   a fence completes the flushes of its own thread alone, so this one does not help: ",
+    )?;
     push_event(alloc, out, trace, labels, number)
 }
 
 // Adds what mends the store.
-pub(crate) fn push_mend(out: &mut String, trace: &Trace, mend: Mend) -> Result<(), OutOfMemory> {
+pub(crate) fn push_mend(
+    out: &mut String,
+    trace: &Trace,
+    labels: &Labels,
+    mend: Mend,
+) -> Result<(), OutOfMemory> {
     match mend {
-        Mend::Fence { thread, after, before } => {
-            write!(out, "Fence by thread {thread} after event {after}")?;
-            push_before(out, before)
+        Mend::Fence {
+            thread,
+            after,
+            before,
+        } => {
+            write!(out, "Fence by thread {thread} after ")?;
+            push_place(out, labels, after)?;
+            push_before(out, labels, before)
         }
-        Mend::FlushAndFence { line, after, before } => {
+        Mend::FlushAndFence {
+            line,
+            after,
+            before,
+        } => {
             let line = line_address(trace, line);
-            write!(out, "Flush cache line {line:#x} after event {after}, and fence by the same thread")?;
-            push_before(out, before)
+            write!(out, "Flush cache line {line:#x} after ")?;
+            push_place(out, labels, after)?;
+            out.push_str(", and fence by the same thread")?;
+            push_before(out, labels, before)
         }
-        Mend::StoreFirst { store, before, same_line } => {
-            write!(out, "Make the store of event {store} earlier")?;
-            push_before(out, before)?;
+        Mend::StoreFirst {
+            store,
+            before,
+            same_line,
+        } => {
+            out.push_str("Make the store of ")?;
+            push_place(out, labels, store)?;
+            out.push_str(" earlier")?;
+            push_before(out, labels, before)?;
             push_first(out, same_line)
         }
     }
 }
 
-// Adds by when, and ends the sentence.
-fn push_before(out: &mut String, before: Option<u64>) -> Result<(), OutOfMemory> {
-    match before {
-        Some(event) => writeln!(out, ", before event {event}."),
-        None => writeln!(out, "."),
+// Adds the event's number, with its label if it has one.
+fn push_place(out: &mut String, labels: &Labels, number: u64) -> Result<(), OutOfMemory> {
+    write!(out, "event {number}")?;
+    match labels.get(number) {
+        Some(label) => write!(out, " ({label})"),
+        None => Ok(()),
     }
+}
+
+// Adds by when, and ends the sentence.
+fn push_before(out: &mut String, labels: &Labels, before: Option<u64>) -> Result<(), OutOfMemory> {
+    if let Some(event) = before {
+        out.push_str(", before ")?;
+        push_place(out, labels, event)?;
+    }
+    out.push_str(".\n")
 }
 
 // Adds what an earlier store wants besides.
 fn push_first(out: &mut String, same_line: bool) -> Result<(), OutOfMemory> {
     if same_line {
-        out.push_str("          That is enough: stores to one cache line are persisted in their order.\n")
+        out.push_str(
+            "          That is enough: stores to one cache line are persisted in their order.\n",
+        )
     } else {
         out.push_str("          Flush its cache line and fence by the same thread in between.\n")
     }
