@@ -1,0 +1,4 @@
+pub mod NoFloats
+pub mod IgnoringLemmas
+pub mod Pushing
+pub mod WordLemmas

@@ -1,7 +1,5 @@
 -- How many events of each kind and threads there are.
-use Rattle.std.specs.Prelude.{ℕ, suc, zero, ◌+◌, ◌*◌, ◌/◌, ◌==◌, min, if◌then◌else◌, Bool, true, false, List, count_by}
-use Rattle.std.specs.List.{list_any}
-use Rattle.pmt_model.specs.declared.event.Event.{Event}
+use Rattle.std.specs.Prelude.{ℕ, ◌-◌, ◌*◌, ◌/◌, ◌^◌, ◌==◌, min, if◌then◌else◌, Bool, true, false}
 use Rattle.pmt_model.specs.declared.event.Op.{Op}
 use Rattle.pmt_model.specs.declared.event.Op.TheVariants.{Store, Clwb, ClflushOpt, Clflush, Sfence, Mfence, IsPersist, IsOrderedBefore}
 use Rattle.pmt_reasons.specs.declared.reason.Reason.{Reason}
@@ -46,19 +44,6 @@ is_reason_of_fence (Overtaken by) = false
 is_reason_of_fence Empty = true
 is_reason_of_fence Useless = true
 
--- The thread has made one of the events.
-abbrev pub has_thread : List Event → ℕ → Bool
-has_thread events t = list_any (λ e. e.thread == t) events
-
--- How many of the first n threads have made one of the events.
-abbrev pub threads_below : List Event → ℕ → ℕ
-threads_below events zero = 0
-threads_below events (suc t) = threads_below events t + (if has_thread events t then 1 else 0)
-
--- How many threads have made these events: threads go from 0 to 255.
-unfoldable pub thread_count : List Event → ℕ
-thread_count events = threads_below events 256
-
--- The whole per cent that the part is of the whole, rounded down; 0 of nothing.
+-- The whole per cent that the part is of the whole, rounded down; 0 of nothing. A product past 64 bits counts as the highest number.
 abbrev pub per_cent : ℕ → ℕ → ℕ
-per_cent part whole = if whole == 0 then 0 else (min part whole) * 100 / whole
+per_cent part whole = if whole == 0 then 0 else min (min part whole * 100) (2 ^ 64 - 1) / whole

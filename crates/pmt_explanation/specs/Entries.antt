@@ -2,7 +2,6 @@
 use Rattle.std.specs.Prelude.{ℕ, ◌-◌, List, [], ◌∷◌, ◌++◌, length, take, map, Option, None, Some, false, codes}
 use Rattle.std.specs.List.{flat_map}
 use Rattle.serde_json.specs.Data.{Data, null, string}
-use Rattle.pmt_model.specs.declared.range.Range.{Range}
 use Rattle.pmt_model.specs.Values.{Span}
 use Rattle.pmt_model.specs.Traces.{Recording}
 use Rattle.pmt_explain.specs.declared.lines.LineCount.{LineCount}
@@ -130,3 +129,18 @@ summary_data s limit more = object_of
     ∷ (codes "stores", count_data s.stores)
     ∷ (codes "threads", count_data s.threads)
     ∷ [])
+
+abbrev pub failure_line : Recording → Labels → ShownFailure → List ℕ
+failure_line T labels f = json_line (failure_data T labels f)
+
+abbrev pub lost_line : Recording → Labels → LostGroup → List ℕ
+lost_line T labels g = json_line (lost_data T labels g)
+
+abbrev pub dropped_line : Recording → Labels → Dropped → List ℕ
+dropped_line T labels d = json_line (dropped_data T labels d)
+
+abbrev pub overwritten_line : Recording → Labels → OverwrittenGroup → List ℕ
+overwritten_line T labels g = json_line (overwritten_data T labels g)
+
+abbrev pub unwritten_line : Recording → Labels → Unwritten → List ℕ
+unwritten_line T labels u = json_line (unwritten_data T labels u)

@@ -1,9 +1,29 @@
 -- What an explanation has of each kind.
-use Rattle.std.specs.Prelude.{◌≡◌, ℕ, ◌-◌, ◌<◌, ◌⊎◌, ◌==◌, Bool, true, false, not, List, [], ◌∷◌, length, take, map, filter, Option, Some, None, unwrap_or}
-use Rattle.std.specs.List.{filter_map}
-use Rattle.pmt_model.specs.Values.{Span}
+use Rattle.std.specs.Prelude.{◌≡◌, ℕ, ◌-◌, ◌==◌, ◌||◌, Bool, not, List, length, map, filter, count_by, is_some}
+use Rattle.std.specs.List.{All}
+use Rattle.pmt_model.specs.declared.finding.Finding.{Finding}
 use Rattle.pmt_model.specs.declared.finding.Verdict.{Verdict}
+use Rattle.pmt_explain.specs.Dropping.{AreDropped}
+use Rattle.pmt_explain.specs.LostGroups.{AreLostGroups}
+use Rattle.pmt_explain.specs.OverwrittenGroups.{AreOverwrittenGroups}
+use Rattle.pmt_workers.specs.Analysing.{Analysed}
+use Rattle.pmt_explanation.specs.declared.explaining.Explanation.{Explanation}
+use Rattle.pmt_explanation.specs.declared.ignoring.Ignored.{Ignored}
+use Rattle.pmt_explanation.specs.Failing.{failing_events}
+use Rattle.pmt_explanation.specs.Ignoring.{lost_store, told_stores, overwriting, told_pairs}
+use Rattle.pmt_explanation.specs.Showing.{IsShown}
 
--- The events of the verdicts that fail.
-abbrev pub failing_events : List Verdict → List ℕ
-failing_events verdicts = map (λ (v : Verdict). v.event) (filter (λ (v : Verdict). not v.pass) verdicts)
+-- What is told of an analysis where the bytes of these ranges are ignored.
+pub record IsExplanation (a : Analysed) (ranges : List Ignored) (x : Explanation) : Type 0 where
+  pub failing : x.failing.items ≡ failing_events a.verdicts
+  pub failures : All (IsShown a.trace) x.failures.items
+  pub stores : x.stores.items ≡ told_stores a.trace ranges a.findings
+  pub lost : AreLostGroups a.trace x.stores.items x.lost.items
+  pub dropped : AreDropped a.trace x.dropped.items
+  pub overwritten : AreOverwrittenGroups a.trace (told_pairs a.trace ranges a.findings) x.overwritten.items
+  pub ignored_stores : x.ignored_never_persisted ≡ count_by (λ (f : Finding). is_some (lost_store f)) a.findings - length x.stores.items
+  pub ignored_pairs : x.ignored_overwritten ≡ count_by (λ (f : Finding). is_some (overwriting f)) a.findings - length (told_pairs a.trace ranges a.findings)
+
+-- An assertion fails, or a store that is not ignored is never persisted.
+abbrev pub has_failed : Explanation → Bool
+has_failed x = not (length x.failing.items == 0) || not (length x.stores.items == 0)

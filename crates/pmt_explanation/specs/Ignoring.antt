@@ -8,6 +8,7 @@ use Rattle.pmt_model.specs.declared.event.Op.TheVariants.{Store, Clwb, ClflushOp
 use Rattle.pmt_model.specs.declared.finding.Finding.{Finding}
 use Rattle.pmt_model.specs.declared.finding.Finding.TheVariants.{Overwritten, NeverPersisted, RedundantFlush, FenceWithoutFlush}
 use Rattle.pmt_model.specs.Traces.{Recording, event}
+use Rattle.pmt_explain.specs.declared.overwritten_grouping.Overwriting.{Overwriting}
 use Rattle.pmt_explanation.specs.declared.ignoring.Ignored.{Ignored}
 
 -- The byte lies in the range.
@@ -59,3 +60,18 @@ lost_stores findings = filter_map lost_store findings
 -- Those of them that are not ignored.
 abbrev pub told_stores : Recording → List Ignored → List Finding → List ℕ
 told_stores T ranges findings = filter (λ i. not (is_ignored T ranges i)) (lost_stores findings)
+
+-- The pair of stores that the finding tells as overwritten.
+abbrev pub overwriting : Finding → Option Overwriting
+overwriting (Overwritten earlier later) = Some (record { earlier = earlier; later = later })
+overwriting (NeverPersisted i flushed) = None
+overwriting (RedundantFlush i) = None
+overwriting (FenceWithoutFlush i) = None
+
+-- The pairs of overwritten and overwriting stores, in report order.
+abbrev pub overwritings : List Finding → List Overwriting
+overwritings findings = filter_map overwriting findings
+
+-- Those of them whose earlier store is not ignored.
+abbrev pub told_pairs : Recording → List Ignored → List Finding → List Overwriting
+told_pairs T ranges findings = filter (λ (p : Overwriting). not (is_ignored T ranges p.earlier)) (overwritings findings)

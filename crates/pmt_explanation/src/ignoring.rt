@@ -1,7 +1,6 @@
 //! Which stores the user ignores.
-ghost use Rattle.std.specs.Prelude.{◌≡◌, ◌+◌, ◌<◌, filter, count_by, IfOk, not};
-ghost use Rattle.std.specs.List.{filter_map};
-ghost use Rattle.pmt_explanation.specs.Ignoring.{has_byte as range_has, is_byte_ignored as byte_ignored, is_store_ignored as store_ignored, is_ignored as event_ignored, lost_store as lost_of, lost_stores as all_lost, told_stores};
+ghost use Rattle.std.specs.Prelude.{◌≡◌, IfOk};
+ghost use Rattle.pmt_explanation.specs.Ignoring.{has_byte as range_has, is_byte_ignored as byte_ignored, is_store_ignored as store_ignored, is_ignored as event_ignored, lost_store as lost_of, overwriting as overwriting_of, told_pairs, told_stores};
 
 use pmt_model::{Finding, Op, OutOfMemory, Trace, WordStore};
 use pmt_explain::Overwriting;
@@ -86,16 +85,14 @@ pub fn overwritings(
     trace: &Trace,
     findings: &[Finding],
     ranges: &[Ignored],
-) -> Result<Vec<Overwriting>, OutOfMemory> {
-    let mut pairs = Vec::new(alloc);
-    for finding in findings {
-        if let Some(pair) = overwriting(*finding) {
-            if !is_ignored(trace, ranges, pair.earlier) {
-                pairs.push(pair)?;
-            }
-        }
-    }
-    Ok(pairs)
+) -> Result<Vec<Overwriting>, OutOfMemory>
+    ensures { IfOk result (λ pairs. pairs.items ≡ told_pairs trace.now ranges.now findings.now) }
+{
+    findings
+        .iter()
+        .filter_map(|finding| overwriting(*finding))
+        .filter(|pair| !is_ignored(trace, ranges, pair.earlier))
+        .collect(alloc)
 }
 
 // The store that the finding tells as never persisted.
@@ -114,7 +111,9 @@ pub(crate) fn lost_store(finding: Finding) -> Option<u64>
 }
 
 // The pair of stores that the finding tells as overwritten.
-pub(crate) fn overwriting(finding: Finding) -> Option<Overwriting> {
+pub(crate) fn overwriting(finding: Finding) -> Option<Overwriting>
+    ensures { result ≡ overwriting_of finding }
+{
     match finding {
         Finding::Overwritten { earlier, later } => Some(Overwriting { earlier, later }),
         Finding::NeverPersisted {

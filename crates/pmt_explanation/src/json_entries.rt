@@ -1,4 +1,8 @@
 //! The entries of an explanation as JSON.
+ghost use Rattle.std.specs.Prelude.{◌≡◌, ◌++◌, IfOk, OnOk, map};
+ghost use Rattle.serde_json.specs.View.{view};
+ghost use Rattle.pmt_explanation.specs.Parts.{range_data};
+ghost use Rattle.pmt_explanation.specs.Entries.{dropped_data, lost_data, overwritten_data, ranges_of, summary_data, unwritten_data};
 
 use crate::json_parts::{
     cause_value, event_value, line_value, mend_value, range_value, reason_value,
@@ -19,7 +23,9 @@ pub(crate) fn summary_value(
     summary: &Summary,
     limit: usize,
     more: Value,
-) -> Result<Value, OutOfMemory> {
+) -> Result<Value, OutOfMemory>
+    ensures { IfOk result (λ v. view v ≡ summary_data summary.now limit (view more)) }
+{
     json!(in alloc; {
         "assertions": summary.assertions,
         "cache_lines": summary.cache_lines,
@@ -48,7 +54,9 @@ pub(crate) fn lost_value(
     trace: &Trace,
     labels: &Labels,
     group: &LostGroup,
-) -> Result<Value, OutOfMemory> {
+) -> Result<Value, OutOfMemory>
+    ensures { IfOk result (λ v. view v ≡ lost_data trace.now labels.now group.now) }
+{
     let line = line_value(alloc, trace, group.line)?;
     let cause = cause_value(alloc, trace, labels, group.cause)?;
     let first = event_value(alloc, trace, labels, group.first)?;
@@ -72,7 +80,9 @@ pub(crate) fn dropped_value(
     trace: &Trace,
     labels: &Labels,
     dropped: Dropped,
-) -> Result<Value, OutOfMemory> {
+) -> Result<Value, OutOfMemory>
+    ensures { IfOk result (λ v. view v ≡ dropped_data trace.now labels.now dropped) }
+{
     let event = event_value(alloc, trace, labels, dropped.event)?;
     let reason = reason_value(alloc, trace, labels, dropped.reason)?;
     json!(in alloc; {"event": event, "kind": "dropped", "reason": reason})
@@ -84,7 +94,9 @@ pub(crate) fn overwritten_value(
     trace: &Trace,
     labels: &Labels,
     group: &OverwrittenGroup,
-) -> Result<Value, OutOfMemory> {
+) -> Result<Value, OutOfMemory>
+    ensures { IfOk result (λ v. view v ≡ overwritten_data trace.now labels.now group.now) }
+{
     let line = line_value(alloc, trace, group.line)?;
     let earlier = event_value(alloc, trace, labels, group.first.earlier)?;
     let later = event_value(alloc, trace, labels, group.first.later)?;
@@ -104,7 +116,9 @@ pub(crate) fn unwritten_value(
     trace: &Trace,
     labels: &Labels,
     found: &Unwritten,
-) -> Result<Value, OutOfMemory> {
+) -> Result<Value, OutOfMemory>
+    ensures { IfOk result (λ v. view v ≡ unwritten_data trace.now labels.now found.now) }
+{
     let event = event_value(alloc, trace, labels, found.event)?;
     let mut ranges = Vec::with_capacity(alloc, 2)?;
     push_range(alloc, &mut ranges, found.first)?;
@@ -117,7 +131,9 @@ fn push_range(
     alloc: Global,
     values: &mut Vec<Value>,
     range: Option<Range>,
-) -> Result<(), OutOfMemory> {
+) -> Result<(), OutOfMemory>
+    ensures { OnOk result (map (λ v. view v) values.new.items ≡ map (λ v. view v) values.old.items ++ map range_data (ranges_of range)) }
+{
     if let Some(range) = range {
         values.push(range_value(alloc, &range)?)?;
     }

@@ -1,4 +1,8 @@
 //! Failed assertions as JSON.
+ghost use Rattle.std.specs.Prelude.{◌≡◌, IfOk, map};
+ghost use Rattle.serde_json.specs.View.{view};
+ghost use Rattle.pmt_explanation.specs.Parts.{array_of, byte_store_data, or_null};
+ghost use Rattle.pmt_explanation.specs.Entries.{byte_data, failure_data, line_count_data, range_after_data};
 
 use crate::failures::{RangeAfter, ShownFailure};
 use crate::json_parts::{byte_store_value, cause_value, event_value, line_value, mend_value};
@@ -16,7 +20,9 @@ pub(crate) fn failure_value(
     trace: &Trace,
     labels: &Labels,
     shown: &ShownFailure,
-) -> Result<Value, OutOfMemory> {
+) -> Result<Value, OutOfMemory>
+    ensures { IfOk result (λ v. view v ≡ failure_data trace.now labels.now shown.now) }
+{
     let event = event_value(alloc, trace, labels, shown.event)?;
     let kept = kept_value(alloc, trace, labels, shown.failure.kept)?;
     let lost = byte_store_value(alloc, trace, labels, shown.failure.lost)?;
@@ -43,7 +49,9 @@ fn kept_value(
     trace: &Trace,
     labels: &Labels,
     kept: Option<ByteStore>,
-) -> Result<Value, OutOfMemory> {
+) -> Result<Value, OutOfMemory>
+    ensures { IfOk result (λ v. view v ≡ or_null (byte_store_data trace.now labels.now) kept) }
+{
     match kept {
         Some(kept) => byte_store_value(alloc, trace, labels, kept),
         None => Ok(Value::Null),
@@ -51,7 +59,9 @@ fn kept_value(
 }
 
 // How many stores of each line the crash leaves persisted.
-fn lines_value(alloc: Global, trace: &Trace, lines: &[LineCount]) -> Result<Value, OutOfMemory> {
+fn lines_value(alloc: Global, trace: &Trace, lines: &[LineCount]) -> Result<Value, OutOfMemory>
+    ensures { IfOk result (λ v. view v ≡ array_of (map (line_count_data trace.now) lines.now)) }
+{
     let mut values = Vec::with_capacity(alloc, lines.len())?;
     for line in lines {
         values.push(line_count_value(alloc, trace, *line)?)?;
@@ -59,13 +69,17 @@ fn lines_value(alloc: Global, trace: &Trace, lines: &[LineCount]) -> Result<Valu
     Ok(Value::Array(values))
 }
 
-fn line_count_value(alloc: Global, trace: &Trace, count: LineCount) -> Result<Value, OutOfMemory> {
+fn line_count_value(alloc: Global, trace: &Trace, count: LineCount) -> Result<Value, OutOfMemory>
+    ensures { IfOk result (λ v. view v ≡ line_count_data trace.now count) }
+{
     let line = line_value(alloc, trace, count.line)?;
     json!(in alloc; {"cache_line": line, "persisted": count.persisted, "stores": count.stores})
 }
 
 // What memory holds in the ranges.
-fn ranges_value(alloc: Global, ranges: &[RangeAfter]) -> Result<Value, OutOfMemory> {
+fn ranges_value(alloc: Global, ranges: &[RangeAfter]) -> Result<Value, OutOfMemory>
+    ensures { IfOk result (λ v. view v ≡ array_of (map range_after_data ranges.now)) }
+{
     let mut values = Vec::with_capacity(alloc, ranges.len())?;
     for range in ranges {
         values.push(range_after_value(alloc, range)?)?;
@@ -73,13 +87,17 @@ fn ranges_value(alloc: Global, ranges: &[RangeAfter]) -> Result<Value, OutOfMemo
     Ok(Value::Array(values))
 }
 
-fn range_after_value(alloc: Global, after: &RangeAfter) -> Result<Value, OutOfMemory> {
+fn range_after_value(alloc: Global, after: &RangeAfter) -> Result<Value, OutOfMemory>
+    ensures { IfOk result (λ v. view v ≡ range_after_data after.now) }
+{
     let address = address_text(alloc, after.range.addr().get())?;
     let bytes = bytes_value(alloc, after.bytes.as_slice())?;
     json!(in alloc; {"address": &address, "bytes": bytes, "length": after.range.len()})
 }
 
-fn bytes_value(alloc: Global, bytes: &[CrashByte]) -> Result<Value, OutOfMemory> {
+fn bytes_value(alloc: Global, bytes: &[CrashByte]) -> Result<Value, OutOfMemory>
+    ensures { IfOk result (λ v. view v ≡ array_of (map byte_data bytes.now)) }
+{
     let mut values = Vec::with_capacity(alloc, bytes.len())?;
     for byte in bytes {
         values.push(byte_value(alloc, *byte)?)?;
@@ -87,7 +105,9 @@ fn bytes_value(alloc: Global, bytes: &[CrashByte]) -> Result<Value, OutOfMemory>
     Ok(Value::Array(values))
 }
 
-fn byte_value(alloc: Global, byte: CrashByte) -> Result<Value, OutOfMemory> {
+fn byte_value(alloc: Global, byte: CrashByte) -> Result<Value, OutOfMemory>
+    ensures { IfOk result (λ v. view v ≡ byte_data byte) }
+{
     let address = address_text(alloc, byte.byte)?;
     match byte.last {
         Some(last) => {

@@ -1,4 +1,11 @@
 //! The lines of JSON that tell an explanation.
+ghost use Rattle.std.specs.Prelude.{◌≡◌, ◌++◌, IfOk, OnOk, false, take};
+ghost use Rattle.std.specs.List.{flat_map};
+ghost use Rattle.serde_json.specs.View.{view};
+ghost use Rattle.serde_json.specs.Written.{has_float};
+ghost use Rattle.pmt_explanation.specs.Parts.{json_line};
+ghost use Rattle.pmt_explanation.specs.Entries.{dropped_line, failure_line, lost_line, more_data, overwritten_line, unwritten_line};
+ghost use Rattle.pmt_explanation.specs.Summing.{IsJsonText, summary_line};
 
 use crate::explaining::Explanation;
 use crate::failures::ShownFailure;
@@ -7,7 +14,7 @@ use crate::json_entries::{
 };
 use crate::json_failures::failure_value;
 use crate::labels::Labels;
-use crate::summary::summary_of;
+use crate::summary::{Summary, summary_of};
 use crate::unwritten::Unwritten;
 use pmt_explain::{Dropped, LostGroup, OverwrittenGroup};
 use pmt_model::{OutOfMemory, Trace};
@@ -22,21 +29,31 @@ pub fn json_text(
     alloc: Global,
     explanation: &Explanation,
     labels: &Labels,
-) -> Result<Vec<u8>, OutOfMemory> {
+) -> Result<Vec<u8>, OutOfMemory>
+    ensures { IfOk result (λ text. IsJsonText explanation.now labels.now text.items) }
+{
     let trace = explanation.analysis.trace();
     let limit = explanation.limit;
+    let failures = explanation.failures.as_slice();
+    let lost = first(explanation.lost.as_slice(), limit);
+    let dropped = first(explanation.dropped.as_slice(), limit);
+    let overwritten = first(explanation.overwritten.as_slice(), limit);
+    let unwritten = first(explanation.unwritten.as_slice(), limit);
+    let counts = summary_of(explanation);
     let mut text = Vec::new(alloc);
-    push_summary(alloc, &mut text, explanation)?;
-    push_failures(alloc, &mut text, trace, labels, explanation.failures.as_slice())?;
-    push_lost(alloc, &mut text, trace, labels, first(explanation.lost.as_slice(), limit))?;
-    push_dropped(alloc, &mut text, trace, labels, first(explanation.dropped.as_slice(), limit))?;
-    push_overwritten(alloc, &mut text, trace, labels, first(explanation.overwritten.as_slice(), limit))?;
-    push_unwritten(alloc, &mut text, trace, labels, first(explanation.unwritten.as_slice(), limit))?;
+    push_summary(alloc, &mut text, explanation, &counts)?;
+    push_failures(alloc, &mut text, trace, labels, failures)?;
+    push_losses(alloc, &mut text, trace, labels, lost)?;
+    push_drops(alloc, &mut text, trace, labels, dropped)?;
+    push_overwritings(alloc, &mut text, trace, labels, overwritten)?;
+    push_unwrittens(alloc, &mut text, trace, labels, unwritten)?;
     Ok(text)
 }
 
 // At most the first `limit` entries.
-pub(crate) fn first<T>(entries: &[T], limit: usize) -> &[T] {
+pub(crate) fn first<T>(entries: &[T], limit: usize) -> &[T]
+    ensures { result.now ≡ take limit entries.now }
+{
     if entries.len() <= limit {
         return entries;
     }
@@ -44,26 +61,34 @@ pub(crate) fn first<T>(entries: &[T], limit: usize) -> &[T] {
 }
 
 // Adds the value and an LF.
-fn push_value(alloc: Global, text: &mut Vec<u8>, value: &Value) -> Result<(), OutOfMemory> {
+fn push_value(alloc: Global, text: &mut Vec<u8>, value: &Value) -> Result<(), OutOfMemory>
+    requires { has_float (view value.now) ≡ false }
+    ensures { OnOk result (text.new.items ≡ text.old.items ++ json_line (view value.now)) }
+{
     let line = value.to_vec(alloc)?;
     text.extend_from_slice(line.as_slice())?;
     text.push(b'\n')?;
     Ok(())
 }
 
+// Adds the counts.
 fn push_summary(
     alloc: Global,
     text: &mut Vec<u8>,
     explanation: &Explanation,
-) -> Result<(), OutOfMemory> {
+    counts: &Summary,
+) -> Result<(), OutOfMemory>
+    ensures { OnOk result (text.new.items ≡ text.old.items ++ summary_line explanation.now counts.now) }
+{
     let more = more_value(alloc, explanation)?;
-    let counts = summary_of(explanation);
-    let value = summary_value(alloc, &counts, explanation.limit, more)?;
+    let value = summary_value(alloc, counts, explanation.limit, more)?;
     push_value(alloc, text, &value)
 }
 
 // How many entries of each kind are not shown.
-fn more_value(alloc: Global, explanation: &Explanation) -> Result<Value, OutOfMemory> {
+fn more_value(alloc: Global, explanation: &Explanation) -> Result<Value, OutOfMemory>
+    ensures { IfOk result (λ v. view v ≡ more_data explanation.now) }
+{
     let limit = explanation.limit;
     json!(in alloc; {
         "dropped": explanation.dropped.len().saturating_sub(limit),
@@ -74,72 +99,152 @@ fn more_value(alloc: Global, explanation: &Explanation) -> Result<Value, OutOfMe
     })
 }
 
+// Adds the failed assertions.
 fn push_failures(
     alloc: Global,
     text: &mut Vec<u8>,
     trace: &Trace,
     labels: &Labels,
     failures: &[ShownFailure],
-) -> Result<(), OutOfMemory> {
+) -> Result<(), OutOfMemory>
+    ensures { OnOk result (text.new.items ≡ text.old.items ++ flat_map (failure_line trace.now labels.now) failures.now) }
+{
     for shown in failures {
-        let value = failure_value(alloc, trace, labels, shown)?;
-        push_value(alloc, text, &value)?;
+        push_failure(alloc, text, trace, labels, shown)?;
     }
     Ok(())
 }
 
-fn push_lost(
+// Adds the failed assertion.
+fn push_failure(
+    alloc: Global,
+    text: &mut Vec<u8>,
+    trace: &Trace,
+    labels: &Labels,
+    shown: &ShownFailure,
+) -> Result<(), OutOfMemory>
+    ensures { OnOk result (text.new.items ≡ text.old.items ++ failure_line trace.now labels.now shown.now) }
+{
+    let value = failure_value(alloc, trace, labels, shown)?;
+    push_value(alloc, text, &value)
+}
+
+// Adds the groups of stores that are never persisted.
+fn push_losses(
     alloc: Global,
     text: &mut Vec<u8>,
     trace: &Trace,
     labels: &Labels,
     groups: &[LostGroup],
-) -> Result<(), OutOfMemory> {
+) -> Result<(), OutOfMemory>
+    ensures { OnOk result (text.new.items ≡ text.old.items ++ flat_map (lost_line trace.now labels.now) groups.now) }
+{
     for group in groups {
-        let value = lost_value(alloc, trace, labels, group)?;
-        push_value(alloc, text, &value)?;
+        push_lost(alloc, text, trace, labels, group)?;
     }
     Ok(())
 }
 
-fn push_dropped(
+// Adds the stores that are never persisted.
+fn push_lost(
+    alloc: Global,
+    text: &mut Vec<u8>,
+    trace: &Trace,
+    labels: &Labels,
+    group: &LostGroup,
+) -> Result<(), OutOfMemory>
+    ensures { OnOk result (text.new.items ≡ text.old.items ++ lost_line trace.now labels.now group.now) }
+{
+    let value = lost_value(alloc, trace, labels, group)?;
+    push_value(alloc, text, &value)
+}
+
+// Adds the flushes and fences that are dropped.
+fn push_drops(
     alloc: Global,
     text: &mut Vec<u8>,
     trace: &Trace,
     labels: &Labels,
     entries: &[Dropped],
-) -> Result<(), OutOfMemory> {
+) -> Result<(), OutOfMemory>
+    ensures { OnOk result (text.new.items ≡ text.old.items ++ flat_map (dropped_line trace.now labels.now) entries.now) }
+{
     for dropped in entries {
-        let value = dropped_value(alloc, trace, labels, *dropped)?;
-        push_value(alloc, text, &value)?;
+        push_dropped(alloc, text, trace, labels, dropped)?;
     }
     Ok(())
 }
 
-fn push_overwritten(
+// Adds the flush or fence that is dropped.
+fn push_dropped(
+    alloc: Global,
+    text: &mut Vec<u8>,
+    trace: &Trace,
+    labels: &Labels,
+    dropped: &Dropped,
+) -> Result<(), OutOfMemory>
+    ensures { OnOk result (text.new.items ≡ text.old.items ++ dropped_line trace.now labels.now dropped.now) }
+{
+    let value = dropped_value(alloc, trace, labels, *dropped)?;
+    push_value(alloc, text, &value)
+}
+
+// Adds the groups of overwritten stores.
+fn push_overwritings(
     alloc: Global,
     text: &mut Vec<u8>,
     trace: &Trace,
     labels: &Labels,
     groups: &[OverwrittenGroup],
-) -> Result<(), OutOfMemory> {
+) -> Result<(), OutOfMemory>
+    ensures { OnOk result (text.new.items ≡ text.old.items ++ flat_map (overwritten_line trace.now labels.now) groups.now) }
+{
     for group in groups {
-        let value = overwritten_value(alloc, trace, labels, group)?;
-        push_value(alloc, text, &value)?;
+        push_overwritten(alloc, text, trace, labels, group)?;
     }
     Ok(())
 }
 
-fn push_unwritten(
+// Adds the overwritten stores.
+fn push_overwritten(
+    alloc: Global,
+    text: &mut Vec<u8>,
+    trace: &Trace,
+    labels: &Labels,
+    group: &OverwrittenGroup,
+) -> Result<(), OutOfMemory>
+    ensures { OnOk result (text.new.items ≡ text.old.items ++ overwritten_line trace.now labels.now group.now) }
+{
+    let value = overwritten_value(alloc, trace, labels, group)?;
+    push_value(alloc, text, &value)
+}
+
+// Adds the assertions on bytes that no store has written.
+fn push_unwrittens(
     alloc: Global,
     text: &mut Vec<u8>,
     trace: &Trace,
     labels: &Labels,
     entries: &[Unwritten],
-) -> Result<(), OutOfMemory> {
+) -> Result<(), OutOfMemory>
+    ensures { OnOk result (text.new.items ≡ text.old.items ++ flat_map (unwritten_line trace.now labels.now) entries.now) }
+{
     for found in entries {
-        let value = unwritten_value(alloc, trace, labels, found)?;
-        push_value(alloc, text, &value)?;
+        push_unwritten(alloc, text, trace, labels, found)?;
     }
     Ok(())
+}
+
+// Adds the assertion on bytes that no store has written.
+fn push_unwritten(
+    alloc: Global,
+    text: &mut Vec<u8>,
+    trace: &Trace,
+    labels: &Labels,
+    found: &Unwritten,
+) -> Result<(), OutOfMemory>
+    ensures { OnOk result (text.new.items ≡ text.old.items ++ unwritten_line trace.now labels.now found.now) }
+{
+    let value = unwritten_value(alloc, trace, labels, found)?;
+    push_value(alloc, text, &value)
 }

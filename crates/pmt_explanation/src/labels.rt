@@ -27,7 +27,7 @@ impl Labels {
     /// `OutOfMemory`: the labels are unchanged then.
     pub fn insert(&mut self, event: u64, text: String) -> Result<(), OutOfMemory>
         ensures ok { OnOk result (label_of self.new event ≡ Some (string_bytes text)) }
-        ensures err { OnErr result (self.new ≡ self.old) }
+        ensures err { OnErr result (self.new.texts.entries ≡ self.old.texts.entries) }
     {
         self.texts.insert(event, text)?;
         Ok(())

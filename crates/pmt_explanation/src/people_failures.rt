@@ -1,4 +1,5 @@
 //! Failed assertions in words.
+ghost use Rattle.std.specs.Prelude.{◌≤◌, length};
 
 use crate::failures::{RangeAfter, ShownFailure, line_of_store};
 use crate::json_parts::line_address;
@@ -92,7 +93,9 @@ fn store_of(byte: CrashByte) -> Option<u64> {
 }
 
 // How many bytes stand first that are of the same store, or of none.
-fn run_length(bytes: &[CrashByte]) -> usize {
+fn run_length(bytes: &[CrashByte]) -> usize
+    ensures { result ≤ length bytes.now }
+{
     let mut count = 0;
     while count < bytes.len() && store_of(bytes[count]) == store_of(bytes[0]) {
         count += 1;

@@ -1,4 +1,5 @@
 //! What an explanation begins with.
+ghost use Rattle.pmt_explanation.specs.Summing.{IsSummary};
 
 use crate::counting::{
     count_fences, count_flushes, count_stores, count_threads, is_reason_of_fence,
@@ -37,7 +38,9 @@ pub struct Summary {
 }
 
 /// The counts of the explanation.
-pub fn summary_of(explanation: &Explanation) -> Summary {
+pub fn summary_of(explanation: &Explanation) -> Summary
+    ensures { IsSummary explanation.now result }
+{
     let events = explanation.analysis.trace().events();
     let dropped = explanation.dropped.len();
     let fences_dropped = explanation
