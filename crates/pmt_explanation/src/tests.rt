@@ -1,5 +1,7 @@
 //! Tests of explanations of small traces.
-use crate::{Explanation, Ignored, Labels, Mend, Options, explain, has_failed, json_text, summary_of, text};
+use crate::{
+    Explanation, Ignored, Labels, Mend, Options, explain, has_failed, json_text, summary_of, text,
+};
 use pmt_reasons::{ByteStore, Cause, Failure};
 use pmt_text::devices::PieceReader;
 use pmt_text::{Counted, TextSource};
@@ -45,8 +47,14 @@ fn mark_too_early(rt: HostRuntime) -> Result<(), Fail> {
     let shown = &found.failures[0];
     let failure = Failure {
         place: 2,
-        kept: Some(ByteStore { store: 2, byte: 0x1040 }),
-        lost: ByteStore { store: 1, byte: 0x1000 },
+        kept: Some(ByteStore {
+            store: 2,
+            byte: 0x1040,
+        }),
+        lost: ByteStore {
+            store: 1,
+            byte: 0x1000,
+        },
     };
     assert_eq!(rt; shown.failure, failure);
     assert_eq!(rt; shown.cause, Cause::Unflushed);
@@ -76,15 +84,27 @@ fn ignored_where_all_bytes_are(rt: HostRuntime) -> Result<(), Fail> {
     let alloc = rt.alloc();
     let all = explained(&rt, alloc, TWO_LOST, [].as_slice(), 10)?;
     assert_eq!(rt; all.stores.as_slice(), [1, 2].as_slice());
-    let three = [Ignored { addr: 0x1000, len: 3 }];
+    let three = [Ignored {
+        addr: 0x1000,
+        len: 3,
+    }];
     let some = explained(&rt, alloc, TWO_LOST, three.as_slice(), 10)?;
     assert_eq!(rt; some.stores.as_slice(), [2].as_slice());
     assert_eq!(rt; some.ignored_never_persisted, 1);
     assert!(rt; has_failed(&some));
     let parts = [
-        Ignored { addr: 0x1003, len: u64::MAX },
-        Ignored { addr: 0xfff, len: 3 },
-        Ignored { addr: 0x1001, len: 2 },
+        Ignored {
+            addr: 0x1003,
+            len: u64::MAX,
+        },
+        Ignored {
+            addr: 0xfff,
+            len: 3,
+        },
+        Ignored {
+            addr: 0x1001,
+            len: 2,
+        },
     ];
     let none = explained(&rt, alloc, TWO_LOST, parts.as_slice(), 10)?;
     assert_eq!(rt; none.stores.len(), 0);
