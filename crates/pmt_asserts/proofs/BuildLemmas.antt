@@ -1,7 +1,7 @@
 -- How the table of a line is made.
 use Rattle.std.proofs.Common.{◌≡◌, ℕ, zero, suc, ◌+◌, ◌-◌, ◌<◌, ◌≤◌, ◌⊎◌, ◌↔◌, inl, inr, true, false, List, [], ◌∷◌, ◌++◌, length, get_or, take, refl, sym, ap, subst, ◌∙◌, arith}
-use Rattle.std.specs.Prelude.{Contains, All, nat_le, nat_lt}
-use Rattle.std.proofs.lemmas.Bool.{cases_lt, cases_order, both_ways, le-ltb, eq-eqb, leb-true, ltb-true, le-leb, lt-ltb, and_parts, and_from}
+use Rattle.std.specs.Prelude.{Contains, All}
+use Rattle.std.proofs.lemmas.Bool.{cases_lt, cases_order, both_ways, le-ltb, eq-eqb, lt-ltb}
 use Rattle.std.proofs.lemmas.List.{take_more}
 use Rattle.std.proofs.lemmas.List.Elements.{Contains-append_left, Contains-push, Contains-push_cases, All-from_recursion}
 use Rattle.pmt_lines.specs.declared.step.StepKind.{StepKind}
@@ -10,7 +10,7 @@ use Rattle.pmt_lines.specs.declared.step.Step.{Step}
 use Rattle.pmt_asserts.specs.declared.put.Put.{Put}
 use Rattle.pmt_asserts.specs.declared.put.Write.{Write}
 use Rattle.pmt_asserts.specs.Puts.{covers, with_put, puts_of, put_at, IsUpTo, IsWriteOf, AreWritesOf, IsInside}
-use Rattle.pmt_asserts.proofs.RankLemmas.{up_to-trans}
+use Rattle.pmt_asserts.proofs.RankLemmas.{covers-range, range-covers, up_to-trans}
 use Rattle.std.specs.declared.cmp.Ordering.{Ordering}
 use Rattle.std.specs.Ordering.{is_lt, nat_cmp, ordering_then}
 use Rattle.std.specs.List.{AllByRecursion}
@@ -59,17 +59,6 @@ has-more old new rank low b h is w = (there, back)
           | inr more ↦ let e : b ≡ w.byte = omega (arith, g.2) in let same : record { byte = b; rank = rank } ≡ w = ap (λ n. record { byte = n; rank = rank }) e ∙ ap (λ n. record { byte = w.byte; rank = n }) (sym g.0) in
               subst (Contains (new ++ record { byte = b; rank = rank } ∷ [])) same (Contains-push new (record { byte = b; rank = rank }))
         ]
-
--- what a store covers
-covers-range : (p : Put) (b : ℕ) → p.addr ≤ b → b < p.addr + p.len → covers p b ≡ true
-covers-range p b low high = and_from (nat_le p.addr b) (nat_lt (b - p.addr) p.len) (le-leb p.addr b low) (lt-ltb (b - p.addr) p.len (omega (arith, low, high)))
-
-range-covers : (p : Put) (b : ℕ) → covers p b ≡ true → (p.addr ≤ b) × (b < p.addr + p.len)
-range-covers p b h =
-    let both = and_parts (nat_le p.addr b) (nat_lt (b - p.addr) p.len) h in
-    let low = leb-true p.addr b both.0 in
-    let high = ltb-true (b - p.addr) p.len both.1 in
-    (low, omega (arith, low, high))
 
 -- all writes of the store
 pub has-all : (old new : List Write) (rank b : ℕ) (p : Put) → p.addr + p.len ≤ b → (p.addr ≤ p.addr + p.len → b ≤ p.addr + p.len) → HasUpTo old new rank p.addr b → (w : Write) → Contains new w ↔ (Contains old w ⊎ ((w.rank ≡ rank) × (covers p w.byte ≡ true)))

@@ -1,8 +1,8 @@
 -- Last stores to bytes, by their ranks: what a search finds, and what a walk over the bytes adds up.
 use Rattle.std.proofs.Common.{◌≡◌, ℕ, zero, suc, ◌+◌, ◌-◌, ◌<◌, ◌≤◌, ◌⊎◌, inl, inr, Bool, true, false, List, [], ◌∷◌, length, get_or, Option, Some, None, refl, sym, ap, subst, ◌∙◌, arith}
-use Rattle.std.specs.Prelude.{if◌then◌else◌, ◌==◌, nat_lt, All, max, min}
+use Rattle.std.specs.Prelude.{if◌then◌else◌, ◌==◌, nat_le, nat_lt, All, max, min}
 use Rattle.std.specs.List.Sorted.{IsPartitionPoint, IsPartitionedBy}
-use Rattle.std.proofs.lemmas.Bool.{cases_lt, cases_Bool, cases_eq, both_ways, ne_eqb, ltb-true, ltb-false}
+use Rattle.std.proofs.lemmas.Bool.{cases_lt, cases_Bool, cases_eq, both_ways, ne_eqb, leb-true, ltb-true, ltb-false, le-leb, lt-ltb, and_parts, and_from}
 use Rattle.std.proofs.lemmas.Bool.Decides.{eqb_tells, leb_tells}
 use Rattle.std.proofs.lemmas.List.Elements.{Contains-get_or}
 use Rattle.pmt_asserts.specs.declared.put.Put.{Put}
@@ -12,6 +12,17 @@ use Rattle.pmt_asserts.specs.Puts.{covers, no_put, put_at, last_in, IsGreatestIn
 -- what a test of an order tells
 ltb_tells : (a b : ℕ) → ((nat_lt a b ≡ true) × (a < b)) ⊎ ((nat_lt a b ≡ false) × (b ≤ a))
 ltb_tells a b = elim (cases_Bool (nat_lt a b)) [ inl t ↦ inl (t, ltb-true a b t) | inr f ↦ inr (f, ltb-false a b f) ]
+
+-- what a store covers
+pub covers-range : (p : Put) (b : ℕ) → p.addr ≤ b → b < p.addr + p.len → covers p b ≡ true
+covers-range p b low high = and_from (nat_le p.addr b) (nat_lt (b - p.addr) p.len) (le-leb p.addr b low) (lt-ltb (b - p.addr) p.len (omega (arith, low, high)))
+
+pub range-covers : (p : Put) (b : ℕ) → covers p b ≡ true → (p.addr ≤ b) × (b < p.addr + p.len)
+range-covers p b h =
+    let both = and_parts (nat_le p.addr b) (nat_lt (b - p.addr) p.len) h in
+    let low = leb-true p.addr b both.0 in
+    let high = ltb-true (b - p.addr) p.len both.1 in
+    (low, omega (arith, low, high))
 
 -- a rank is at most the number of stores
 pub last_in-le : (puts : List Put) (b c : ℕ) → last_in puts b c ≤ c
@@ -218,6 +229,37 @@ least-more puts c low b (Some m) new h is lesser = subst (IsLeastOf puts c low (
       ];
       reached = elim (cases_lt m (suc k)) [ inl less ↦ let r = is.reached in (r.0, r.1, omega (arith, r.2), omega (arith, r.3)) | inr more ↦ (b, h, omega arith, omega (arith, e)) ];
     })
+
+-- the other bytes of the last store to a byte were written by it or later
+pub least-past : (puts : List Put) (c low b e r : ℕ) (o : Option ℕ) → low ≤ b → b < e → last_in puts b c ≡ suc r → ((k : ℕ) → b < k → k < e → k < (put_at puts r).addr + (put_at puts r).len) → IsLeastOf puts c low (b + 1) o → IsLeastOf puts c low e o
+least-past puts c low b e r None from far last inside is = absurd (omega (arith, last, is b from (omega arith)))
+least-past puts c low b e r (Some m) from far last inside is = record {
+  some = is.some;
+  bound = λ a above below. elim (cases_lt a (b + 1)) [ inl less ↦ is.bound a above less | inr more ↦ inr (later a (omega (arith, more)) below) ];
+  reached = let r' = is.reached in (r'.0, r'.1, omega (arith, r'.2, far), r'.3);
+}
+  where
+    own : (r < c) × (covers (put_at puts r) b ≡ true)
+    own = last_in-covers puts b c r last
+
+    by : m ≤ suc r
+    by = elim (is.bound b from (omega arith)) [ inl none ↦ absurd (omega (arith, none, last)) | inr least ↦ omega (arith, least, last) ]
+
+    later : (a : ℕ) → b < a → a < e → m ≤ last_in puts a c
+    later a above below =
+        let start = (range-covers (put_at puts r) b own.1).0 in
+        let hit = covers-range (put_at puts r) a (omega (arith, start, above)) (inside a above below) in
+        omega (arith, by, last_in-above puts a c r own.0 hit)
+
+-- one more byte, and then the other bytes of its last store
+pub least-next : (puts : List Put) (c low b e v : ℕ) (old new : Option ℕ) → low ≤ b → b < e → v ≡ last_in puts b c → (v ≡ 0 → e ≡ b + 1) →
+    ((k : ℕ) → b < k → k < e → k < (put_at puts (v - 1)).addr + (put_at puts (v - 1)).len) → IsLeastOf puts c low b old → IsLesser old v new → IsLeastOf puts c low e new
+least-next puts c low b e zero old new from far same single inside is lesser =
+    subst (λ x. IsLeastOf puts c low x new) (sym (single refl)) (least-more puts c low b old new from is (subst (λ v. IsLesser old v new) same lesser))
+least-next puts c low b e (suc r) old new from far same single inside is lesser =
+    let first : suc r - 1 ≡ r = omega arith in
+    least-past puts c low b e r new from far (sym same) (λ k above below. subst (λ n. k < (put_at puts n).addr + (put_at puts n).len) first (inside k above below))
+    (least-more puts c low b old new from is (subst (λ v. IsLesser old v new) same lesser))
 
 -- the least of no bytes
 pub least-none : (puts : List Put) (c low : ℕ) → IsLeastOf puts c low low None

@@ -4,26 +4,26 @@ ghost use Rattle.pmt_asserts.specs.declared.put.Write.{Write};
 ghost use Rattle.pmt_asserts.specs.Puts.{covers, puts_of, IsInside, AreWritesOf};
 
 use crate::put::{Put, Write};
-use pmt_lines::{Step, StepKind};
+use pmt_lines::{SmallStep, Step, StepKind};
 use pmt_model::OutOfMemory;
 use std::alloc::Global;
 
 // The stores among the steps.
-pub fn collect_puts(alloc: Global, steps: &[Step]) -> Result<Vec<Put>, OutOfMemory>
+pub fn collect_puts(alloc: Global, steps: &[SmallStep]) -> Result<Vec<Put>, OutOfMemory>
     ensures { IfOk result (λ puts. puts.items ≡ puts_of steps.now) }
 {
     let mut puts = Vec::with_capacity(alloc, stores_in(steps))?;
     for step in steps {
-        push_put(&mut puts, *step)?;
+        push_put(&mut puts, step.step())?;
     }
     Ok(puts)
 }
 
 // How many of the steps are stores: the room to ask for, of which nothing is promised.
-fn stores_in(steps: &[Step]) -> usize {
+fn stores_in(steps: &[SmallStep]) -> usize {
     steps
         .iter()
-        .filter(|step| matches!(step.kind, StepKind::Store { .. }))
+        .filter(|step| matches!(step.kind(), StepKind::Store { .. }))
         .count()
 }
 

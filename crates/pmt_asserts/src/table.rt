@@ -1,8 +1,8 @@
 //! The table of one line: its result, made ready for searches by place and by byte.
-ghost use Rattle.std.specs.Prelude.{◌≡◌, ◌≤◌, ◌↔◌, IsTrue, IfOk, length};
+ghost use Rattle.std.specs.Prelude.{◌≡◌, ℕ, ◌+◌, ◌-◌, ◌<◌, ◌≤◌, ◌↔◌, IsTrue, IfOk, length};
 ghost use Rattle.pmt_model.specs.Traces.{count_at as stores_by};
 ghost use Rattle.pmt_model.specs.Fronts.{front_at as front_by};
-ghost use Rattle.pmt_asserts.specs.Puts.{puts_of, last_in, LieBetween, IsGreatestIn, IsLeastOf, IsLesser, is_up_to};
+ghost use Rattle.pmt_asserts.specs.Puts.{puts_of, put_at, last_in, LieBetween, IsGreatestIn, IsLeastOf, IsLesser, is_up_to};
 ghost use Rattle.pmt_asserts.specs.Tables.{OfEachTrace, LieIn, EachFrom, PersistedBy, RankedBy, IsOldestOf};
 
 use crate::build::{collect_puts, collect_writes};
@@ -64,11 +64,11 @@ impl LineTable {
         ensures { OfEachTrace self.now (λ T l. place ≤ length T.events → front_by T l place ≡ result) }
     {
         let raises = self.found.raises();
-        let count = raises.partition_point(|raise| raise.place <= place);
+        let count = raises.partition_point(|raise| raise.place as u64 <= place);
         if count == 0 {
             0
         } else {
-            raises[count - 1].front
+            raises[count - 1].front as u64
         }
     }
 
@@ -143,10 +143,30 @@ impl LineTable {
         ensures { IsLeastOf (puts_of self.now.job.steps) count low high result }
     {
         let mut least = None;
-        for byte in low..high {
-            least = lesser(least, self.last(byte, count));
+        let mut byte = low;
+        while byte < high {
+            let rank = self.last(byte, count);
+            least = lesser(least, rank);
+            byte = self.past(byte, rank, high);
         }
         least
+    }
+
+    // Where to look on after this byte, whose last store has this rank, 0 being none: the other bytes of that store were written
+    // by it or later.
+    fn past(&self, byte: u64, rank: u64, high: u64) -> u64
+        requires below { byte < high }
+        requires within { rank ≤ length (puts_of self.now.job.steps) }
+        ensures above { byte < result }
+        ensures fits { result ≤ high }
+        ensures unwritten { rank ≡ 0 → result ≡ byte + 1 }
+        ensures written { (b : ℕ) → byte < b → b < result → b < (put_at (puts_of self.now.job.steps) (rank - 1)).addr + (put_at (puts_of self.now.job.steps) (rank - 1)).len }
+    {
+        if rank == 0 {
+            return byte + 1;
+        }
+        let put = self.puts[rank as usize - 1];
+        put.addr.saturating_add(put.len).min(high).max(byte + 1)
     }
 
     /// Whether by place `by` the last one of the events up to `place` that stores to a byte is persisted for sure, for each

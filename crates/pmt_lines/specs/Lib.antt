@@ -1,4 +1,5 @@
 pub mod Steps
+pub mod Packing
 pub mod Jobs
 pub mod Running
 pub mod LineFindings

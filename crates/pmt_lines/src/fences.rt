@@ -12,7 +12,7 @@ use std::marker::Model;
 #[derive(Debug, Drop)]
 pub struct ThreadResult {
     job: ThreadJob,
-    empty: Vec<u64>,
+    empty: Vec<u32>,
 }
 
 impl Model for ThreadResult {
@@ -35,7 +35,7 @@ impl ThreadResult {
     }
 
     /// The rising numbers of the fences whose thread has flushed no line since its last fence.
-    pub fn empty(&self) -> &[u64]
+    pub fn empty(&self) -> &[u32]
         ensures value { result.now ≡ self.now.empty }
         ensures right { IsThreadResult self.now }
     {
@@ -60,11 +60,11 @@ pub fn run_fences(alloc: Global, job: ThreadJob) -> Result<ThreadResult, OutOfMe
             number,
             thread,
             kind,
-        } = *step;
+        } = step.step();
         let has_flushed = flushed[thread as usize];
         flushed[thread as usize] = kind.is_flush();
         if kind.is_fence() && !has_flushed {
-            empty.push(number)?;
+            empty.push(number as u32)?;
         }
     }
     Ok(ThreadResult { job, empty })

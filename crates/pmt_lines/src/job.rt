@@ -1,18 +1,22 @@
 //! The job of one line: the events that matter to it.
-ghost use Rattle.std.specs.Prelude.{◌≡◌, ◌<◌, ◌≤◌, OnOk, OnErr, []};
+ghost use Rattle.std.specs.Prelude.{◌≡◌, ◌<◌, ◌≤◌, OnOk, OnErr, [], ◌∷◌, ◌++◌};
 ghost use Rattle.pmt_model.specs.Traces.{event_limit};
 ghost use Rattle.pmt_lines.specs.Steps.{IsStepKind, AreSteps, last_number, with_step};
 
+use crate::small_step::SmallStep;
 use crate::step::Step;
 use pmt_model::OutOfMemory;
 use std::alloc::Global;
 use std::marker::Model;
 
+// The room that is asked for first: many lines have one step or two, and the smallest block of memory has place for two.
+const FIRST_ROOM: usize = 2;
+
 /// The events of a trace that matter to one line, in order.
 #[derive(Debug, Drop)]
 pub struct LineJob {
     line: u64,
-    steps: Vec<Step>,
+    steps: Vec<SmallStep>,
 }
 
 impl Model for LineJob {
@@ -44,7 +48,7 @@ impl LineJob {
     }
 
     /// The stores, flushes and fences, by rising numbers from 1 to 1,000,000; each store lies inside one word.
-    pub fn steps(&self) -> &[Step]
+    pub fn steps(&self) -> &[SmallStep]
         ensures value { result.now ≡ self.now.steps }
         ensures rising { AreSteps 0 self.now.steps }
     {
@@ -56,7 +60,7 @@ impl LineJob {
         ensures { result ≡ last_number 0 self.now.steps }
     {
         match self.steps.last() {
-            Some(step) => step.number,
+            Some(step) => step.number(),
             None => 0,
         }
     }
@@ -69,7 +73,21 @@ impl LineJob {
         ensures ok { OnOk result (self.new ≡ with_step self.old step) }
         ensures err { OnErr result (self.new ≡ self.old) }
     {
-        self.steps.push(step)?;
+        push_step(&mut self.steps, step)?;
         Ok(())
     }
+}
+
+// Adds the step.
+fn push_step(steps: &mut Vec<SmallStep>, step: Step) -> Result<(), OutOfMemory>
+    requires within { step.number ≤ event_limit }
+    requires inside { IsStepKind step.kind }
+    ensures ok { OnOk result (steps.new.items ≡ steps.old.items ++ step ∷ []) }
+    ensures err { OnErr result (steps.new.items ≡ steps.old.items) }
+{
+    if steps.is_empty() {
+        steps.reserve_exact(FIRST_ROOM)?;
+    }
+    steps.push(SmallStep::new(step))?;
+    Ok(())
 }

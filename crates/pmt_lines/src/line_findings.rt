@@ -1,5 +1,5 @@
 //! The findings of one line.
-ghost use Rattle.std.specs.Prelude.{◌≡◌, ℕ, ◌+◌, ◌%◌, ◌<◌, ◌≤◌, [], ◌++◌, replicate, IfOk, OnOk, MatchOption};
+ghost use Rattle.std.specs.Prelude.{◌≡◌, ℕ, ◌+◌, ◌%◌, ◌<◌, ◌≤◌, [], ◌∷◌, ◌++◌, replicate, IfOk, OnOk, MatchOption};
 ghost use Rattle.pmt_model.specs.Traces.{event_limit};
 ghost use Rattle.pmt_lines.specs.Steps.{IsStepKind};
 ghost use Rattle.pmt_lines.specs.Running.{TakesStep};
@@ -9,6 +9,7 @@ ghost use Rattle.pmt_lines.specs.Scans.{found_if, last_front_of, last_flush_of, 
 use crate::job::LineJob;
 use crate::last_stores::LastStores;
 use crate::raises::{Raise, take_step};
+use crate::small_step::SmallStep;
 use crate::step::{Step, StepKind};
 use pmt_marks::LineState;
 use pmt_model::{Finding, OutOfMemory};
@@ -35,19 +36,19 @@ fn last_front(raises: &[Raise]) -> u64
     ensures { result ≡ last_front_of 0 raises.now }
 {
     match raises.last() {
-        Some(raise) => raise.front,
+        Some(raise) => raise.front as u64,
         None => 0,
     }
 }
 
 // The number of the last flush or clflush, or 0.
-fn last_flush(steps: &[Step]) -> u64
+fn last_flush(steps: &[SmallStep]) -> u64
     ensures { result ≡ last_flush_of 0 steps.now }
 {
     let mut last = 0;
     for step in steps {
-        match step.kind {
-            StepKind::Flush | StepKind::Clflush => last = step.number,
+        match step.kind() {
+            StepKind::Flush | StepKind::Clflush => last = step.number(),
             StepKind::Store { .. } | StepKind::Fence => {}
         }
     }
@@ -67,12 +68,23 @@ fn next_above(numbers: &[u32], low: u32) -> Option<u32>
     next
 }
 
+// Adds the finding. Many lines have one: more room is asked for where there is another.
+fn push_finding(found: &mut Vec<Finding>, finding: Finding) -> Result<(), OutOfMemory>
+    ensures { OnOk result (found.new.items ≡ found.old.items ++ finding ∷ []) }
+{
+    if found.is_empty() {
+        found.reserve_exact(1)?;
+    }
+    found.push(finding)?;
+    Ok(())
+}
+
 // Adds the finding, if it is one.
 fn push_if(found: &mut Vec<Finding>, is_one: bool, finding: Finding) -> Result<(), OutOfMemory>
     ensures { OnOk result (found.new.items ≡ found.old.items ++ found_if is_one finding) }
 {
     if is_one {
-        found.push(finding)?;
+        push_finding(found, finding)?;
     }
     Ok(())
 }
@@ -88,10 +100,13 @@ fn push_overwritten(
 {
     let mut low = flush;
     while let Some(next) = next_above(earlier, low) {
-        found.push(Finding::Overwritten {
-            earlier: next as u64,
-            later,
-        })?;
+        push_finding(
+            found,
+            Finding::Overwritten {
+                earlier: next as u64,
+                later,
+            },
+        )?;
         low = next;
     }
     Ok(())
@@ -221,7 +236,7 @@ pub(crate) fn line_findings(
             number,
             thread,
             kind,
-        } = *step;
+        } = step.step();
         scan.report(
             &mut found,
             ending,

@@ -16,9 +16,9 @@ use std::marker::Model;
 #[derive(Clone, Copy, Debug, PartialEq, Eq)]
 pub struct Raise {
     /// The number of the event that raised it.
-    pub place: u64,
+    pub place: u32,
     /// The front after that event.
-    pub front: u64,
+    pub front: u32,
 }
 
 /// What a line's job gives.
@@ -81,7 +81,7 @@ pub fn run_line(alloc: Global, job: LineJob) -> Result<LineResult, OutOfMemory>
             number,
             thread,
             kind,
-        } = *step;
+        } = step.step();
         if take_step(
             &mut state,
             Step {
@@ -91,8 +91,8 @@ pub fn run_line(alloc: Global, job: LineJob) -> Result<LineResult, OutOfMemory>
             },
         )? {
             raises.push(Raise {
-                place: number,
-                front: state.front(),
+                place: number as u32,
+                front: state.front() as u32,
             })?;
         }
     }

@@ -1,5 +1,7 @@
 //! Where each event of a trace goes while it is split.
-ghost use Rattle.std.specs.Prelude.{◌≡◌, ℕ, suc, ◌<◌, ◌≤◌, length, map, vec_len, All, IfOk, OnOk};
+ghost use Rattle.std.specs.Prelude.{◌≡◌, ℕ, suc, ◌<◌, ◌≤◌, length, map, vec_len, All, IfOk, OnOk, Some, true, not, nat_eq, slice_get};
+ghost use Rattle.std.specs.List.{IsDistinct, list_any};
+ghost use Rattle.indexmap.specs.IndexSet.{insert_key};
 ghost use Rattle.pmt_model.specs.declared.event.Event.{Event};
 ghost use Rattle.pmt_model.specs.Machine.{Flushes, Fences};
 ghost use Rattle.pmt_model.specs.Pushing.{empty, with_event};
@@ -24,6 +26,8 @@ pub(crate) struct Splitter {
     jobs: Vec<LineJob>,
     open_flushes: OpenFlushes,
     fences: ThreadJob,
+    // The place of the line that was stored or flushed last: often the next one is the same.
+    last: usize,
 }
 
 impl Splitter {
@@ -38,6 +42,7 @@ impl Splitter {
             jobs: Vec::new(alloc),
             open_flushes: OpenFlushes::new(alloc)?,
             fences: ThreadJob::new(alloc),
+            last: 0,
         })
     }
 
@@ -69,6 +74,7 @@ impl Splitter {
             jobs,
             open_flushes: _,
             fences,
+            last: _,
         } = self;
         Jobs {
             trace,
@@ -135,7 +141,8 @@ impl Splitter {
         ensures so_far { OnOk result ((e : Event) → e.thread ≡ step.thread → IsAccess line step.kind (act self.old.trace.format e)
             → IsSplitting (with_event self.old.trace e) self.new.lines.keys self.new.jobs.items self.new.open_flushes self.new.fences) }
     {
-        take_on_line(&mut self.lines, &mut self.jobs, line, step)?;
+        let place = take_on_line(&mut self.lines, &mut self.jobs, self.last, line, step)?;
+        self.last = place;
         Ok(())
     }
 
@@ -154,7 +161,8 @@ impl Splitter {
             thread,
             kind,
         };
-        let place = take_on_line(&mut self.lines, &mut self.jobs, line, step)?;
+        let place = take_on_line(&mut self.lines, &mut self.jobs, self.last, line, step)?;
+        self.last = place;
         self.open_flushes.add(thread, place)?;
         self.fences.push(step)?;
         Ok(())
@@ -182,10 +190,28 @@ impl Splitter {
     }
 }
 
+// The place of the line, which it gets if it has none yet, and whether it is new. It is looked up where it is not the line at the
+// place `last`.
+fn place_of(lines: &mut IndexSet<u64>, last: usize, line: u64) -> Result<(usize, bool), OutOfMemory>
+    ensures added { IfOk result (λ found. found.1 ≡ not (list_any (nat_eq line) lines.old.keys)) }
+    ensures keys { OnOk result (lines.new.keys ≡ insert_key nat_eq lines.old.keys line) }
+    ensures stored { IfOk result (λ found. (k : ℕ) × (slice_get lines.new.keys found.0 ≡ Some k) × (nat_eq line k ≡ true)) }
+    ensures unique { OnOk result (IsDistinct nat_eq lines.new.keys) }
+{
+    let _is_unique = lines.len();
+    match lines.get_index(last) {
+        Some(known) if *known == line => return Ok((last, false)),
+        _ => {}
+    }
+    let found = lines.insert_full(line)?;
+    Ok(found)
+}
+
 // Adds the step to the job of the line, which it makes if there is none yet: the place of the job.
 fn take_on_line(
     lines: &mut IndexSet<u64>,
     jobs: &mut Vec<LineJob>,
+    last: usize,
     line: u64,
     step: Step,
 ) -> Result<usize, OutOfMemory>
@@ -196,7 +222,7 @@ fn take_on_line(
     requires kind { IsStepKind step.kind }
     ensures { IfOk result (λ place. TakesOnLine line step place lines.old.keys lines.new.keys jobs.old.items jobs.new.items) }
 {
-    let (place, is_new) = lines.insert_full(line)?;
+    let (place, is_new) = place_of(lines, last, line)?;
     if is_new {
         jobs.push(LineJob::new(*jobs.allocator(), line))?;
     }

@@ -3,6 +3,7 @@ ghost use Rattle.std.specs.Prelude.{◌≡◌, ◌<◌, ◌≤◌, OnOk, OnErr, 
 ghost use Rattle.pmt_model.specs.Traces.{event_limit};
 ghost use Rattle.pmt_lines.specs.Steps.{IsStepKind, AreSteps, last_number};
 
+use crate::small_step::SmallStep;
 use crate::step::Step;
 use pmt_model::OutOfMemory;
 use std::alloc::Global;
@@ -11,7 +12,7 @@ use std::marker::Model;
 /// The flushes and fences of a trace, in order.
 #[derive(Debug, Drop)]
 pub struct ThreadJob {
-    steps: Vec<Step>,
+    steps: Vec<SmallStep>,
 }
 
 impl Model for ThreadJob {
@@ -37,7 +38,7 @@ impl ThreadJob {
     }
 
     /// The flushes and fences, by rising numbers from 1 to 1,000,000.
-    pub fn steps(&self) -> &[Step]
+    pub fn steps(&self) -> &[SmallStep]
         ensures value { result.now ≡ self.now }
         ensures rising { AreSteps 0 self.now }
     {
@@ -52,7 +53,7 @@ impl ThreadJob {
         ensures ok { OnOk result (self.new ≡ self.old ++ step ∷ []) }
         ensures err { OnErr result (self.new ≡ self.old) }
     {
-        self.steps.push(step)?;
+        self.steps.push(SmallStep::new(step))?;
         Ok(())
     }
 }

@@ -70,7 +70,7 @@ fn stores_of(job: &LineJob) -> u64
     let steps = job.steps();
     let mut stores = 0;
     for step in steps {
-        if let StepKind::Store { addr: _, len: _ } = step.kind {
+        if let StepKind::Store { addr: _, len: _ } = step.kind() {
             stores += 1;
         }
     }
@@ -82,7 +82,7 @@ fn front_of(found: &LineResult) -> u64
     ensures { result ≡ last_front_of 0 found.now.raises }
 {
     match found.raises().last() {
-        Some(raise) => raise.front,
+        Some(raise) => raise.front as u64,
         None => 0,
     }
 }

@@ -1,5 +1,5 @@
 -- A stream under way, and what it tells when it ends.
-use Rattle.std.proofs.Common.{◌≡◌, ◌≢◌, ℕ, ◌+◌, ◌<◌, ◌^◌, ◌⊎◌, inl, inr, ⊎_elim, List, [], ◌∷◌, ◌++◌, length, take, Option, Some, None, Result, Ok, Err, refl, sym, ap, ◌∙◌, subst, arith, length-append}
+use Rattle.std.proofs.Common.{◌≡◌, ◌≢◌, ℕ, ◌+◌, ◌<◌, ◌^◌, inl, inr, ⊎_elim, List, [], ◌∷◌, ◌++◌, length, take, Option, Some, None, Result, Ok, Err, refl, sym, ap, ◌∙◌, subst, arith, length-append}
 use Rattle.std.specs.Prelude.{IfSome}
 use Rattle.std.proofs.lemmas.List.{take_all}
 use Rattle.std.specs.List.{AllByRecursion}
@@ -77,7 +77,7 @@ tells-end old mid new same unfailed told = go old unfailed (subst (λ s. TellsNe
   where
     go : (s : SourceState) → ((told : SourceError) → s ≢ states.Failed told) → TellsNext s (Ok None) new →
         TellsStream s (Ok tt) new × TellsStream s (Err OutOfMemory) new × ((w : ℕ) → TellsStream s (Err (Write w)) new)
-    go states.Open free t = (t, tt, λ w. tt)
+    go states.Open free t = (t, inr t, λ w. tt)
     go states.Ended free t = (t.1, t.1, λ w. t.1)
     go (states.Failed f) free t = absurd (free f refl)
 

@@ -1,5 +1,5 @@
 -- Queues of lines.
-use Rattle.std.proofs.Common.{◌≡◌, ℕ, ◌+◌, ◌≤◌, Bool, true, false, List, [], ◌∷◌, ◌++◌, length, take, drop, sum, refl, sym, ap, ap₂, ◌∙◌, arith, append_assoc, append-nil, length-drop}
+use Rattle.std.proofs.Common.{◌≡◌, ℕ, suc, ◌+◌, ◌≤◌, Bool, List, [], ◌∷◌, ◌++◌, length, drop, sum, refl, ap, ap₂, ◌∙◌, arith, append_assoc, length-drop}
 use Rattle.std.proofs.lemmas.List.{drop-append-le, take-append-le, take_all}
 use Rattle.std.proofs.lemmas.List.Sums.{sum_by-cons}
 use Rattle.pmt_trim.specs.LineQueues.{cut_by, AreCut, kept_text, kept_texts, Pops}
@@ -20,6 +20,11 @@ queue-more old_lengths lengths start n old_bytes bytes line all len more longer 
     ap₂ (λ (ns bs : List ℕ). cut_by ns (drop start bs)) (more ∙ ap (λ (m : ℕ). old_lengths ++ m ∷ []) len) longer
     ∙ ap (cut_by (old_lengths ++ length line ∷ [])) (drop-append-le start old_bytes line (omega (arith, all)))
     ∙ cut-more old_lengths (drop start old_bytes) line (omega (arith, all, length-drop start old_bytes))
+
+-- as many lines as lengths
+pub length-cut : (lengths bytes : List ℕ) → length (cut_by lengths bytes) ≡ length lengths
+length-cut [] bytes = refl
+length-cut (n ∷ lengths) bytes = ap suc (length-cut lengths (drop n bytes))
 
 -- where a line has left, the flags that are left choose what is left
 no-texts : (flags : List Bool) → kept_texts flags [] ≡ []

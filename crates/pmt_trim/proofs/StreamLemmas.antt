@@ -1,5 +1,5 @@
 -- What leaves a stream, event by event.
-use Rattle.std.proofs.Common.{◌≡◌, ◌≢◌, ℕ, zero, suc, ◌+◌, ◌-◌, ◌<◌, ◌≤◌, ◌⊎◌, inl, inr, Bool, true, false, List, [], ◌∷◌, ◌++◌, length, take, drop, map, reverse, Option, Some, None, Ok, Bor, refl, sym, ap, ap₂, ◌∙◌, subst, arith, append_assoc, append-nil, filter_map, get_or, length-drop}
+use Rattle.std.proofs.Common.{◌≡◌, ℕ, zero, suc, ◌+◌, ◌-◌, ◌<◌, ◌≤◌, ◌⊎◌, inl, inr, Bool, true, false, List, [], ◌∷◌, ◌++◌, length, drop, map, Option, Some, None, Ok, Bor, refl, sym, ap, ap₂, ◌∙◌, subst, arith, append_assoc, append-nil, filter_map, get_or, length-drop}
 use Rattle.std.specs.Prelude.{◌↔◌, slice_get, IfSome}
 use Rattle.std.specs.List.{flat_map}
 use Rattle.std.proofs.lemmas.Bool.{cases_lt, cases_eq, false≢true}
@@ -8,8 +8,8 @@ use Rattle.std.proofs.lemmas.List.Elements.{filter_map-append}
 use Rattle.std.proofs.lemmas.Grind.{flat_map-append}
 use Rattle.pmt_model.specs.declared.event.Event.{Event}
 use Rattle.pmt_model.specs.Values.{Layout}
-use Rattle.pmt_model.specs.Machine.{Act, Flushes, Clflushes, Fences}
-use Rattle.pmt_model.specs.Traces.{Recording, event, IsAct}
+use Rattle.pmt_model.specs.Machine.{Flushes, Clflushes, Fences}
+use Rattle.pmt_model.specs.Traces.{Recording, event}
 use Rattle.pmt_model.specs.Pushing.{empty, with_event}
 use Rattle.pmt_model.specs.Selections.{IsRising, Has, cut}
 use Rattle.pmt_model.specs.Keeping.{IsKept, Stays, ByFence, ByFlush, ByClflush, IsKeep}
@@ -20,8 +20,8 @@ use Rattle.pmt_laws.proofs.DecidedLemmas.{event-more, decided_stays, decided_or_
 use Rattle.pmt_laws.proofs.Histories.{act-within}
 use Rattle.pmt_laws.proofs.CutLemmas.{has-above}
 use Rattle.pmt_trim.specs.Passing.{AreFlags, Settles}
-use Rattle.pmt_trim.specs.Streaming.{IsBeforeOpen, AreOut, IsOut, OutComesFirst, IsTextOfTrimmed}
-use Rattle.pmt_trim.specs.Leaving.{AreKeptBy, HaveLeft, kept_line, kept_lines}
+use Rattle.pmt_trim.specs.Streaming.{IsBeforeOpen, IsOut, OutComesFirst, IsTextOfTrimmed}
+use Rattle.pmt_trim.specs.Leaving.{HaveLeft, kept_line, kept_lines}
 use Rattle.pmt_trim.specs.LineQueues.{kept_text, kept_texts, Pops}
 use Rattle.pmt_trim.proofs.HeadlineLemmas.{keep-is-trimmed}
 use Rattle.pmt_trim.proofs.MarkingLemmas.{marked_from, marked-rise, has-marked}
@@ -408,3 +408,29 @@ pub left-all : (T : Recording) (place : ℕ) (flags : List Bool) (waiting : List
     HaveLeft T place waiting text → IsTextOfTrimmed T (text ++ rest)
 left-all T place flags waiting text rest are is left =
     let P : List ℕ → Type 0 = λ bytes. IsTextOfTrimmed T (text ++ bytes) in subst P (sym is) (left-finish T place flags waiting text are left)
+
+-- ---- An event that comes while none waits
+
+none-mapped : (waiting : List Event) → [] ≡ map event_text waiting → waiting ≡ []
+none-mapped [] is = refl
+none-mapped (e ∷ waiting) is = cc
+
+pub left-alone : (T : Recording) (e : Event) (place next all : ℕ) (waiting : List Event) (lines : List (List ℕ)) (text : List ℕ) → lines ≡ [] → lines ≡ map event_text waiting → next ≡ place →
+    ((k : ℕ) → k ≤ place → IsDecided T k) → place + all ≡ length T.events → HaveLeft T place waiting text → HaveLeft (with_event T e) next (e ∷ []) text
+left-alone T e place next all waiting lines text none are same decided within left =
+    let alone : waiting ≡ [] = none-mapped waiting (sym none ∙ are) in
+    left-next T e place next all waiting (e ∷ []) text same (sym (ap (λ (es : List Event). es ++ e ∷ []) alone)) decided within left
+
+-- it leaves at once
+pub alone-left : (T : Recording) (place next : ℕ) (kept : Bool) (result : Option Bool) (e : Event) (base text longer : List ℕ) → result ≡ Some kept → Settles T place result next →
+    longer ≡ text ++ kept_text kept (event_text e) → HaveLeft T place (e ∷ []) (base ++ text) → HaveLeft T next [] (base ++ longer)
+alone-left T place next kept result e base text longer told settles is left =
+    let more : base ++ longer ≡ (base ++ text) ++ kept_line kept e =
+    ap (λ (bytes : List ℕ). base ++ bytes) is ∙ sym (append_assoc base text (kept_text kept (event_text e))) ∙ ap (λ (bytes : List ℕ). (base ++ text) ++ bytes) (kept-is kept e) in
+    left-pop T place next kept result e (e ∷ []) [] (base ++ text) (base ++ longer) told settles refl more left
+
+-- all that has come has left
+pub none-left : (T : Recording) (place all : ℕ) (text : List ℕ) → place + all ≡ length T.events → HaveLeft T place [] text → (place ≡ length T.events) ⊎ IsOpenFlush T (suc place)
+none-left T place all text within left =
+    let size : 0 ≡ length T.events - place = ap length left.others ∙ length-drop place T.events in
+    inl (omega (arith, size))

@@ -1,5 +1,5 @@
 -- What a stream holds once some events have come.
-use Rattle.std.specs.Prelude.{◌≡◌, ℕ, ◌+◌, ◌<◌, ◌≤◌, ◌⊎◌, ◌↔◌, Bool, true, false, List, [], ◌∷◌, ◌++◌, length, take, drop, map, Option, Some, None, Result, Ok, Err}
+use Rattle.std.specs.Prelude.{◌≡◌, ℕ, ◌+◌, ◌≤◌, ◌⊎◌, ◌↔◌, Bool, true, false, List, [], ◌∷◌, ◌++◌, length, take, drop, map, Option, Result, Ok, Err}
 use Rattle.std.specs.Io.KnownBytes.{Keeps, Appends}
 use Rattle.pmt_model.specs.declared.event.Event.{Event}
 use Rattle.pmt_model.specs.Traces.{Recording, IsTrace}
@@ -34,6 +34,10 @@ pub record IsStreamOf (T : Recording) (s : Stream) (text : List ℕ) : Type 0 wh
 -- It is the stream of some events.
 abbrev pub IsStream : Stream → Type 0
 IsStream s = (T : Recording) × (text : List ℕ) × IsStreamOf T s text
+
+-- And its text is the last that has left.
+abbrev pub IsStreamSoFar : Stream → Type 0
+IsStreamSoFar s = (T : Recording) × (text : List ℕ) × IsStreamOf T s (text ++ s.text.items)
 
 -- The line of an event that is kept; none of one that is not.
 abbrev pub kept_line : Bool → Event → List ℕ

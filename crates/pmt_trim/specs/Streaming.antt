@@ -89,11 +89,11 @@ Streams coming old new (Err OutOfMemory) = Keeps old new ⊎ Writes (ComesFirst 
 Streams coming old new (Err (Write written)) = WritesFirst (ComesFirst coming) IsOut old new written ⊎ WritesFirst (ComesWhole coming) IsTextOfTrimmed old new written
 
 -- Ok is answered only where the source has told its end, a fault only where it has told that fault, `Failed` only where it had told
--- a fault before.
+-- a fault before, and want of memory only where it has told no fault.
 abbrev pub TellsStream : SourceState → Result (Unit {0}) StreamError → SourceState → Type 0
 TellsStream states.Open (Ok u) new = new ≡ states.Ended
 TellsStream states.Open (Err (Source e)) new = (new ≡ states.Failed e) × (e ≢ sources.Failed)
-TellsStream states.Open (Err OutOfMemory) new = Unit {0}
+TellsStream states.Open (Err OutOfMemory) new = (new ≡ states.Open) ⊎ (new ≡ states.Ended)
 TellsStream states.Open (Err (Write written)) new = Unit {0}
 TellsStream states.Ended (Ok u) new = new ≡ states.Ended
 TellsStream states.Ended (Err (Source e)) new = ⊥

@@ -12,7 +12,7 @@ use std::alloc::Global;
 ///
 /// # Errors
 /// Where memory was refused.
-pub fn liveness(alloc: Global, trace: &Trace, lists: &[Vec<u64>]) -> Result<Selection, OutOfMemory>
+pub fn liveness(alloc: Global, trace: &Trace, lists: &[Vec<u32>]) -> Result<Selection, OutOfMemory>
     requires { AreAllKept trace.now (map (λ kept. kept.items) lists.now) }
     ensures { IfOk result (λ selection. IsKeep trace.now selection) }
 {
@@ -45,7 +45,7 @@ fn always_stays(op: Op) -> bool
 }
 
 // Marks the numbers.
-fn mark_all(marked: &mut [bool], numbers: &[u64])
+fn mark_all(marked: &mut [bool], numbers: &[u32])
     requires { (n : ℕ) → Has numbers.now n → (1 ≤ n) × (n ≤ length marked.old) }
     ensures { MarksThese marked.old numbers.now marked.new }
 {
@@ -54,12 +54,17 @@ fn mark_all(marked: &mut [bool], numbers: &[u64])
     }
 }
 
+// How many are marked: the room to ask for, of which nothing is promised.
+fn count_of(marked: &[bool]) -> usize {
+    marked.iter().filter(|is_marked| **is_marked).count()
+}
+
 // The numbers that are marked.
 pub(crate) fn marked_numbers(alloc: Global, marked: &[bool]) -> Result<Selection, OutOfMemory>
     ensures rising { IfOk result (IsRising 0) }
     ensures just { IfOk result (λ numbers. (n : ℕ) → Has numbers n ↔ (is_kept_at marked.now n ≡ true)) }
 {
-    let mut numbers = Vec::new(alloc);
+    let mut numbers = Vec::with_capacity(alloc, count_of(marked))?;
     for i in 0..marked.len() {
         if marked[i] {
             numbers.push(i as u64 + 1)?;

@@ -14,7 +14,7 @@ use std::alloc::Global;
 ///
 /// # Errors
 /// Where memory was refused.
-pub fn line_kept(alloc: Global, found: &LineResult) -> Result<Vec<u64>, OutOfMemory>
+pub fn line_kept(alloc: Global, found: &LineResult) -> Result<Vec<u32>, OutOfMemory>
     ensures { IfOk result (λ kept. (T : Recording) → IsJobOf T found.now.job.line found.now.job.steps → IsLineKept T found.now.job.line kept.items) }
 {
     let steps = found.job().steps();
@@ -26,11 +26,11 @@ pub fn line_kept(alloc: Global, found: &LineResult) -> Result<Vec<u64>, OutOfMem
             number,
             thread,
             kind,
-        } = steps[i];
+        } = steps[i].step();
         let before = raises_before(raises, number);
         raises = before.unwrap_or(raises);
         if go_back(kind, thread, before.is_some(), &mut waiting) {
-            kept.push(number)?;
+            kept.push(number as u32)?;
         }
     }
     kept.reverse();
@@ -42,7 +42,7 @@ fn raises_before(raises: &[Raise], place: u64) -> Option<&[Raise]>
     ensures { MatchOption result (LastIsElsewhere raises.now place) (λ before. LastIsAt raises.now place before.now) }
 {
     let (last, before) = raises.split_last()?;
-    if last.place == place {
+    if last.place as u64 == place {
         Some(before)
     } else {
         None

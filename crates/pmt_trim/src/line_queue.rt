@@ -1,5 +1,5 @@
 //! A queue of lines, whose bytes lie in a row.
-ghost use Rattle.std.specs.Prelude.{◌≡◌, ◌<◌, List, ℕ, [], ◌∷◌, ◌++◌, length, OnOk};
+ghost use Rattle.std.specs.Prelude.{◌≡◌, ◌==◌, ◌<◌, List, ℕ, [], ◌∷◌, ◌++◌, length, OnOk};
 ghost use Rattle.pmt_trim.specs.LineQueues.{Pops};
 
 use pmt_model::OutOfMemory;
@@ -39,6 +39,13 @@ impl LineQueue {
             start: 0,
             lengths: VecDeque::new(alloc),
         }
+    }
+
+    // Whether there is no line.
+    pub(crate) fn is_empty(&self) -> bool
+        ensures { result ≡ (length self.now == 0) }
+    {
+        self.lengths.is_empty()
     }
 
     // Puts the line at the end.

@@ -5,8 +5,8 @@ ghost use Rattle.pmt_model.specs.Traces.{Recording, event_limit};
 ghost use Rattle.pmt_trim.specs.Passing.{taken};
 ghost use Rattle.pmt_trim.specs.Streaming.{IsOut, IsTextOfTrimmed};
 ghost use Rattle.pmt_text.specs.Spelling.{event_text};
-ghost use Rattle.pmt_trim.specs.Leaving.{IsStream, IsStreamOf};
-ghost use Rattle.pmt_trim.specs.LineQueues.{kept_texts};
+ghost use Rattle.pmt_trim.specs.Leaving.{IsStream, IsStreamOf, IsStreamSoFar};
+ghost use Rattle.pmt_trim.specs.LineQueues.{kept_text, kept_texts};
 
 use crate::line_queue::LineQueue;
 use crate::pass::Pass;
@@ -37,7 +37,7 @@ impl Stream {
         })
     }
 
-    // The next event comes, perhaps with its line, which is not spelled again then. Each event leaves before which no flush is left whose thread has not fenced since.
+    // The next event comes, perhaps with its line, which is not spelled again then. The text is what leaves with it: each event before which no flush is left whose thread has not fenced since.
     pub(crate) fn take(&mut self, event: Event, line: Option<&[u8]>) -> Result<(), OutOfMemory>
         requires stream { IsStream self.old }
         requires line { IfSome line (λ bytes. bytes.now ≡ event_text event) }
@@ -45,19 +45,56 @@ impl Stream {
         ensures stream { (T : Recording) (text : List ℕ) → IsStreamOf T self.old text → OnOk result (IsStreamOf (with_event T event) self.new (text ++ self.new.text.items)) }
         ensures out { (T : Recording) (text : List ℕ) → IsStreamOf T self.old text → OnOk result (IsOut (with_event T event) (text ++ self.new.text.items)) }
     {
+        self.text.clear();
+        self.take_more(event, line)
+    }
+
+    // As `take`, and what leaves comes after the text.
+    pub(crate) fn take_more(&mut self, event: Event, line: Option<&[u8]>) -> Result<(), OutOfMemory>
+        requires stream { IsStreamSoFar self.old }
+        requires line { IfSome line (λ bytes. bytes.now ≡ event_text event) }
+        requires room { taken self.old.pass < event_limit }
+        ensures stream { (T : Recording) (text : List ℕ) → IsStreamOf T self.old (text ++ self.old.text.items) → OnOk result (IsStreamOf (with_event T event) self.new (text ++ self.new.text.items)) }
+        ensures out { (T : Recording) (text : List ℕ) → IsStreamOf T self.old (text ++ self.old.text.items) → OnOk result (IsOut (with_event T event) (text ++ self.new.text.items)) }
+    {
+        if self.waiting.is_empty() {
+            return self.take_alone(event, line);
+        }
         wait(&mut self.waiting, &event, line)?;
         self.pass.take(event)?;
-        self.text.clear();
         self.leave()
+    }
+
+    // As `take_more`, where no event waits: it leaves at once, or it waits.
+    fn take_alone(&mut self, event: Event, line: Option<&[u8]>) -> Result<(), OutOfMemory>
+        requires stream { IsStreamSoFar self.old }
+        requires alone { self.old.waiting ≡ [] }
+        requires line { IfSome line (λ bytes. bytes.now ≡ event_text event) }
+        requires room { taken self.old.pass < event_limit }
+        ensures stream { (T : Recording) (text : List ℕ) → IsStreamOf T self.old (text ++ self.old.text.items) → OnOk result (IsStreamOf (with_event T event) self.new (text ++ self.new.text.items)) }
+        ensures out { (T : Recording) (text : List ℕ) → IsStreamOf T self.old (text ++ self.old.text.items) → OnOk result (IsOut (with_event T event) (text ++ self.new.text.items)) }
+    {
+        let thread = event.thread;
+        let op = event.op;
+        self.pass.take(Event { thread, op })?;
+        match self.pass.next_settled() {
+            Some(kept) => {
+                put(&mut self.text, kept, &event, line)?;
+                Ok(())
+            }
+            None => {
+                wait(&mut self.waiting, &event, line)?;
+                Ok(())
+            }
+        }
     }
 
     // The decided events at the front leave.
     fn leave(&mut self) -> Result<(), OutOfMemory>
-        requires stream { IsStream self.old }
+        requires stream { IsStreamSoFar self.old }
         requires room { taken self.old.pass ≤ event_limit }
-        requires empty { self.old.text.items ≡ [] }
-        ensures stream { (T : Recording) (text : List ℕ) → IsStreamOf T self.old text → OnOk result (IsStreamOf T self.new (text ++ self.new.text.items)) }
-        ensures out { (T : Recording) (text : List ℕ) → IsStreamOf T self.old text → OnOk result (IsOut T (text ++ self.new.text.items)) }
+        ensures stream { (T : Recording) (text : List ℕ) → IsStreamOf T self.old (text ++ self.old.text.items) → OnOk result (IsStreamOf T self.new (text ++ self.new.text.items)) }
+        ensures out { (T : Recording) (text : List ℕ) → IsStreamOf T self.old (text ++ self.old.text.items) → OnOk result (IsOut T (text ++ self.new.text.items)) }
     {
         while let Some(kept) = self.pass.next_settled() {
             self.waiting.pop_into(kept, &mut self.text)?;
@@ -75,9 +112,52 @@ impl Stream {
             text: _,
         } = self;
         let flags = pass.finish(alloc)?;
-        let rest = kept_text(alloc, flags.as_slice(), waiting)?;
+        let mut rest = Vec::new(alloc);
+        put_kept(&mut rest, flags.as_slice(), waiting)?;
         Ok(rest)
     }
+
+    // All has come: the text, and after it that of the kept events that still wait.
+    pub(crate) fn into_text(self, alloc: Global) -> Result<Vec<u8>, OutOfMemory>
+        ensures { IfOk result (λ whole. (T : Recording) → IsStreamOf T self self.text.items → IsTextOfTrimmed T whole.items) }
+    {
+        let Stream {
+            pass,
+            waiting,
+            mut text,
+        } = self;
+        let flags = pass.finish(alloc)?;
+        put_kept(&mut text, flags.as_slice(), waiting)?;
+        Ok(text)
+    }
+}
+
+// Puts the line of the event after the text, where it is kept. It is spelled where none was given.
+#[inline(always)]
+fn put(
+    text: &mut Vec<u8>,
+    kept: bool,
+    event: &Event,
+    line: Option<&[u8]>,
+) -> Result<(), OutOfMemory>
+    requires { IfSome line (λ bytes. bytes.now ≡ event_text event.now) }
+    ensures { OnOk result (text.new.items ≡ text.old.items ++ kept_text kept (event_text event.now)) }
+{
+    if !kept {
+        return Ok(());
+    }
+    match line {
+        Some(bytes) => text.extend_from_slice(bytes),
+        None => put_spelled(text, event),
+    }
+}
+
+// Puts the spelled line of the event after the text.
+fn put_spelled(text: &mut Vec<u8>, event: &Event) -> Result<(), OutOfMemory>
+    ensures { OnOk result (text.new.items ≡ text.old.items ++ event_text event.now) }
+{
+    let mut room = [0; LINE_ROOM];
+    text.extend_from_slice(spell_event(&mut room, event))
 }
 
 // The line of the event waits. It is spelled where none was given that fits the queue.
@@ -102,15 +182,14 @@ fn wait_spelled(waiting: &mut LineQueue, event: &Event) -> Result<(), OutOfMemor
     waiting.push(spell_event(&mut room, event))
 }
 
-// The lines whose flag is set.
-fn kept_text(alloc: Global, flags: &[bool], mut lines: LineQueue) -> Result<Vec<u8>, OutOfMemory>
-    ensures { IfOk result (λ text. text.items ≡ kept_texts flags.now lines) }
+// Puts the lines whose flag is set after the text.
+fn put_kept(text: &mut Vec<u8>, flags: &[bool], mut lines: LineQueue) -> Result<(), OutOfMemory>
+    ensures { OnOk result (text.new.items ≡ text.old.items ++ kept_texts flags.now lines) }
 {
-    let mut text = Vec::new(alloc);
     for kept in flags {
-        add_line(&mut text, *kept, &mut lines)?;
+        add_line(text, *kept, &mut lines)?;
     }
-    Ok(text)
+    Ok(())
 }
 
 // The first of the lines, where it is kept. It is gone then.

@@ -18,9 +18,9 @@ use std::io::Write;
 ///
 /// # Errors
 /// `Source` with the fault that the source told: nothing is out where it was told for the format, else just what was out before it.
-/// `OutOfMemory` where memory was refused; what was out before the event stays out. `Write` where a write or the last flush failed,
-/// also after another fault: the first `written` bytes are out. In each case the bytes that are out are the first of the trimmed trace, whatever
-/// would have come.
+/// `OutOfMemory` where memory was refused to the trimmer itself; the source told no fault then, and what was out before the event stays
+/// out. `Write` where a write or the last flush failed, also after another fault: the first `written` bytes are out. In each case the
+/// bytes that are out are the first of the trimmed trace, whatever would have come.
 pub fn trim_stream<S: EventSource, W: Write>(
     alloc: Global,
     source: &mut S,

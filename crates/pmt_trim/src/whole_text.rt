@@ -56,29 +56,9 @@ pub fn trimmed_text<S: EventSource>(alloc: Global, source: &mut S) -> Result<Vec
 {
     let format = source.format()?;
     let mut stream = Stream::new(alloc, format)?;
-    let mut text = Vec::new(alloc);
-    text.extend_from_slice(stream.text.as_slice())?;
     while let Some(event) = source.next()? {
-        take_into(&mut stream, event, source.last_line(), &mut text)?;
+        stream.take_more(event, source.last_line())?;
     }
-    let rest = stream.finish(alloc)?;
-    text.extend_from_slice(rest.as_slice())?;
+    let text = stream.into_text(alloc)?;
     Ok(text)
-}
-
-// The next event comes, perhaps with its line. What leaves with it is put after the text.
-fn take_into(
-    stream: &mut Stream,
-    event: Event,
-    line: Option<&[u8]>,
-    text: &mut Vec<u8>,
-) -> Result<(), OutOfMemory>
-    requires stream { IsStream stream.old }
-    requires room { taken stream.old.pass < event_limit }
-    requires line { IfSome line (λ bytes. bytes.now ≡ event_text event) }
-    ensures { (T : Recording) → IsStreamOf T stream.old text.old.items → OnOk result (IsStreamOf (with_event T event) stream.new text.new.items) }
-{
-    stream.take(event, line)?;
-    text.extend_from_slice(stream.text.as_slice())?;
-    Ok(())
 }

@@ -11,7 +11,7 @@ use std::alloc::Global;
 pub(crate) fn taken_apart(
     alloc: Global,
     answers: Vec<LineAnswer>,
-) -> Result<(Vec<LineResult>, Vec<Vec<u64>>), OutOfMemory>
+) -> Result<(Vec<LineResult>, Vec<Vec<u32>>), OutOfMemory>
     ensures results { IfOk result (λ pair. pair.0.items ≡ map result_in answers.items) }
     ensures lists { IfOk result (λ pair. map (λ kept. kept.items) pair.1.items ≡ map kept_in answers.items) }
 {

@@ -11,7 +11,7 @@ use std::alloc::Global;
 #[derive(Debug, Drop)]
 pub struct LineAnswer {
     pub result: LineResult,
-    pub kept: Vec<u64>,
+    pub kept: Vec<u32>,
 }
 
 /// Where a worker runs its part of the jobs: tests watch the workers there.

@@ -4,6 +4,7 @@ use pmt_model::{Finding, NoGate, Verdict};
 use pmt_text::devices::PieceReader;
 use pmt_text::{Counted, ListSource, SourceError, TextSource, write_trace};
 use std::alloc::Global;
+use std::process::Abort;
 use std::test::Fail;
 use std::thread::Threads;
 
@@ -33,36 +34,35 @@ fn one_line_by_sixteen_workers(rt: HostRuntime) -> Result<(), Fail> {
     Ok(())
 }
 
-#[test]
-fn fence_of_another_thread_by_any_number(rt: HostRuntime) -> Result<(), Fail> {
+// A store that is flushed but not fenced, a fence of another thread, and an assertion that fails.
+fn fenced_by_another<R: Threads + Abort + Sync>(
+    rt: &R,
+    alloc: Global,
+    workers: usize,
+) -> Result<(), Fail> {
     let text = b"pmtrace 1\nstore 0 0x1000 01\nclwb 0 0x1000\nsfence 1\nisPersist 0 0x1000 1\n";
+    let analysis = analysis_of_text(rt, alloc, text.as_slice(), workers)?;
     let never = Finding::NeverPersisted {
         event: 1,
         flushed: true,
     };
+    let findings = [never, Finding::FenceWithoutFlush { event: 3 }];
+    assert_eq!(rt; analysis.findings(), findings.as_slice());
     let fails = Verdict {
         event: 4,
         ordered: false,
         pass: false,
     };
+    assert_eq!(rt; analysis.verdicts(), [fails].as_slice());
+    assert_eq!(rt; analysis.selection().numbers(), [1, 4].as_slice());
+    assert_eq!(rt; analysis.trimmed()?.len(), 2);
+    Ok(())
+}
+
+#[test]
+fn fence_of_another_thread_by_any_number(rt: HostRuntime) -> Result<(), Fail> {
     for workers in [1, 2, 4, 8, 16] {
-        let analysis = analysis_of_text(&rt, rt.alloc(), text.as_slice(), workers)?;
-        assert_eq!(rt;
-            analysis.findings(),
-            [never, Finding::FenceWithoutFlush { event: 3 }].as_slice(),
-            "{workers} workers"
-        );
-        assert_eq!(rt;
-            analysis.verdicts(),
-            [fails].as_slice(),
-            "{workers} workers"
-        );
-        assert_eq!(rt;
-            analysis.selection().numbers(),
-            [1, 4].as_slice(),
-            "{workers} workers"
-        );
-        assert_eq!(rt; analysis.trimmed()?.len(), 2, "{workers} workers");
+        fenced_by_another(&rt, rt.alloc(), workers)?;
     }
     Ok(())
 }
@@ -117,54 +117,78 @@ const CLFLUSH_BEATS_CLWB: &[u8] =
 const SFENCE_AFTER_CLFLUSH: &[u8] =
     b"pmtrace 2 64\nstore 0 0x1000 01\nclflush 0 0x1000\nsfence 0\n";
 
-// The analysis of a trimmed trace drops nothing more, and of its findings only what no flush mends is left.
+// The text is trimmed so. The analysis of the trimmed trace drops nothing more, and of its findings only what no flush mends is left.
+fn trims<R: Threads + Abort + Sync>(
+    rt: &R,
+    alloc: Global,
+    text: &[u8],
+    trimmed: &[u8],
+    left: (usize, &[Finding]),
+) -> Result<(), Fail> {
+    let trace = analysis_of_text(rt, alloc, text, 2)?.trimmed()?;
+    assert_eq!(rt; write_trace(alloc, &trace)?.as_slice(), trimmed);
+    let mut source = ListSource::new(&trace);
+    let again = analyse_with(rt, alloc, &NoGate, &mut source, 2)?;
+    assert_eq!(rt; (again.lines(), again.findings()), left);
+    assert_eq!(rt; again.selection().len(), trace.len());
+    Ok(())
+}
+
 #[test]
 fn trimmed_again(rt: HostRuntime) -> Result<(), Fail> {
+    trims(
+        &rt,
+        rt.alloc(),
+        DOUBLE_FLUSH,
+        ONE_PERSIST,
+        (1, [].as_slice()),
+    )?;
+    trims(
+        &rt,
+        rt.alloc(),
+        FLUSHED_AGAIN,
+        ONE_PERSIST,
+        (1, [].as_slice()),
+    )?;
+    let header = b"pmtrace 1\n";
+    trims(
+        &rt,
+        rt.alloc(),
+        FLUSH_WITHOUT_STORES,
+        header,
+        (0, [].as_slice()),
+    )?;
+    let six = b"pmtrace 1\nstore 0 0x1000 01\nclwb 5 0x1000\nsfence 5\n";
+    trims(&rt, rt.alloc(), SIX_FLUSHERS, six, (1, [].as_slice()))
+}
+
+#[test]
+fn trimmed_again_with_a_dirty_store(rt: HostRuntime) -> Result<(), Fail> {
+    let trimmed = b"pmtrace 1\nstore 0 0x1000 01\nclwb 0 0x1000\nstore 0 0x1008 02\nsfence 0\n";
     let dirty = [Finding::NeverPersisted {
         event: 3,
         flushed: false,
     }];
-    for (text, trimmed, lines, findings) in [
-        (DOUBLE_FLUSH, ONE_PERSIST, 1, [].as_slice()),
-        (FLUSHED_AGAIN, ONE_PERSIST, 1, [].as_slice()),
-        (
-            FLUSH_WITHOUT_STORES,
-            b"pmtrace 1\n".as_slice(),
-            0,
-            [].as_slice(),
-        ),
-        (
-            FLUSH_BY_AN_UNFENCED_THREAD,
-            b"pmtrace 1\nstore 0 0x1000 01\nclwb 0 0x1000\nstore 0 0x1008 02\nsfence 0\n".as_slice(),
-            1,
-            dirty.as_slice(),
-        ),
-        (
-            SIX_FLUSHERS,
-            b"pmtrace 1\nstore 0 0x1000 01\nclwb 5 0x1000\nsfence 5\n".as_slice(),
-            1,
-            [].as_slice(),
-        ),
-        (
-            CLFLUSH_BEATS_CLWB,
-            b"pmtrace 2 64\nstore 0 0x1000 01\nclflush 1 0x1000\n".as_slice(),
-            1,
-            [].as_slice(),
-        ),
-        (
-            SFENCE_AFTER_CLFLUSH,
-            b"pmtrace 2 64\nstore 0 0x1000 01\nclflush 0 0x1000\n".as_slice(),
-            1,
-            [].as_slice(),
-        ),
-    ] {
-        let trace = analysis_of_text(&rt, rt.alloc(), text, 2)?.trimmed()?;
-        assert_eq!(rt; write_trace(rt.alloc(), &trace)?.as_slice(), trimmed);
-        let mut source = ListSource::new(&trace);
-        let again = analyse_with(&rt, rt.alloc(), &NoGate, &mut source, 2)?;
-        assert_eq!(rt; again.lines(), lines);
-        assert_eq!(rt; again.findings(), findings);
-        assert_eq!(rt; again.selection().len(), trace.len());
-    }
-    Ok(())
+    let left = (1, dirty.as_slice());
+    trims(&rt, rt.alloc(), FLUSH_BY_AN_UNFENCED_THREAD, trimmed, left)
+}
+
+#[test]
+fn trimmed_again_with_clflush(rt: HostRuntime) -> Result<(), Fail> {
+    let other = b"pmtrace 2 64\nstore 0 0x1000 01\nclflush 1 0x1000\n";
+    trims(
+        &rt,
+        rt.alloc(),
+        CLFLUSH_BEATS_CLWB,
+        other,
+        (1, [].as_slice()),
+    )?;
+    let own = b"pmtrace 2 64\nstore 0 0x1000 01\nclflush 0 0x1000\n";
+    trims(
+        &rt,
+        rt.alloc(),
+        SFENCE_AFTER_CLFLUSH,
+        own,
+        (1, [].as_slice()),
+    )
 }

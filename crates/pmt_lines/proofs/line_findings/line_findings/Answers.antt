@@ -1,13 +1,8 @@
-use Rattle.std.proofs.Common.{◌+◌, get_or, drop, sym, append-nil}
-use Rattle.pmt_lines.specs.declared.step.StepKind.TheVariants.{Store}
-use Rattle.pmt_lines.specs.declared.step.Step.{Step}
+use Rattle.std.proofs.Common.{◌+◌, ◌∷◌, ◌∙◌, drop, sym, subst, append-nil}
 use Rattle.pmt_lines.specs.Steps.{AreSteps}
 use Rattle.pmt_lines.specs.Jobs.{IsJobOf}
-use Rattle.pmt_lines.proofs.FoundLemmas.{scanning-start, scanning-next, scanning-end, scanning-at, scanning-past, ending-from_raises}
+use Rattle.pmt_lines.proofs.FoundLemmas.{Scanning, scanning-start, scanning-next, scanning-end, scanning-at, scanning-past, ending-from_raises}
 use Rattle.pmt_lines.proofs.line_findings.line_findings.Goals as goal
-
-abbrev blank : Step
-blank = record { number = 0; thread = 0; kind = Store 0 0 }
 
 pub loop-step-init : goal.loop-step-init
 loop-step-init c =
@@ -20,9 +15,10 @@ loop-step-preserved c =
     let steps = c.steps-steps.result.now in
     let i = c.loop-step.step-index in
     let said = c.in_ok-take.ensures in
-    scanning-next c.args.job.now.line steps (get_or steps i blank) (drop (i + 1) steps) _ c.loop-step.scan c.take.new.self c.loop-step.found.items c.report.new.found.items (sym (append-nil c.loop-step.found.items)) said.counted c.in_ok-report.ensures
+    scanning-next c.args.job.now.line steps c.step-number.result (drop (i + 1) steps) _ c.loop-step.scan c.take.new.self c.loop-step.found.items c.report.new.found.items (sym (append-nil c.loop-step.found.items)) said.counted c.in_ok-report.ensures
     (record { takes = said.takes; bytes = said.bytes; flush = said.flush })
-    (scanning-at c.args.job.now.line steps i blank _ c.loop-step.scan c.loop-step.found.items c.loop-step-test.true c.loop-step.invariant)
+    (subst (λ x. Scanning c.args.job.now.line steps (x ∷ drop (i + 1) steps) (record { front = c.last_front.result; flush = c.last_flush.result }) c.loop-step.scan c.loop-step.found.items) (sym (c.step-number.ensures.value ∙ c.step-item.is))
+    (scanning-at c.args.job.now.line steps i c.step-item.result _ c.loop-step.scan c.loop-step.found.items c.loop-step-test.true c.loop-step.invariant))
 
 pub returns : goal.returns
 returns c = λ T is_trace job right.

@@ -1,33 +1,28 @@
-use Rattle.std.proofs.Common.{◌≡◌, ◌+◌, ◌++◌, ◌∷◌, [], get_or, drop, refl}
+use Rattle.std.proofs.Common.{◌≡◌, ◌+◌, ◌++◌, ◌∷◌, ◌∙◌, [], get_or, drop, refl, sym, subst}
 use Rattle.std.proofs.lemmas.Bool.{both_ways}
 use Rattle.pmt_model.specs.Traces.{Recording}
-use Rattle.pmt_lines.specs.declared.step.StepKind.TheVariants.{Store}
-use Rattle.pmt_lines.specs.declared.step.Step.{Step}
 use Rattle.pmt_lines.specs.Jobs.{IsJobOf}
 use Rattle.pmt_lines.specs.Raises.{IsLineResult, IsRaises}
-use Rattle.pmt_lines.proofs.RunLemmas.{running-next, running-past, running-room, running-quiet, running-raised, running-end}
+use Rattle.pmt_lines.proofs.RunLemmas.{Running, running-next, running-past, running-room, running-quiet, running-raised, running-end}
 use Rattle.pmt_lines.proofs.raises.run_line.Goals as goal
 use Rattle.pmt_lines.proofs.raises.run_line.Goals.{then-branch+in_ok-push, else-branch, In_ok-findings}
-
-abbrev blank : Step
-blank = record { number = 0; thread = 0; kind = Store 0 0 }
 
 pub take_step-requires : goal.take_step-requires
 take_step-requires c =
     let steps = c.steps-steps.result.now in
     let i = c.loop-step.step-index in
-    let running = running-next c.args.job.line steps i blank c.loop-step.state c.loop-step.raises.items c.loop-step-test.true c.loop-step.invariant in
-    running-room c.args.job.line steps (get_or steps i blank) (drop (i + 1) steps) c.loop-step.state c.loop-step.raises.items running
+    let running = running-next c.args.job.line steps i c.step-item.result c.loop-step.state c.loop-step.raises.items c.loop-step-test.true c.loop-step.invariant in
+    running-room c.args.job.line steps (get_or steps i c.step-item.result) (drop (i + 1) steps) c.loop-step.state c.loop-step.raises.items running
 
 pub loop-step-preserved : goal.loop-step-preserved
 loop-step-preserved c =
     let steps = c.steps-steps.result.now in
     let i = c.loop-step.step-index in
-    let s = get_or steps i blank in
+    let s = c.step-number.result in
     let old = c.loop-step.state in
     let new = c.take_step.new.state in
     let said = c.in_ok-take_step.ensures in
-    let running = running-next c.args.job.line steps i blank old c.loop-step.raises.items c.loop-step-test.true c.loop-step.invariant in
+    let running = subst (λ x. Running c.args.job.line steps (x ∷ drop (i + 1) steps) old c.loop-step.raises.items) (sym (c.step-number.ensures.value ∙ c.step-item.is)) (running-next c.args.job.line steps i c.step-item.result old c.loop-step.raises.items c.loop-step-test.true c.loop-step.invariant) in
     elim c.if-branch.branch [
       | then-branch+in_ok-push w ↦
           let told : c.if-branch.raises.items ≡ c.loop-step.raises.items ++ record { place = s.number; front = new.front } ∷ [] = rw (w.raises-is, w.in_ok-push.ensures.items, w.front.ensures.value) refl in

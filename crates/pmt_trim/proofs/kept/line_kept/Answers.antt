@@ -1,4 +1,4 @@
-use Rattle.std.proofs.Common.{◌≡◌, ℕ, ◌-◌, ◌<◌, length, take, reverse, true, false, get_or, refl, sym, ap, subst, ◌∙◌, arith}
+use Rattle.std.proofs.Common.{◌≡◌, ℕ, ◌-◌, ◌<◌, length, take, reverse, true, false, get_or, refl, sym, ap, subst, ◌∙◌, Some, arith}
 use Rattle.std.proofs.lemmas.List.{take_all}
 use Rattle.std.proofs.lemmas.Option.{slice_get-get_or}
 use Rattle.pmt_lines.specs.declared.step.StepKind.TheVariants.{Store}
@@ -33,15 +33,15 @@ loop-i-preserved c =
     let line = c.args.found.now.job.line in
     let steps = c.steps-steps.result.now in
     let steps_are : steps ≡ c.args.found.now.job.steps = c.steps-steps.ensures.value ∙ ap (λ (w : LineWork). w.steps) c.job.ensures.value in
-    let s : Step = get_or steps (c.loop-i.i - 1) (record { number = 0; thread = 0; kind = Store 0 0 }) in
-    let small : s.thread < 256 = c.loop-i-test.element_fits2.fits in
+    let s : Step = c.step-number.result in
+    let small : s.thread < 256 = omega arith in
     record {
       size = c.type_inv.waiting;
       passed = λ T job. passed-turn T line steps c.loop-i.i s c.raises_before-before.result c.loop-i.raises.now c.unwrap_or-raises.result.now c.loop-i.waiting c.go_back.new.waiting
           (reverse c.loop-i.kept.items) (reverse c.loop-i.kept.items)
           (turn s c.raises_before-before.result c.loop-i.raises c.unwrap_or-raises.result c.is_some.result false c.loop-i.waiting c.go_back.new.waiting (reverse c.loop-i.kept.items)
           (reverse c.loop-i.kept.items) c.raises_before-before.ensures c.unwrap_or-raises.ensures c.is_some.ensures (sym c.if-go_back.false ∙ c.go_back.ensures.kept) c.go_back.ensures.waits refl)
-          (subst (λ ss. IsJobOf T line ss) (sym steps_are) job) (omega arith) (slice_get-get_or steps (c.loop-i.i - 1) _ (omega arith)) small c.loop-i.invariant.size
+          (subst (λ ss. IsJobOf T line ss) (sym steps_are) job) (omega arith) (slice_get-get_or steps (c.loop-i.i - 1) c.index-steps-i.result (omega arith) ∙ ap Some (sym (c.step-number.ensures.value ∙ c.index-steps-i.is))) small c.loop-i.invariant.size
           (c.loop-i.invariant.passed T job);
     }
 
@@ -50,8 +50,8 @@ loop-i-preserved-in-Continue-1 c =
     let line = c.args.found.now.job.line in
     let steps = c.steps-steps.result.now in
     let steps_are : steps ≡ c.args.found.now.job.steps = c.steps-steps.ensures.value ∙ ap (λ (w : LineWork). w.steps) c.job.ensures.value in
-    let s : Step = get_or steps (c.loop-i.i - 1) (record { number = 0; thread = 0; kind = Store 0 0 }) in
-    let small : s.thread < 256 = c.loop-i-test.element_fits2.fits in
+    let s : Step = c.step-number.result in
+    let small : s.thread < 256 = omega arith in
     record {
       size = c.type_inv.waiting;
       passed = λ T job. passed-turn T line steps c.loop-i.i s c.raises_before-before.result c.loop-i.raises.now c.unwrap_or-raises.result.now c.loop-i.waiting c.go_back.new.waiting
@@ -59,6 +59,6 @@ loop-i-preserved-in-Continue-1 c =
           (turn s c.raises_before-before.result c.loop-i.raises c.unwrap_or-raises.result c.is_some.result true c.loop-i.waiting c.go_back.new.waiting (reverse c.loop-i.kept.items)
           (reverse c.push.new.self.items) c.raises_before-before.ensures c.unwrap_or-raises.ensures c.is_some.ensures (sym c.if-go_back.true ∙ c.go_back.ensures.kept) c.go_back.ensures.waits
           (ap reverse c.in_ok-push.ensures.items ∙ reverse-push c.loop-i.kept.items s.number))
-          (subst (λ ss. IsJobOf T line ss) (sym steps_are) job) (omega arith) (slice_get-get_or steps (c.loop-i.i - 1) _ (omega arith)) small c.loop-i.invariant.size
+          (subst (λ ss. IsJobOf T line ss) (sym steps_are) job) (omega arith) (slice_get-get_or steps (c.loop-i.i - 1) c.index-steps-i.result (omega arith) ∙ ap Some (sym (c.step-number.ensures.value ∙ c.index-steps-i.is))) small c.loop-i.invariant.size
           (c.loop-i.invariant.passed T job);
     }

@@ -1,21 +1,22 @@
+use Rattle.std.proofs.Common.{[]}
 use Rattle.pmt_model.specs.Pushing.{empty, with_event}
 use Rattle.pmt_lines.proofs.SourceRunLemmas.{shown_by, so_far-more, so_far-none}
-use Rattle.pmt_trim.proofs.WholeTextLemmas.{stream-first, text-whole}
+use Rattle.pmt_trim.proofs.WholeTextLemmas.{text-whole}
 use Rattle.pmt_trim.proofs.StreamLemmas.{lent-is}
 use Rattle.pmt_trim.proofs.whole_text.trimmed_text.Goals as goal
 
-pub loop-text-init : goal.loop-text-init
-loop-text-init g c =
+pub loop-stream-init : goal.loop-stream-init
+loop-stream-init g c =
     let source = g.S.EventSource in
     let shown = shown_by source.coming source.state source.known_format source.failures source.room in
     let said = c.in_ok-format.ensures in (
       empty c.in_ok-format.format,
       so_far-none (shown c.args.source.now) (shown c.format.new.self) c.in_ok-format.format said.taken said.told said.known said.failures (g.met.S.EventSource.few c.format.new.self),
-      stream-first (empty c.in_ok-format.format) c.in_ok-stream.stream _ _ _ c.in_ok-extend_from_slice.ensures.items c.new-text.ensures.items c.as_slice.ensures.value c.in_ok-stream.ensures.stream,
+      c.in_ok-stream.ensures.stream,
     )
 
-pub loop-text-preserved : goal.loop-text-preserved
-loop-text-preserved g c =
+pub loop-stream-preserved : goal.loop-stream-preserved
+loop-stream-preserved g c =
     let source = g.S.EventSource in
     let shown = shown_by source.coming source.state source.known_format source.failures source.room in
     let said = c.in_ok-event.ensures in
@@ -23,19 +24,22 @@ loop-text-preserved g c =
     let told = rw c.in-Some.is at said.told in
     let counted = rw c.in-Some.is at said.failures in
     let fewer = rw c.in-Some.is at said.room in
-    let of = c.loop-text.invariant in (
+    let of = c.loop-stream.invariant in (
       with_event of.0 c.in-Some.event,
-      so_far-more (shown c.args.source.now) (shown c.loop-text.source) (shown c.next.new.self) of.0 c.in-Some.event of.1 taken told said.kept counted fewer,
-      c.in_ok-take_into.ensures of.0 of.2,
+      so_far-more (shown c.args.source.now) (shown c.loop-stream.source) (shown c.next.new.self) of.0 c.in-Some.event of.1 taken told said.kept counted fewer,
+      c.in_ok-take_more.ensures.stream of.0 [] of.2,
     )
 
 pub returns-clause-text : goal.returns-clause-text
 returns-clause-text g c =
-    let of = c.loop-text.invariant in
+    let of = c.loop-stream.invariant in
     let taken = rw c.in_default.is at c.in_ok-event.ensures.taken in
-    text-whole _ _ of.0 _ _ _ _ of.1.given of.1.format taken.0 c.in_ok-extend_from_slice-2.ensures.items c.as_slice-2.ensures.value (c.in_ok-rest.ensures of.0 c.loop-text.text.items of.2)
+    text-whole _ _ of.0 _ of.1.given of.1.format taken.0 (c.in_ok-text.ensures of.0 of.2)
 
-pub take_into-requires-clause-line : goal.take_into-requires-clause-line
-take_into-requires-clause-line g c =
+pub take_more-requires-clause-line : goal.take_more-requires-clause-line
+take_more-requires-clause-line g c =
     let lent = rw c.in-Some.is at c.in_ok-event.ensures.lent in
     lent-is c.in-Some.event _ _ lent c.last_line.ensures
+
+pub take_more-requires-clause-stream : goal.take_more-requires-clause-stream
+take_more-requires-clause-stream g c = let of = c.loop-stream.invariant in (of.0, [], of.2)

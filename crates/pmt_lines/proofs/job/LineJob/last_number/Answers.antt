@@ -1,4 +1,4 @@
-use Rattle.std.proofs.Common.{◌≡◌, ◌+◌, ◌-◌, length, Some, sym, arith}
+use Rattle.std.proofs.Common.{◌≡◌, ◌-◌, length, Some, sym, arith}
 use Rattle.std.specs.Prelude.{slice_get}
 use Rattle.std.proofs.lemmas.Option.{slice_get_within}
 use Rattle.pmt_lines.proofs.StepLemmas.{last_number-from_last}
@@ -10,4 +10,4 @@ returns-in-Some c =
     let last = length steps - 1 in
     let is : slice_get steps last ≡ Some c.in-Some.step.now = rw c.deref.ensures.value at (sym c.in-Some.ensures.value) in
     let within = slice_get_within steps last c.in-Some.step.now is in
-    rw (← c.self.view_is) (last_number-from_last 0 steps last c.in-Some.step.now (omega (arith, within)) is)
+    rw (← c.self.view_is, c.number.ensures) (last_number-from_last 0 steps last c.in-Some.step.now (omega (arith, within)) is)

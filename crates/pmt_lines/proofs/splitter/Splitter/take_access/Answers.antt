@@ -9,4 +9,4 @@ take_on_line-requires-clause-later c =
 pub returns-clause-so_far : goal.returns-clause-so_far
 returns-clause-so_far c = λ e thread is.
     let s = c.args.self.now in
-    access-taken s.trace e s.lines.keys s.jobs.items s.open_flushes s.fences c.requires.so_far c.args.line c.in_ok-take_on_line.field-0 c.args.step c.take_on_line.new.lines.keys c.take_on_line.new.jobs.items c.in_ok-take_on_line.ensures c.requires.number thread is
+    access-taken s.trace e s.lines.keys s.jobs.items s.open_flushes s.fences c.requires.so_far c.args.line c.in_ok-place.place c.args.step c.take_on_line.new.lines.keys c.take_on_line.new.jobs.items c.in_ok-place.ensures c.requires.number thread is

@@ -1,10 +1,5 @@
-use Rattle.std.proofs.Common.{◌≡◌, ◌++◌, ℕ, List, [], ◌∷◌, Some, true, false, refl, sym, ap, ◌∙◌, subst, arith, append_assoc, append-nil}
-use Rattle.std.specs.Prelude.{Option, Bool, None}
-use Rattle.pmt_model.specs.declared.event.Event.{Event}
-use Rattle.pmt_model.specs.Traces.{Recording}
-use Rattle.pmt_text.specs.Spelling.{event_text}
-use Rattle.pmt_trim.specs.Streaming.{IsOut}
-use Rattle.pmt_trim.specs.Leaving.{IsStreamOf, HaveLeft}
+use Rattle.std.proofs.Common.{◌++◌, ℕ, sym, subst, arith}
+use Rattle.pmt_trim.specs.Leaving.{HaveLeft}
 use Rattle.pmt_trim.proofs.StreamLemmas.{left-popped, all-left, left-is_out}
 use Rattle.pmt_trim.proofs.stream.Stream.leave.Goals as goal
 

@@ -1,4 +1,4 @@
-use Rattle.std.proofs.Common.{◌≡◌, ℕ, length, [], refl, inl, arith}
+use Rattle.std.proofs.Common.{◌≡◌, [], refl, inl, arith}
 use Rattle.pmt_model.specs.Pushing.{empty}
 use Rattle.pmt_trim.proofs.StreamLemmas.{left-none, left-is_out}
 use Rattle.pmt_trim.proofs.stream.Stream.new.Goals as goal

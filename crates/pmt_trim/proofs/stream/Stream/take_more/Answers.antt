@@ -1,7 +1,7 @@
 use Rattle.std.proofs.Common.{arith, refl, [], ◌∷◌, ◌++◌, length-append}
 use Rattle.pmt_model.specs.Pushing.{with_event}
 use Rattle.pmt_trim.proofs.StreamLemmas.{left-next, lines-more}
-use Rattle.pmt_trim.proofs.stream.Stream.take.Goals as goal
+use Rattle.pmt_trim.proofs.stream.Stream.take_more.Goals as goal
 
 pub leave-requires-clause-stream : goal.leave-requires-clause-stream
 leave-requires-clause-stream c =
@@ -10,7 +10,7 @@ leave-requires-clause-stream c =
     let took = c.in_ok-take.ensures in (
       with_event of.0 c.args.event,
       of.1,
-      record { pass = took.follows of.0 is.pass; waiting = is.waiting ++ c.args.event ∷ []; lines = lines-more is.waiting c.args.event _ _ is.lines c.in_ok-wait.ensures; left = left-next of.0 c.args.event _ _ _ is.waiting _ of.1 took.settled refl is.pass.before is.pass.all is.left },
+      record { pass = took.follows of.0 is.pass; waiting = is.waiting ++ c.args.event ∷ []; lines = lines-more is.waiting c.args.event _ _ is.lines c.in_ok-wait.ensures; left = left-next of.0 c.args.event _ _ _ is.waiting _ _ took.settled refl is.pass.before is.pass.all is.left },
     )
 
 pub leave-requires-clause-room : goal.leave-requires-clause-room
@@ -26,10 +26,10 @@ pub returns-clause-stream : goal.returns-clause-stream
 returns-clause-stream c = λ T text is.
     let took = c.in_ok-take.ensures in
     c.leave.ensures.stream (with_event T c.args.event) text
-    (record { pass = took.follows T is.pass; waiting = is.waiting ++ c.args.event ∷ []; lines = lines-more is.waiting c.args.event _ _ is.lines c.in_ok-wait.ensures; left = left-next T c.args.event _ _ _ is.waiting _ text took.settled refl is.pass.before is.pass.all is.left })
+    (record { pass = took.follows T is.pass; waiting = is.waiting ++ c.args.event ∷ []; lines = lines-more is.waiting c.args.event _ _ is.lines c.in_ok-wait.ensures; left = left-next T c.args.event _ _ _ is.waiting _ _ took.settled refl is.pass.before is.pass.all is.left })
 
 pub returns-clause-out : goal.returns-clause-out
 returns-clause-out c = λ T text is.
     let took = c.in_ok-take.ensures in
     c.leave.ensures.out (with_event T c.args.event) text
-    (record { pass = took.follows T is.pass; waiting = is.waiting ++ c.args.event ∷ []; lines = lines-more is.waiting c.args.event _ _ is.lines c.in_ok-wait.ensures; left = left-next T c.args.event _ _ _ is.waiting _ text took.settled refl is.pass.before is.pass.all is.left })
+    (record { pass = took.follows T is.pass; waiting = is.waiting ++ c.args.event ∷ []; lines = lines-more is.waiting c.args.event _ _ is.lines c.in_ok-wait.ensures; left = left-next T c.args.event _ _ _ is.waiting _ _ took.settled refl is.pass.before is.pass.all is.left })
