@@ -1,58 +1,31 @@
 //! Tests of why flushes and fences are dropped, on traces whose answers were worked out by hand.
+use crate::tests::short_trace;
 use crate::{Dropped, dropped};
-use pmt_model::{Event, Format, Op, Trace};
 use pmt_reasons::Reason;
-use std::alloc::Global;
+use std::process::Abort;
 use std::test::Fail;
-
-fn dropped_of(alloc: Global, events: &[(u8, Op)]) -> Result<Vec<Dropped>, Fail> {
-    let mut trace = Trace::new_with(alloc, Format::v2(64)?);
-    for event in events {
-        let (thread, op) = *event;
-        trace.push(Event { thread, op })?;
-    }
-    Ok(dropped(alloc, &trace)?)
-}
 
 fn at(event: u64, reason: Reason) -> Dropped {
     Dropped { event, reason }
 }
 
+// These events are dropped, and no others.
+fn has_dropped(
+    rt: &(impl Abort + AllocGlobal),
+    events: &[u8],
+    wanted: &[Dropped],
+) -> Result<(), Fail> {
+    let trace = short_trace(rt.alloc(), events)?;
+    let found = dropped(rt.alloc(), &trace)?;
+    assert_eq!(rt; found.as_slice(), wanted);
+    Ok(())
+}
+
 // Each reason of each kind of event.
 #[test]
 fn each_reason(rt: HostRuntime) -> Result<(), Fail> {
-    let alloc = rt.alloc();
-    let store = Op::store(0x1000, &[1])?;
-    let flush = Op::clwb(0x1000)?;
-    let elsewhere = Op::clflushopt(0x1040)?;
-    let now = Op::clflush(0x1000)?;
-    let events = [
-        (0, store),
-        (0, flush),
-        (0, Op::Sfence),
-        (0, flush),
-        (0, Op::Sfence),
-        (0, Op::Sfence),
-        (0, store),
-        (2, flush),
-        (0, flush),
-        (0, Op::clflushopt(0x1000)?),
-        (0, Op::Mfence),
-        (0, store),
-        (0, flush),
-        (1, flush),
-        (1, Op::Sfence),
-        (0, Op::Sfence),
-        (0, store),
-        (0, flush),
-        (1, now),
-        (0, now),
-        (1, Op::Mfence),
-        (0, Op::Sfence),
-        (0, elsewhere),
-    ];
-    let found = dropped_of(alloc, &events)?;
-    let expected = [
+    let events = b"0p0c0s0c0s0s0p2c0c0o0m0p0c1c1s0s0p0c1f0f1m0s0y";
+    let wanted = [
         at(4, Reason::Safe),
         at(5, Reason::Useless),
         at(6, Reason::Empty),
@@ -66,43 +39,21 @@ fn each_reason(rt: HostRuntime) -> Result<(), Fail> {
         at(22, Reason::Useless),
         at(23, Reason::Safe),
     ];
-    assert_eq!(rt; found.as_slice(), expected.as_slice());
-    Ok(())
+    has_dropped(&rt, events, &wanted)
 }
 
 // Of several events that would do, the first one is told.
 #[test]
 fn first_of_several(rt: HostRuntime) -> Result<(), Fail> {
-    let alloc = rt.alloc();
-    let store = Op::store(0x1000, &[1])?;
-    let flush = Op::clwb(0x1000)?;
-    let thrice = [
-        (0, store),
-        (0, flush),
-        (0, flush),
-        (0, flush),
-        (0, Op::Sfence),
-    ];
-    let found = dropped_of(alloc, &thrice)?;
     let repeated = [
         at(2, Reason::Repeated { by: 3 }),
         at(3, Reason::Repeated { by: 4 }),
     ];
-    assert_eq!(rt; found.as_slice(), repeated.as_slice());
-    let crossed = [
-        (0, store),
-        (1, flush),
-        (0, flush),
-        (1, Op::Sfence),
-        (2, Op::clflush(0x1000)?),
-        (0, Op::Sfence),
-    ];
-    let found = dropped_of(alloc, &crossed)?;
+    has_dropped(&rt, b"0p0c0c0c0s", &repeated)?;
     let overtaken = [
         at(3, Reason::Overtaken { by: 4 }),
         at(5, Reason::Safe),
         at(6, Reason::Useless),
     ];
-    assert_eq!(rt; found.as_slice(), overtaken.as_slice());
-    Ok(())
+    has_dropped(&rt, b"0p1c0c1s2f0s", &overtaken)
 }

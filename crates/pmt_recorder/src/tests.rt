@@ -1,20 +1,52 @@
-//! Tests of sessions and scripts with running threads.
+//! Tests of sessions with running threads.
 ghost use Rattle.std.specs.Prelude.{◌≡◌};
 ghost use Rattle.pmt_model.specs.Formats.{first_version};
 
-use crate::{
-    AppendError, RecordError, Roll, SealKind, Session, Snapshot, StartError, Tape, record_scripts,
-};
-use pmt_model::{Event, Format, Gate, NoGate, Op, Trace};
+use crate::scripts::tests::{event, has_events};
+use crate::{AppendError, Roll, SealKind, Session, Snapshot, StartError, Tape};
+use pmt_model::{Event, Format, Op, OpError, Trace};
 use std::alloc::Global;
 use std::marker::Brand;
 use std::process::Abort;
 use std::sync::Wait;
-use std::sync::atomic::{AtomicU64, Ordering};
 use std::sync::ledger::Blank;
 use std::test::Fail;
 use std::thread;
 use std::thread::Threads;
+
+// Takes the last of the tapes.
+fn take_tape<L: Roll>(tapes: &mut Vec<Tape<L>>) -> Result<Tape<L>, Fail> {
+    match tapes.pop() {
+        Some(tape) => Ok(tape),
+        None => Err("no tape".into()),
+    }
+}
+
+// Puts the tape after the others.
+fn put_tape<L: Roll>(tapes: &mut Vec<Tape<L>>, tape: Tape<L>) -> Result<(), Fail> {
+    match tapes.push(tape) {
+        Ok(()) => Ok(()),
+        Err(_) => Err("no memory".into()),
+    }
+}
+
+// Appends the op, and gives the event's number.
+fn append<L: Roll, R: Wait>(
+    rt: &R,
+    session: &Session<L>,
+    tape: &mut Tape<L>,
+    op: Result<Op, OpError>,
+) -> Result<u64, Fail> {
+    Ok(session.append(rt, tape, op?)?)
+}
+
+// The trace of an honest session.
+fn sealed<L: Roll>(session: Session<L>, tapes: Vec<Tape<L>>) -> Result<Trace, Fail> {
+    match session.seal(tapes) {
+        Ok(trace) => Ok(trace),
+        Err(_) => Err("an honest session was not sealed".into()),
+    }
+}
 
 // The number of the thread's last event, or 0.
 fn last_of(events: &[Event], thread: u8) -> u64 {
@@ -27,8 +59,54 @@ fn last_of(events: &[Event], thread: u8) -> u64 {
     last
 }
 
-// Appends 100 stores. A snapshot between two of them has the earlier one as the thread's last event: gives the last snapshot, or
-// none where an answer was wrong.
+// Appends a store of these bytes.
+fn append_store<L: Roll, R: Wait>(
+    rt: &R,
+    session: &Session<L>,
+    tape: &mut Tape<L>,
+    bytes: &[u8],
+) -> Option<u64> {
+    let Ok(op) = Op::store(0x1000, bytes) else {
+        return None;
+    };
+    match session.append(rt, tape, op) {
+        Ok(number) => Some(number),
+        Err(_) => None,
+    }
+}
+
+// A snapshot, in which the thread's last event has this number.
+fn look<L: Roll, R: Wait>(
+    rt: &R,
+    session: &Session<L>,
+    tape: &Tape<L>,
+    number: u64,
+) -> Option<Snapshot> {
+    let Ok(snapshot) = session.snapshot(rt, tape) else {
+        return None;
+    };
+    if last_of(snapshot.book().events(), tape.thread()) != number {
+        return None;
+    }
+    Some(snapshot)
+}
+
+// Appends ten stores. The snapshot after the first has it as the thread's last event.
+fn fill_ten<L: Roll, R: Wait>(
+    rt: &R,
+    session: &Session<L>,
+    tape: &mut Tape<L>,
+    turn: u8,
+) -> Option<Snapshot> {
+    let number = append_store(rt, session, tape, &[turn, 0])?;
+    let seen = look(rt, session, tape, number)?;
+    for byte in 1..10u8 {
+        append_store(rt, session, tape, &[turn, byte])?;
+    }
+    Some(seen)
+}
+
+// Appends 100 stores: gives the last snapshot, or none where an answer was wrong.
 fn fill<L: Roll, R: Wait>(
     rt: &R,
     session: &Session<L>,
@@ -36,24 +114,89 @@ fn fill<L: Roll, R: Wait>(
 ) -> (Tape<L>, Option<Snapshot>) {
     let mut tape = tape;
     let mut seen = None;
-    for turn in 0..100u8 {
-        let Ok(op) = Op::store(0x1000, &[turn]) else {
-            return (tape, None);
-        };
-        let Ok(number) = session.append(rt, &mut tape, op) else {
-            return (tape, None);
-        };
-        if turn % 10 == 0 {
-            let Ok(snapshot) = session.snapshot(rt, &tape) else {
-                return (tape, None);
-            };
-            if last_of(snapshot.book().events(), tape.thread()) != number {
-                return (tape, None);
-            }
-            seen = Some(snapshot);
+    for turn in 0..10u8 {
+        seen = fill_ten(rt, session, &mut tape, turn);
+        if seen.is_none() {
+            break;
         }
     }
     (tape, seen)
+}
+
+// Two threads fill the tapes: gives these.
+fn fill_both<L: Roll + Send + Sync, R: Threads + Wait + Sync>(
+    rt: &R,
+    session: &Session<L>,
+    first: Tape<L>,
+    second: Tape<L>,
+) -> ((Tape<L>, Option<Snapshot>), (Tape<L>, Option<Snapshot>)) {
+    thread::join(
+        rt,
+        move || fill(rt, session, first),
+        move || fill(rt, session, second),
+    )
+}
+
+// What a thread gave: its tape goes to the others.
+fn given<L: Roll, R: Abort>(
+    rt: &R,
+    tapes: &mut Vec<Tape<L>>,
+    filled: (Tape<L>, Option<Snapshot>),
+) -> Result<Snapshot, Fail> {
+    let (tape, seen) = filled;
+    assert_eq!(rt; tape.len(), 100);
+    put_tape(tapes, tape)?;
+    match seen {
+        Some(snapshot) => Ok(snapshot),
+        None => Err("an append or a snapshot went wrong".into()),
+    }
+}
+
+// Two threads fill the tapes, which come back in turned order: gives a snapshot of each thread.
+fn fill_tapes<L: Roll + Send + Sync, R: Threads + Wait + Abort + Sync>(
+    rt: &R,
+    session: &Session<L>,
+    tapes: &mut Vec<Tape<L>>,
+) -> Result<(Snapshot, Snapshot), Fail> {
+    let second = take_tape(tapes)?;
+    let first = take_tape(tapes)?;
+    let (one, two) = fill_both(rt, session, first, second);
+    let two = given(rt, tapes, two)?;
+    Ok((given(rt, tapes, one)?, two))
+}
+
+// The trace begins with what the snapshot shows.
+fn begins_with<R: Abort>(rt: &R, trace: &Trace, snapshot: &Snapshot) {
+    let events = snapshot.book().events();
+    assert_eq!(rt; trace.events().get(..events.len()), Some(events));
+}
+
+// The session is sealed: all events are in the trace, which begins with what either snapshot shows.
+fn seals_both<L: Roll, R: Abort>(
+    rt: &R,
+    session: Session<L>,
+    tapes: Vec<Tape<L>>,
+    seen: &(Snapshot, Snapshot),
+) -> Result<(), Fail> {
+    let trace = sealed(session, tapes)?;
+    assert_eq!(rt; trace.len(), 200);
+    begins_with(rt, &trace, &seen.0);
+    begins_with(rt, &trace, &seen.1);
+    Ok(())
+}
+
+// A session of two tapes is not sealed with one of them.
+fn refuses_one_tape<L: Roll, R: Abort>(
+    rt: &R,
+    session: Session<L>,
+    tapes: Vec<Tape<L>>,
+) -> Result<(), Fail> {
+    let Err(fault) = session.seal(tapes) else {
+        return Err("a session was sealed without a tape".into());
+    };
+    assert_eq!(rt; fault.kind, SealKind::WrongTapes);
+    assert_eq!(rt; (fault.book.len(), fault.tapes.len()), (200, 1));
+    Ok(())
 }
 
 // Two threads append; then the session is sealed, with both tapes or with one.
@@ -69,48 +212,48 @@ fn record_two<L: Roll + Send + Sync, R: Threads + Wait + Abort + Sync>(
     requires format { first_version ≡ L.format }
 {
     let (session, mut tapes) = Session::<L>::start(alloc, blank, 2)?;
-    let Some(second) = tapes.pop() else {
-        return Err("no second tape".into());
-    };
-    let Some(first) = tapes.pop() else {
-        return Err("no first tape".into());
-    };
-    let shared = &session;
-    let ((first, one), (second, two)) = thread::join(
-        rt,
-        move || fill(rt, shared, first),
-        move || fill(rt, shared, second),
-    );
-    let (Some(one), Some(two)) = (one, two) else {
-        return Err("an append or a snapshot went wrong".into());
-    };
-    assert_eq!(rt; (first.len(), second.len()), (100, 100));
-    if tapes.push(second).is_err() {
-        return Err("no memory".into());
+    let seen = fill_tapes(rt, &session, &mut tapes)?;
+    if both {
+        return seals_both(rt, session, tapes, &seen);
     }
-    if both && tapes.push(first).is_err() {
-        return Err("no memory".into());
-    }
-    match session.seal(tapes) {
-        Ok(trace) => {
-            assert_eq!(rt; (trace.len(), both), (200, true));
-            for snapshot in [&one, &two] {
-                let events = snapshot.book().events();
-                assert_eq!(rt; trace.events().get(..events.len()), Some(events));
-            }
-        }
-        Err(fault) => {
-            assert_eq!(rt; (fault.kind, both), (SealKind::WrongTapes, false));
-            assert_eq!(rt; (fault.book.len(), fault.tapes.len()), (200, 1));
-        }
-    }
-    Ok(())
+    let _ = take_tape(&mut tapes)?;
+    refuses_one_tape(rt, session, tapes)
 }
 
 #[test]
 fn two_recorders(rt: HostRuntime) -> Result<(), Fail> {
     record_two::<Brand, HostRuntime>(&rt, rt.alloc(), Blank::new(256), true)?;
     record_two::<Brand, HostRuntime>(&rt, rt.alloc(), Blank::new(256), false)
+}
+
+// The format is of version 2, with lines of 128 bytes.
+fn is_128<R: Abort>(rt: &R, format: Format) {
+    assert_eq!(rt; (format.version(), format.line_size()), (2, 128));
+}
+
+// The snapshot has one store to line 32, which is persisted.
+fn shows_128<L: Roll, R: Wait + Abort>(
+    rt: &R,
+    session: &Session<L>,
+    tape: &Tape<L>,
+) -> Result<(), Fail> {
+    let snapshot = session.snapshot(rt, tape)?;
+    let book = snapshot.book();
+    assert_eq!(rt; (book.front(32), book.count(32)), (1, 1));
+    is_128(rt, book.format());
+    Ok(())
+}
+
+// Appends a store and a clflush of its line.
+fn append_two<L: Roll, R: Wait + Abort>(
+    rt: &R,
+    session: &Session<L>,
+    tape: &mut Tape<L>,
+) -> Result<(), Fail> {
+    assert_eq!(rt; append(rt, session, tape, Op::store(0x1000, &[1]))?, 1);
+    assert_eq!(rt; append(rt, session, tape, Op::clflush(0x1040))?, 2);
+    assert_eq!(rt; tape.get(1), Some((2, Op::clflush(0x1040)?)));
+    Ok(())
 }
 
 // One tape, which appends a store and a clflush of its line.
@@ -126,50 +269,35 @@ fn record_one<L: Roll, R: Wait + Abort>(
     requires format { format ≡ L.format }
 {
     let (session, mut tapes) = Session::<L>::start_with(alloc, blank, format, 1)?;
-    let Some(mut tape) = tapes.pop() else {
-        return Err("no tape".into());
-    };
-    assert_eq!(rt; session.append(rt, &mut tape, Op::store(0x1000, &[1])?)?, 1);
-    assert_eq!(rt; session.append(rt, &mut tape, Op::clflush(0x1040)?)?, 2);
-    let snapshot = session.snapshot(rt, &tape)?;
-    assert_eq!(rt;
-        (snapshot.book().front(32), snapshot.book().count(32)),
-        (1, 1)
-    );
-    let shown = snapshot.book().format();
-    assert_eq!(rt; (shown.version(), shown.line_size()), (2, 128));
-    assert_eq!(rt; tape.get(1), Some((2, Op::clflush(0x1040)?)));
-    if tapes.push(tape).is_err() {
-        return Err("no memory".into());
-    }
-    session
-        .seal(tapes)
-        .map_err(|_| "an honest session was not sealed".into())
+    let mut tape = take_tape(&mut tapes)?;
+    append_two(rt, &session, &mut tape)?;
+    shows_128(rt, &session, &tape)?;
+    put_tape(&mut tapes, tape)?;
+    sealed(session, tapes)
 }
 
 #[test]
 fn session_of_128(rt: HostRuntime) -> Result<(), Fail> {
-    let trace = record_one::<Brand, HostRuntime>(
-        &rt,
-        rt.alloc(),
-        Blank::new(256),
-        Format::v2(128)?,
-    )?;
-    assert_eq!(rt;
-        (trace.format().version(), trace.format().line_size()),
-        (2, 128)
-    );
-    let events = [
-        Event {
-            thread: 0,
-            op: Op::store(0x1000, &[1])?,
-        },
-        Event {
-            thread: 0,
-            op: Op::clflush(0x1040)?,
-        },
-    ];
-    assert_eq!(rt; trace.events(), events.as_slice());
+    let format = Format::v2(128)?;
+    let trace = record_one::<Brand, HostRuntime>(&rt, rt.alloc(), Blank::new(256), format)?;
+    is_128(&rt, trace.format());
+    let store = event(0, Op::store(0x1000, &[1]))?;
+    let clflush = event(0, Op::clflush(0x1040))?;
+    has_events(&rt, &trace, &[store, clflush]);
+    Ok(())
+}
+
+// The session refuses the op, and nothing is on tape or in the book.
+fn refuses<L: Roll, R: Wait + Abort>(
+    rt: &R,
+    session: &Session<L>,
+    tape: &mut Tape<L>,
+    op: Op,
+) -> Result<(), Fail> {
+    let answer = session.append(rt, tape, op);
+    assert_eq!(rt; answer, Err(AppendError::NotInFormat));
+    let snapshot = session.snapshot(rt, tape)?;
+    assert_eq!(rt; (tape.len(), snapshot.book().len()), (0, 0));
     Ok(())
 }
 
@@ -185,46 +313,14 @@ fn append_strangers<L: Roll, R: Wait + Abort>(
     requires format { first_version ≡ L.format }
 {
     let (session, mut tapes) = Session::<L>::start(alloc, blank, 1)?;
-    let Some(mut tape) = tapes.pop() else {
-        return Err("no tape".into());
-    };
-    for op in [Op::clflush(0x1000)?, Op::Mfence] {
-        assert_eq!(rt;
-            session.append(rt, &mut tape, op),
-            Err(AppendError::NotInFormat)
-        );
-        assert_eq!(rt; tape.len(), 0);
-        assert_eq!(rt; session.snapshot(rt, &tape)?.book().len(), 0);
-    }
-    Ok(())
+    let mut tape = take_tape(&mut tapes)?;
+    refuses(rt, &session, &mut tape, Op::clflush(0x1000)?)?;
+    refuses(rt, &session, &mut tape, Op::Mfence)
 }
 
 #[test]
 fn not_in_format(rt: HostRuntime) -> Result<(), Fail> {
-    append_strangers::<Brand, HostRuntime>(&rt, rt.alloc(), Blank::new(256))?;
-    let scripts = vec![in rt.alloc();
-        vec![in rt.alloc(); Op::Sfence]?,
-        vec![in rt.alloc(); Op::clflush(0x1000)?]?,
-    ]?;
-    assert_eq!(rt;
-        record_scripts(&rt, rt.alloc(), &NoGate, scripts).err(),
-        Some(RecordError::NotInFormat { recorder: 1 })
-    );
-    Ok(())
-}
-
-#[test]
-fn two_faulty_scripts(rt: HostRuntime) -> Result<(), Fail> {
-    let scripts = vec![in rt.alloc();
-        vec![in rt.alloc(); Op::Sfence]?,
-        vec![in rt.alloc(); Op::Sfence, Op::clflush(0x1000)?]?,
-        vec![in rt.alloc(); Op::Mfence]?,
-    ]?;
-    assert_eq!(rt;
-        record_scripts(&rt, rt.alloc(), &NoGate, scripts).err(),
-        Some(RecordError::NotInFormat { recorder: 1 })
-    );
-    Ok(())
+    append_strangers::<Brand, HostRuntime>(&rt, rt.alloc(), Blank::new(256))
 }
 
 // Starts with a number of tapes that no session has.
@@ -249,109 +345,26 @@ fn start_refused<L: Roll, R: Abort>(
 #[test]
 fn bad_counts(rt: HostRuntime) -> Result<(), Fail> {
     start_refused::<Brand, HostRuntime>(&rt, rt.alloc(), Blank::new(256), 0)?;
-    start_refused::<Brand, HostRuntime>(&rt, rt.alloc(), Blank::new(256), 257)?;
-    let none = record_scripts(&rt, rt.alloc(), &NoGate, Vec::new(rt.alloc()));
-    assert_eq!(rt; none.err(), Some(RecordError::BadCount));
-    Ok(())
-}
-
-// Lets two recorders append in the order 0, 1, 1, 0.
-#[derive(Drop)]
-struct InOrder {
-    done: AtomicU64,
-    entries: [AtomicU64; 2],
-}
-
-impl Gate for InOrder {
-    fn enter(&self, worker: usize) {
-        if worker > 1 {
-            return;
-        }
-        let entry = self.entries[worker].fetch_add(1, Ordering::SeqCst);
-        if entry > 0 {
-            self.done.fetch_add(1, Ordering::SeqCst);
-        }
-        let before = match (worker, entry) {
-            (0, 1) => 3,
-            (1, 0) => 1,
-            (1, 1) => 2,
-            _ => 0,
-        };
-        for _ in 0..100_000_000u64 {
-            if self.done.load(Ordering::SeqCst) >= before {
-                return;
-            }
-            thread::yield_now();
-        }
-    }
-}
-
-#[test]
-fn scripts(rt: HostRuntime) -> Result<(), Fail> {
-    let gate = InOrder {
-        done: AtomicU64::new(0),
-        entries: [AtomicU64::new(0), AtomicU64::new(0)],
-    };
-    let scripts = vec![in rt.alloc();
-        vec![in rt.alloc(); Op::store(0x1000, &[1])?, Op::Sfence]?,
-        vec![in rt.alloc(); Op::clwb(0x1000)?, Op::Sfence]?,
-    ]?;
-    let trace = record_scripts(&rt, rt.alloc(), &gate, scripts)?;
-    let events = [
-        Event {
-            thread: 0,
-            op: Op::store(0x1000, &[1])?,
-        },
-        Event {
-            thread: 1,
-            op: Op::clwb(0x1000)?,
-        },
-        Event {
-            thread: 1,
-            op: Op::Sfence,
-        },
-        Event {
-            thread: 0,
-            op: Op::Sfence,
-        },
-    ];
-    assert_eq!(rt; trace.events(), events.as_slice());
-    Ok(())
-}
-
-#[test]
-fn many_scripts(rt: HostRuntime) -> Result<(), Fail> {
-    let mut scripts = Vec::new(rt.alloc());
-    for _ in 0..256 {
-        scripts.push(vec![in rt.alloc(); Op::clwb(0x1000)?, Op::Sfence]?)?;
-    }
-    let trace = record_scripts(&rt, rt.alloc(), &NoGate, scripts)?;
-    assert_eq!(rt; trace.len(), 512);
-    let empty = record_scripts(
-        &rt,
-        rt.alloc(),
-        &NoGate,
-        vec![in rt.alloc(); Vec::new(rt.alloc())]?,
-    )?;
-    assert_eq!(rt; empty.len(), 0);
-    Ok(())
+    start_refused::<Brand, HostRuntime>(&rt, rt.alloc(), Blank::new(256), 257)
 }
 
 #[test]
 fn million_events(rt: HostRuntime) -> Result<(), Fail> {
-    let mut script = Vec::new(rt.alloc());
-    for _ in 0..1_000_001 {
-        script.push(Op::Sfence)?;
-    }
-    let full = record_scripts(&rt, rt.alloc(), &NoGate, vec![in rt.alloc(); script]?);
-    assert_eq!(rt;
-        full.err(),
-        Some(RecordError::Full {
-            recorder: 0,
-            events: 1_000_000
-        })
-    );
     record_million::<Brand, HostRuntime>(&rt, rt.alloc(), Blank::new(256))
+}
+
+// Fills a session, which refuses one event more.
+fn append_million<L: Roll, R: Wait + Abort>(
+    rt: &R,
+    session: &Session<L>,
+    tape: &mut Tape<L>,
+) -> Result<(), Fail> {
+    for _ in 0..1_000_000u64 {
+        session.append(rt, tape, Op::Sfence)?;
+    }
+    let one_more = session.append(rt, tape, Op::Sfence);
+    assert_eq!(rt; one_more, Err(AppendError::Full { events: 1_000_000 }));
+    Ok(())
 }
 
 // Fills a session by one tape.
@@ -362,22 +375,9 @@ fn record_million<L: Roll, R: Wait + Abort>(rt: &R, alloc: Global, blank: Blank)
     requires format { first_version ≡ L.format }
 {
     let (session, mut tapes) = Session::<L>::start(alloc, blank, 1)?;
-    let Some(mut tape) = tapes.pop() else {
-        return Err("no tape".into());
-    };
-    for _ in 0..1_000_000u64 {
-        session.append(rt, &mut tape, Op::Sfence)?;
-    }
-    let one_more = session.append(rt, &mut tape, Op::Sfence);
-    assert_eq!(rt; one_more, Err(AppendError::Full { events: 1_000_000 }));
-    if tapes.push(tape).is_err() {
-        return Err("no memory".into());
-    }
-    match session.seal(tapes) {
-        Ok(trace) => {
-            assert_eq!(rt; trace.len(), 1_000_000);
-            Ok(())
-        }
-        Err(_) => Err("an honest session was not sealed".into()),
-    }
+    let mut tape = take_tape(&mut tapes)?;
+    append_million(rt, &session, &mut tape)?;
+    put_tape(&mut tapes, tape)?;
+    assert_eq!(rt; sealed(session, tapes)?.len(), 1_000_000);
+    Ok(())
 }

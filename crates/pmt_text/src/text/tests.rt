@@ -22,109 +22,94 @@ fn accepted(rt: &(impl Abort + AllocGlobal), text: &[u8], events: usize) -> Resu
 }
 
 #[test]
-fn refused_events(rt: HostRuntime) {
-    let table = [
-        (
-            b"pmtrace 1\nstore 0 0x1007 0102\n".as_slice(),
-            TextKind::CrossesWord,
-        ),
-        (
-            b"pmtrace 1\nclwb 0 0x01000\n".as_slice(),
-            TextKind::BadField,
-        ),
-        (b"pmtrace 1\nsfence 256\n".as_slice(), TextKind::OutOfRange),
-        (
-            b"pmtrace 1\nclwb  0 0x1000\n".as_slice(),
-            TextKind::BadField,
-        ),
-        (
-            b"pmtrace 1\nstore 256 0x1007 0102\n".as_slice(),
-            TextKind::OutOfRange,
-        ),
-        (
-            b"pmtrace 1\nisPersist 0 0x1000 0\n".as_slice(),
-            TextKind::OutOfRange,
-        ),
-        (b"pmtrace 1\nflush 0\n".as_slice(), TextKind::BadWord),
-        (
-            b"pmtrace 1\nclwb 99999999999999999999999 0x1000\n".as_slice(),
-            TextKind::OutOfRange,
-        ),
-        (
-            b"pmtrace 1\nstore 0 0x1000 010203040506070809\n".as_slice(),
-            TextKind::OutOfRange,
-        ),
-        (
-            b"pmtrace 1\nstore 0 0x1000 0A\n".as_slice(),
-            TextKind::BadField,
-        ),
-        (
-            b"pmtrace 1\nstore 0 0x1000 012\n".as_slice(),
-            TextKind::BadField,
-        ),
-        (
-            b"pmtrace 1\nisOrderedBefore 0 0x1000 1 0x1040\n".as_slice(),
-            TextKind::BadField,
-        ),
-    ];
-    for (text, kind) in table {
-        refused(&rt, text, 2, kind);
-    }
+fn refused_fields(rt: HostRuntime) {
+    refused(&rt, b"pmtrace 1\nclwb 0 0x01000\n", 2, TextKind::BadField);
+    refused(&rt, b"pmtrace 1\nclwb  0 0x1000\n", 2, TextKind::BadField);
+    refused(
+        &rt,
+        b"pmtrace 1\nstore 0 0x1000 0A\n",
+        2,
+        TextKind::BadField,
+    );
+    refused(
+        &rt,
+        b"pmtrace 1\nstore 0 0x1000 012\n",
+        2,
+        TextKind::BadField,
+    );
+}
+
+#[test]
+fn refused_threads(rt: HostRuntime) {
+    let long = b"pmtrace 1\nclwb 99999999999999999999999 0x1000\n";
+    refused(&rt, long, 2, TextKind::OutOfRange);
+    refused(&rt, b"pmtrace 1\nsfence 256\n", 2, TextKind::OutOfRange);
+    let crossing = b"pmtrace 1\nstore 256 0x1007 0102\n";
+    refused(&rt, crossing, 2, TextKind::OutOfRange);
+}
+
+#[test]
+fn refused_lengths(rt: HostRuntime) {
+    let long = b"pmtrace 1\nstore 0 0x1000 010203040506070809\n";
+    refused(&rt, long, 2, TextKind::OutOfRange);
+    let none = b"pmtrace 1\nisPersist 0 0x1000 0\n";
+    refused(&rt, none, 2, TextKind::OutOfRange);
+    let crossing = b"pmtrace 1\nstore 0 0x1007 0102\n";
+    refused(&rt, crossing, 2, TextKind::CrossesWord);
+}
+
+#[test]
+fn refused_words(rt: HostRuntime) {
+    refused(&rt, b"pmtrace 1\nflush 0\n", 2, TextKind::BadWord);
+    let early = b"pmtrace 1\nisOrderedBefore 0 0x1000 1 0x1040\n";
+    refused(&rt, early, 2, TextKind::BadField);
 }
 
 #[test]
 fn widest_address(rt: HostRuntime) -> Result<(), Fail> {
     accepted(&rt, b"pmtrace 1\nstore 255 0xffffffffffff ff\n", 1)?;
     accepted(&rt, b"pmtrace 1\nisPersist 0 0xffffffffffff 1\n", 1)?;
-    refused(
-        &rt,
-        b"pmtrace 1\nisPersist 0 0xffffffffffff 2\n",
-        2,
-        TextKind::OutOfRange,
-    );
-    refused(
-        &rt,
-        b"pmtrace 1\nstore 0 0xffffffffffff 0102\n",
-        2,
-        TextKind::CrossesWord,
-    );
-    accepted(
-        &rt,
-        b"pmtrace 1\nisOrderedBefore 255 0xfffffffff000 4096 0xfffffffff000 4096\n",
-        1,
-    )
+    let both = b"pmtrace 1\nisOrderedBefore 255 0xfffffffff000 4096 0xfffffffff000 4096\n";
+    accepted(&rt, both, 1)
+}
+
+#[test]
+fn past_the_widest_address(rt: HostRuntime) {
+    let range = b"pmtrace 1\nisPersist 0 0xffffffffffff 2\n";
+    refused(&rt, range, 2, TextKind::OutOfRange);
+    let store = b"pmtrace 1\nstore 0 0xffffffffffff 0102\n";
+    refused(&rt, store, 2, TextKind::CrossesWord);
 }
 
 #[test]
 fn truncated_and_bad_headers(rt: HostRuntime) {
-    refused(
-        &rt,
-        b"pmtrace 1\nstore 0 0x1000 01\nclwb 0 0x1000\nsfence 0",
-        4,
-        TextKind::Truncated,
-    );
-    refused(
-        &rt,
-        b"pmtrace 1\nstore 0 0x1000 01\nclwb 0 0x1000\nfoo",
-        4,
-        TextKind::Truncated,
-    );
+    let known = b"pmtrace 1\nstore 0 0x1000 01\nclwb 0 0x1000\nsfence 0";
+    refused(&rt, known, 4, TextKind::Truncated);
+    let unknown = b"pmtrace 1\nstore 0 0x1000 01\nclwb 0 0x1000\nfoo";
+    refused(&rt, unknown, 4, TextKind::Truncated);
     refused(&rt, b"", 1, TextKind::Truncated);
     refused(&rt, b"pmtrace 3\n", 1, TextKind::BadHeader);
+}
+
+// How many events the text has that ends after `n` bytes of `STORED`, or the line at which it is cut.
+fn cut_at(n: usize) -> Result<usize, u64> {
+    match n {
+        0..=9 => Err(1),
+        10 => Ok(0),
+        11..=27 => Err(2),
+        28 => Ok(1),
+        29..=41 => Err(3),
+        42 => Ok(2),
+        _ => Err(4),
+    }
 }
 
 #[test]
 fn every_cut(rt: HostRuntime) -> Result<(), Fail> {
     for n in 0..STORED.len() {
-        let text = &STORED[..n];
-        match n {
-            0..=9 => refused(&rt, text, 1, TextKind::Truncated),
-            10 => accepted(&rt, text, 0)?,
-            11..=27 => refused(&rt, text, 2, TextKind::Truncated),
-            28 => accepted(&rt, text, 1)?,
-            29..=41 => refused(&rt, text, 3, TextKind::Truncated),
-            42 => accepted(&rt, text, 2)?,
-            _ => refused(&rt, text, 4, TextKind::Truncated),
+        match cut_at(n) {
+            Ok(events) => accepted(&rt, &STORED[..n], events)?,
+            Err(line) => refused(&rt, &STORED[..n], line, TextKind::Truncated),
         }
     }
     accepted(&rt, STORED, 3)
@@ -147,48 +132,29 @@ fn bad_line_size(rt: HostRuntime) -> Result<(), Fail> {
 
 #[test]
 fn hostile_bytes(rt: HostRuntime) {
-    refused(
-        &rt,
-        b"pmtrace 1\nstore 0 0x1000 01\r\nsfence 0\n",
-        2,
-        TextKind::BadField,
-    );
-    refused(
-        &rt,
-        b"pmtrace 1\n\0tore 0 0x1000 01\nsfence 0\n",
-        2,
-        TextKind::BadWord,
-    );
-    refused(
-        &rt,
-        b"pmtr\xffce 1\nstore 0 0x1000 01\n",
-        1,
-        TextKind::BadHeader,
-    );
-    refused(
-        &rt,
-        b"pmtrace 1\n\nstore 0 0x1000 01\n",
-        2,
-        TextKind::BadWord,
-    );
-    refused(
-        &rt,
-        b"pmtrace 1\nstore 0 0x1000 01 \nsfence 0\n",
-        2,
-        TextKind::BadField,
-    );
+    let zero = b"pmtrace 1\n\0tore 0 0x1000 01\nsfence 0\n";
+    refused(&rt, zero, 2, TextKind::BadWord);
+    let high = b"pmtr\xffce 1\nstore 0 0x1000 01\n";
+    refused(&rt, high, 1, TextKind::BadHeader);
+}
+
+#[test]
+fn hostile_spaces(rt: HostRuntime) {
+    let carriage = b"pmtrace 1\nstore 0 0x1000 01\r\nsfence 0\n";
+    refused(&rt, carriage, 2, TextKind::BadField);
+    let empty = b"pmtrace 1\n\nstore 0 0x1000 01\n";
+    refused(&rt, empty, 2, TextKind::BadWord);
+    let space = b"pmtrace 1\nstore 0 0x1000 01 \nsfence 0\n";
+    refused(&rt, space, 2, TextKind::BadField);
 }
 
 #[test]
 fn scripts(rt: HostRuntime) -> Result<(), Fail> {
     let ops = read_script(rt.alloc(), b"store 0x1000 01\nclwb 0x1000\nsfence\n")?;
-    assert_eq!(rt; ops.len(), 3);
-    assert_eq!(rt; ops[2], Op::Sfence);
+    assert_eq!(rt; (ops.len(), ops.last()), (3, Some(&Op::Sfence)));
     assert_eq!(rt; read_script(rt.alloc(), b"")?.len(), 0);
-    match read_script(rt.alloc(), b"sfence 0\n") {
-        Ok(_) => assert!(rt; false),
-        Err(error) => assert_eq!(rt; error, fault_at(1, TextKind::BadField)),
-    }
+    let refused = read_script(rt.alloc(), b"sfence 0\n").map(|ops| ops.len());
+    assert_eq!(rt; refused, Err(fault_at(1, TextKind::BadField)));
     Ok(())
 }
 
@@ -206,13 +172,17 @@ fn event_lines(rt: HostRuntime) -> Result<(), Fail> {
     Ok(())
 }
 
+fn has_name(rt: &impl Abort, kind: TextKind, name: &str) {
+    assert_eq!(rt; kind.name(), name);
+}
+
 #[test]
 fn kind_names(rt: HostRuntime) {
-    assert_eq!(rt; TextKind::Truncated.name(), "truncated");
-    assert_eq!(rt; TextKind::BadHeader.name(), "bad-header");
-    assert_eq!(rt; TextKind::BadWord.name(), "bad-word");
-    assert_eq!(rt; TextKind::BadField.name(), "bad-field");
-    assert_eq!(rt; TextKind::OutOfRange.name(), "out-of-range");
-    assert_eq!(rt; TextKind::CrossesWord.name(), "crosses-word");
-    assert_eq!(rt; TextKind::TooManyEvents.name(), "too-many-events");
+    has_name(&rt, TextKind::Truncated, "truncated");
+    has_name(&rt, TextKind::BadHeader, "bad-header");
+    has_name(&rt, TextKind::BadWord, "bad-word");
+    has_name(&rt, TextKind::BadField, "bad-field");
+    has_name(&rt, TextKind::OutOfRange, "out-of-range");
+    has_name(&rt, TextKind::CrossesWord, "crosses-word");
+    has_name(&rt, TextKind::TooManyEvents, "too-many-events");
 }

@@ -6,8 +6,8 @@ use crate::list_source::ListSource;
 use crate::source::EventSource;
 use crate::text_source::TextSource;
 use pmt_model::{Event, Format, Op, Trace};
-use std::alloc::Global;
 use std::io::Read;
+use std::process::Abort;
 use std::test::Fail;
 
 const ONE_PERSIST: &[u8] = b"pmtrace 1\nstore 0 0x1000 01\nclwb 0 0x1000\nsfence 0\n";
@@ -25,11 +25,16 @@ fn collected<S: EventSource>(source: &mut S) -> (u64, Option<SourceError>) {
     (count, None)
 }
 
-// The same of a reader, and how many of its reads failed.
-fn collected_from<R: Read + Drop>(alloc: Global, reader: R) -> (u64, Option<SourceError>, u64) {
-    let mut source = TextSource::new(alloc, Counted::new(reader));
+// So many events come from the reader, then the fault, after this number of failed reads.
+fn gives<R: Read + Drop>(
+    rt: &(impl Abort + AllocGlobal),
+    reader: R,
+    wanted: (u64, Option<SourceError>, u64),
+) {
+    let mut source = TextSource::new(rt.alloc(), Counted::new(reader));
     let (count, fault) = collected(&mut source);
-    (count, fault, source.into_input().failures())
+    let failures = source.into_input().failures();
+    assert_eq!(rt; (count, fault, failures), wanted);
 }
 
 fn text_fault(line: u64, kind: TextKind) -> Option<SourceError> {
@@ -38,56 +43,40 @@ fn text_fault(line: u64, kind: TextKind) -> Option<SourceError> {
 
 #[test]
 fn reading_in_pieces(rt: HostRuntime) {
-    for most in [1, 7, 4096] {
-        let reader = PieceReader::new(ONE_PERSIST, most);
-        assert_eq!(rt;
-            collected_from(rt.alloc(), reader),
-            (3, None, 0),
-            "at {most}"
-        );
-    }
+    gives(&rt, PieceReader::new(ONE_PERSIST, 1), (3, None, 0));
+    gives(&rt, PieceReader::new(ONE_PERSIST, 7), (3, None, 0));
+    gives(&rt, PieceReader::new(ONE_PERSIST, 4096), (3, None, 0));
 }
 
 #[test]
 fn faults_before_a_failing_read(rt: HostRuntime) {
     let reader = PieceReader::failing_after(ONE_PERSIST, 20, 1);
-    assert_eq!(rt;
-        collected_from(rt.alloc(), reader),
-        (0, Some(SourceError::Read), 1)
-    );
-    let faulty = b"pmtrace 1\nsfence 256\n";
-    let reader = PieceReader::failing_after(faulty, 21, 1);
-    assert_eq!(rt;
-        collected_from(rt.alloc(), reader),
-        (0, text_fault(2, TextKind::OutOfRange), 0)
-    );
+    gives(&rt, reader, (0, Some(SourceError::Read), 1));
+    let reader = PieceReader::failing_after(b"pmtrace 1\nsfence 256\n", 21, 1);
+    gives(&rt, reader, (0, text_fault(2, TextKind::OutOfRange), 0));
+}
+
+// How many events come of the first bytes, so many, and the fault after them.
+fn cut_at(len: usize) -> (u64, Option<SourceError>) {
+    match len {
+        0..=9 => (0, text_fault(1, TextKind::Truncated)),
+        10 => (0, None),
+        11..=27 => (0, text_fault(2, TextKind::Truncated)),
+        28 => (1, None),
+        29..=41 => (1, text_fault(3, TextKind::Truncated)),
+        42 => (2, None),
+        43..=50 => (2, text_fault(4, TextKind::Truncated)),
+        _ => (3, None),
+    }
 }
 
 #[test]
 fn every_cut(rt: HostRuntime) {
     for len in 0..52usize {
-        let (count, line) = match len {
-            0..=9 => (0, 1),
-            10 => (0, 0),
-            11..=27 => (0, 2),
-            28 => (1, 0),
-            29..=41 => (1, 3),
-            42 => (2, 0),
-            43..=50 => (2, 4),
-            _ => (3, 0),
-        };
-        let fault = if line == 0 {
-            None
-        } else {
-            text_fault(line, TextKind::Truncated)
-        };
         assert!(rt; len <= ONE_PERSIST.len());
         let reader = PieceReader::new(&ONE_PERSIST[..len], 3);
-        assert_eq!(rt;
-            collected_from(rt.alloc(), reader),
-            (count, fault, 0),
-            "at {len}"
-        );
+        let (count, fault) = cut_at(len);
+        gives(&rt, reader, (count, fault, 0));
     }
 }
 
@@ -95,9 +84,13 @@ fn every_cut(rt: HostRuntime) {
 fn every_read(rt: HostRuntime) {
     for reads in 0..52u64 {
         let reader = PieceReader::failing_after(ONE_PERSIST, 1, reads);
-        let (_, fault, failures) = collected_from(rt.alloc(), reader);
-        assert_eq!(rt; fault, Some(SourceError::Read), "at {reads}");
-        assert_eq!(rt; failures, 1, "at {reads}");
+        let events = match reads {
+            0..=27 => 0,
+            28..=41 => 1,
+            42..=50 => 2,
+            _ => 3,
+        };
+        gives(&rt, reader, (events, Some(SourceError::Read), 1));
     }
 }
 
@@ -121,34 +114,34 @@ fn ended_from_then_on(rt: HostRuntime) {
 }
 
 #[test]
+fn lends_each_line(rt: HostRuntime) {
+    let reader = PieceReader::new(ONE_PERSIST, 4096);
+    let mut source = TextSource::new(rt.alloc(), Counted::new(reader));
+    assert!(rt; source.next().is_ok());
+    assert_eq!(rt; source.last_line(), Some(&b"store 0 0x1000 01\n"[..]));
+    assert!(rt; source.next().is_ok());
+    assert_eq!(rt; source.last_line(), Some(&b"clwb 0 0x1000\n"[..]));
+    assert!(rt; source.next().is_ok());
+    assert_eq!(rt; source.last_line(), Some(&b"sfence 0\n"[..]));
+}
+
+#[test]
 fn endless_readers(rt: HostRuntime) {
     let reader = EndlessReader::new(b"pmtrace 1\n", b"sfence 0\n");
     let late = text_fault(1_000_002, TextKind::TooManyEvents);
-    assert_eq!(rt; collected_from(rt.alloc(), reader), (1_000_000, late, 0));
+    gives(&rt, reader, (1_000_000, late, 0));
     let reader = EndlessReader::new(b"pmtrace 3\n", b"a");
-    assert_eq!(rt;
-        collected_from(rt.alloc(), reader),
-        (0, text_fault(1, TextKind::BadHeader), 0)
-    );
+    gives(&rt, reader, (0, text_fault(1, TextKind::BadHeader), 0));
     let reader = EndlessReader::new(b"pmtrace 1\n", b"a");
-    assert_eq!(rt;
-        collected_from(rt.alloc(), reader),
-        (0, Some(SourceError::TooMany), 0)
-    );
+    gives(&rt, reader, (0, Some(SourceError::TooMany), 0));
 }
 
 #[test]
 fn the_bound(rt: HostRuntime) {
     let reader = EndlessReader::new(b"", b"a").take(67_108_864);
-    assert_eq!(rt;
-        collected_from(rt.alloc(), reader),
-        (0, text_fault(1, TextKind::Truncated), 0)
-    );
+    gives(&rt, reader, (0, text_fault(1, TextKind::Truncated), 0));
     let reader = EndlessReader::new(b"", b"a").take(67_108_865);
-    assert_eq!(rt;
-        collected_from(rt.alloc(), reader),
-        (0, Some(SourceError::TooMany), 0)
-    );
+    gives(&rt, reader, (0, Some(SourceError::TooMany), 0));
 }
 
 #[test]
