@@ -25,7 +25,7 @@ holds 'a bad word is refused' eval '! ./install --frob'
 # The man page says what the program's help says: every option, command and status.
 page=$prefix/share/man/man1/pmtrim.1
 sed 's/\\fB\|\\fI\|\\fR//g; s/\\-/-/g' "$page" > "$folder/page"
-for command in '' check trim fronts record; do
+for command in '' check explain trim fronts record draw; do
   "$program" ${command:+"$command"} --help
 done > "$folder/help"
 grep -oE '(^|[ [])--[a-z]+' "$folder/help" | grep -oE -- '--[a-z]+' | sort -u > "$folder/options"
@@ -36,7 +36,7 @@ done < "$folder/options"
 for line in $(grep -oE 'Statuses: .*' "$folder/help" | grep -oE '[0-6] ' | sort -u); do
   holds "the man page has status $line" grep -qx "$line" "$folder/page"
 done
-for command in check trim fronts record; do
+for command in check explain trim fronts record draw; do
   holds "the man page has $command" grep -qx ".B $command" "$folder/page"
   about=$("$program" "$command" --help | head -n 1)
   holds "the man page says what $command does" grep -qF "${about%%[.,]*}" "$folder/page"
@@ -50,6 +50,8 @@ offered() {
 holds 'a command is offered' [ "$(offered pmtrim ch)" = check ]
 holds 'numbers of workers are offered' [ "$(offered pmtrim check --workers 1)" = '1 16' ]
 holds 'an option is offered' [ "$(offered pmtrim trim --s)" = --stream ]
+holds 'options of explain are offered' [ "$(offered pmtrim explain --l)" = '--limit --labels' ]
+holds 'an option of draw is offered' [ "$(offered pmtrim draw --la)" = --labels ]
 holds 'a file is offered' [ "$(offered pmtrim check examples/one_persist.tra)" = examples/one_persist.trace ]
 for shell in zsh fish; do
   if command -v "$shell" > /dev/null; then

@@ -23,7 +23,7 @@ judge() {
   fi
 }
 
-for command in '' check trim fronts record; do
+for command in '' check explain trim fronts record draw; do
   expect 0 'Statuses: ' ${command:+"$command"} --help
   expect 0 'Example: pmtrim' ${command:+"$command"} --help
 done
@@ -67,6 +67,7 @@ judge 'a value after the equals sign' "$?" 0 "$told" 'sfence 0'
 
 # help is a command too; at a terminal it is said what is waited for.
 expect 0 'Usage: pmtrim trim' help trim
+expect 0 'Usage: pmtrim explain' help explain
 expect 0 'Usage: pmtrim <' help
 told=$(python3 tests/lib/terminal.py "$program" check)
 judge 'a terminal' "$?" 0 "$told" 'reading a trace from the terminal'

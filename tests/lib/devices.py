@@ -1,7 +1,7 @@
 #!/usr/bin/env python3
 """Runs a program over devices that fail, end early or never end: devices.py PROGRAM. The last line is 'N passed, M failed'.
 
-Each of the four commands reads its trace or script from standard input.
+Each of the commands reads its trace or script from standard input; `explain`, whose faults are in other words, is tried apart.
 """
 import os
 import subprocess
@@ -185,6 +185,22 @@ def differences_over_long_inputs(program, command):
     return complaints
 
 
+def explain_over_devices(run):
+    """`explain` of the same trace: reads and writes of a byte each, one of which fails."""
+    text = b"".join(TRACE)
+    whole, _ = run(["explain"], text)
+    complaints = [] if whole.status == 0 and whole.out else [f"explain: {faulty.short(whole)}"]
+    for fault, calls in (("read", len(text) + 1), ("write", len(whole.out))):
+        for at in range(1, calls + 1):
+            answer, failed = run(["explain"], text, fault=fault, fault_at=at, fault_piece=1)
+            action = b"cannot read standard input: " if fault == "read" else b"cannot write the answer: "
+            out = whole.out[: at - 1] if fault == "write" else b""
+            right = answer.faults.startswith(action) and answer.faults.endswith(b"Input/output error\n")
+            if (answer.status, answer.out, failed) != (4, out, 1) or not right:
+                complaints.append(f"explain, {fault} {at}: {failed} failed, {faulty.short(answer)}")
+    return complaints
+
+
 def finds_what_is_wrong(run):
     """A complaint is made where another answer is asked for, or where a call was to fail that is not made."""
     command = next(commands())
@@ -204,7 +220,7 @@ def main():
     program = sys.argv[1]
     with faulty.library() as library:
         run = partial(faulty.run, library, program)
-        judgements = [partial(finds_what_is_wrong, run), partial(examples_in_pieces, run)]
+        judgements = [partial(finds_what_is_wrong, run), partial(examples_in_pieces, run), partial(explain_over_devices, run)]
         for command in commands():
             judgements.append(partial(differences_over_long_inputs, program, command))
             tables = [every_cut, every_read, every_write, every_write_of_a_fault, hostile_bytes]

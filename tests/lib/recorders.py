@@ -5,6 +5,7 @@ Every trace must be accepted by PROGRAM. What else must stand in it is written o
 tests/lib/recorders do, or is the memory's last bytes.
 """
 import functools
+import json
 import os
 import pathlib
 import re
@@ -443,6 +444,25 @@ class Tests:
             self.expect(f"{what}: the node's copy is lost", right, lost[:3])
         else:
             self.expect(f"{what}: nothing is lost, only disordered", lost == [] and "persist" in report, lost[:3])
+        self.explained(what, trace, "persist(node, sizeof node);" if name == "list" else "fence();")
+
+    def explained(self, what, trace, fault):
+        """The source lines between which `explain` puts the flush or fence have the line at fault between them."""
+        words = [self.program, "explain", "--labels", f"{trace}.labels", trace]
+        status, told = run([*words, "--json"])
+        failure = next((entry for entry in map(json.loads, told.splitlines()) if entry["kind"] == "failure"), None)
+        self.expect(f"{what}: the failure is explained", status == 1 and failure is not None, told[:200])
+        if failure is None:
+            return
+        after = failure["cause"]["flush"] if failure["cause"]["cause"] == "unfenced" else failure["lost"]["store"]
+        before = failure["kept"]["store"]
+        file, first = after["label"].rsplit(":", 1)
+        last = before["label"].rsplit(":", 1)[1]
+        between = (TOP / file).read_text().splitlines()[int(first) : int(last) - 1]
+        self.expect(f"{what}: the line at fault", len(between) < 6 and fault in map(str.strip, between), between)
+        text = run(words)[1]
+        named = [event["label"] in text and event["words"] in text for event in (failure["event"], after, before)]
+        self.expect(f"{what}: the text names these lines", all(named), text[:200])
 
 
 def page(tests):

@@ -15,7 +15,7 @@ from typing import NamedTuple
 
 import faulty
 from faulty import Answer
-from traces import report_of, trace_of, trimmed_of
+from traces import EXAMPLES, report_of, trace_of, trimmed_of
 
 TOP = pathlib.Path(__file__).parents[2]
 VERDICTS = (TOP / "crates/refused_calls/stdout").read_bytes()
@@ -177,6 +177,24 @@ def words_answered(run):
         yield Case(words, {answer._replace(status=status)})
 
 
+def explained(run, folder):
+    """Answers and faults of `explain`, whose text is the program's own: what it writes with memory."""
+    trace, bad, labels = EXAMPLES / "mark_too_early.trace", folder / "bad.trace", folder / "labels"
+    bad.write_bytes(text("store 0 0x1000 01; store 0 0x01007 01\r"))
+    labels.write_text("1 save.c:3\n2 save.c:4\n7 save.c:9 claim\n")
+    for words, status in (
+        ([trace], 1),
+        (["--json", "--labels", labels, "--ignore", "0x1000:8", "--ignore", "0x1004:8", trace], 1),
+        (["--limit", "0", EXAMPLES / "flushed_by_two_threads.trace"], 0),
+        ([bad], 3),
+        (["--labels", trace, trace], 3),
+        ([folder / "none"], 4),
+        (["--ignore", "8", trace], 2),
+    ):
+        answer, _ = run(["explain", *words])
+        yield Case(["explain", *words], {answer._replace(status=status)})
+
+
 def streams(folder):
     """`trim --stream`: a part is out where memory is refused later."""
     persist = "store 0 0x1000 01; clwb 0 0x1000; sfence 0"
@@ -245,7 +263,7 @@ def main():
         run = partial(faulty.run, library, program)
         calls = partial(faulty.run, library, calls)
         cases = [*answers_of_many_lines(folder), *answers_of_examples(), *answers_of_fronts(), *answers_of_record(folder)]
-        cases += [*faults_told(folder), *words_answered(run)]
+        cases += [*faults_told(folder), *words_answered(run), *explained(run, folder)]
         if STREAMS:
             cases += streams(folder)
         (folder / "million").write_bytes(lines(499999))

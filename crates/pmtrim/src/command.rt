@@ -1,4 +1,5 @@
 //! The words of the program, by clap.
+use crate::draw_words::draw_command;
 use clap::{Arg, ArgAction, Command};
 use std::alloc::{AllocError, Global};
 
@@ -17,18 +18,20 @@ pub fn commands<'a>(alloc: Global) -> Result<Command<'a>, AllocError> {
         .no_binary_name(true)
         .bin_name("pmtrim")?
         .override_usage(
-            "pmtrim < TRACE\n       pmtrim check [--workers N] [FILE]\n       pmtrim trim [--workers N] [--stream] [FILE]\n       pmtrim fronts FILE PLACE\n       pmtrim record SCRIPT..",
+            "pmtrim < TRACE\n       pmtrim check [--workers N] [FILE]\n       pmtrim explain [--ignore A:N].. [--limit N] [--labels FILE] [--json] [FILE]\n       pmtrim trim [--workers N] [--stream] [FILE]\n       pmtrim fronts FILE PLACE\n       pmtrim record SCRIPT..\n       pmtrim draw [--around I | --from I --to J] [--line A].. [--labels FILE] [FILE]",
         )
         .about(
             "Checks traces of persistent memory events, and trims the flushes and fences that no crash can show.{n}With no words it trims the trace on standard input.",
         )
         .after_help(
-            "A FILE that is not given is standard input. The answer goes to standard output, faults to standard error.{n}Statuses: 0 done; 1 check: an assertion fails or a store is never persisted; 2 wrong words; 3 trace or script refused; 4 file fault; 5 out of memory; 6 torn recorder{n}{n}Example: pmtrim < run.trace > trimmed.trace",
+            "A FILE that is not given is standard input. The answer goes to standard output, faults to standard error.{n}Statuses: 0 done; 1 check, explain: an assertion fails or a store is never persisted; 2 wrong words; 3 trace or script refused; 4 file fault; 5 out of memory; 6 torn recorder{n}{n}Example: pmtrim < run.trace > trimmed.trace",
         )
         .subcommand(check(alloc)?)?
+        .subcommand(explain(alloc)?)?
         .subcommand(trim(alloc)?)?
         .subcommand(fronts(alloc)?)?
-        .subcommand(record(alloc)?)
+        .subcommand(record(alloc)?)?
+        .subcommand(draw_command(alloc)?)
 }
 
 fn check<'a>(alloc: Global) -> Result<Command<'a>, AllocError> {
@@ -39,6 +42,42 @@ fn check<'a>(alloc: Global) -> Result<Command<'a>, AllocError> {
             "Writes the number of events and lines, an entry for each finding and each assertion, and how many events trim keeps.{n}Statuses: 0 done; 1 an assertion fails or a store is never persisted; 2 wrong words; 3 trace refused; 4 file fault; 5 out of memory{n}Example: pmtrim check --workers 4 run.trace",
         )
         .arg(workers(alloc, SHARED))?
+        .arg(file(alloc))
+}
+
+fn explain<'a>(alloc: Global) -> Result<Command<'a>, AllocError> {
+    let ignore = Arg::new(alloc, "ignore")
+        .long("ignore")
+        .value_name("A:N")
+        .action(ArgAction::Append)
+        .help(
+            "Leave out what is lost in the N bytes from address A on, as 0x1000:8; may be given more than once",
+        );
+    let limit = Arg::new(alloc, "limit")
+        .long("limit")
+        .value_name("N")
+        .default_value("10")
+        .help("How many entries of each kind to show");
+    let labels = Arg::new(alloc, "labels")
+        .long("labels")
+        .value_name("FILE")
+        .help("What to call the events: lines EVENT TEXT by rising event number");
+    let json = Arg::new(alloc, "json")
+        .long("json")
+        .action(ArgAction::SetTrue)
+        .help("Write a JSON object a line");
+    Command::new(alloc, "explain")
+        .override_usage(
+            "pmtrim explain [--ignore A:N].. [--limit N] [--labels FILE] [--json] [FILE]",
+        )
+        .about("Says what is wrong in a trace, why, and where to put the flush or fence.")
+        .after_help(
+            "Writes a summary, then each failed assertion with a crash that violates it, stores that are never persisted, flushes and fences without effect, and overwritten stores.{n}Statuses: 0 done; 1 an assertion fails or a store that is not ignored is never persisted; 2 wrong words; 3 trace or labels refused; 4 file fault; 5 out of memory{n}Example: pmtrim explain --labels run.trace.labels run.trace",
+        )
+        .arg(ignore)?
+        .arg(limit)?
+        .arg(labels)?
+        .arg(json)?
         .arg(file(alloc))
 }
 

@@ -15,6 +15,10 @@ use std::io::Write;
 pub enum Fault {
     /// The words are wrong; the text says how, and ends with LF.
     Usage(String),
+    /// An input is refused; the text says where and why, and ends with LF.
+    Refused(String),
+    /// The system refused something; the text says what and why, and ends with LF.
+    System(String),
     /// The run told this.
     Run(RunError),
     /// The scripts were not recorded.
@@ -34,7 +38,7 @@ impl From<AllocError> for Fault {
 impl From<OpenError> for Fault {
     fn from(error: OpenError) -> Fault {
         match error {
-            OpenError::NoFile => Fault::File,
+            OpenError::System(_) => Fault::File,
             OpenError::OutOfMemory => Fault::OutOfMemory,
         }
     }
@@ -53,6 +57,8 @@ impl Fault {
     {
         match self {
             Fault::Usage(_) => 2,
+            Fault::Refused(_) => 3,
+            Fault::System(_) => 4,
             Fault::Run(error) => status_of(error),
             Fault::Record(fault) => fault.status(),
             Fault::File => 4,
@@ -79,7 +85,7 @@ impl Fault {
     // The lines that say what is wrong.
     fn text(&self, alloc: Global) -> Result<String, OutOfMemory> {
         match self {
-            Fault::Usage(text) => text.clone(),
+            Fault::Usage(text) | Fault::Refused(text) | Fault::System(text) => text.clone(),
             Fault::Run(error) => {
                 let mut line = fault_text(alloc, error)?;
                 line.push_str("\n")?;

@@ -1,13 +1,13 @@
 //! Opening named files.
 use std::fs;
-use std::io::{ErrorKind, Read};
+use std::io::{self, ErrorKind, Read};
 use std::rt::Files;
 
 /// Why a named file was not opened.
-#[derive(Clone, Copy, Debug, PartialEq, Eq)]
+#[derive(Clone, Copy, Debug)]
 pub enum OpenError {
-    /// There is no such file, or it can't be opened.
-    NoFile,
+    /// There is no such file, or it can't be opened: the system's reason.
+    System(io::Error),
     /// A growth was refused.
     OutOfMemory,
 }
@@ -20,7 +20,7 @@ pub trait Opener {
     /// The reader of the file with this name.
     ///
     /// # Errors
-    /// `NoFile` where it can't be opened, `OutOfMemory`.
+    /// `System` where it can't be opened, `OutOfMemory`.
     fn open(&self, name: &str) -> Result<Self::Reader, OpenError>;
 }
 
@@ -44,7 +44,7 @@ impl<R: Files> Opener for SystemFiles<'_, R> {
         match fs::open(self.rt, name) {
             Ok(file) => Ok(file),
             Err(e) if e.kind() == ErrorKind::OutOfMemory => Err(OpenError::OutOfMemory),
-            Err(_) => Err(OpenError::NoFile),
+            Err(e) => Err(OpenError::System(e)),
         }
     }
 }

@@ -1,5 +1,7 @@
 //! What the words ask for.
 use crate::command::commands;
+use crate::draw_words::{Drawing, drawing_of};
+use crate::explain_words::{ExplainWords, explain_words};
 use crate::fault::Fault;
 use clap::error::ErrorKind;
 use clap::{ArgMatches, Error};
@@ -16,6 +18,8 @@ pub enum Request<'a> {
         workers: usize,
         file: Option<&'a str>,
     },
+    /// What is wrong in a trace, why, and what to do.
+    Explain(ExplainWords<'a>),
     /// The trimmed trace.
     Trim {
         workers: usize,
@@ -27,6 +31,8 @@ pub enum Request<'a> {
         file: &'a str,
         place: u64,
     },
+    /// The picture of a trace.
+    Draw(Drawing<'a>),
     /// The trace that these scripts record.
     Record {
         scripts: Vec<&'a str>,
@@ -36,10 +42,12 @@ pub enum Request<'a> {
 impl Request<'_> {
     /// Whether standard input is read for it.
     pub fn reads_input(&self) -> bool {
-        matches!(
-            self,
-            Request::Check { file: None, .. } | Request::Trim { file: None, .. }
-        )
+        match self {
+            Request::Check { file, .. } | Request::Trim { file, .. } => file.is_none(),
+            Request::Explain(words) => words.file.is_none(),
+            Request::Draw(drawing) => drawing.file.is_none(),
+            Request::Show(_) | Request::Fronts { .. } | Request::Record { .. } => false,
+        }
     }
 }
 
@@ -72,8 +80,10 @@ fn asked<'a>(alloc: Global, matches: &ArgMatches<'a>) -> Result<Request<'a>, Fau
             workers: workers_of(given),
             file: given.get_str("FILE"),
         }),
+        Some(("explain", given)) => Ok(Request::Explain(explain_words(alloc, given)?)),
         Some(("fronts", given)) => fronts(alloc, given),
         Some(("record", given)) => record(alloc, given),
+        Some(("draw", given)) => Ok(Request::Draw(drawing_of(alloc, given)?)),
         Some((_, given)) => Ok(Request::Trim {
             workers: workers_of(given),
             stream: given.get_flag("stream"),

@@ -1,6 +1,8 @@
 //! Doing what the words ask for.
 ghost use Rattle.std.specs.Prelude.{◌≤◌, IfOk};
 
+use crate::draw::draw;
+use crate::explain::run_explain;
 use crate::fault::Fault;
 use crate::opener::Opener;
 use crate::record::record;
@@ -70,6 +72,7 @@ where
             workers,
             file: None,
         } => check(rt, workers, input, out),
+        Request::Explain(words) => run_explain(rt, words, files, input, out),
         Request::Trim {
             workers: _,
             stream: true,
@@ -90,6 +93,7 @@ where
             stream: false,
             file: None,
         } => trim(rt, workers, input, out),
+        Request::Draw(drawing) => draw(rt, &drawing, files, input, out),
         Request::Record { scripts } => record(rt, files, scripts.as_slice(), out),
     }
 }

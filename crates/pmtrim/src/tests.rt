@@ -8,7 +8,7 @@ use crate::opener::{OpenError, Opener};
 use crate::run::run_words;
 use pmt_text::devices::{EndlessReader, LimitedWriter, PieceReader};
 use std::alloc::{AllocError, Global};
-use std::io::Read;
+use std::io::{Error, ErrorKind, Read};
 use std::process::Abort;
 use std::sync::Wait;
 use std::test::Fail;
@@ -32,7 +32,7 @@ impl<'a> Opener for OneFile<'a> {
         if name == "t" {
             Ok(PieceReader::new(self.text, 7))
         } else {
-            Err(OpenError::NoFile)
+            Err(OpenError::System(Error::from(ErrorKind::NotFound)))
         }
     }
 }

@@ -2,7 +2,7 @@
 use crate::opener::{OpenError, Opener};
 use crate::run::run_words;
 use pmt_text::devices::{EndlessReader, LimitedWriter, PieceReader};
-use std::io::{Read, Take};
+use std::io::{Error, ErrorKind, Read, Take};
 use std::process::Abort;
 use std::sync::Wait;
 use std::thread::Threads;
@@ -25,7 +25,7 @@ impl Opener for Scripts {
             "bad" => Ok(EndlessReader::new(b"sfence 0\n", b"a").take(9)),
             "full" => Ok(EndlessReader::new(b"", b"sfence\n").take(7_000_000)),
             "long" => Ok(EndlessReader::new(b"sfence\n", b"a").take(67_108_865)),
-            _ => Err(OpenError::NoFile),
+            _ => Err(OpenError::System(Error::from(ErrorKind::NotFound))),
         }
     }
 }

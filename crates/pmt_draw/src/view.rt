@@ -1,0 +1,27 @@
+//! What of a trace is drawn.
+
+/// The most events that a picture shows.
+pub const MOST_COLUMNS: usize = 120;
+
+/// The most lines that a picture shows.
+pub const MOST_ROWS: usize = 30;
+
+/// Which events are asked for. Events go by their numbers, from 1.
+#[derive(Clone, Copy, Debug, PartialEq, Eq)]
+pub enum Span {
+    /// What led to the first assertion that fails; where none does, the first events.
+    Failure,
+    /// The events around this one.
+    Around(u64),
+    /// The events from `first` to `last`.
+    Between { first: u64, last: u64 },
+}
+
+/// What of a trace is asked for.
+#[derive(Debug, Drop)]
+pub struct View {
+    /// Which events.
+    pub span: Span,
+    /// Addresses whose lines are kept; every line, if there are none.
+    pub kept: Vec<u64>,
+}

@@ -1,0 +1,6 @@
+pub mod CountingLemmas
+pub mod IgnoringLemmas
+pub mod NoFloats
+pub mod Pushing
+pub mod ShowingLemmas
+pub mod WordLemmas

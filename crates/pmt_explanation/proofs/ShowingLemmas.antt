@@ -1,0 +1,114 @@
+-- The failures that are shown are those of the events, in order.
+use Rattle.std.proofs.Common.{◌≡◌, ℕ, zero, suc, inl, inr, ◌<◌, ◌≤◌, ◌==◌, Bool, true, false, List, [], ◌∷◌, ◌++◌, take, map, Option, None, Some, refl, sym, ap, subst, ◌∙◌, arith, true≢false}
+use Rattle.std.specs.Prelude.{MatchOption}
+use Rattle.std.specs.List.{All, AllByRecursion}
+use Rattle.std.proofs.lemmas.List.{map-append}
+use Rattle.std.proofs.lemmas.List.Elements.{All-push, All-nil}
+use Rattle.std.proofs.lemmas.Bool.{cond_both}
+use Rattle.pmt_model.specs.declared.event.Event.{Event}
+use Rattle.pmt_model.specs.declared.event.Op.{Op}
+use Rattle.pmt_model.specs.declared.event.Op.TheVariants.{Store, Clwb, ClflushOpt, Clflush, Sfence, Mfence, IsPersist, IsOrderedBefore}
+use Rattle.pmt_model.specs.declared.finding.Verdict.{Verdict}
+use Rattle.pmt_model.specs.Traces.{Recording, event, history, count_at}
+use Rattle.pmt_model.specs.Fronts.{front_at}
+use Rattle.pmt_model.specs.Analyses.{IsVerdictOf, OfPersist, OfOrdered, HasVerdict, IsVerdicts}
+use Rattle.pmt_laws.proofs.Histories.{front-le-count}
+use Rattle.pmt_reasons.specs.declared.failure.Failure.{Failure}
+use Rattle.pmt_reasons.specs.Failures.{persisted_at, IsLost, IsFailureOf, IsFailureAt}
+use Rattle.pmt_reasons.proofs.CauseLemmas.{pending_by_fronts}
+use Rattle.pmt_explain.specs.CauseOf.{IsCauseOf}
+use Rattle.pmt_explanation.specs.declared.failures.ShownFailure.{ShownFailure}
+use Rattle.pmt_explanation.specs.Failing.{failing_events}
+use Rattle.pmt_explanation.specs.Showing.{IsShown, Fails, AreShown}
+
+-- ---- The list, one event more
+
+front-all : (P : ℕ → Type 0) (xs : List ℕ) (x : ℕ) → AllByRecursion P (xs ++ x ∷ []) → AllByRecursion P xs × P x
+front-all P [] x h = (tt, h.0)
+front-all P (y ∷ xs) x h = let rest = front-all P xs x h.1 in ((h.0, rest.0), rest.1)
+
+pub shown-none : (T : Recording) (shown : List ShownFailure) → shown ≡ [] → AreShown T [] shown
+shown-none T shown e = record { each = subst (All (IsShown T)) (sym e) (All-nil (IsShown T)); all = λ h. ap (map (λ (s : ShownFailure). s.event)) e }
+
+pub shown-more : (T : Recording) (numbers : List ℕ) (shown new : List ShownFailure) (n : ℕ) (s : ShownFailure) →
+    AreShown T numbers shown → IsShown T s → s.event ≡ n → new ≡ shown ++ s ∷ [] → AreShown T (numbers ++ n ∷ []) new
+shown-more T numbers shown new n s before it is e =
+    let number : ShownFailure → ℕ = λ (s : ShownFailure). s.event in
+    record {
+      each = subst (All (IsShown T)) (sym e) (All-push (IsShown T) shown s before.each it);
+      all = λ h.
+          let older : map number shown ≡ numbers = before.all (front-all (Fails T) numbers n h).0 in
+          ap (map number) e ∙ map-append number shown (s ∷ []) ∙ ap (λ (ns : List ℕ). ns ++ s.event ∷ []) older ∙ ap (λ (k : ℕ). numbers ++ k ∷ []) is;
+    }
+
+pub shown-passing : (T : Recording) (numbers : List ℕ) (shown : List ShownFailure) (n : ℕ) → AreShown T numbers shown → IsFailureAt T n None → AreShown T (numbers ++ n ∷ []) shown
+shown-passing T numbers shown n before passes = record {
+  each = before.each;
+  all = λ h. absurd ((front-all (Fails T) numbers n h).1 passes);
+}
+
+-- ---- A failure's lost store has a cause
+
+low : (T : Recording) (n : ℕ) (full : Option ℕ) (l : ℕ) → front_at T l n ≤ persisted_at T n full l
+low T n None l = omega arith
+low T n (Some k) l =
+    let few = front-le-count l (history T n) in
+    cond_both (l == k) (count_at T l n) (front_at T l n) (λ (v : ℕ). front_at T l n ≤ v) (λ same. few) (λ other. omega arith)
+
+abbrev is_some_failure : Option Failure → Bool
+is_some_failure None = false
+is_some_failure (Some f) = true
+
+some-none : (f : Failure) → ¬ (Some f ≡ None)
+some-none f e = true≢false (ap is_some_failure e)
+
+lost-of_op : (T : Recording) (i : ℕ) (op : Op) (f : Failure) → IsFailureOf T i op (Some f) → (full : Option ℕ) × IsLost T f.place full f.lost.store
+lost-of_op T i (Store w) f h = absurd (some-none f h)
+lost-of_op T i (Clwb a) f h = absurd (some-none f h)
+lost-of_op T i (ClflushOpt a) f h = absurd (some-none f h)
+lost-of_op T i (Clflush a) f h = absurd (some-none f h)
+lost-of_op T i Sfence f h = absurd (some-none f h)
+lost-of_op T i Mfence f h = absurd (some-none f h)
+lost-of_op T i (IsPersist A) f h = (None, subst (λ (n : ℕ). IsLost T n None f.lost.store) (sym h.place) h.lost.is_lost)
+lost-of_op T i (IsOrderedBefore A B) f h = (Some h.line, subst (λ (n : ℕ). IsLost T n (Some h.line) f.lost.store) (sym h.place) h.lost.is_lost)
+
+no-cause : (T : Recording) (n x : ℕ) (full : Option ℕ) → IsLost T n full x → ¬ IsCauseOf T n x None
+no-cause T n x full lost none =
+    let above : front_at T lost.line n < count_at T lost.line x = omega (arith, low T n full lost.line, lost.missing) in
+    none lost.line lost.what lost.is_store ((pending_by_fronts T lost.line n x).1 above)
+
+has-cause : (T : Recording) (i : ℕ) (o : Option Event) (f : Failure) → MatchOption o (Some f ≡ None) (λ (e : Event). IsFailureOf T i e.op (Some f)) → ¬ IsCauseOf T f.place f.lost.store None
+has-cause T i None f h = absurd (some-none f h)
+has-cause T i (Some e) f h = let lost = lost-of_op T i e.op f h in no-cause T f.place f.lost.store lost.0 lost.1
+
+pub failure-has_cause : (T : Recording) (i : ℕ) (f : Failure) → IsFailureAt T i (Some f) → ¬ IsCauseOf T f.place f.lost.store None
+failure-has_cause T i f h = has-cause T i (event T i) f h
+
+-- ---- What the verdicts tell as failed fails
+
+passes-of : (T : Recording) (i : ℕ) (e : Event) → event T i ≡ Some e → IsFailureAt T i None → IsFailureOf T i e.op None
+passes-of T i e is h = subst (λ (o : Option Event). MatchOption o (◌≡◌ {A = Option Failure} None None) (λ (x : Event). IsFailureOf T i x.op None)) is h
+
+verdict-fails : (T : Recording) (v : Verdict) → IsVerdictOf T v → v.pass ≡ false → Fails T v.event
+verdict-fails T v (OfPersist e is r op ordered passes) fails none =
+    true≢false (sym (passes.1 (subst (λ (o : Op). IsFailureOf T v.event o None) op (passes-of T v.event e is none))) ∙ fails)
+verdict-fails T v (OfOrdered e is r q op ordered passes) fails none =
+    true≢false (sym (passes.1 (subst (λ (o : Op). IsFailureOf T v.event o None) op (passes-of T v.event e is none))) ∙ fails)
+
+fails-cons : (T : Recording) (v : Verdict) (vs : List Verdict) (b : Bool) → v.pass ≡ b → (b ≡ false → Fails T v.event) → AllByRecursion (Fails T) (failing_events vs) →
+    AllByRecursion (Fails T) (failing_events (v ∷ vs))
+fails-cons T v vs true e f rest = rw e rest
+fails-cons T v vs false e f rest = rw e (f refl, rest)
+
+all-fail : (T : Recording) (vs : List Verdict) → ((v : Verdict) → HasVerdict vs v → IsVerdictOf T v) → AllByRecursion (Fails T) (failing_events vs)
+all-fail T [] h = tt
+all-fail T (v ∷ vs) h = fails-cons T v vs v.pass refl (λ e. verdict-fails T v (h v (inl refl)) e) (all-fail T vs (λ w within. h w (inr within)))
+
+all-take : (P : ℕ → Type 0) (n : ℕ) (xs : List ℕ) → AllByRecursion P xs → AllByRecursion P (take n xs)
+all-take P zero xs h = tt
+all-take P (suc n) [] h = tt
+all-take P (suc n) (x ∷ xs) h = (h.0, all-take P n xs h.1)
+
+pub shown-all : (T : Recording) (verdicts : List Verdict) (limit : ℕ) (shown : List ShownFailure) → IsVerdicts T verdicts → AreShown T (take limit (failing_events verdicts)) shown →
+    map (λ (s : ShownFailure). s.event) shown ≡ take limit (failing_events verdicts)
+shown-all T verdicts limit shown right told = told.all (all-take (Fails T) limit (failing_events verdicts) (all-fail T verdicts (λ v within. (right.just v).0 within)))

@@ -1,0 +1,145 @@
+//! The words of `draw`.
+use crate::fault::Fault;
+use clap::{Arg, ArgAction, ArgMatches, Command};
+use pmt_draw::{Span, View};
+use pmt_text::number::{read_address, read_number};
+use std::alloc::{AllocError, Global};
+
+/// What `draw` is asked for.
+#[derive(Debug, Drop)]
+pub struct Drawing<'a> {
+    /// Which events, and which lines.
+    pub view: View,
+    /// The file of the labels.
+    pub labels: Option<&'a str>,
+    /// The file of the trace; none for standard input.
+    pub file: Option<&'a str>,
+}
+
+/// The words of `draw`.
+pub fn draw_command<'a>(alloc: Global) -> Result<Command<'a>, AllocError> {
+    Command::new(alloc, "draw")
+        .override_usage(
+            "pmtrim draw [--around I | --from I --to J] [--line A].. [--labels FILE] [FILE]",
+        )
+        .about("Draws what is safe when, as one SVG.")
+        .after_help(
+            "Without --around and --from it draws the first assertion that fails, with what led to it; where none fails, the first events. At most 120 events and 30 lines are drawn; the picture says what is left out.{n}Statuses: 0 done; 2 wrong words; 3 trace or labels refused; 4 file fault; 5 out of memory{n}Example: pmtrim draw run.trace > run.svg",
+        )
+        .arg(value(alloc, "around", "I", "Draw the events around event I"))?
+        .arg(value(
+            alloc,
+            "from",
+            "I",
+            "Draw the events from event I on; wants --to",
+        ))?
+        .arg(value(
+            alloc,
+            "to",
+            "J",
+            "Draw the events up to event J; wants --from",
+        ))?
+        .arg(value(
+            alloc,
+            "line",
+            "A",
+            "Draw the line of address A (hexadecimal), and what matters to it; may be repeated",
+        )
+        .action(ArgAction::Append))?
+        .arg(value(
+            alloc,
+            "labels",
+            "FILE",
+            "Names of events: lines 'EVENT TEXT'",
+        ))?
+        .arg(Arg::new(alloc, "FILE").help("The trace; standard input, if none is given"))
+}
+
+fn value<'a>(alloc: Global, name: &'a str, shown: &'a str, help: &'a str) -> Arg<'a> {
+    Arg::new(alloc, name)
+        .long(name)
+        .value_name(shown)
+        .help(help)
+}
+
+/// What these words ask for.
+///
+/// # Errors
+/// A usage fault, or `OutOfMemory`.
+pub fn drawing_of<'a>(alloc: Global, given: &ArgMatches<'a>) -> Result<Drawing<'a>, Fault> {
+    Ok(Drawing {
+        view: View {
+            span: span_of(alloc, given)?,
+            kept: kept_lines(alloc, given)?,
+        },
+        labels: given.get_str("labels"),
+        file: given.get_str("FILE"),
+    })
+}
+
+// The addresses whose lines are kept.
+fn kept_lines(alloc: Global, given: &ArgMatches<'_>) -> Result<Vec<u64>, Fault> {
+    let words = given.get_strs("line").unwrap_or(&[]);
+    let mut kept = Vec::with_capacity(alloc, words.len())?;
+    for word in words {
+        match read_address(word.as_bytes()) {
+            Some(address) if address < 1 << 48 => {
+                if kept.push(address).is_err() {
+                    return Err(Fault::OutOfMemory);
+                }
+            }
+            _ => {
+                let allowed = "an address as 0x1000, at most 0xffffffffffff";
+                return Err(bad_word(alloc, word, "--line <A>", allowed)?);
+            }
+        }
+    }
+    Ok(kept)
+}
+
+// Which events are asked for.
+fn span_of(alloc: Global, given: &ArgMatches<'_>) -> Result<Span, Fault> {
+    let around = number_of(alloc, given, "around", "--around <I>")?;
+    let first = number_of(alloc, given, "from", "--from <I>")?;
+    let last = number_of(alloc, given, "to", "--to <J>")?;
+    match (around, first, last) {
+        (None, None, None) => Ok(Span::Failure),
+        (Some(number), None, None) => Ok(Span::Around(number)),
+        (None, Some(first), Some(last)) if first <= last => Ok(Span::Between { first, last }),
+        (None, Some(_), Some(_)) => Err(Fault::usage(
+            alloc,
+            "the event of '--to' comes before that of '--from'",
+        )?),
+        (Some(_), _, _) => Err(Fault::usage(
+            alloc,
+            "'--around' stands without '--from' and '--to'",
+        )?),
+        _ => Err(Fault::usage(alloc, "'--from' and '--to' stand together")?),
+    }
+}
+
+// The event number of the option, if it is given.
+fn number_of(
+    alloc: Global,
+    given: &ArgMatches<'_>,
+    name: &str,
+    shown: &str,
+) -> Result<Option<u64>, Fault> {
+    let Some(word) = given.get_str(name) else {
+        return Ok(None);
+    };
+    match read_number(10, word.as_bytes()) {
+        Some(number) if number > 0 => Ok(Some(number)),
+        _ => Err(bad_word(
+            alloc,
+            word,
+            shown,
+            "an event's number: decimal, from 1, without leading zeros",
+        )?),
+    }
+}
+
+fn bad_word(alloc: Global, word: &str, shown: &str, allowed: &str) -> Result<Fault, AllocError> {
+    let message = format!(in alloc; "invalid value '{word}' for '{shown}': {allowed}")?;
+    Fault::usage(alloc, message.as_str())
+}

@@ -1,0 +1,148 @@
+//! `explain`: what is wrong in a trace, why, and what to do.
+ghost use Rattle.std.specs.Prelude.{◌≤◌, IfOk};
+
+use crate::diagnosis::diagnosed;
+use crate::explain_words::ExplainWords;
+use crate::fault::Fault;
+use crate::labels::read_labels;
+use crate::opener::{OpenError, Opener};
+use crate::reading::{read_whole, system_fault};
+use crate::refused::{line_of_text, refused_line};
+use pmt_explanation::{
+    ExplainError, Explanation, Labels, Options, explain, has_failed, json_text, text,
+};
+use pmt_report::RunError;
+use pmt_text::{Counted, SourceError, TextError, TextSource};
+use std::alloc::Global;
+use std::io::{Cursor, Read, Write};
+use std::thread::Threads;
+
+// What a person calls the input that has no name.
+const STANDARD_INPUT: &str = "standard input";
+
+/// Explains the trace of the file or of `input`, and writes what is asked for to `out`. The labels file is read and judged first.
+/// The status is 1 where an assertion fails, or a store is never persisted that is not ignored.
+///
+/// # Errors
+/// The labels' fault, then that of the trace, then that of the write. Each names the file and says why.
+pub fn run_explain<T, O, I, W>(
+    rt: &T,
+    words: ExplainWords<'_>,
+    files: &O,
+    input: I,
+    out: &mut W,
+) -> Result<u8, Fault>
+where
+    T: AllocGlobal + Threads + Sync,
+    O: Opener,
+    I: Read + Drop,
+    W: Write,
+    ensures { IfOk result (λ status. status ≤ 1) }
+{
+    let alloc = rt.alloc();
+    let ExplainWords {
+        ignored,
+        limit,
+        labels,
+        json,
+        file,
+    } = words;
+    let labels = labels_of(alloc, files, labels)?;
+    let (name, bytes) = match file {
+        Some(name) => (name, read_file(alloc, files, name)?),
+        None => (STANDARD_INPUT, read_whole(alloc, STANDARD_INPUT, input)?),
+    };
+    let options = Options { ignored, limit };
+    let explanation = explained(rt, name, bytes.as_slice(), &options)?;
+    write_out(alloc, &explanation, &labels, json, out)?;
+    if has_failed(&explanation) {
+        Ok(1)
+    } else {
+        Ok(0)
+    }
+}
+
+/// The labels of the named file; none, where none is named.
+///
+/// # Errors
+/// The fault of the file, or that of its first faulty line; `OutOfMemory`.
+pub fn labels_of<O: Opener>(alloc: Global, files: &O, name: Option<&str>) -> Result<Labels, Fault> {
+    match name {
+        Some(name) => {
+            let bytes = read_file(alloc, files, name)?;
+            read_labels(alloc, name, bytes.as_slice())
+        }
+        None => Ok(Labels::new(alloc)),
+    }
+}
+
+// The bytes of the named file.
+fn read_file<O: Opener>(alloc: Global, files: &O, name: &str) -> Result<Vec<u8>, Fault> {
+    match files.open(name) {
+        Ok(reader) => read_whole(alloc, name, reader),
+        Err(OpenError::System(error)) => Err(system_fault(alloc, "cannot open", name, error)?),
+        Err(OpenError::OutOfMemory) => Err(Fault::OutOfMemory),
+    }
+}
+
+// The explanation of the trace with this text.
+fn explained<T: AllocGlobal + Threads + Sync>(
+    rt: &T,
+    name: &str,
+    bytes: &[u8],
+    options: &Options,
+) -> Result<Explanation, Fault> {
+    let alloc = rt.alloc();
+    let mut source = TextSource::new(alloc, Counted::new(Cursor::new(bytes)));
+    match explain(rt, alloc, &mut source, options) {
+        Ok(explanation) => Ok(explanation),
+        Err(ExplainError::Source(SourceError::Text(fault))) => Err(refused(
+            alloc, name, bytes, fault,
+        )?),
+        Err(ExplainError::Source(SourceError::TooMany)) => Err(too_long(alloc, name)?),
+        Err(ExplainError::Source(SourceError::Read | SourceError::Failed)) => Err(Fault::Run(
+            RunError::Read,
+        )),
+        Err(ExplainError::Source(SourceError::OutOfMemory) | ExplainError::OutOfMemory) => Err(
+            Fault::OutOfMemory,
+        ),
+    }
+}
+
+// The fault of the trace's line that is refused.
+fn refused(alloc: Global, name: &str, text: &[u8], fault: TextError) -> Result<Fault, Fault> {
+    let wrong = diagnosed(alloc, text, fault)?;
+    let line = line_of_text(text, fault.line);
+    Ok(refused_line(alloc, name, fault.line, line, &wrong)?)
+}
+
+// The fault of a trace with more bytes than are judged.
+fn too_long(alloc: Global, name: &str) -> Result<Fault, Fault> {
+    let line = format!(in alloc;
+        "{name}: the trace is too long: it has more than 67108864 bytes\n"
+    )?;
+    Ok(Fault::Refused(line))
+}
+
+// Writes what is asked for, and flushes once.
+fn write_out<W: Write>(
+    alloc: Global,
+    explanation: &Explanation,
+    labels: &Labels,
+    json: bool,
+    out: &mut W,
+) -> Result<(), Fault> {
+    let answer = if json {
+        json_text(alloc, explanation, labels)?
+    } else {
+        text(alloc, explanation, labels)?
+    };
+    let written = match out.write_all(answer.as_slice()) {
+        Ok(()) => out.flush(),
+        Err(error) => Err(error),
+    };
+    match written {
+        Ok(()) => Ok(()),
+        Err(error) => Err(system_fault(alloc, "cannot write", "the answer", error)?),
+    }
+}

@@ -1,0 +1,107 @@
+//! What a person is told of a refused line: its place, its text, what is wrong with it, and what is allowed there.
+
+use crate::fault::Fault;
+use std::alloc::{AllocError, Global};
+
+// How many bytes of a line are shown.
+const SHOWN: usize = 80;
+
+// What to do where a line ends in CR LF.
+const CARRIAGE_RETURN: &str =
+    "hint: the line ends in CR LF, and a line has to end in LF alone; tr -d '\\r' takes the CR off\n";
+
+/// What is wrong with a line.
+#[derive(Drop)]
+pub struct Wrong {
+    /// What is wrong, with the field at fault.
+    pub what: String,
+    /// What is allowed there, or what to do.
+    pub allowed: &'static str,
+}
+
+impl Wrong {
+    /// What is wrong, and what is allowed there.
+    pub fn new(alloc: Global, what: &str, allowed: &'static str) -> Result<Wrong, AllocError> {
+        Ok(Wrong {
+            what: String::from_str(alloc, what)?,
+            allowed,
+        })
+    }
+}
+
+/// The line with this number, from 1, without its LF. Empty where there is none.
+pub fn line_of_text(text: &[u8], number: u64) -> &[u8] {
+    let mut rest = text;
+    for _ in 1..number {
+        match split_line(rest) {
+            Some((_, later)) => rest = later,
+            None => return b"",
+        }
+    }
+    match split_line(rest) {
+        Some((line, _)) => line,
+        None => rest,
+    }
+}
+
+/// The first line, without its LF, and what stands after that. None where no LF is there.
+pub fn split_line(text: &[u8]) -> Option<(&[u8], &[u8])> {
+    for (at, byte) in text.iter().enumerate() {
+        if *byte == b'\n' {
+            return Some((&text[..at], &text[at + 1..]));
+        }
+    }
+    None
+}
+
+/// The fault of a line: `NAME:LINE: WHAT`, its text, what is allowed, and a hint where lines end in CR LF.
+///
+/// # Errors
+/// `OutOfMemory`.
+pub fn refused_line(
+    alloc: Global,
+    name: &str,
+    number: u64,
+    line: &[u8],
+    wrong: &Wrong,
+) -> Result<Fault, AllocError> {
+    let what = wrong.what.as_str();
+    let allowed = wrong.allowed;
+    let mut text = format!(in alloc; "{name}:{number}: {what}\n")?;
+    if !line.is_empty() {
+        let shown = shown(alloc, line)?;
+        let shown = shown.as_str();
+        let quoted = format!(in alloc; "    {shown}\n")?;
+        text.push_str(quoted.as_str())?;
+    }
+    text.push_str(allowed)?;
+    text.push_str("\n")?;
+    if line.last() == Some(&b'\r') {
+        text.push_str(CARRIAGE_RETURN)?;
+    }
+    Ok(Fault::Refused(text))
+}
+
+/// The text of a line or field for people: bytes that are no printable ASCII are escaped, and what is long is cut.
+///
+/// # Errors
+/// `OutOfMemory`.
+pub fn shown(alloc: Global, line: &[u8]) -> Result<String, AllocError> {
+    let mut text = String::new(alloc);
+    let mut left = SHOWN;
+    for byte in line {
+        if left == 0 {
+            text.push_str("...")?;
+            return Ok(text);
+        }
+        left -= 1;
+        if *byte >= b' ' && *byte <= b'~' {
+            text.push(char::from(*byte))?;
+        } else {
+            let escaped = byte.escape_ascii();
+            let escaped = format!(in alloc; "{escaped}")?;
+            text.push_str(escaped.as_str())?;
+        }
+    }
+    Ok(text)
+}

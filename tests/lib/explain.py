@@ -1,0 +1,110 @@
+#!/usr/bin/env python3
+"""Tests of `explain`: explain.py PROGRAM. The last line is 'N passed, M failed'.
+
+The JSON of small random traces is compared with explained.py. The texts of examples/explain and the faults below are written by hand.
+"""
+import pathlib
+import random
+import subprocess
+import sys
+import tempfile
+
+from examples import Counts
+from explained import Explained, judged
+from explain_faults import faults
+from machine import FENCES, FLUSHES, Trace, spelled, text_of
+
+TOP = pathlib.Path(__file__).resolve().parents[2]
+PLACES = (TOP / "examples", TOP / "tests/traces")
+TRACES = 400
+WEIGHTS = {"store": 7, "flush": 9, "fence": 3, "isPersist": 2, "isOrderedBefore": 4}
+
+
+def random_trace(choose):
+    """The header and some events on few places, so that much happens to each of them."""
+    size, threads = choose.choice((32, 64, 128, 256)), choose.choice((1, 2, 2, 3, 4))
+    places = [0x1000 + size * line + offset for line in range(choose.choice((1, 2, 2, 3))) for offset in (0, 1)]
+    events = []
+    for _ in range(choose.randrange(2, 24)):
+        thread, at = choose.randrange(threads), choose.choice(places)
+        kind = choose.choices(list(WEIGHTS), WEIGHTS.values())[0]
+        if kind == "store":
+            events.append(("store", thread, at, bytes(choose.choice((1, 2)) for _ in range(choose.choice((1, 1, 2, 4))))))
+        elif kind == "flush":
+            events.append((choose.choice((*FLUSHES, "clwb", "clwb", "clflush")), thread, at))
+        elif kind == "fence":
+            events.append((choose.choice(FENCES), thread))
+        else:
+            spans = [choose.choice(places), choose.choice((1, 2, 9, size + 1)), choose.choice(places), choose.choice((1, 2, 9))]
+            events.append((kind, thread, *spans[: 4 if kind == "isOrderedBefore" else 2]))
+    return f"pmtrace 2 {size}", Trace(size, events)
+
+
+def random_words(choose, trace):
+    """Ranges to ignore, labels and a limit."""
+    addresses = [event[2] for event in trace.events if event[0] == "store"]
+    ignored = [(choose.choice(addresses) + choose.choice((-1, 0)), choose.choice((1, 2, 8, 300))) for _ in range(choose.randrange(3)) if addresses]
+    labels = {number: f"file.c:{choose.randrange(1, 99)} call" for number in trace.numbers if choose.random() < 0.5}
+    return ignored, labels, choose.choice((0, 1, 2, 10, 10))
+
+
+def names_failures(explained, told):
+    """The text names each assertion that fails."""
+    return all(spelled(explained.trace.event(entry["event"]["event"])) in told.decode() for entry in explained.failures())
+
+
+def compare(program, folder, choose):
+    """What is wrong with the answer to one random trace, if anything, and that trace."""
+    head, trace = random_trace(choose)
+    ignored, labels, limit = random_words(choose, trace)
+    file, names = folder / "trace", folder / "labels"
+    file.write_bytes(text_of([head, *map(spelled, trace.events)]))
+    names.write_bytes(text_of(f"{number} {label}" for number, label in labels.items()))
+    explained = Explained(trace, ignored, labels)
+    words = [word for start, length in ignored for word in ("--ignore", f"{start:#x}:{length}")]
+    words += ["--limit", str(limit)] * (limit != 10) + ["--labels", names] * bool(labels)
+    done = subprocess.run([program, "explain", *words, "--json", file], capture_output=True, timeout=120)
+    status = int(bool(explained.failures()) or any(not explained.is_ignored(store) for store in explained.lost_stores()))
+    wrong = None
+    if (done.returncode, done.stderr) != (status, b""):
+        wrong = f"status {done.returncode}, wanted {status}: {done.stderr.decode()}"
+    wrong = wrong or judged(explained, done.stdout, limit)
+    text = subprocess.run([program, "explain", *words, file], capture_output=True, timeout=120)
+    if not wrong and (text.returncode, text.stderr) != (status, b""):
+        wrong = f"the text: status {text.returncode}: {text.stderr.decode()}"
+    if not wrong and limit == 10 and not names_failures(explained, text.stdout):
+        wrong = f"the text does not name a failure:\n{text.stdout.decode()}"
+    return wrong, f"{' '.join(map(str, words))}\n{file.read_text()}"
+
+
+def random_traces(program, folder, counts):
+    choose = random.Random(17)
+    for _ in range(TRACES):
+        wrong, trace = compare(program, folder, choose)
+        counts.expect("a random trace", wrong is None, f"{wrong}\nof {trace}")
+
+
+def examples(program, counts):
+    """A text NAME.text is what is said of the trace NAME.trace; a first line '$ WORD ..' has further words."""
+    for path in sorted((TOP / "examples/explain").glob("*.text")):
+        first, _, rest = path.read_text().partition("\n")
+        words, wanted = (first[2:].split(" "), rest) if first.startswith("$ ") else ([], f"{first}\n{rest}")
+        trace = next(folder / f"{path.stem}.trace" for folder in PLACES if (folder / f"{path.stem}.trace").exists())
+        done = subprocess.run([program, "explain", *words, trace], capture_output=True, timeout=120, cwd=path.parent)
+        told = done.stdout.decode() + done.stderr.decode()
+        counts.expect(f"the text of {path.stem}", told == wanted and done.returncode in (0, 1), f"it wrote\n{told}")
+
+
+def main():
+    counts = Counts()
+    program = pathlib.Path(sys.argv[1]).resolve()
+    with tempfile.TemporaryDirectory() as name:
+        random_traces(program, pathlib.Path(name), counts)
+        examples(program, counts)
+        faults(program, pathlib.Path(name), counts)
+    print(f"{counts.passed} passed, {counts.failed} failed")
+    return 1 if counts.failed else 0
+
+
+if __name__ == "__main__":
+    sys.exit(main())

@@ -1,0 +1,121 @@
+"""What `explain` tells of words, files and lines that are wrong, and the status. The texts are written by hand."""
+import subprocess
+
+HEADER = "the first line is 'pmtrace 1', or 'pmtrace 2 S' where S, the size of a cache line in bytes, is 32, 64, 128 or 256\n"
+THREAD = "a thread is a decimal number from 0 to 255, without leading zeros\n"
+ADDRESS = "an address is 0x and digits 0-9 and a-f, without leading zeros, from 0x0 to 0xffffffffffff\n"
+BYTES = "the byte string of a store is 1 to 8 pairs of digits 0-9 and a-f, without a prefix\n"
+LENGTH = "a length is a decimal number from 1 to 4096, without leading zeros, and its range ends at 0x1000000000000 at most\n"
+FENCE = "an sfence is 'sfence T': the thread, after a single space\n"
+STORE = "a store is 'store T A HEX': thread, address and byte string, between single spaces\n"
+EVENTS = "an event is store, clwb, clflushopt, sfence, isPersist or isOrderedBefore\n"
+MORE_EVENTS = "an event is store, clwb, clflushopt, clflush, sfence, mfence, isPersist or isOrderedBefore\n"
+SECOND_VERSION = "clflush and mfence are events of version 2: the first line has to be 'pmtrace 2 64', or another line size\n"
+ENDS = "each line ends with LF, the last one too; the trace may have been cut off here\n"
+CARRIAGE = "hint: the line ends in CR LF, and a line has to end in LF alone; tr -d '\\r' takes the CR off\n"
+SPELLED = "is not spelled as in a trace"
+
+# The text of a trace t, and what is told of it.
+REFUSED = [
+    (b"", f"t:1: the input is empty\n{HEADER}"),
+    (b"pmtrace 2 96\n", f"t:1: this is no header of a trace\n    pmtrace 2 96\n{HEADER}"),
+    (b"pmtrace 1\r\nsfence 0\r\n", f"t:1: this is no header of a trace\n    pmtrace 1\\r\n{HEADER}{CARRIAGE}"),
+    (b"pmtrace 1\nsfence 0\r\n", f"t:2: the thread '0\\r' {SPELLED}\n    sfence 0\\r\n{THREAD}{CARRIAGE}"),
+    (b"pmtrace 1\nsfence 0\nsfence 0", f"t:3: the line does not end\n    sfence 0\n{ENDS}"),
+    (b"pmtrace 1\nflush 0 0x1000\n", f"t:2: 'flush' is no event here\n    flush 0 0x1000\n{EVENTS}"),
+    (b"pmtrace 2 64\nflush 0 0x1000\n", f"t:2: 'flush' is no event here\n    flush 0 0x1000\n{MORE_EVENTS}"),
+    (b"pmtrace 1\nclflush 0 0x1000\n", f"t:2: 'clflush' is no event here\n    clflush 0 0x1000\n{SECOND_VERSION}"),
+    (b"pmtrace 1\n\n", "t:2: the line does not begin with an event\nthere are no empty lines and no comments, and a line begins with the word of its event\n"),
+    (b"pmtrace 1\nsfence\n", f"t:2: the thread is missing\n    sfence\n{FENCE}"),
+    (b"pmtrace 1\nsfence 0 1\n", f"t:2: there is a field too many\n    sfence 0 1\n{FENCE}"),
+    (b"pmtrace 1\nstore 0 0x1000\n", f"t:2: the byte string is missing\n    store 0 0x1000\n{STORE}"),
+    (b"pmtrace 1\nclwb 0 0x01000\n", f"t:2: the address '0x01000' {SPELLED}\n    clwb 0 0x01000\n{ADDRESS}"),
+    (b"pmtrace 1\nclwb  0 0x1000\n", f"t:2: the thread '' {SPELLED}\n    clwb  0 0x1000\n{THREAD}"),
+    (b"pmtrace 1\nstore 0 0x1000 1\n", f"t:2: the byte string '1' {SPELLED}\n    store 0 0x1000 1\n{BYTES}"),
+    (b"pmtrace 1\nsfence 256\n", f"t:2: the thread '256' is out of range\n    sfence 256\n{THREAD}"),
+    (b"pmtrace 1\nclwb 0 0x1000000000000\n", f"t:2: the address '0x1000000000000' is out of range\n    clwb 0 0x1000000000000\n{ADDRESS}"),
+    (b"pmtrace 1\nisPersist 0 0x1000 4097\n", f"t:2: the length '4097' is out of range\n    isPersist 0 0x1000 4097\n{LENGTH}"),
+    (b"pmtrace 1\nisPersist 0 0xffffffffffff 2\n", f"t:2: the range ends past the last address\n    isPersist 0 0xffffffffffff 2\n{LENGTH}"),
+    (
+        b"pmtrace 1\nstore 0 0x1000 010203040506070809\n",
+        f"t:2: the byte string '010203040506070809' is out of range\n    store 0 0x1000 010203040506070809\n{BYTES}",
+    ),
+    (
+        b"pmtrace 1\nstore 0 0x1007 0102\n",
+        "t:2: the store crosses the end of an aligned word of 8 bytes\n    store 0 0x1007 0102\n"
+        "a store lies inside one aligned word, so address mod 8 + number of bytes is at most 8; cut a longer one at the words\n",
+    ),
+    (b"pmtrace 1\n\x1b[2Jsfence\xff 0\n", f"t:2: '\\x1b[2Jsfence\\xff' is no event here\n    \\x1b[2Jsfence\\xff 0\n{EVENTS}"),
+    (b"pmtrace 1\n" + b"x" * 100 + b"\n", f"t:2: '{'x' * 80}...' is no event here\n    {'x' * 80}...\n{EVENTS}"),
+    (b"pmtrace 1\n" + b"sfence 0\n" * 1000001, "t:1000002: this event is one too many\n    sfence 0\na trace has at most 1000000 events\n"),
+    (b"a" * 67108865, "t: the trace is too long: it has more than 67108864 bytes\n"),
+]
+
+LABEL = "a label is 'EVENT TEXT': a decimal number from 1 to 1000000 without leading zeros, a space and a text\n"
+ORDER = "the labels stand by rising number of their events, one line for an event\n"
+NO_TEXT = "a label is 'EVENT TEXT', as '12 list.c:57 insert'\n"
+
+# The text of a labels file l, and what is told of it.
+BAD_LABELS = [
+    (b"1 a\nb\n", f"l:2: 'b' is no number of an event\n    b\n{LABEL}"),
+    (b"0 a\n", f"l:1: '0' is no number of an event\n    0 a\n{LABEL}"),
+    (b"1000001 a\n", f"l:1: '1000001' is no number of an event\n    1000001 a\n{LABEL}"),
+    (b"2 a\n2 b\n", f"l:2: the number does not come after 2, that of the line before\n    2 b\n{ORDER}"),
+    (b"1\n", f"l:1: the label has no text\n    1\n{NO_TEXT}"),
+    (b"1 a\n2 b", "l:2: the line does not end\n    2 b\neach line ends with LF, the last one too; the file may have been cut off here\n"),
+    (
+        b"1 a\r\n",
+        f"l:1: the text of the label has bytes that can not be shown\n    1 a\\r\na text is UTF-8 without control characters\n{CARRIAGE}",
+    ),
+    (b"1 \xff\n", "l:1: the text of the label has bytes that can not be shown\n    1 \\xff\na text is UTF-8 without control characters\n"),
+]
+
+# Words that are wrong, and a part of what is told.
+BAD_WORDS = [
+    (["--ignore", "0x1000"], "0x1000:8"),
+    (["--ignore", "1000:8"], "'1000:8'"),
+    (["--ignore", "0x1000:0"], "'0x1000:0'"),
+    (["--ignore", "0xffffffffffff:2"], "0xffffffffffff"),
+    (["--limit", "ten"], "a decimal number"),
+    (["--limit", "01"], "'01'"),
+    (["--limit", "1", "--limit", "2"], "--limit"),
+    (["--json", "--frob"], "'--frob'"),
+    (["--labels"], "--labels"),
+    (["t", "t"], "'t'"),
+]
+
+SAVED = b"pmtrace 1\nstore 0 0x1000 01\nclwb 0 0x1000\nsfence 0\n"
+
+
+def faults(program, folder, counts):
+    """Each is told on standard error alone, with its status."""
+
+    def told(words, **options):
+        options.setdefault("stdin", subprocess.DEVNULL)
+        done = subprocess.run([program, "explain", *words], capture_output="stdout" not in options, cwd=folder, timeout=120, **options)
+        return done.returncode, done.stdout or b"", done.stderr.decode()
+
+    def expect(name, answer, status, fault):
+        counts.expect(name, answer == (status, b"", fault), f"{answer}, wanted {fault!r}")
+
+    trace, labels = folder / "t", folder / "l"
+    for text, fault in REFUSED:
+        trace.write_bytes(text)
+        expect(f"the trace {text[:40]}", told(["t"]), 3, fault)
+    expect("standard input", told([], stdin=None, input=b"pmtrace 3\n"), 3, f"standard input:1: this is no header of a trace\n    pmtrace 3\n{HEADER}")
+    trace.write_bytes(SAVED)
+    for text, fault in BAD_LABELS:
+        labels.write_bytes(text)
+        expect(f"the labels {text[:40]}", told(["--labels", "l", "t"]), 3, fault)
+    for words, part in BAD_WORDS:
+        status, out, fault = told(words)
+        counts.expect(f"the words {words}", (status, out) == (2, b"") and part in fault, f"{status} {fault}")
+    (folder / "d").mkdir()
+    missing = "No such file or directory\n"
+    expect("no trace", told(["none"]), 4, f"cannot open none: {missing}")
+    expect("no labels", told(["--labels", "none", "t"]), 4, f"cannot open none: {missing}")
+    expect("labels before the trace", told(["--labels", "none.labels", "none"]), 4, f"cannot open none.labels: {missing}")
+    expect("a folder", told(["d"]), 4, "cannot read d: Is a directory\n")
+    with open("/dev/full", "wb") as full:
+        answer = told(["t"], stdout=full, stderr=subprocess.PIPE)
+        expect("a full device", answer, 4, "cannot write the answer: No space left on device\n")

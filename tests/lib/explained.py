@@ -1,0 +1,299 @@
+"""What `explain` must say of a trace: the definitions, read literally over all states that a run can reach (machine.py).
+
+The crash of a failed assertion is a state of the machine that violates it, causes and reasons are the ones there are, and what is told
+to mend a loss does so where it is put into the trace. No front and no other closed form is used.
+"""
+import itertools
+import json
+
+from machine import FENCES, FLUSHES, Trace, entries_at, is_empty_fence, is_kept, least, spelled
+
+KINDS = ("failure", "never_persisted", "dropped", "overwritten", "unwritten")
+ANY_FLUSH = ("clflush", *FLUSHES)
+
+
+class Explained:
+    """The entries that a trace must have, with these ignored ranges and labels."""
+
+    def __init__(self, trace, ignored, labels):
+        self.trace = trace
+        self.ignored = ignored
+        self.labels = labels
+        self.end = len(trace.events)
+        self.entries = list(itertools.chain.from_iterable(entries_at(trace, number) for number in trace.numbers))
+
+    # Events
+
+    def event(self, number):
+        """How an event is named."""
+        word, thread, *rest = self.trace.event(number)
+        address = hex(rest[0]) if rest else None
+        words = spelled(self.trace.event(number))
+        return {"address": address, "event": number, "label": self.labels.get(number), "line": number + 1, "thread": thread, "words": words}
+
+    def address(self, line):
+        return hex(line * self.trace.size)
+
+    def is_ignored(self, store):
+        _, _, start, data = self.trace.event(store)
+        return all(any(low <= byte < low + length for low, length in self.ignored) for byte in range(start, start + len(data)))
+
+    # Failures
+
+    def failures(self):
+        failed = [int(entry.split(" ")[1]) for entry in self.entries if entry.endswith(" fail")]
+        return [self.failure(number) for number in failed]
+
+    def byte_stores(self, span, place):
+        """The last store to each byte of the range, the first by number and then by byte first."""
+        found = [(self.trace.last_store(byte, place), byte) for byte in range(span[0], span[0] + span[1])]
+        return sorted(pair for pair in found if pair[0] is not None)
+
+    def crash(self, place, full):
+        """At the place each line has no more stores persisted than every run must have, but all of the full line."""
+        counts = {line: len(self.trace.stores(line, place)) if line == full else least(self.trace, line, place) for line in self.trace.lines(place)}
+        return tuple(sorted((line, count) for line, count in counts.items() if count))
+
+    def violation(self, number):
+        """The place of the crash, the kept store and the lost one, each with its byte."""
+        _, _, *fields = self.trace.event(number)
+        spans = [(fields[at], fields[at + 1]) for at in range(0, len(fields), 2)]
+        first = self.byte_stores(spans[0], number)
+        crashes = [(number, None, None)]
+        if len(spans) == 2:
+            crashes = [(kept[0], kept, self.trace.line(kept[0])) for kept in self.byte_stores(spans[1], number)]
+        for place, kept, full in crashes:
+            state = self.crash(place, full)
+            lost = [pair for pair in first if not self.trace.is_persisted(state, pair[0])]
+            if lost:
+                return spans, place, kept, lost[0], state
+        raise ValueError(f"assertion {number} has no crash that violates it")
+
+    def failure(self, number):
+        spans, place, kept, lost, state = self.violation(number)
+        if state not in self.trace.reached[place]:
+            raise ValueError(f"no run of {place} events ends with {state}")
+        counts = dict(state)
+        lines = [
+            {"cache_line": self.address(line), "persisted": counts.get(line, 0), "stores": len(self.trace.stores(line, place))}
+            for line in self.trace.lines(place)
+        ]
+        return {
+            "kind": "failure",
+            "event": self.event(number),
+            "place": place,
+            "kept": kept and {"byte": hex(kept[1]), "store": self.event(kept[0])},
+            "lost": {"byte": hex(lost[1]), "store": self.event(lost[0])},
+            "cause": self.cause(lost[0], place),
+            "lines": lines,
+            "ranges": [self.memory(span, place, state) for span in spans],
+        }
+
+    def memory(self, span, place, state):
+        """What the crash leaves in the range, each byte with the store that it is from."""
+        held = {}
+        for number in range(1, place + 1):
+            word, _, *rest = self.trace.event(number)
+            if word == "store" and self.trace.is_persisted(state, number):
+                held.update({rest[0] + offset: (number, value) for offset, value in enumerate(rest[1])})
+        nothing = (None, None)
+        cells = [(byte, *held.get(byte, nothing)) for byte in range(span[0], span[0] + span[1])]
+        return {
+            "address": hex(span[0]),
+            "length": span[1],
+            "bytes": [{"byte": hex(byte), "store": store, "value": value} for byte, store, value in cells],
+        }
+
+    def cause(self, store, place):
+        if store > place:
+            return {"cause": "later"}
+        line = self.trace.line(store)
+        flushes = [number for number in range(store + 1, place + 1) if self.trace.is_flush_of(number, line, ANY_FLUSH)]
+        if not flushes:
+            return {"cause": "unflushed"}
+        fences = [number for number in range(flushes[0] + 1, place + 1) if self.trace.event(number)[0] in FENCES]
+        other = self.event(fences[0]) if fences else None
+        return {"cause": "unfenced", "flush": self.event(flushes[0]), "thread": self.trace.event(flushes[0])[1], "other": other}
+
+    # What is lost and what is overwritten
+
+    def lost_stores(self):
+        return [int(entry.split(" ")[1]) for entry in self.entries if entry.startswith("never-persisted")]
+
+    def never_persisted(self):
+        groups = {}
+        for store in self.lost_stores():
+            if not self.is_ignored(store):
+                line, cause = self.trace.line(store), self.cause(store, self.end)
+                groups.setdefault((line, json.dumps(cause)), (line, cause, []))[2].append(store)
+        return [
+            {
+                "kind": "never_persisted",
+                "cache_line": self.address(line),
+                "cause": cause,
+                "count": len(stores),
+                "first": self.event(stores[0]),
+                "last": self.event(stores[-1]),
+            }
+            for line, cause, stores in groups.values()
+        ]
+
+    def pairs(self):
+        found = [entry.split(" ") for entry in self.entries if entry.startswith("overwritten")]
+        return [(int(fields[1]), int(fields[3])) for fields in found]
+
+    def is_same(self, earlier, later):
+        """All that the earlier store wrote is written again by the later one, with the same bytes."""
+        (_, _, old_at, old), (_, _, new_at, new) = self.trace.event(earlier), self.trace.event(later)
+        written = {new_at + offset: value for offset, value in enumerate(new)}
+        return all(written.get(old_at + offset) == value for offset, value in enumerate(old))
+
+    def overwritten(self):
+        groups = {}
+        for earlier, later in self.pairs():
+            if not self.is_ignored(earlier):
+                groups.setdefault(self.trace.line(earlier), []).append((earlier, later))
+        return [
+            {
+                "kind": "overwritten",
+                "cache_line": self.address(line),
+                "count": len(pairs),
+                "same": sum(self.is_same(*pair) for pair in pairs),
+                "earlier": self.event(pairs[0][0]),
+                "later": self.event(pairs[0][1]),
+            }
+            for line, pairs in groups.items()
+        ]
+
+    # What is dropped
+
+    def dropped(self):
+        numbers = [number for number in self.trace.numbers if not is_kept(self.trace, number)]
+        return [{"kind": "dropped", "event": self.event(number), "reason": self.reason(number)} for number in numbers]
+
+    def reason(self, number):
+        word, thread = self.trace.event(number)[:2]
+        if word in FENCES:
+            return {"by": None, "reason": "empty" if is_empty_fence(self.trace, number) else "useless"}
+        reason, by = self.flush_reason(number, word, thread)
+        return {"by": by and self.event(by), "reason": reason}
+
+    def flush_reason(self, number, word, thread):
+        trace, line = self.trace, self.trace.line(number)
+        stores = trace.stores(line, number)
+        if all(trace.is_safe(store, number - 1) for store in stores):
+            return "safe", None
+        if word == "clflush":
+            raise ValueError(f"clflush {number} is dropped and not safe")
+        fences = [other for other in range(number + 1, self.end + 1) if trace.event(other)[0] in FENCES and trace.event(other)[1] == thread]
+        if not fences:
+            return "unfenced", None
+        between = range(number + 1, fences[0])
+        again = [other for other in between if trace.is_flush_of(other, line, FLUSHES) and trace.event(other)[1] == thread]
+        if again:
+            return "repeated", again[0]
+        return "overtaken", next(other for other in between if all(trace.is_safe(store, other) for store in stores))
+
+    # Assertions on bytes that were never stored
+
+    def unwritten(self):
+        found = []
+        for number in self.trace.numbers:
+            word, _, *fields = self.trace.event(number)
+            if word.startswith("is"):
+                spans = [(fields[at], fields[at + 1]) for at in range(0, len(fields), 2)]
+                empty = [{"address": hex(start), "length": length} for start, length in spans if not self.trace.last_stores(start, length, number)]
+                if empty:
+                    found.append({"kind": "unwritten", "event": self.event(number), "ranges": empty})
+        return found
+
+    # The whole
+
+    def all_entries(self):
+        return {kind: getattr(self, {"failure": "failures"}.get(kind, kind))() for kind in KINDS}
+
+    def summary(self, limit, entries):
+        trace = self.trace
+        words = [event[0] for event in trace.events]
+        lost, pairs = self.lost_stores(), self.pairs()
+        counts = {kind: (sum(word in words_of for word in words)) for kind, words_of in (("flushes", ANY_FLUSH), ("fences", FENCES))}
+        for kind, words_of in (("flushes", ANY_FLUSH), ("fences", FENCES)):
+            dropped = sum(entry["event"]["words"].split(" ")[0] in words_of for entry in entries["dropped"])
+            counts[f"{kind}_dropped"] = dropped
+            counts[f"{kind}_dropped_percent"] = 100 * dropped // counts[kind] if counts[kind] else 0
+        return {
+            "kind": "summary",
+            "events": self.end,
+            "threads": len({event[1] for event in trace.events}),
+            "cache_lines": len(trace.lines(self.end)),
+            "assertions": sum(word.startswith("is") for word in words),
+            "failing": len(entries["failure"]),
+            "stores": words.count("store"),
+            "never_persisted": sum(not self.is_ignored(store) for store in lost),
+            "ignored_never_persisted": sum(self.is_ignored(store) for store in lost),
+            "ignored_overwritten": sum(self.is_ignored(earlier) for earlier, _ in pairs),
+            "limit": limit,
+            "more": {kind: max(0, len(found) - limit) for kind, found in entries.items()},
+            **counts,
+        }
+
+    def lines(self, limit):
+        """What the JSON must have, but for what mends."""
+        entries = self.all_entries()
+        shown = itertools.chain.from_iterable(found[:limit] for found in entries.values())
+        return [self.summary(limit, entries), *shown]
+
+
+def with_events(trace, after, events):
+    """The trace with these events put in after so many."""
+    return Trace(trace.size, [*trace.events[:after], *events, *trace.events[after:]])
+
+
+def is_mended(explained, mend, stores, place):
+    """Whether what is told, put in as early and as late as it says, makes the stores safe by the place."""
+    trace = explained.trace
+    if mend["mend"] == "store_first":
+        return None
+    new = [("sfence", mend.get("thread", 0))]
+    if mend["mend"] == "flush_and_fence":
+        new = [("clwb", 0, int(mend["cache_line"], 16)), ("sfence", 0)]
+    latest = len(trace.events) if mend["before"] is None else mend["before"] - 1
+    if not mend["after"] <= latest or latest != place:
+        return False
+    mended = (with_events(trace, at, new) for at in (mend["after"], latest))
+    return all(with_new.is_safe(store, place + len(new)) for with_new in mended for store in stores)
+
+
+def failure_is_mended(explained, entry, mend):
+    lost, kept = entry["lost"]["store"]["event"], entry["kept"]
+    if mend["mend"] == "store_first":
+        same = explained.trace.line(lost) == explained.trace.line(kept["store"]["event"])
+        return mend == {"mend": "store_first", "store": lost, "before": entry["place"], "same_line": same} and lost > entry["place"]
+    return is_mended(explained, mend, [lost], entry["place"] - 1)
+
+
+def group_is_mended(explained, entry, mend):
+    end = explained.end
+    stores = [
+        store
+        for store in explained.lost_stores()
+        if not explained.is_ignored(store)
+        and explained.address(explained.trace.line(store)) == entry["cache_line"]
+        and explained.cause(store, end) == entry["cause"]
+    ]
+    return mend["before"] is None and is_mended(explained, mend, stores, end)
+
+
+MENDED = {"failure": failure_is_mended, "never_persisted": group_is_mended}
+
+
+def judged(explained, told, limit):
+    """What is wrong with the JSON of a trace."""
+    entries = [json.loads(line) for line in told.decode().splitlines()]
+    mends = [(entry, entry.pop("mend")) for entry in entries if entry["kind"] in MENDED]
+    wanted = explained.lines(limit)
+    if entries != wanted:
+        differing = next((pair for pair in itertools.zip_longest(entries, wanted) if pair[0] != pair[1]), None)
+        return f"it wrote\n{differing[0]}\nwanted\n{differing[1]}"
+    wrong = [mend for entry, mend in mends if not MENDED[entry["kind"]](explained, entry, mend)]
+    return f"does not mend: {wrong}" if wrong else None
