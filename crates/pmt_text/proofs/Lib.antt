@@ -14,6 +14,7 @@ pub mod LineWriting
 pub mod LinePutting
 pub mod SpelledLemmas
 pub mod SpelledReading
+pub mod FourReading
 pub mod WholeLemmas
 pub mod AheadLemmas
 pub mod ListLemmas

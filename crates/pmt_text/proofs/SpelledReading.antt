@@ -52,7 +52,7 @@ pub bound-more : (base number d : ℕ) → IsBase base → number < 2 ^ 44 → d
 bound-more base number d b l h = let high = base-high base b in let times : number * base ≤ number * 16 = mul-le-mul_left number high in omega (arith, times, high)
 
 -- two bytes stand at place n
-two-first : (text : List ℕ) (n : ℕ) → n + 1 < length text → drop n text ≡ get_or text n 0 ∷ get_or text (n + 1) 0 ∷ drop (n + 2) text
+pub two-first : (text : List ℕ) (n : ℕ) → n + 1 < length text → drop n text ≡ get_or text n 0 ∷ get_or text (n + 1) 0 ∷ drop (n + 2) text
 two-first text n l =
     let next : suc n ≡ n + 1 = omega arith in
     let after : suc (n + 1) ≡ n + 2 = omega arith in

@@ -1,8 +1,8 @@
 //! Reading numbers, addresses and bytes.
-ghost use Rattle.std.specs.Prelude.{◌≡◌, length};
+ghost use Rattle.std.specs.Prelude.{◌≡◌, ◌+◌, ◌≤◌, length};
 ghost use Rattle.std.specs.Option.{option_map};
 ghost use Rattle.pmt_text.specs.Fields.{number_in, address_in, bytes_in};
-ghost use Rattle.pmt_text.specs.Reading.{capped, digit_of, GivesBytes, IsBase};
+ghost use Rattle.pmt_text.specs.Reading.{capped, digit_of, four_at, wide_digit_of, GivesBytes, IsBase};
 
 /// The value of each byte as a digit: 0 to 9, and a to f; 16 for any other byte.
 static DIGITS: [u8; 256] = [
@@ -25,6 +25,49 @@ pub fn digit(byte: u8) -> u64
     ensures { result ≡ digit_of byte }
 {
     DIGITS[byte as usize] as u64
+}
+
+/// As `DIGITS`, but 65536 for a byte that is no digit.
+static WIDE_VALUES: [u32; 256] = [
+    65536, 65536, 65536, 65536, 65536, 65536, 65536, 65536, 65536, 65536, 65536, 65536, 65536,
+    65536, 65536, 65536, 65536, 65536, 65536, 65536, 65536, 65536, 65536, 65536, 65536, 65536,
+    65536, 65536, 65536, 65536, 65536, 65536, 65536, 65536, 65536, 65536, 65536, 65536, 65536,
+    65536, 65536, 65536, 65536, 65536, 65536, 65536, 65536, 65536, 0, 1, 2, 3, 4, 5, 6, 7, 8, 9,
+    65536, 65536, 65536, 65536, 65536, 65536, 65536, 65536, 65536, 65536, 65536, 65536, 65536,
+    65536, 65536, 65536, 65536, 65536, 65536, 65536, 65536, 65536, 65536, 65536, 65536, 65536,
+    65536, 65536, 65536, 65536, 65536, 65536, 65536, 65536, 65536, 65536, 65536, 65536, 65536, 10,
+    11, 12, 13, 14, 15, 65536, 65536, 65536, 65536, 65536, 65536, 65536, 65536, 65536, 65536,
+    65536, 65536, 65536, 65536, 65536, 65536, 65536, 65536, 65536, 65536, 65536, 65536, 65536,
+    65536, 65536, 65536, 65536, 65536, 65536, 65536, 65536, 65536, 65536, 65536, 65536, 65536,
+    65536, 65536, 65536, 65536, 65536, 65536, 65536, 65536, 65536, 65536, 65536, 65536, 65536,
+    65536, 65536, 65536, 65536, 65536, 65536, 65536, 65536, 65536, 65536, 65536, 65536, 65536,
+    65536, 65536, 65536, 65536, 65536, 65536, 65536, 65536, 65536, 65536, 65536, 65536, 65536,
+    65536, 65536, 65536, 65536, 65536, 65536, 65536, 65536, 65536, 65536, 65536, 65536, 65536,
+    65536, 65536, 65536, 65536, 65536, 65536, 65536, 65536, 65536, 65536, 65536, 65536, 65536,
+    65536, 65536, 65536, 65536, 65536, 65536, 65536, 65536, 65536, 65536, 65536, 65536, 65536,
+    65536, 65536, 65536, 65536, 65536, 65536, 65536, 65536, 65536, 65536, 65536, 65536, 65536,
+    65536, 65536, 65536, 65536, 65536, 65536, 65536, 65536, 65536, 65536, 65536, 65536, 65536,
+    65536, 65536, 65536, 65536, 65536, 65536, 65536, 65536, 65536, 65536, 65536, 65536, 65536,
+];
+
+/// The number that the four bytes at this place write as digits of base 16; 65536 or more where one of them is none.
+#[inline(always)]
+pub fn four_digits(text: &[u8], at: usize) -> u64
+    requires { at + 4 ≤ length text.now }
+    ensures { result ≡ four_at text.now at }
+{
+    let high = wide_digit(text[at]) * 16 + wide_digit(text[at + 1]);
+    let low = wide_digit(text[at + 2]) * 16 + wide_digit(text[at + 3]);
+    high * 256 + low
+}
+
+/// The value of a digit: 0 to 9, and a to f; 65536 for any other byte.
+#[inline(always)]
+fn wide_digit(byte: u8) -> u64
+    ensures value { result ≡ wide_digit_of byte }
+    ensures within { result ≤ 65536 }
+{
+    WIDE_VALUES[byte as usize] as u64
 }
 
 /// The number that the field spells in the base; at most 2^64 - 1, which also stands for every greater one.

@@ -1,16 +1,43 @@
 //! One pass over the bytes of a line that is spelled rightly. Where a line is not, or where that is not plain at once, these answer
 //! `None`, and the line is judged.
 ghost use Rattle.std.specs.Prelude.{◌≡◌, ◌∷◌, ◌++◌, ◌≤◌, length, take, IfOk, IfSome};
-ghost use Rattle.pmt_text.specs.Reading.{IsBase};
+ghost use Rattle.pmt_text.specs.Reading.{HasRead, IsBase};
 ghost use Rattle.pmt_text.specs.Spelled.{IsAfterWord, IsFirstEvent, spelled_span};
 ghost use Rattle.pmt_text.specs.Spelling.{address, event_text, hex_bytes, numeral};
 
-use crate::number::digit;
+use crate::number::{digit, four_digits};
 use crate::word::Word;
-use pmt_model::{Event, Format, Op, OpError, Range};
+use pmt_model::{Addr, Event, Format, Op, OpError, Payload, Range, WordStore};
 
 /// A number below this takes one more digit of base 16 and stays below 2^48.
 const DIGIT_LIMIT: u64 = 1 << 44;
+
+/// The number that four digits of base 16 write is below this.
+const FOUR_LIMIT: u64 = 1 << 16;
+
+/// The number that the first digits of base 16 write, four of them at a time, and how many they are: at most 12.
+#[inline(always)]
+fn take_fours(text: &[u8]) -> (u64, usize)
+    ensures { HasRead 16 text.now result.0 result.1 }
+{
+    if text.len() < 12 {
+        return (0, 0);
+    }
+    let first = four_digits(text, 0);
+    if first >= FOUR_LIMIT {
+        return (0, 0);
+    }
+    let second = four_digits(text, 4);
+    if second >= FOUR_LIMIT {
+        return (first, 4);
+    }
+    let eight = first * FOUR_LIMIT + second;
+    let third = four_digits(text, 8);
+    if third >= FOUR_LIMIT {
+        return (eight, 8);
+    }
+    (eight * FOUR_LIMIT + third, 12)
+}
 
 /// The number at the front, and what stands after it.
 #[inline(always)]
@@ -24,8 +51,7 @@ fn take_number(base: u64, text: &[u8]) -> Option<(u64, &[u8])>
     if text[0] == b'0' {
         return Some((0, &text[1..]));
     }
-    let mut number: u64 = 0;
-    let mut at = 0;
+    let (mut number, mut at) = if base == 16 { take_fours(text) } else { (0, 0) };
     while at < text.len() && number < DIGIT_LIMIT {
         let digit = digit(text[at]);
         if digit >= base {
@@ -86,11 +112,29 @@ fn take_end(text: &[u8]) -> Option<&[u8]>
     }
 }
 
+/// The number of one digit at the front, where a space or an LF stands after it, and what stands after it.
+#[inline(always)]
+fn take_digit(text: &[u8]) -> Option<(u8, &[u8])>
+    ensures { IfSome result (λ p. text.now ≡ numeral 10 p.0 ++ p.1.now) }
+{
+    if text.len() < 2 || text[1] > b' ' {
+        return None;
+    }
+    let value = digit(text[0]);
+    if value >= 10 {
+        return None;
+    }
+    Some((value as u8, &text[1..]))
+}
+
 /// The thread at the front, and what stands after it.
 #[inline(always)]
 fn take_thread(text: &[u8]) -> Option<(u8, &[u8])>
     ensures { IfSome result (λ p. text.now ≡ numeral 10 p.0 ++ p.1.now) }
 {
+    if let Some((thread, rest)) = take_digit(text) {
+        return Some((thread, rest));
+    }
     let (number, rest) = take_number(10, text)?;
     if number < 256 {
         Some((number as u8, rest))
@@ -119,6 +163,34 @@ fn take_bytes<'a>(text: &'a [u8], out: &mut [u8; 8]) -> (usize, &'a [u8])
     (count, &text[2 * count..])
 }
 
+/// The eight bytes at the front, where an LF stands after them, which are put into `out`: what stands after the LF.
+#[inline(always)]
+fn take_eight<'a>(text: &'a [u8], out: &mut [u8; 8]) -> Option<&'a [u8]>
+    ensures { IfSome result (λ rest. text.now ≡ hex_bytes out.new ++ 10 ∷ rest.now) }
+{
+    if text.len() < 17 || text[16] != b'\n' {
+        return None;
+    }
+    let first = four_digits(text, 0);
+    let second = four_digits(text, 4);
+    let third = four_digits(text, 8);
+    let last = four_digits(text, 12);
+    if first >= FOUR_LIMIT || second >= FOUR_LIMIT || third >= FOUR_LIMIT || last >= FOUR_LIMIT {
+        return None;
+    }
+    *out = [
+        (first / 256) as u8,
+        (first % 256) as u8,
+        (second / 256) as u8,
+        (second % 256) as u8,
+        (third / 256) as u8,
+        (third % 256) as u8,
+        (last / 256) as u8,
+        (last % 256) as u8,
+    ];
+    Some(&text[17..])
+}
+
 /// The address and the length at the front, and what stands after them.
 #[inline(always)]
 fn take_span(text: &[u8]) -> Option<((u64, u64), &[u8])>
@@ -128,6 +200,16 @@ fn take_span(text: &[u8]) -> Option<((u64, u64), &[u8])>
     let text = take_space(text)?;
     let (len, text) = take_number(10, text)?;
     Some(((addr, len), text))
+}
+
+/// The store of the bytes.
+#[inline(always)]
+fn store_of(addr: u64, bytes: &[u8]) -> Result<Op, OpError>
+    ensures { IfOk result (λ op. op ≡ Op.Store (record { addr = addr; bytes = bytes.now })) }
+{
+    let payload = Payload::new(bytes)?;
+    let addr = Addr::new(addr)?;
+    Ok(Op::Store(WordStore::new(addr, payload)?))
 }
 
 /// The isPersist of the span.
@@ -154,10 +236,18 @@ fn after_store(text: &[u8]) -> Option<(Event, &[u8])>
 {
     let (thread, text) = take_thread(text)?;
     let (addr, text) = take_address(take_space(text)?)?;
+    let text = take_space(text)?;
+    let mut eight = [0; 8];
+    if let Some(rest) = take_eight(text, &mut eight) {
+        return match store_of(addr, &eight) {
+            Ok(op) => Some((Event { thread, op }, rest)),
+            Err(_) => None,
+        };
+    }
     let mut bytes = [0; 8];
-    let (len, text) = take_bytes(take_space(text)?, &mut bytes);
+    let (len, text) = take_bytes(text, &mut bytes);
     let text = take_end(text)?;
-    match Op::store(addr, &bytes[..len]) {
+    match store_of(addr, &bytes[..len]) {
         Ok(op) => Some((Event { thread, op }, text)),
         Err(_) => None,
     }
