@@ -305,3 +305,33 @@ newest-in puts P c low high x same inside some within e above below =
 -- the least rank is that of a store
 pub least-within : (puts : List Put) (c low high m : ℕ) → IsLeastIn puts c low high m → m ≤ c
 least-within puts c low high m is = let r = is.reached in omega (arith, r.3, last_in-le puts r.0 c)
+
+-- an element within the list is the same at any default
+put-any : (puts : List Put) (k : ℕ) (d e : Put) → k < length puts → get_or puts k d ≡ get_or puts k e
+put-any [] k d e h = absurd (omega arith)
+put-any (x ∷ puts) zero d e h = refl
+put-any (x ∷ puts) (suc k) d e h = put-any puts k d e (omega arith)
+
+-- the newest of some stores writes the byte
+pub last_in-here : (puts : List Put) (b r : ℕ) (d : Put) → 0 < r → r ≤ length puts → covers (get_or puts (r - 1) d) b ≡ true → last_in puts b r ≡ r
+unfolding last_in
+last_in-here puts b zero d some within hit = absurd (omega arith)
+last_in-here puts b (suc r) d some within hit =
+    let e : suc r - 1 ≡ r = omega arith in
+    let read : get_or puts (suc r - 1) d ≡ put_at puts r = ap (λ k. get_or puts k d) e ∙ put-any puts r d no_put (omega arith) in
+    let there : covers (put_at puts r) b ≡ true = subst (λ p. covers p b ≡ true) read hit in
+    rw there refl
+
+-- or it does not
+pub last_in-earlier : (puts : List Put) (b r : ℕ) (d : Put) → 0 < r → r ≤ length puts → covers (get_or puts (r - 1) d) b ≡ false → last_in puts b r ≡ last_in puts b (r - 1)
+unfolding last_in
+last_in-earlier puts b zero d some within free = absurd (omega arith)
+last_in-earlier puts b (suc r) d some within free =
+    let e : suc r - 1 ≡ r = omega arith in
+    let read : get_or puts (suc r - 1) d ≡ put_at puts r = ap (λ k. get_or puts k d) e ∙ put-any puts r d no_put (omega arith) in
+    let there : covers (put_at puts r) b ≡ false = subst (λ p. covers p b ≡ false) read free in
+    rw there (ap (last_in puts b) (sym e))
+
+-- none of no stores writes it
+pub last_in-none : (puts : List Put) (b r : ℕ) → r ≤ 0 → last_in puts b r ≡ 0
+last_in-none puts b r none = omega (arith, last_in-le puts b r)

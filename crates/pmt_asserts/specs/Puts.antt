@@ -104,12 +104,16 @@ pub data IsNext (writes : List Write) (past i n : ℕ) : Type 0 where
   Again : suc i < length writes → (write_at writes (suc i)).byte ≡ (write_at writes i).byte → (write_at writes (suc i)).rank ≡ n → IsNext writes past i n
   Never : (suc i < length writes → (write_at writes (suc i)).byte ≢ (write_at writes i).byte) → past ≡ n → IsNext writes past i n
 
+-- These are all bytes that the stores write, or none; and the least ranks, or none.
+pub record AreReady (puts : List Put) (writes : List Write) (oldest : List ℕ) : Type 0 where
+  pub written : 0 < length writes → AreWritesOf puts writes
+  pub leasts : 0 < length oldest → AreLeasts puts oldest
+
 -- What every table of a line keeps.
 pub record IsTableOf (steps : List Step) (puts : List Put) (writes : List Write) (oldest : List ℕ) : Type 0 where
   pub stores : puts ≡ puts_of steps
   pub inside : All IsInside puts
-  pub written : AreWritesOf puts writes
-  pub leasts : AreLeasts puts oldest
+  pub ready : AreReady puts writes oldest
 
 -- The lesser one of two ranks, 0 being none.
 abbrev pub IsLesser : Option ℕ → ℕ → Option ℕ → Type 0

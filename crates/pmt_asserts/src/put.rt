@@ -1,4 +1,6 @@
 //! The stores of a line and the bytes that they write.
+ghost use Rattle.std.specs.Prelude.{◌≡◌, ◌≤◌, length};
+ghost use Rattle.pmt_asserts.specs.Puts.{covers, last_in};
 
 /// A store of a line's job.
 #[derive(Clone, Copy, Debug, PartialEq, Eq)]
@@ -14,4 +16,29 @@ pub struct Put {
 pub struct Write {
     pub byte: u64,
     pub rank: u64,
+}
+
+impl Put {
+    // Whether the store writes the byte.
+    fn covers(&self, byte: u64) -> bool
+        ensures { result ≡ covers self.now byte }
+    {
+        self.addr <= byte && byte - self.addr < self.len
+    }
+}
+
+// The rank of the last one of the first `count` stores that writes the byte, or 0: it goes through them from the last one on.
+pub fn last_among(puts: &[Put], byte: u64, count: usize) -> u64
+    requires { count ≤ length puts.now }
+    ensures { result ≡ last_in puts.now byte count }
+{
+    let mut rank = count;
+    while rank > 0 {
+        let put = puts[rank - 1];
+        if put.covers(byte) {
+            return rank as u64;
+        }
+        rank -= 1;
+    }
+    0
 }

@@ -1,26 +1,30 @@
 //! The table of one line: its result, made ready for searches by place and by byte.
-ghost use Rattle.std.specs.Prelude.{◌≡◌, ℕ, ◌+◌, ◌-◌, ◌<◌, ◌≤◌, ◌↔◌, IsTrue, IfOk, length};
+ghost use Rattle.std.specs.Prelude.{◌≡◌, ℕ, ◌+◌, ◌-◌, ◌<◌, ◌≤◌, ◌↔◌, IsTrue, IfOk, All, length};
 ghost use Rattle.pmt_model.specs.Traces.{count_at as stores_by};
 ghost use Rattle.pmt_model.specs.Fronts.{front_at as front_by};
-ghost use Rattle.pmt_asserts.specs.Puts.{puts_of, put_at, last_in, LieBetween, IsGreatestIn, IsLeastOf, IsLesser, is_up_to};
+ghost use Rattle.pmt_asserts.specs.Puts.{puts_of, put_at, last_in, LieBetween, IsGreatestIn, IsLeastOf, IsLesser, IsInside, AreReady, is_up_to};
 ghost use Rattle.pmt_asserts.specs.Tables.{OfEachTrace, LieIn, EachFrom, PersistedBy, RankedBy, IsOldestOf};
 
 use crate::build::{collect_puts, collect_writes};
 use crate::ends::{collect_ends, collect_oldest};
 use crate::oldest::Oldest;
-use crate::put::{Put, Write};
+use crate::put::{Put, Write, last_among};
 use pmt_lines::LineResult;
 use pmt_model::OutOfMemory;
 use std::alloc::Global;
 use std::marker::Model;
+
+// So many stores are gone through one by one: tables of their bytes would take more than they save.
+const FEW: usize = 16;
 
 /// A line's result, made ready for searches by place and by byte.
 #[derive(Drop)]
 pub struct LineTable {
     found: LineResult,
     puts: Vec<Put>,
+    // All that the stores write, by byte and then by rank; nothing where there are few stores.
     writes: Vec<Write>,
-    // After each number of stores, the least rank of a last store to a byte.
+    // After each number of stores, the least rank of a last store to a byte; nothing where there are few stores.
     oldest: Vec<u64>,
 }
 
@@ -40,9 +44,7 @@ impl LineTable {
         ensures { IfOk result (λ table. table ≡ found) }
     {
         let puts = collect_puts(alloc, found.job().steps())?;
-        let writes = collect_writes(alloc, &puts)?;
-        let ends = collect_ends(alloc, &puts, &writes)?;
-        let oldest = collect_oldest(alloc, &puts, &ends)?;
+        let (writes, oldest) = tables_of(alloc, &puts)?;
         Ok(LineTable {
             found,
             puts,
@@ -77,6 +79,10 @@ impl LineTable {
         requires { count ≤ length (puts_of self.now.job.steps) }
         ensures { result ≡ last_in (puts_of self.now.job.steps) byte count }
     {
+        let known = self.writes.len();
+        if known == 0 {
+            return last_among(&self.puts, byte, count);
+        }
         let rank = count as u64;
         let end = self.writes.partition_point(
             |write: &Write| -> bool
@@ -117,7 +123,7 @@ impl LineTable {
         if count == 0 {
             return None;
         }
-        if self.lies_between(low, high) {
+        if count <= self.oldest.len() && self.lies_between(low, high) {
             return Some(self.oldest[count - 1]);
         }
         self.least_by_byte(low, high, count)
@@ -197,6 +203,20 @@ impl LineTable {
             }
         }
     }
+}
+
+// All that the stores write and the least ranks, or neither where there are few stores.
+fn tables_of(alloc: Global, puts: &[Put]) -> Result<(Vec<Write>, Vec<u64>), OutOfMemory>
+    requires { All IsInside puts.now }
+    ensures { IfOk result (λ pair. AreReady puts.now pair.0.items pair.1.items) }
+{
+    if puts.len() <= FEW {
+        return Ok((Vec::new(alloc), Vec::new(alloc)));
+    }
+    let writes = collect_writes(alloc, puts)?;
+    let ends = collect_ends(alloc, puts, &writes)?;
+    let oldest = collect_oldest(alloc, puts, &ends)?;
+    Ok((writes, oldest))
 }
 
 // The lesser one of two ranks, 0 being none.

@@ -3,7 +3,7 @@ use Rattle.std.specs.List.Sorted.{IsPartitionPoint}
 use Rattle.std.proofs.lemmas.List.Sorted.{IsPartitionPoint-from_clause}
 use Rattle.pmt_lines.specs.Raises.{LineFound}
 use Rattle.pmt_asserts.specs.declared.put.Write.{Write}
-use Rattle.pmt_asserts.specs.Puts.{puts_of, AreWritesOf, is_up_to}
+use Rattle.pmt_asserts.specs.Puts.{puts_of, last_in, AreWritesOf, is_up_to}
 use Rattle.pmt_asserts.proofs.RankLemmas.{writes-partitioned, found-none, found-other, found-last}
 use Rattle.pmt_asserts.proofs.table.LineTable.last.Goals as goal
 use Rattle.pmt_asserts.proofs.table.LineTable.last.Goals.{After-partition_point-end}
@@ -12,19 +12,19 @@ use Rattle.pmt_asserts.proofs.table.LineTable.last.Goals.{After-partition_point-
 are : (c : After-partition_point-end) → AreWritesOf (puts_of c.args.self.now.job.steps) c.self.inside.writes.items
 are c =
     subst (λ ps. AreWritesOf ps c.self.inside.writes.items) (c.self.invariant.stores ∙ ap (λ (g : LineFound). puts_of g.job.steps) c.self.view_is)
-    c.self.invariant.written
+    (c.self.invariant.ready.written (let n = c.len-known.ensures ∙ c.self.inside.writes.ok.0 in omega (arith, n, c.if-known-eq0.false)))
 
 -- where the search ended
 point : (c : After-partition_point-end) → IsPartitionPoint (λ w. is_up_to c.args.byte c.args.count w ≡ true) (λ w. is_up_to c.args.byte c.args.count w ≡ false) c.self.inside.writes.items c.partition_point-end.result
 point c =
-    let same : c.deref.result.now ≡ c.self.inside.writes.items = c.deref.ensures.value in
+    let same : c.deref-2.result.now ≡ c.self.inside.writes.items = c.deref-2.ensures.value in
     subst (λ ws. IsPartitionPoint (λ w. is_up_to c.args.byte c.args.count w ≡ true) (λ w. is_up_to c.args.byte c.args.count w ≡ false) ws c.partition_point-end.result) same
-    (IsPartitionPoint-from_clause (is_up_to c.args.byte c.args.count) c.deref.result.now c.partition_point-end.result c.partition_point-end.ensures.partitioned
-    (writes-partitioned (puts_of c.args.self.now.job.steps) c.deref.result.now c.args.byte c.args.count (subst (AreWritesOf (puts_of c.args.self.now.job.steps)) (sym same) (are c))) (λ a r g q. search rules))
+    (IsPartitionPoint-from_clause (is_up_to c.args.byte c.args.count) c.deref-2.result.now c.partition_point-end.result c.partition_point-end.ensures.partitioned
+    (writes-partitioned (puts_of c.args.self.now.job.steps) c.deref-2.result.now c.args.byte c.args.count (subst (AreWritesOf (puts_of c.args.self.now.job.steps)) (sym same) (are c))) (λ a r g q. search rules))
 
 -- and that it did so within the writes
 inside : (c : After-partition_point-end) → c.partition_point-end.result ≤ length c.self.inside.writes.items
-inside c = subst (λ ws. c.partition_point-end.result ≤ length ws) c.deref.ensures.value c.partition_point-end.ensures.bound
+inside c = subst (λ ws. c.partition_point-end.result ≤ length ws) c.deref-2.ensures.value c.partition_point-end.ensures.bound
 
 pub returns-then-end-eq0 : goal.returns-then-end-eq0
 returns-then-end-eq0 c =
@@ -45,3 +45,13 @@ returns-else-last-byte c =
     let p = (goal.at.returns-else-last-byte c).After-partition_point-end in
     sym (found-other (puts_of c.args.self.now.job.steps) c.self.inside.writes.items c.args.byte c.args.count c.partition_point-end.result c.index-last.result.now (are p) c.requires (point p) (inside p)
     (λ e. c.if-last-byte.false (ap (λ (w : Write). w.byte) c.index-last.ensures ∙ e)))
+
+pub returns-then-known-eq0 : goal.returns-then-known-eq0
+returns-then-known-eq0 c =
+    let same : c.deref.result.now ≡ puts_of c.args.self.now.job.steps = c.deref.ensures.value ∙ c.self.invariant.stores ∙ ap (λ (g : LineFound). puts_of g.job.steps) c.self.view_is in
+    c.last_among.ensures ∙ ap (λ ps. last_in ps c.args.byte c.args.count) same
+
+pub last_among-requires : goal.last_among-requires
+last_among-requires c =
+    let same : c.deref.result.now ≡ puts_of c.args.self.now.job.steps = c.deref.ensures.value ∙ c.self.invariant.stores ∙ ap (λ (g : LineFound). puts_of g.job.steps) c.self.view_is in
+    subst (λ ps. c.args.count ≤ length ps) (sym same) c.requires

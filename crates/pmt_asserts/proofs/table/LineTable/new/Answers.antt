@@ -1,20 +1,14 @@
 use Rattle.std.proofs.Common.{◌≡◌, ◌∙◌, ap, subst, sym}
 use Rattle.std.specs.Prelude.{All}
 use Rattle.pmt_lines.specs.Steps.{LineWork}
-use Rattle.pmt_asserts.specs.Puts.{puts_of, IsInside, AreWritesOf, AreLeasts}
+use Rattle.pmt_asserts.specs.Puts.{puts_of, IsInside, AreReady}
 use Rattle.pmt_asserts.proofs.BuildLemmas.{puts-inside}
 use Rattle.pmt_asserts.proofs.table.LineTable.new.Goals as goal
 
-pub collect_writes-requires : goal.collect_writes-requires
-collect_writes-requires c =
+pub tables_of-requires : goal.tables_of-requires
+tables_of-requires c =
     let job = c.job.result.now in
     let same : c.deref.result.now ≡ puts_of job.steps = c.deref.ensures.value ∙ c.in_ok-puts.ensures {u = tt} ∙ ap puts_of c.steps.ensures.value in
-    subst (All IsInside) (sym same) (puts-inside 0 job.steps c.steps.ensures.rising)
-
-pub collect_oldest-requires-clause-inside : goal.collect_oldest-requires-clause-inside
-collect_oldest-requires-clause-inside c =
-    let job = c.job.result.now in
-    let same : c.deref-4.result.now ≡ puts_of job.steps = c.deref-4.ensures.value ∙ c.in_ok-puts.ensures {u = tt} ∙ ap puts_of c.steps.ensures.value in
     subst (All IsInside) (sym same) (puts-inside 0 job.steps c.steps.ensures.rising)
 
 pub invariant_of-result : goal.invariant_of-result
@@ -25,6 +19,5 @@ invariant_of-result c =
     record {
       stores = own ∙ ap puts_of steps;
       inside = subst (All IsInside) (sym own) (puts-inside 0 job.steps c.steps.ensures.rising);
-      written = subst (λ ps. AreWritesOf ps c.in_ok-writes.writes.items) c.deref.ensures.value (c.in_ok-writes.ensures {u = tt});
-      leasts = subst (λ ps. AreLeasts ps c.in_ok-oldest.oldest.items) c.deref-4.ensures.value (c.in_ok-oldest.ensures {u = tt});
+      ready = subst (λ ps. AreReady ps c.in_ok-writes.writes.items c.in_ok-writes.oldest.items) c.deref.ensures.value (c.in_ok-writes.ensures {u = tt});
     }
