@@ -1,161 +1,122 @@
 //! What stands over the drawing: what fails, and what is left out.
 use crate::crash::Crash;
 use crate::layout::{EDGE, LINE, Layout};
+use crate::pen::Pen;
 use crate::picture::Picture;
-use crate::words::{assertion_words, cause_words, claim_words, crash_words};
-use pmt_model::OutOfMemory;
-use std::alloc::Global;
+use crate::words::{push_assertion, push_cause, push_claim, push_shown};
 
 // The width of a letter of the told lines, in tenths of a pixel.
 const LETTER: u64 = 79;
 
 /// Adds the lines over the drawing, and answers where they end.
-pub fn push_head(
-    alloc: Global,
-    text: &mut String,
-    picture: &Picture,
-    layout: &Layout,
-) -> Result<u64, OutOfMemory> {
+pub fn push_head(pen: &mut Pen, picture: &Picture, layout: &Layout) -> u64 {
     let top = EDGE + 14;
-    push_headline(text, headline_of(alloc, picture)?, top)?;
+    pen.put("<title>");
+    push_headline(pen, picture);
+    pen.fill(
+        "</title>\n<text class='headline' x='#' y='#'>",
+        &[EDGE, top],
+    );
+    push_headline(pen, picture);
+    pen.put("</text>\n");
     let letters = layout.width.saturating_sub(2 * EDGE).saturating_mul(10) / LETTER;
-    let mut y = top + 6;
+    let end = match picture.focus {
+        Some(crash) => push_focus(pen, picture, crash, letters, top + 6),
+        None => top + 6,
+    };
+    push_left(pen, picture, letters, end).saturating_add(20)
+}
+
+// Adds the words of the first line, which is the page's title too.
+fn push_headline(pen: &mut Pen, picture: &Picture) {
     if let Some(crash) = picture.focus {
-        y = push_claim(alloc, text, picture, crash, letters, y)?;
-        y = push_focus(alloc, text, crash, letters, y)?;
-    }
-    let left = left_words(alloc, picture)?;
-    y = push_told(alloc, text, "told soft", left.as_str(), letters, y)?;
-    Ok(y.saturating_add(20))
-}
-
-// Adds the first line, which is the page's title too.
-fn push_headline(text: &mut String, headline: String, y: u64) -> Result<(), OutOfMemory> {
-    write!(
-        text,
-        "<title>{headline}</title>\n<text class='headline' x='{EDGE}' y='{y}'>{headline}</text>\n"
-    )
-}
-
-// Adds what the crash's assertion claims, where it is drawn, and answers where that ends.
-fn push_claim(
-    alloc: Global,
-    text: &mut String,
-    picture: &Picture,
-    crash: Crash,
-    letters: u64,
-    top: u64,
-) -> Result<u64, OutOfMemory> {
-    for column in picture.columns.iter() {
-        if column.number == crash.assertion {
-            let claim = claim_words(alloc, column, crash.ordered)?;
-            return push_told(alloc, text, "told", claim.as_str(), letters, top);
-        }
-    }
-    Ok(top)
-}
-
-// Adds what the crash shows and why, and answers where it ends.
-fn push_focus(
-    alloc: Global,
-    text: &mut String,
-    crash: Crash,
-    letters: u64,
-    top: u64,
-) -> Result<u64, OutOfMemory> {
-    let shown = crash_words(alloc, crash)?;
-    let y = push_told(alloc, text, "told", shown.as_str(), letters, top)?;
-    let why = cause_words(alloc, crash)?;
-    push_told(alloc, text, "told", why.as_str(), letters, y)
-}
-
-// The first line.
-fn headline_of(alloc: Global, picture: &Picture) -> Result<String, OutOfMemory> {
-    if let Some(crash) = picture.focus {
-        return assertion_words(alloc, crash);
+        push_assertion(pen, crash);
+        return;
     }
     match (picture.columns.first(), picture.columns.last()) {
-        (Some(first), Some(last)) => {
-            let (from, to) = (first.number, last.number);
-            format!(in alloc; "Events {from} to {to}")
-        }
-        _ => String::from_str(alloc, "No events"),
+        (Some(first), Some(last)) => pen.fill("Events # to #", &[first.number, last.number]),
+        _ => pen.put("No events"),
     }
 }
 
-// What is drawn, and what is left out.
-fn left_words(alloc: Global, picture: &Picture) -> Result<String, OutOfMemory> {
-    let (events, lines) = (picture.events, picture.lines);
-    let (columns, rows) = (picture.columns.len() as u64, picture.rows.len() as u64);
-    let mut words = format!(in alloc;
-        "Drawn: {columns} of {events} events, {rows} of {lines} lines."
-    )?;
-    let left = events.saturating_sub(columns);
+// Adds what the crash's assertion claims, where it is drawn, what the crash shows and why, and answers where that ends.
+fn push_focus(pen: &mut Pen, picture: &Picture, crash: Crash, letters: u64, top: u64) -> u64 {
+    let mut claim = Pen::new(pen.alloc());
+    for column in picture.columns.iter() {
+        if column.number == crash.assertion {
+            push_claim(&mut claim, column, crash.ordered);
+        }
+    }
+    let y = push_told(pen, "told", &claim, letters, top);
+    let mut shown = Pen::new(pen.alloc());
+    push_shown(&mut shown, crash);
+    let y = push_told(pen, "told", &shown, letters, y);
+    let mut why = Pen::new(pen.alloc());
+    push_cause(&mut why, crash);
+    push_told(pen, "told", &why, letters, y)
+}
+
+// Adds what is drawn and what is left out, and answers where that ends.
+fn push_left(pen: &mut Pen, picture: &Picture, letters: u64, top: u64) -> u64 {
+    let columns = picture.columns.len() as u64;
+    let rows = picture.rows.len() as u64;
+    let mut words = Pen::new(pen.alloc());
+    words.fill(
+        "Drawn: # of # events, # of # lines.",
+        &[columns, picture.events, rows, picture.lines],
+    );
+    let left = picture.events.saturating_sub(columns);
     if left > 0 {
-        write!(words, " Left out: {left} events")?;
-        words.push_str(if columns > 0 {
+        words.fill(" Left out: # events", &[left]);
+        words.put(if columns > 0 {
             ", where the dots stand."
         } else {
             "."
-        })?;
+        });
     }
-    push_unshown(&mut words, picture)?;
-    Ok(words)
+    push_unshown(&mut words, picture);
+    push_told(pen, "told soft", &words, letters, top)
 }
 
 // Adds what of the drawn events has no room.
-fn push_unshown(words: &mut String, picture: &Picture) -> Result<(), OutOfMemory> {
-    let hidden = picture.hidden;
-    if hidden > 0 {
-        write!(
-            words,
-            " {hidden} more lines that these events touch have no room."
-        )?;
+fn push_unshown(words: &mut Pen, picture: &Picture) {
+    if picture.hidden > 0 {
+        words.fill(
+            " # more lines that these events touch have no room.",
+            &[picture.hidden],
+        );
     }
-    let untold = picture.untold;
-    if untold > 0 {
-        write!(
-            words,
-            " Failed assertions whose crash has no room: {untold}."
-        )?;
+    if picture.untold > 0 {
+        words.fill(
+            " Failed assertions whose crash has no room: #.",
+            &[picture.untold],
+        );
     }
-    Ok(())
 }
 
 // Adds the words in lines of at most so many letters, and answers where they end.
-fn push_told(
-    alloc: Global,
-    text: &mut String,
-    class: &str,
-    words: &str,
-    letters: u64,
-    top: u64,
-) -> Result<u64, OutOfMemory> {
+fn push_told(pen: &mut Pen, class: &str, words: &Pen, letters: u64, top: u64) -> u64 {
+    pen.share(words);
     let mut y = top;
-    let mut line = String::new(alloc);
-    for word in words.split_whitespace() {
-        let long = (line.len() as u64).saturating_add(word.len() as u64);
-        if !line.is_empty() && long >= letters {
-            y = push_line(text, class, line.as_str(), y)?;
-            line.clear();
+    let mut used: u64 = 0;
+    for word in words.as_str().split_whitespace() {
+        let wide = word.len() as u64;
+        if used > 0 && used.saturating_add(wide) >= letters {
+            pen.put("</text>\n");
+            used = 0;
         }
-        if !line.is_empty() {
-            line.push_str(" ")?;
+        if used > 0 {
+            pen.put(" ");
+            used = used.saturating_add(1);
+        } else {
+            y = y.saturating_add(LINE);
+            pen.shape("text", class, "x='#' y='#'>", &[EDGE, y]);
         }
-        line.push_str(word)?;
+        pen.put(word);
+        used = used.saturating_add(wide);
     }
-    if !line.is_empty() {
-        y = push_line(text, class, line.as_str(), y)?;
+    if used > 0 {
+        pen.put("</text>\n");
     }
-    Ok(y)
-}
-
-// Adds a line of words, and answers where it ends.
-fn push_line(text: &mut String, class: &str, line: &str, top: u64) -> Result<u64, OutOfMemory> {
-    let y = top.saturating_add(LINE);
-    write!(
-        text,
-        "<text class='{class}' x='{EDGE}' y='{y}'>{line}</text>\n"
-    )?;
-    Ok(y)
+    y
 }

@@ -1,5 +1,5 @@
 //! What the marks mean.
-use pmt_model::OutOfMemory;
+use crate::pen::Pen;
 
 /// The height of the legend, with the room around it.
 pub const LEGEND_HEIGHT: u64 = 124;
@@ -57,18 +57,19 @@ const ITEMS: [(&str, &str); 12] = [
 ];
 
 /// Adds the legend, in three columns.
-pub fn push_legend(text: &mut String, left: u64, top: u64) -> Result<(), OutOfMemory> {
-    text.push_str("<g class='legend'>\n")?;
+pub fn push_legend(pen: &mut Pen, left: u64, top: u64) {
+    pen.put("<g class='legend'>\n");
     for (index, (shape, words)) in ITEMS.iter().enumerate() {
         let index = index as u64;
         let x = left
             .saturating_add(20)
             .saturating_add(310u64.saturating_mul(index / 4));
         let y = top.saturating_add(24u64.saturating_mul(index % 4));
-        write!(
-            text,
-            "<g transform='translate({x} {y})'>{shape}<text x='24' y='4'>{words}</text></g>\n"
-        )?;
+        pen.fill("<g transform='translate(# #)'>", &[x, y]);
+        pen.put(shape);
+        pen.put("<text x='24' y='4'>");
+        pen.put(words);
+        pen.put("</text></g>\n");
     }
-    text.push_str("</g>\n")
+    pen.put("</g>\n");
 }

@@ -12,6 +12,7 @@ mod labels;
 mod layout;
 mod legend;
 mod numbered;
+mod pen;
 pub mod picture;
 mod related;
 mod rows;

@@ -1,12 +1,11 @@
 //! The rows of the lines: the bars of their stores.
 use crate::bars::{Bar, Flush, Row};
 use crate::layout::{BAR, EDGE, LEFT, lane_top, row_height};
+use crate::pen::Pen;
 use crate::picture::Picture;
 use crate::spans::address_of;
 use crate::svg::Page;
 use crate::words::push_event_words;
-use pmt_model::OutOfMemory;
-use std::alloc::Global;
 
 // The width of a letter in a bar, in tenths of a pixel.
 const LETTER: u64 = 67;
@@ -21,66 +20,57 @@ pub fn rows_height(picture: &Picture) -> u64 {
 }
 
 /// Adds the rows of the lines.
-pub fn push_rows(alloc: Global, text: &mut String, page: Page<'_>) -> Result<(), OutOfMemory> {
+pub fn push_rows(pen: &mut Pen, page: Page<'_>) {
     let mut top = page.rows;
     for (index, row) in page.picture.rows.iter().enumerate() {
-        push_row(alloc, text, page, row, top, index % 2 == 0)?;
+        push_row(pen, page, row, top, index % 2 == 0);
         top = top.saturating_add(row_height(row));
     }
-    Ok(())
 }
 
 // Adds the row of a line, which begins there.
-fn push_row(
-    alloc: Global,
-    text: &mut String,
-    page: Page<'_>,
-    row: &Row,
-    top: u64,
-    shaded: bool,
-) -> Result<(), OutOfMemory> {
+fn push_row(pen: &mut Pen, page: Page<'_>, row: &Row, top: u64, shaded: bool) {
     let address = address_of(page.picture.format, row.line);
     let height = row_height(row);
-    let width = page.layout.right.saturating_sub(EDGE);
-    write!(text, "<g class='line' data-line='{address:#x}'>")?;
+    pen.fill("<g class='line' data-line='@'>", &[address]);
     if shaded {
-        write!(
-            text,
-            "<rect class='band' x='{EDGE}' y='{top}' width='{width}' height='{height}'/>"
-        )?;
+        pen.fill(
+            "<rect class='band' x='#' y='#' width='#' height='#'/>",
+            &[EDGE, top, page.layout.right.saturating_sub(EDGE), height],
+        );
     }
-    let (name, middle) = (LEFT - 14, top.saturating_add(height / 2 + 4));
-    write!(
-        text,
-        "<text class='end strong' x='{name}' y='{middle}'>{address:#x}</text>\n"
-    )?;
+    let middle = top.saturating_add(height / 2 + 4);
+    pen.fill(
+        "<text class='end strong' x='#' y='#'>@</text>\n",
+        &[LEFT - 14, middle, address],
+    );
     for flush in &row.flushes {
-        push_flush(text, page, *flush, top)?;
+        push_flush(pen, page, *flush, top);
     }
     for bar in &row.bars {
-        push_bar(alloc, text, page, bar, address, lane_top(top, bar.lane))?;
+        push_bar(pen, page, bar, address, lane_top(top, bar.lane));
     }
-    text.push_str("</g>\n")
+    pen.put("</g>\n");
 }
 
 // Adds the mark of a flush over the bars of its line, with its thread.
-fn push_flush(
-    text: &mut String,
-    page: Page<'_>,
-    flush: Flush,
-    top: u64,
-) -> Result<(), OutOfMemory> {
-    let (x, thread) = (page.layout.middle(flush.number), flush.thread);
-    let (left, right) = (x.saturating_sub(5), x.saturating_add(5));
-    let (word, high, low) = (
-        top.saturating_add(11),
-        top.saturating_add(14),
-        top.saturating_add(21),
+fn push_flush(pen: &mut Pen, page: Page<'_>, flush: Flush, top: u64) {
+    let x = page.layout.middle(flush.number);
+    pen.fill(
+        "<text class='mid small' x='#' y='#'>T#</text>",
+        &[x, top.saturating_add(11), flush.thread as u64],
     );
-    write!(
-        text,
-        "<text class='mid small' x='{x}' y='{word}'>T{thread}</text><path class='dot' d='M{left} {high}H{right}L{x} {low}Z'/>\n"
-    )
+    let (left, right) = (x.saturating_sub(5), x.saturating_add(5));
+    pen.fill(
+        "<path class='dot' d='M# #H#L# #Z'/>\n",
+        &[
+            left,
+            top.saturating_add(14),
+            right,
+            x,
+            top.saturating_add(21),
+        ],
+    );
 }
 
 // The states of a store.
@@ -100,150 +90,109 @@ fn class_of(state: State) -> &'static str {
     }
 }
 
-// One state of a store, from one event to another.
-#[derive(Clone, Copy)]
-struct Segment {
-    state: State,
-    from: u64,
-    // The event at which the state ends; none where it lasts.
-    to: Option<u64>,
-}
-
 // Adds the bar of a store.
-fn push_bar(
-    alloc: Global,
-    text: &mut String,
-    page: Page<'_>,
-    bar: &Bar,
-    address: u64,
-    top: u64,
-) -> Result<(), OutOfMemory> {
-    let (store, older) = (bar.store, bar.older);
-    write!(
-        text,
-        "<g class='store' data-event='{store}' data-older='{older}' data-line='{address:#x}'><title>"
-    )?;
-    push_bar_title(alloc, text, page, bar)?;
-    text.push_str("</title>")?;
+fn push_bar(pen: &mut Pen, page: Page<'_>, bar: &Bar, address: u64, top: u64) {
+    pen.fill(
+        "<g class='store' data-event='#' data-older='#' data-line='@'><title>",
+        &[bar.store, bar.older, address],
+    );
+    push_bar_title(pen, page, bar);
+    pen.put("</title>");
     let flushed = bar.flush.map(|flush| flush.number);
-    let pending = Segment {
-        state: State::Pending,
-        from: store,
-        to: flushed,
-    };
-    push_segment(alloc, text, page, bar, pending, top)?;
+    push_segment(pen, page, bar, State::Pending, bar.store, flushed, top);
     if let Some(flush) = flushed {
         if bar.safe != flushed {
-            let waiting = Segment {
-                state: State::Flushed,
-                from: flush,
-                to: bar.safe,
-            };
-            push_segment(alloc, text, page, bar, waiting, top)?;
+            push_segment(pen, page, bar, State::Flushed, flush, bar.safe, top);
         }
     }
     if let Some(safe) = bar.safe {
-        let kept = Segment {
-            state: State::Safe,
-            from: safe,
-            to: bar.until,
-        };
-        push_segment(alloc, text, page, bar, kept, top)?;
+        push_segment(pen, page, bar, State::Safe, safe, bar.until, top);
     }
-    text.push_str("</g>\n")
+    pen.put("</g>\n");
 }
 
 // Adds what is told of a bar.
-fn push_bar_title(
-    alloc: Global,
-    text: &mut String,
-    page: Page<'_>,
-    bar: &Bar,
-) -> Result<(), OutOfMemory> {
-    push_store(alloc, text, page, bar)?;
-    push_flushed(text, bar)?;
+fn push_bar_title(pen: &mut Pen, page: Page<'_>, bar: &Bar) {
+    push_store(pen, page, bar);
+    match bar.flush {
+        Some(Flush { number, thread }) => pen.fill(
+            "; flushed by event # of thread #",
+            &[number, thread as u64],
+        ),
+        None => pen.put("; not flushed"),
+    }
     match bar.safe {
-        Some(safe) => write!(text, "; safe from event {safe} on"),
-        None => text.push_str("; not safe"),
+        Some(safe) => pen.fill("; safe from event # on", &[safe]),
+        None => pen.put("; not safe"),
     }
 }
 
 // Adds the words of a bar's store.
-fn push_store(
-    alloc: Global,
-    text: &mut String,
-    page: Page<'_>,
-    bar: &Bar,
-) -> Result<(), OutOfMemory> {
-    let (store, older) = (bar.store, bar.older);
+fn push_store(pen: &mut Pen, page: Page<'_>, bar: &Bar) {
+    let store = bar.store;
     let columns = &page.picture.columns;
     match columns.binary_search_by_key(&store, |column| column.number) {
-        Ok(index) => match columns.get(index) {
-            Some(column) => push_event_words(alloc, text, column, page.labels),
-            None => Ok(()),
-        },
-        Err(_) => write!(
-            text,
-            "event {store}, a store that is not drawn, and {older} before it"
+        Ok(index) => {
+            if let Some(column) = columns.get(index) {
+                push_event_words(pen, column, page.labels);
+            }
+        }
+        Err(_) => pen.fill(
+            "event #, a store that is not drawn, and # before it",
+            &[store, bar.older],
         ),
     }
 }
 
-// Adds which flush a bar's store has.
-fn push_flushed(text: &mut String, bar: &Bar) -> Result<(), OutOfMemory> {
-    match bar.flush {
-        Some(Flush { number, thread }) => {
-            write!(text, "; flushed by event {number} of thread {thread}")
-        }
-        None => text.push_str("; not flushed"),
-    }
-}
-
-// Adds one state of a bar, with its words where there is room.
+// Adds one state of a bar, from one event to another or for good, with its words where there is room.
 fn push_segment(
-    alloc: Global,
-    text: &mut String,
+    pen: &mut Pen,
     page: Page<'_>,
     bar: &Bar,
-    segment: Segment,
+    state: State,
+    from: u64,
+    to: Option<u64>,
     top: u64,
-) -> Result<(), OutOfMemory> {
-    let x = page.layout.middle(segment.from);
-    let end = match segment.to {
+) {
+    let x = page.layout.middle(from);
+    let end = match to {
         Some(to) => page.layout.middle(to),
         None => page.layout.right,
     };
-    push_state(text, segment, x, end, top)?;
+    pen.shape(
+        "rect",
+        class_of(state),
+        "data-from='#' x='#' y='#' width='#' height='#'/>",
+        &[from, x, top, end.saturating_sub(x), BAR],
+    );
     let (start, room) = room_in(page, bar.store, x, end);
     let letters = room.saturating_sub(8).saturating_mul(10) / LETTER;
-    let words = words_in(alloc, bar, segment.state, letters)?;
-    push_halo(text, words.as_str(), start, top)
+    push_longest(pen, bar, state, letters, start, top);
 }
 
-// Adds the box of a state between these sides.
-fn push_state(
-    text: &mut String,
-    segment: Segment,
-    x: u64,
-    end: u64,
-    top: u64,
-) -> Result<(), OutOfMemory> {
-    let (class, from) = (class_of(segment.state), segment.from);
-    let width = end.saturating_sub(x);
-    write!(
-        text,
-        "<rect class='{class}' data-from='{from}' x='{x}' y='{top}' width='{width}' height='{BAR}'/>"
-    )
+// Adds the longest words for the state that have room, if any have, into a box from this side on.
+fn push_longest(pen: &mut Pen, bar: &Bar, state: State, letters: u64, start: u64, top: u64) {
+    for detail in [2, 1, 0] {
+        let mut words = Pen::new(pen.alloc());
+        push_state(&mut words, bar, state, detail);
+        pen.share(&words);
+        if words.len() <= letters {
+            push_halo(pen, words.as_str(), start, top);
+            return;
+        }
+    }
 }
 
 // Adds the words, if there are any, into a box from this side on.
-fn push_halo(text: &mut String, words: &str, start: u64, top: u64) -> Result<(), OutOfMemory> {
-    if words.is_empty() {
-        return Ok(());
+fn push_halo(pen: &mut Pen, words: &str, start: u64, top: u64) {
+    if !words.is_empty() {
+        pen.fill(
+            "<text class='halo' x='#' y='#'>",
+            &[start.saturating_add(4), top.saturating_add(11)],
+        );
+        pen.put(words);
+        pen.put("</text>");
     }
-    let at = start.saturating_add(4);
-    let low = top.saturating_add(11);
-    write!(text, "<text class='halo' x='{at}' y='{low}'>{words}</text>")
 }
 
 // Where words of the store's bar have room between these sides, and how much: no crash line crosses them.
@@ -269,35 +218,35 @@ fn room_in(page: Page<'_>, store: u64, left: u64, right: u64) -> (u64, u64) {
     (from, to.saturating_sub(from))
 }
 
-// The longest words for the state that have room.
-fn words_in(alloc: Global, bar: &Bar, state: State, letters: u64) -> Result<String, OutOfMemory> {
-    for detail in [2, 1, 0] {
-        let words = words_of(alloc, bar, state, detail)?;
-        if words.len() as u64 <= letters {
-            return Ok(words);
+// Adds the words for the state: the more detail, the longer.
+fn push_state(pen: &mut Pen, bar: &Bar, state: State, detail: u8) {
+    match state {
+        State::Pending => push_pending(pen, bar, detail),
+        State::Flushed => {
+            if let Some(flush) = bar.flush {
+                push_flushed(pen, flush.thread as u64, detail);
+            }
         }
+        State::Safe => pen.put("safe"),
     }
-    Ok(String::new(alloc))
 }
 
-// The words for the state: the more detail, the longer.
-fn words_of(alloc: Global, bar: &Bar, state: State, detail: u8) -> Result<String, OutOfMemory> {
+// Adds the words for a store that is not flushed.
+fn push_pending(pen: &mut Pen, bar: &Bar, detail: u8) {
     let (store, older) = (bar.store, bar.older);
-    match (state, bar.flush, detail) {
-        (State::Pending, _, 0) => format!(in alloc; "{store}"),
-        (State::Pending, _, 1) => format!(in alloc; "store {store}"),
-        (State::Pending, _, _) if older > 0 => {
-            format!(in alloc; "store {store} and {older} before: not flushed")
-        }
-        (State::Pending, _, _) => format!(in alloc; "store {store}: not flushed"),
-        (State::Flushed, Some(Flush { number: _, thread }), 0) => format!(in alloc; "T{thread}"),
-        (State::Flushed, Some(Flush { number: _, thread }), 1) => {
-            format!(in alloc; "flushed by T{thread}")
-        }
-        (State::Flushed, Some(Flush { number: _, thread }), _) => {
-            format!(in alloc; "flushed by T{thread}, no fence of T{thread} yet")
-        }
-        (State::Flushed, None, _) => Ok(String::new(alloc)),
-        (State::Safe, _, _) => String::from_str(alloc, "safe"),
+    match detail {
+        0 => pen.number(store),
+        1 => pen.fill("store #", &[store]),
+        _ if older > 0 => pen.fill("store # and # before: not flushed", &[store, older]),
+        _ => pen.fill("store #: not flushed", &[store]),
+    }
+}
+
+// Adds the words for a store that a thread has flushed.
+fn push_flushed(pen: &mut Pen, thread: u64, detail: u8) {
+    match detail {
+        0 => pen.fill("T#", &[thread]),
+        1 => pen.fill("flushed by T#", &[thread]),
+        _ => pen.fill("flushed by T#, no fence of T# yet", &[thread, thread]),
     }
 }

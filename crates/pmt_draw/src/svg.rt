@@ -4,6 +4,7 @@ use crate::header::{header_height, push_columns};
 use crate::labels::Label;
 use crate::layout::{EDGE, Layout};
 use crate::legend::{LEGEND_HEIGHT, push_legend};
+use crate::pen::Pen;
 use crate::picture::Picture;
 use crate::rows::{push_rows, rows_height};
 use crate::style::{PATTERNS, STYLE};
@@ -37,50 +38,59 @@ pub struct Page<'a> {
 /// Where memory was refused.
 pub fn svg_text(alloc: Global, picture: &Picture, labels: &[Label]) -> Result<String, OutOfMemory> {
     let layout = Layout::new(alloc, picture)?;
-    let mut head = String::new(alloc);
-    let crashes = push_head(alloc, &mut head, picture, &layout)?;
-    let header = header_height(picture, &layout, labels);
-    let threads = crashes.saturating_add(header);
+    let mut head = Pen::new(alloc);
+    let crashes = push_head(&mut head, picture, &layout);
+    let page = page_of(picture, &layout, labels, crashes);
+    let mut pen = Pen::new(alloc);
+    push_opening(&mut pen, page, &head);
+    push_threads(&mut pen, page);
+    push_rows(&mut pen, page);
+    push_columns(&mut pen, page);
+    push_crashes(&mut pen, page);
+    push_legend(&mut pen, EDGE, page.end.saturating_add(20));
+    pen.put("</svg>\n");
+    pen.finish()
+}
+
+// The page of a picture whose head ends where the crashes' names begin.
+fn page_of<'a>(
+    picture: &'a Picture,
+    layout: &'a Layout,
+    labels: &'a [Label],
+    crashes: u64,
+) -> Page<'a> {
+    let threads = crashes.saturating_add(header_height(picture, layout, labels));
     let rows = threads
         .saturating_add(layout.threads_height())
         .saturating_add(12);
-    let end = rows.saturating_add(rows_height(picture));
-    let page = Page {
+    Page {
         picture,
-        layout: &layout,
+        layout,
         labels,
         crashes,
         threads,
         rows,
-        end,
-    };
-    let mut text = String::new(alloc);
-    push_opening(&mut text, page, head.as_str())?;
-    push_threads(&mut text, page)?;
-    push_rows(alloc, &mut text, page)?;
-    push_columns(alloc, &mut text, page)?;
-    push_crashes(alloc, &mut text, page)?;
-    push_legend(&mut text, EDGE, end.saturating_add(20))?;
-    text.push_str("</svg>\n")?;
-    Ok(text)
+        end: rows.saturating_add(rows_height(picture)),
+    }
 }
 
 // Adds what stands before the drawing.
-fn push_opening(text: &mut String, page: Page<'_>, head: &str) -> Result<(), OutOfMemory> {
+fn push_opening(pen: &mut Pen, page: Page<'_>, head: &Pen) {
     let width = page.layout.width;
     let height = page.end.saturating_add(LEGEND_HEIGHT);
     let (events, size) = (page.picture.events, page.picture.format.line_size());
-    write!(
-        text,
-        "<svg xmlns='http://www.w3.org/2000/svg' width='{width}' height='{height}' viewBox='0 0 {width} {height}' role='img' data-events='{events}' data-line-size='{size}'>\n"
-    )?;
-    text.push_str("<style>")?;
-    text.push_str(STYLE)?;
-    text.push_str("</style>\n")?;
-    text.push_str(PATTERNS)?;
-    write!(
-        text,
-        "\n<rect class='paper' width='{width}' height='{height}'/>\n"
-    )?;
-    text.push_str(head)
+    pen.fill(
+        "<svg xmlns='http://www.w3.org/2000/svg' width='#' height='#' viewBox='0 0 # #' role='img' data-events='#' data-line-size='#'>\n",
+        &[width, height, width, height, events, size],
+    );
+    pen.put("<style>");
+    pen.put(STYLE);
+    pen.put("</style>\n");
+    pen.put(PATTERNS);
+    pen.fill(
+        "\n<rect class='paper' width='#' height='#'/>\n",
+        &[width, height],
+    );
+    pen.share(head);
+    pen.put(head.as_str());
 }
