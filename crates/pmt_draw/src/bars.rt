@@ -1,12 +1,8 @@
 //! The stores of a line, and when each of them changes its state.
-ghost use Rattle.std.specs.Prelude.{ℕ, ◌<◌};
-ghost use Rattle.pmt_model.specs.Traces.{Recording};
-ghost use Rattle.pmt_lines.specs.Raises.{IsRaises};
-ghost use Rattle.pmt_draw.specs.Reaching.{IsFirstReach};
-
 use crate::numbered::{count_before, is_listed};
 use pmt_lines::{LineResult, Raise, SmallStep, StepKind};
 use pmt_model::OutOfMemory;
+use pmt_reach::first_reach;
 use std::alloc::Global;
 
 /// A flush of a line.
@@ -46,18 +42,6 @@ pub struct Row {
     pub flushes: Vec<Flush>,
     /// How many lanes there are.
     pub lanes: usize,
-}
-
-/// The place at which the front of a line with these raises first reaches the rank.
-pub fn first_reach(raises: &[Raise], rank: u64) -> Option<u64>
-    ensures { (T : Recording) (l : ℕ) → IsRaises T l raises.now → 0 < rank → IsFirstReach T l rank result }
-{
-    for raise in raises {
-        if rank <= raise.front as u64 {
-            return Some(raise.place as u64);
-        }
-    }
-    None
 }
 
 // The front after the event before this one.

@@ -5,7 +5,7 @@ use Rattle.pmt_model.specs.Traces.{Recording}
 use Rattle.pmt_model.specs.Fronts.{front_at}
 use Rattle.pmt_lines.specs.declared.raises.Raise.{Raise}
 use Rattle.pmt_lines.specs.Raises.{RaisesBetween, IsRaises}
-use Rattle.pmt_draw.specs.Reaching.{IsFirstReach}
+use Rattle.pmt_reach.specs.Reaching.{IsFirstReach}
 
 -- The rest of the raises, before which the front stays below the rank.
 pub record IsBelow (T : Recording) (l rank : ℕ) (rest : List Raise) : Type 0 where
