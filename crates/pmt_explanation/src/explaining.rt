@@ -2,8 +2,10 @@
 ghost use Rattle.std.specs.Prelude.{◌≡◌, IfOk, IfErr, IfSome, count_by, is_some};
 ghost use Rattle.pmt_lines.specs.Sourcing.{IsFaultOf};
 ghost use Rattle.pmt_text.specs.Coming.{ComesWhole};
+ghost use Rattle.pmt_text.specs.Sources.{CountsReads};
+ghost use Rattle.pmt_workers.specs.Analysing.{IsAnalysed};
 ghost use Rattle.pmt_explanation.specs.declared.explaining.ExplainError.TheVariants.{OutOfMemory};
-ghost use Rattle.pmt_explanation.specs.Asking.{told_by};
+ghost use Rattle.pmt_explanation.specs.Asking.{TellsSource, told_by};
 ghost use Rattle.pmt_explanation.specs.Explaining.{IsExplanation, has_failed as fails};
 ghost use Rattle.pmt_explanation.specs.Ignoring.{lost_store as lost_of, overwriting as overwriting_of};
 
@@ -77,7 +79,7 @@ pub struct Explanation {
 ///
 /// # Errors
 /// `Source` with the fault that the source told, or with `Failed` where it had told a fault before. `OutOfMemory` where memory was
-/// refused to the explanation itself.
+/// refused to the explanation itself; the source told no fault then. The source stands past the events that were taken.
 pub fn explain<T: Threads + Sync, S: EventSource>(
     rt: &T,
     alloc: Global,
@@ -85,8 +87,12 @@ pub fn explain<T: Threads + Sync, S: EventSource>(
     options: &Options,
 ) -> Result<Explanation, ExplainError>
     ensures explained { IfOk result (λ x. IsExplanation x.analysis options.now.ignored.items x) }
+    ensures analysed { IfOk result (λ x. IsAnalysed x.analysis) }
+    ensures limit { IfOk result (λ x. x.limit ≡ options.now.limit) }
     ensures whole { IfOk result (λ x. ComesWhole (S.coming source.old) x.analysis.trace) }
     ensures fault { IfErr (told_by result) (λ e. IfSome (S.coming source.old) (λ c. IsFaultOf c e)) }
+    ensures told { TellsSource (S.state source.old) result (S.state source.new) }
+    ensures failures { CountsReads (S.failures source.old) (told_by result) (S.failures source.new) }
 {
     match analyse_with(rt, alloc, &NoGate, source, 1) {
         Ok(analysis) => Ok(explanation_of(alloc, analysis, options)?),

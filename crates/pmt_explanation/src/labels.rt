@@ -1,5 +1,5 @@
 //! Labels of events.
-ghost use Rattle.std.specs.Prelude.{◌≡◌, IfOk, OnOk, OnErr, option_map, string_bytes, Some};
+ghost use Rattle.std.specs.Prelude.{◌≡◌, ◌≢◌, ℕ, IfOk, OnOk, OnErr, option_map, string_bytes, Some, []};
 ghost use Rattle.pmt_explanation.specs.Labelling.{label_of};
 
 use pmt_model::OutOfMemory;
@@ -15,7 +15,9 @@ pub struct Labels {
 
 impl Labels {
     /// No labels.
-    pub fn new(alloc: Global) -> Self {
+    pub fn new(alloc: Global) -> Self
+        ensures { result.texts.entries ≡ [] }
+    {
         Labels {
             texts: BTreeMap::new(alloc),
         }
@@ -27,6 +29,7 @@ impl Labels {
     /// `OutOfMemory`: the labels are unchanged then.
     pub fn insert(&mut self, event: u64, text: String) -> Result<(), OutOfMemory>
         ensures ok { OnOk result (label_of self.new event ≡ Some (string_bytes text)) }
+        ensures others { OnOk result ((other : ℕ) → other ≢ event → label_of self.new other ≡ label_of self.old other) }
         ensures err { OnErr result (self.new.texts.entries ≡ self.old.texts.entries) }
     {
         self.texts.insert(event, text)?;
