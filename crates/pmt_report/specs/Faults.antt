@@ -1,4 +1,4 @@
--- The fault lines of runs, without their LF.
+-- The fault lines of runs, without their LF, and their statuses.
 use Rattle.std.specs.Prelude.{ℕ, List, ◌++◌, codes}
 use Rattle.pmt_text.specs.Spelling.{numeral}
 use Rattle.pmt_text.specs.Kinds.{name_of}
@@ -16,7 +16,17 @@ fault_line (PastEnd events) = codes "place past end " ++ numeral 10 events
 fault_line OutOfMemory = codes "out of memory"
 fault_line (Write written) = codes "file fault"
 
--- What a run tells where its source told this fault; a source that failed before is not run.
+-- A wrong word, or a place past the end, ends with 2; a refused trace with 3; a device that fails with 4; want of memory with 5.
+abbrev pub run_status : RunError → ℕ
+run_status BadWorkers = 2
+run_status (PastEnd events) = 2
+run_status (Text fault) = 3
+run_status TooMany = 3
+run_status Read = 4
+run_status (Write written) = 4
+run_status OutOfMemory = 5
+
+-- What a run tells where its source told this fault. A source that failed before is not run; it would tell a failed read.
 abbrev pub run_fault : SourceError → RunError
 run_fault (sources.Text fault) = Text fault
 run_fault sources.TooMany = TooMany

@@ -1,4 +1,5 @@
 pub mod Faults
+pub mod RecordFaults
 pub mod Entries
 pub mod Listing
 pub mod Reports

@@ -6,7 +6,7 @@ ghost use Rattle.pmt_workers.specs.Halving.{is_worker_count};
 ghost use Rattle.pmt_report.specs.Checks.{IsJudgedAs, IsReportOf, has_failed, is_failure, is_loss, report_for, unanswered};
 ghost use Rattle.pmt_report.specs.Runs.{IsAnalysisFault, Runs, coming_from_reader, run_read_faults, tells_workers, write_faults};
 
-use crate::analysed::analysed;
+use crate::analysing::analysed;
 use crate::fault::RunError;
 use crate::output::write_answer;
 use crate::report::report_of;

@@ -1,6 +1,6 @@
-//! Why a run did not write its answer, and the line that says so.
-ghost use Rattle.std.specs.Prelude.{◌≡◌, ◌≢◌, IfOk, Some, string_bytes};
-ghost use Rattle.pmt_report.specs.Faults.{fault_line, run_fault};
+//! Why a run did not write its answer: the line that says so, and the status.
+ghost use Rattle.std.specs.Prelude.{◌≡◌, IfOk, Some, string_bytes};
+ghost use Rattle.pmt_report.specs.Faults.{fault_line, run_fault, run_status};
 
 use pmt_model::OutOfMemory;
 use pmt_text::{SourceError, TextError};
@@ -31,6 +31,24 @@ pub enum RunError {
         /// How many bytes of the answer are out: its first ones.
         written: u64,
     },
+}
+
+impl RunError {
+    /// The exit status of a program that ends with it: 2 where a word asks for what there is not, 3 where the trace is refused, 4 where a
+    /// device fails, 5 where memory is refused.
+    pub fn status(&self) -> u8
+        ensures { result ≡ run_status self.now }
+    {
+        match *self {
+            RunError::BadWorkers => 2,
+            RunError::PastEnd { events: _ } => 2,
+            RunError::Text(_) => 3,
+            RunError::TooMany => 3,
+            RunError::Read => 4,
+            RunError::Write { written: _ } => 4,
+            RunError::OutOfMemory => 5,
+        }
+    }
 }
 
 // Shown as its fault line, without its LF.
@@ -75,9 +93,8 @@ pub fn fault_text(alloc: Global, error: &RunError) -> Result<String, OutOfMemory
     error.to_string(alloc)
 }
 
-/// What a run tells where its source told this fault.
-pub(crate) fn run_error(error: SourceError) -> RunError
-    requires { error ≢ SourceError.Failed }
+/// What a run tells where its source told this fault. A source that is fresh never answers that it failed before.
+pub fn run_error(error: SourceError) -> RunError
     ensures { result ≡ run_fault error }
 {
     match error {
@@ -85,6 +102,6 @@ pub(crate) fn run_error(error: SourceError) -> RunError
         SourceError::TooMany => RunError::TooMany,
         SourceError::Read => RunError::Read,
         SourceError::OutOfMemory => RunError::OutOfMemory,
-        SourceError::Failed => unreachable!(),
+        SourceError::Failed => RunError::Read,
     }
 }

@@ -1,21 +1,24 @@
 //! Reports of traces, and the runs that read a trace, judge it and write the answer.
 //!
-//! The definitions stand in `specs/`: the text of each answer and the line of each fault.
+//! The definitions stand in `specs/`: the text of each answer, and the line and status of each fault.
 #![tactic(auto)]
 
-mod analysed;
+pub mod analysing;
 pub mod check;
 pub mod fault;
 mod fronts;
 pub mod fronts_run;
 pub mod listing;
 mod output;
+pub mod record_fault;
 mod report;
 mod taking;
 mod texts;
 pub mod trim;
 
+pub use crate::analysing::analysed;
 pub use crate::check::{failed, report_text, run_check};
-pub use crate::fault::{RunError, fault_text};
+pub use crate::fault::{RunError, fault_text, run_error};
 pub use crate::fronts_run::run_fronts;
+pub use crate::record_fault::RecordFault;
 pub use crate::trim::run_trim;

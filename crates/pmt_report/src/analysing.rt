@@ -15,8 +15,12 @@ use std::io::Read;
 use std::sync::Wait;
 use std::thread::Threads;
 
-// The analysis of the trace whose text the reader gives, by this many workers. The reader is handed back.
-pub(crate) fn analysed<T: Threads + Wait + Sync, R: Read>(
+/// The analysis of the trace whose text the reader gives, by this many workers. The reader is handed back.
+///
+/// # Errors
+/// In this order: `BadWorkers` unless there are 1, 2, 4, 8 or 16, in which case nothing is read; `Text`, `TooMany` and `Read` as
+/// the bytes come, `OutOfMemory`.
+pub fn analysed<T: Threads + Wait + Sync, R: Read>(
     rt: &T,
     alloc: Global,
     workers: usize,
