@@ -36,6 +36,7 @@ expect 2 "'3'" trim --workers 3
 expect 2 '1, 2, 4, 8, 16' trim --workers 3
 expect 2 "'3'" trim --stream --workers 3
 expect 2 "'04'" check --workers 04
+expect 2 "'--stream'" check --stream t
 expect 2 "'01'" fronts examples/one_persist.trace 01
 expect 2 'a decimal number' fronts examples/one_persist.trace 01
 expect 2 "'18446744073709551616'" fronts examples/one_persist.trace 18446744073709551616

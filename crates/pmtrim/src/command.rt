@@ -13,25 +13,36 @@ const UNUSED: &str =
 
 /// The words of the program and of its commands.
 pub fn commands<'a>(alloc: Global) -> Result<Command<'a>, AllocError> {
-    Command::new(alloc, "pmtrim")
+    let judging = with_command(with_command(program(alloc)?, check(alloc))?, explain(alloc))?;
+    let writing = with_command(with_command(judging, trim(alloc))?, fronts(alloc))?;
+    with_command(with_command(writing, record(alloc))?, draw_command(alloc))
+}
+
+// The command with one of its own.
+fn with_command<'a>(
+    command: Command<'a>,
+    made: Result<Command<'a>, AllocError>,
+) -> Result<Command<'a>, AllocError> {
+    command.subcommand(made?)
+}
+
+fn program<'a>(alloc: Global) -> Result<Command<'a>, AllocError> {
+    let command = Command::new(alloc, "pmtrim")
         .version("1.0.0")
         .no_binary_name(true)
-        .bin_name("pmtrim")?
-        .override_usage(
-            "pmtrim < TRACE\n       pmtrim check [--workers N] [FILE]\n       pmtrim explain [--ignore A:N].. [--limit N] [--labels FILE] [--json] [FILE]\n       pmtrim trim [--workers N] [--stream] [FILE]\n       pmtrim fronts FILE PLACE\n       pmtrim record SCRIPT..\n       pmtrim draw [--around I | --from I --to J] [--line A].. [--labels FILE] [FILE]",
-        )
-        .about(
-            "Checks traces of persistent memory events, and trims the flushes and fences that no crash can show.{n}With no words it trims the trace on standard input.",
-        )
-        .after_help(
-            "A FILE that is not given is standard input. The answer goes to standard output, faults to standard error.{n}Statuses: 0 done; 1 check, explain: an assertion fails or a store is never persisted; 2 wrong words; 3 trace or script refused; 4 file fault; 5 out of memory; 6 torn recorder{n}{n}Example: pmtrim < run.trace > trimmed.trace",
-        )
-        .subcommand(check(alloc)?)?
-        .subcommand(explain(alloc)?)?
-        .subcommand(trim(alloc)?)?
-        .subcommand(fronts(alloc)?)?
-        .subcommand(record(alloc)?)?
-        .subcommand(draw_command(alloc)?)
+        .bin_name("pmtrim")?;
+    Ok(
+        command
+            .override_usage(
+                "pmtrim < TRACE\n       pmtrim check [--workers N] [FILE]\n       pmtrim explain [--ignore A:N].. [--limit N] [--labels FILE] [--json] [FILE]\n       pmtrim trim [--workers N] [--stream] [FILE]\n       pmtrim fronts FILE PLACE\n       pmtrim record SCRIPT..\n       pmtrim draw [--around I | --from I --to J] [--line A].. [--labels FILE] [FILE]",
+            )
+            .about(
+                "Checks traces of persistent memory events, and trims the flushes and fences that no crash can show.{n}With no words it trims the trace on standard input.",
+            )
+            .after_help(
+                "A FILE that is not given is standard input. The answer goes to standard output, faults to standard error.{n}Statuses: 0 done; 1 check, explain: an assertion fails or a store is never persisted; 2 wrong words; 3 trace or script refused; 4 file fault; 5 out of memory; 6 torn recorder{n}{n}Example: pmtrim < run.trace > trimmed.trace",
+            ),
+    )
 }
 
 fn check<'a>(alloc: Global) -> Result<Command<'a>, AllocError> {
@@ -46,27 +57,7 @@ fn check<'a>(alloc: Global) -> Result<Command<'a>, AllocError> {
 }
 
 fn explain<'a>(alloc: Global) -> Result<Command<'a>, AllocError> {
-    let ignore = Arg::new(alloc, "ignore")
-        .long("ignore")
-        .value_name("A:N")
-        .action(ArgAction::Append)
-        .help(
-            "Leave out what is lost in the N bytes from address A on, as 0x1000:8; may be given more than once",
-        );
-    let limit = Arg::new(alloc, "limit")
-        .long("limit")
-        .value_name("N")
-        .default_value("10")
-        .help("How many entries of each kind to show");
-    let labels = Arg::new(alloc, "labels")
-        .long("labels")
-        .value_name("FILE")
-        .help("What to call the events: lines EVENT TEXT by rising event number");
-    let json = Arg::new(alloc, "json")
-        .long("json")
-        .action(ArgAction::SetTrue)
-        .help("Write a JSON object a line");
-    Command::new(alloc, "explain")
+    let command = Command::new(alloc, "explain")
         .override_usage(
             "pmtrim explain [--ignore A:N].. [--limit N] [--labels FILE] [--json] [FILE]",
         )
@@ -74,18 +65,47 @@ fn explain<'a>(alloc: Global) -> Result<Command<'a>, AllocError> {
         .after_help(
             "Writes a summary, then each failed assertion with a crash that violates it, stores that are never persisted, flushes and fences without effect, and overwritten stores.{n}Statuses: 0 done; 1 an assertion fails or a store that is not ignored is never persisted; 2 wrong words; 3 trace or labels refused; 4 file fault; 5 out of memory{n}Example: pmtrim explain --labels run.trace.labels run.trace",
         )
-        .arg(ignore)?
-        .arg(limit)?
-        .arg(labels)?
-        .arg(json)?
+        .arg(ignore(alloc))?
+        .arg(limit(alloc))?;
+    command
+        .arg(labels(alloc))?
+        .arg(json(alloc))?
         .arg(file(alloc))
 }
 
-fn trim<'a>(alloc: Global) -> Result<Command<'a>, AllocError> {
-    let stream = Arg::new(alloc, "stream")
-        .long("stream")
+fn ignore<'a>(alloc: Global) -> Arg<'a> {
+    Arg::new(alloc, "ignore")
+        .long("ignore")
+        .value_name("A:N")
+        .action(ArgAction::Append)
+        .help(
+            "Leave out what is lost in the N bytes from address A on, as 0x1000:8; may be given more than once",
+        )
+}
+
+fn limit<'a>(alloc: Global) -> Arg<'a> {
+    Arg::new(alloc, "limit")
+        .long("limit")
+        .value_name("N")
+        .default_value("10")
+        .help("How many entries of each kind to show")
+}
+
+fn labels<'a>(alloc: Global) -> Arg<'a> {
+    Arg::new(alloc, "labels")
+        .long("labels")
+        .value_name("FILE")
+        .help("What to call the events: lines EVENT TEXT by rising event number")
+}
+
+fn json<'a>(alloc: Global) -> Arg<'a> {
+    Arg::new(alloc, "json")
+        .long("json")
         .action(ArgAction::SetTrue)
-        .help("Write the trace as it is read");
+        .help("Write a JSON object a line")
+}
+
+fn trim<'a>(alloc: Global) -> Result<Command<'a>, AllocError> {
     Command::new(alloc, "trim")
         .override_usage("pmtrim trim [--workers N] [--stream] [FILE]")
         .about("Writes the trace without the flushes and fences that no crash can show.")
@@ -93,8 +113,15 @@ fn trim<'a>(alloc: Global) -> Result<Command<'a>, AllocError> {
             "Statuses: 0 done; 2 wrong words; 3 trace refused; 4 file fault; 5 out of memory{n}Example: pmtrim trim run.trace > trimmed.trace",
         )
         .arg(workers(alloc, UNUSED))?
-        .arg(stream)?
+        .arg(stream(alloc))?
         .arg(file(alloc))
+}
+
+fn stream<'a>(alloc: Global) -> Arg<'a> {
+    Arg::new(alloc, "stream")
+        .long("stream")
+        .action(ArgAction::SetTrue)
+        .help("Write the trace as it is read")
 }
 
 fn fronts<'a>(alloc: Global) -> Result<Command<'a>, AllocError> {

@@ -151,18 +151,28 @@ fn bad_word(alloc: Global, text: &[u8], line: &[u8]) -> Result<Wrong, AllocError
             "there are no empty lines and no comments, and a line begins with the word of its event",
         );
     }
+    Ok(Wrong {
+        what: no_event(alloc, word)?,
+        allowed: known_words(first, word),
+    })
+}
+
+// What is told of a word that is no event.
+fn no_event(alloc: Global, word: &[u8]) -> Result<String, AllocError> {
     let shown = shown(alloc, word)?;
-    let word_text = shown.as_str();
-    let known = first && (word == b"clflush".as_slice() || word == b"mfence".as_slice());
-    let what = format!(in alloc; "'{word_text}' is no event here")?;
-    let allowed = if known {
+    let shown = shown.as_str();
+    format!(in alloc; "'{shown}' is no event here")
+}
+
+// The words of the version, or what to do where the word is one of the second version.
+fn known_words(first: bool, word: &[u8]) -> &'static str {
+    if first && (word == b"clflush".as_slice() || word == b"mfence".as_slice()) {
         "clflush and mfence are events of version 2: the first line has to be 'pmtrace 2 64', or another line size"
     } else if first {
         "an event is store, clwb, clflushopt, sfence, isPersist or isOrderedBefore"
     } else {
         "an event is store, clwb, clflushopt, clflush, sfence, mfence, isPersist or isOrderedBefore"
-    };
-    Ok(Wrong { what, allowed })
+    }
 }
 
 // The first field that is wrong, by its range or else by its spelling, or that is missing or one too many.

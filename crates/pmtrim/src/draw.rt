@@ -5,13 +5,14 @@ use crate::draw_words::Drawing;
 use crate::explain::labels_of;
 use crate::fault::Fault;
 use crate::opener::Opener;
+use crate::writing::write_whole;
 use pmt_draw::{Known, Label, Picture, View, picture_of, svg_text};
 use pmt_explain::dropped;
 use pmt_explanation::Labels;
-use pmt_model::{NoGate, OutOfMemory};
-use pmt_report::RunError;
-use pmt_text::{Counted, SourceError, TextSource, write_all_counted};
-use pmt_workers::{AnalyseError, Analysis, analyse_with};
+use pmt_model::OutOfMemory;
+use pmt_report::analysed;
+use pmt_text::Counted;
+use pmt_workers::Analysis;
 use std::alloc::{AllocError, Global};
 use std::io::{Read, Write};
 use std::sync::Wait;
@@ -37,48 +38,51 @@ where
 {
     let alloc = rt.alloc();
     let labels = labels_of(alloc, files, drawing.labels)?;
-    let analysis = match drawing.file {
-        Some(name) => analysed(rt, files.open(name)?)?,
-        None => analysed(rt, input)?,
-    };
-    write_picture(alloc, &analysis, &drawing.view, &labels, out)?;
+    let drawn = drawn_of(rt, drawing, files, input)?;
+    let text = svg_of(alloc, &drawn, &labels)?;
+    write_whole(out, text.as_bytes())?;
     Ok(0)
 }
 
+// What is drawn of the trace of the file or of `input`.
+fn drawn_of<T, O, I>(rt: &T, drawing: &Drawing<'_>, files: &O, input: I) -> Result<Picture, Fault>
+where
+    T: AllocGlobal + Threads + Wait + Sync,
+    O: Opener,
+    I: Read + Drop,
+{
+    let analysis = asked(rt, drawing.file, files, input)?;
+    Ok(picture(rt.alloc(), &analysis, &drawing.view)?)
+}
+
+// The analysis of the trace of the file or of `input`.
+fn asked<T, O, I>(rt: &T, file: Option<&str>, files: &O, input: I) -> Result<Analysis, Fault>
+where
+    T: AllocGlobal + Threads + Wait + Sync,
+    O: Opener,
+    I: Read + Drop,
+{
+    match file {
+        Some(name) => analysis_of(rt, files.open(name)?),
+        None => analysis_of(rt, input),
+    }
+}
+
 // The analysis of the trace that the reader gives.
-fn analysed<T, R>(rt: &T, reader: R) -> Result<Analysis, Fault>
+fn analysis_of<T, R>(rt: &T, reader: R) -> Result<Analysis, Fault>
 where
     T: AllocGlobal + Threads + Wait + Sync,
     R: Read + Drop,
 {
-    let alloc = rt.alloc();
-    let mut source = TextSource::new(alloc, Counted::new(reader));
-    match analyse_with(rt, alloc, &NoGate, &mut source, 1) {
+    let (_reader, found) = analysed(rt, rt.alloc(), 1, Counted::new(reader));
+    match found {
         Ok(analysis) => Ok(analysis),
-        Err(AnalyseError::BadWorkers) => Err(Fault::Run(RunError::BadWorkers)),
-        Err(AnalyseError::OutOfMemory) => Err(Fault::OutOfMemory),
-        Err(AnalyseError::Source(fault)) => Err(Fault::Run(run_error(fault))),
+        Err(error) => Err(Fault::Run(error)),
     }
 }
 
-// What a run tells in the place of the source. A source that is fresh never answers that it failed before.
-fn run_error(fault: SourceError) -> RunError {
-    match fault {
-        SourceError::Text(error) => RunError::Text(error),
-        SourceError::TooMany => RunError::TooMany,
-        SourceError::Read | SourceError::Failed => RunError::Read,
-        SourceError::OutOfMemory => RunError::OutOfMemory,
-    }
-}
-
-// Writes the picture, and flushes.
-fn write_picture<W: Write>(
-    alloc: Global,
-    analysis: &Analysis,
-    view: &View,
-    labels: &Labels,
-    out: &mut W,
-) -> Result<(), Fault> {
+// The picture of the analysis.
+fn picture(alloc: Global, analysis: &Analysis, view: &View) -> Result<Picture, OutOfMemory> {
     let reasons = dropped(alloc, analysis.trace())?;
     let known = Known {
         trace: analysis.trace(),
@@ -86,14 +90,13 @@ fn write_picture<W: Write>(
         verdicts: analysis.verdicts(),
         dropped: reasons.as_slice(),
     };
-    let drawn = picture_of(alloc, known, view)?;
-    let shown = drawn_labels(alloc, &drawn, labels)?;
-    let text = svg_text(alloc, &drawn, shown.as_slice())?;
-    let mut writer = Counted::new(out);
-    if write_all_counted(&mut writer, text.as_bytes()).is_err() || writer.flush().is_err() {
-        return Err(Fault::File);
-    }
-    Ok(())
+    picture_of(alloc, known, view)
+}
+
+// The text of the picture with these labels.
+fn svg_of(alloc: Global, drawn: &Picture, labels: &Labels) -> Result<String, OutOfMemory> {
+    let shown = drawn_labels(alloc, drawn, labels)?;
+    svg_text(alloc, drawn, shown.as_slice())
 }
 
 // The labels of the events that are drawn.
@@ -105,14 +108,16 @@ fn drawn_labels(
     let mut shown = Vec::new(alloc);
     for column in &drawn.columns {
         if let Some(text) = labels.get(column.number) {
-            let label = Label {
-                event: column.number,
-                text: text.clone()?,
-            };
-            if shown.push(label).is_err() {
-                return Err(AllocError);
-            }
+            push_label(&mut shown, column.number, text)?;
         }
     }
     Ok(shown)
+}
+
+fn push_label(shown: &mut Vec<Label>, event: u64, text: &String) -> Result<(), OutOfMemory> {
+    let text = text.clone()?;
+    match shown.push(Label { event, text }) {
+        Ok(()) => Ok(()),
+        Err(_) => Err(AllocError),
+    }
 }

@@ -6,7 +6,7 @@ use pmt_text::number::{read_address, read_number};
 use std::alloc::{AllocError, Global};
 
 /// What `draw` is asked for.
-#[derive(Debug, Drop)]
+#[derive(Drop)]
 pub struct Drawing<'a> {
     /// Which events, and which lines.
     pub view: View,
@@ -18,14 +18,21 @@ pub struct Drawing<'a> {
 
 /// The words of `draw`.
 pub fn draw_command<'a>(alloc: Global) -> Result<Command<'a>, AllocError> {
-    Command::new(alloc, "draw")
+    let command = Command::new(alloc, "draw")
         .override_usage(
             "pmtrim draw [--around I | --from I --to J] [--line A].. [--labels FILE] [FILE]",
         )
         .about("Draws what is safe when, as one SVG.")
         .after_help(
             "Without --around and --from it draws the first assertion that fails, with what led to it; where none fails, the first events. At most 120 events and 30 lines are drawn; the picture says what is left out.{n}Statuses: 0 done; 2 wrong words; 3 trace or labels refused; 4 file fault; 5 out of memory{n}Example: pmtrim draw run.trace > run.svg",
-        )
+        );
+    let placed = with_places(alloc, command)?;
+    with_names(alloc, placed)
+}
+
+// Which events.
+fn with_places<'a>(alloc: Global, command: Command<'a>) -> Result<Command<'a>, AllocError> {
+    command
         .arg(value(alloc, "around", "I", "Draw the events around event I"))?
         .arg(value(
             alloc,
@@ -38,14 +45,20 @@ pub fn draw_command<'a>(alloc: Global) -> Result<Command<'a>, AllocError> {
             "to",
             "J",
             "Draw the events up to event J; wants --from",
-        ))?
-        .arg(value(
-            alloc,
-            "line",
-            "A",
-            "Draw the line of address A (hexadecimal), and what matters to it; may be repeated",
-        )
-        .action(ArgAction::Append))?
+        ))
+}
+
+// Which lines, and which files.
+fn with_names<'a>(alloc: Global, command: Command<'a>) -> Result<Command<'a>, AllocError> {
+    let line = value(
+        alloc,
+        "line",
+        "A",
+        "Draw the line of address A (hexadecimal), and what matters to it; may be repeated",
+    )
+    .action(ArgAction::Append);
+    command
+        .arg(line)?
         .arg(value(
             alloc,
             "labels",
@@ -82,19 +95,23 @@ fn kept_lines(alloc: Global, given: &ArgMatches<'_>) -> Result<Vec<u64>, Fault> 
     let words = given.get_strs("line").unwrap_or(&[]);
     let mut kept = Vec::with_capacity(alloc, words.len())?;
     for word in words {
-        match read_address(word.as_bytes()) {
-            Some(address) if address < 1 << 48 => {
-                if kept.push(address).is_err() {
-                    return Err(Fault::OutOfMemory);
-                }
-            }
-            _ => {
-                let allowed = "an address as 0x1000, at most 0xffffffffffff";
-                return Err(bad_word(alloc, word, "--line <A>", allowed)?);
-            }
+        let address = kept_line(alloc, word)?;
+        if kept.push(address).is_err() {
+            return Err(Fault::OutOfMemory);
         }
     }
     Ok(kept)
+}
+
+// The address whose line is kept by this word.
+fn kept_line(alloc: Global, word: &str) -> Result<u64, Fault> {
+    match read_address(word.as_bytes()) {
+        Some(address) if address < 1 << 48 => Ok(address),
+        _ => {
+            let allowed = "an address as 0x1000, at most 0xffffffffffff";
+            Err(bad_word(alloc, word, "--line <A>", allowed)?)
+        }
+    }
 }
 
 // Which events are asked for.
@@ -102,19 +119,21 @@ fn span_of(alloc: Global, given: &ArgMatches<'_>) -> Result<Span, Fault> {
     let around = number_of(alloc, given, "around", "--around <I>")?;
     let first = number_of(alloc, given, "from", "--from <I>")?;
     let last = number_of(alloc, given, "to", "--to <J>")?;
+    match span(around, first, last) {
+        Ok(span) => Ok(span),
+        Err(message) => Err(Fault::usage(alloc, message)?),
+    }
+}
+
+// Which events these options ask for, or what is wrong with them.
+fn span(around: Option<u64>, first: Option<u64>, last: Option<u64>) -> Result<Span, &'static str> {
     match (around, first, last) {
         (None, None, None) => Ok(Span::Failure),
         (Some(number), None, None) => Ok(Span::Around(number)),
         (None, Some(first), Some(last)) if first <= last => Ok(Span::Between { first, last }),
-        (None, Some(_), Some(_)) => Err(Fault::usage(
-            alloc,
-            "the event of '--to' comes before that of '--from'",
-        )?),
-        (Some(_), _, _) => Err(Fault::usage(
-            alloc,
-            "'--around' stands without '--from' and '--to'",
-        )?),
-        _ => Err(Fault::usage(alloc, "'--from' and '--to' stand together")?),
+        (None, Some(_), Some(_)) => Err("the event of '--to' comes before that of '--from'"),
+        (Some(_), _, _) => Err("'--around' stands without '--from' and '--to'"),
+        _ => Err("'--from' and '--to' stand together"),
     }
 }
 

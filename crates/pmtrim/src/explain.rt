@@ -11,6 +11,7 @@ use crate::refused::{line_of_text, refused_line};
 use pmt_explanation::{
     ExplainError, Explanation, Labels, Options, explain, has_failed, json_text, text,
 };
+use pmt_model::OutOfMemory;
 use pmt_report::RunError;
 use pmt_text::{Counted, SourceError, TextError, TextSource};
 use std::alloc::Global;
@@ -27,7 +28,7 @@ const STANDARD_INPUT: &str = "standard input";
 /// The labels' fault, then that of the trace, then that of the write. Each names the file and says why.
 pub fn run_explain<T, O, I, W>(
     rt: &T,
-    words: ExplainWords<'_>,
+    words: &ExplainWords<'_>,
     files: &O,
     input: I,
     out: &mut W,
@@ -40,25 +41,43 @@ where
     ensures { IfOk result (λ status. status ≤ 1) }
 {
     let alloc = rt.alloc();
-    let ExplainWords {
-        ignored,
-        limit,
-        labels,
-        json,
-        file,
-    } = words;
-    let labels = labels_of(alloc, files, labels)?;
-    let (name, bytes) = match file {
-        Some(name) => (name, read_file(alloc, files, name)?),
-        None => (STANDARD_INPUT, read_whole(alloc, STANDARD_INPUT, input)?),
-    };
-    let options = Options { ignored, limit };
-    let explanation = explained(rt, name, bytes.as_slice(), &options)?;
-    write_out(alloc, &explanation, &labels, json, out)?;
+    let labels = labels_of(alloc, files, words.labels)?;
+    let explanation = explanation_of(rt, words, files, input)?;
+    write_out(alloc, &explanation, &labels, words.json, out)?;
     if has_failed(&explanation) {
         Ok(1)
     } else {
         Ok(0)
+    }
+}
+
+// The explanation of the trace of the file or of `input`.
+fn explanation_of<T, O, I>(
+    rt: &T,
+    words: &ExplainWords<'_>,
+    files: &O,
+    input: I,
+) -> Result<Explanation, Fault>
+where
+    T: AllocGlobal + Threads + Sync,
+    O: Opener,
+    I: Read + Drop,
+{
+    let name = words.file.unwrap_or(STANDARD_INPUT);
+    let bytes = bytes_of(rt.alloc(), words.file, files, input)?;
+    explained(rt, name, bytes.as_slice(), &words.options)
+}
+
+// The bytes of the file, or those of `input` where none is named.
+fn bytes_of<O: Opener, I: Read + Drop>(
+    alloc: Global,
+    file: Option<&str>,
+    files: &O,
+    input: I,
+) -> Result<Vec<u8>, Fault> {
+    match file {
+        Some(name) => read_file(alloc, files, name),
+        None => read_whole(alloc, STANDARD_INPUT, input),
     }
 }
 
@@ -96,16 +115,23 @@ fn explained<T: AllocGlobal + Threads + Sync>(
     let mut source = TextSource::new(alloc, Counted::new(Cursor::new(bytes)));
     match explain(rt, alloc, &mut source, options) {
         Ok(explanation) => Ok(explanation),
-        Err(ExplainError::Source(SourceError::Text(fault))) => Err(refused(
-            alloc, name, bytes, fault,
-        )?),
-        Err(ExplainError::Source(SourceError::TooMany)) => Err(too_long(alloc, name)?),
-        Err(ExplainError::Source(SourceError::Read | SourceError::Failed)) => Err(Fault::Run(
-            RunError::Read,
-        )),
-        Err(ExplainError::Source(SourceError::OutOfMemory) | ExplainError::OutOfMemory) => Err(
-            Fault::OutOfMemory,
-        ),
+        Err(ExplainError::Source(fault)) => Err(source_fault(alloc, name, bytes, fault)?),
+        Err(ExplainError::OutOfMemory) => Err(Fault::OutOfMemory),
+    }
+}
+
+// The fault of the trace with this text, where its source told this.
+fn source_fault(
+    alloc: Global,
+    name: &str,
+    text: &[u8],
+    fault: SourceError,
+) -> Result<Fault, Fault> {
+    match fault {
+        SourceError::Text(error) => refused(alloc, name, text, error),
+        SourceError::TooMany => too_long(alloc, name),
+        SourceError::Read | SourceError::Failed => Ok(Fault::Run(RunError::Read)),
+        SourceError::OutOfMemory => Ok(Fault::OutOfMemory),
     }
 }
 
@@ -132,11 +158,7 @@ fn write_out<W: Write>(
     json: bool,
     out: &mut W,
 ) -> Result<(), Fault> {
-    let answer = if json {
-        json_text(alloc, explanation, labels)?
-    } else {
-        text(alloc, explanation, labels)?
-    };
+    let answer = answer_of(alloc, explanation, labels, json)?;
     let written = match out.write_all(answer.as_slice()) {
         Ok(()) => out.flush(),
         Err(error) => Err(error),
@@ -144,5 +166,19 @@ fn write_out<W: Write>(
     match written {
         Ok(()) => Ok(()),
         Err(error) => Err(system_fault(alloc, "cannot write", "the answer", error)?),
+    }
+}
+
+// The JSON, or the text for people.
+fn answer_of(
+    alloc: Global,
+    explanation: &Explanation,
+    labels: &Labels,
+    json: bool,
+) -> Result<Vec<u8>, OutOfMemory> {
+    if json {
+        json_text(alloc, explanation, labels)
+    } else {
+        text(alloc, explanation, labels)
     }
 }

@@ -2,17 +2,15 @@
 
 use crate::fault::Fault;
 use clap::ArgMatches;
-use pmt_explanation::Ignored;
+use pmt_explanation::{Ignored, Options};
 use pmt_text::number::{read_address, read_number};
 use std::alloc::{AllocError, Global};
 
 /// What `explain` is asked for.
-#[derive(Debug, Drop)]
+#[derive(Drop)]
 pub struct ExplainWords<'a> {
-    /// The bytes that may be lost.
-    pub ignored: Vec<Ignored>,
-    /// The most entries of a kind that are shown.
-    pub limit: usize,
+    /// The bytes that may be lost, and the most entries of a kind that are shown.
+    pub options: Options,
     /// The labels file.
     pub labels: Option<&'a str>,
     /// Whether JSON is written.
@@ -26,26 +24,47 @@ pub struct ExplainWords<'a> {
 /// # Errors
 /// A usage fault that names the wrong word and says what is allowed; `OutOfMemory`.
 pub fn explain_words<'a>(alloc: Global, given: &ArgMatches<'a>) -> Result<ExplainWords<'a>, Fault> {
-    let mut ignored = Vec::new(alloc);
-    if let Some(ranges) = given.get_strs("ignore") {
-        for text in ranges {
-            match range_of(text.as_bytes()) {
-                Some(range) => ignored.push(range).map_err(AllocError::from)?,
-                None => return Err(bad_range(alloc, text)?),
-            }
-        }
-    }
-    let limit = given.get_str("limit").unwrap_or("10");
-    let Some(limit) = limit_of(limit.as_bytes()) else {
-        return Err(bad_limit(alloc, limit)?);
-    };
     Ok(ExplainWords {
-        ignored,
-        limit,
+        options: options_of(alloc, given)?,
         labels: given.get_str("labels"),
         json: given.get_flag("json"),
         file: given.get_str("FILE"),
     })
+}
+
+fn options_of(alloc: Global, given: &ArgMatches<'_>) -> Result<Options, Fault> {
+    let ranges = given.get_strs("ignore").unwrap_or(&[]);
+    let ignored = ignored_of(alloc, ranges)?;
+    let limit = asked_limit(alloc, given.get_str("limit").unwrap_or("10"))?;
+    Ok(Options { ignored, limit })
+}
+
+// The ranges that these words name.
+fn ignored_of(alloc: Global, ranges: &[&str]) -> Result<Vec<Ignored>, Fault> {
+    let mut ignored = Vec::new(alloc);
+    for text in ranges {
+        let range = asked_range(alloc, text)?;
+        if ignored.push(range).is_err() {
+            return Err(Fault::OutOfMemory);
+        }
+    }
+    Ok(ignored)
+}
+
+// The range that this word names.
+fn asked_range(alloc: Global, text: &str) -> Result<Ignored, Fault> {
+    match range_of(text.as_bytes()) {
+        Some(range) => Ok(range),
+        None => Err(bad_range(alloc, text)?),
+    }
+}
+
+// The limit that this word names.
+fn asked_limit(alloc: Global, text: &str) -> Result<usize, Fault> {
+    match limit_of(text.as_bytes()) {
+        Some(limit) => Ok(limit),
+        None => Err(bad_limit(alloc, text)?),
+    }
 }
 
 // The range that `A:N` names, where A and N are spelled as in a trace and the range lies below 2^48.

@@ -1,17 +1,14 @@
 //! The faults of the program: their lines and statuses.
 ghost use Rattle.std.specs.Prelude.{◌≤◌};
 
-mod record;
-
-pub use crate::fault::record::RecordFault;
 use crate::opener::OpenError;
 use pmt_model::OutOfMemory;
-use pmt_report::{RunError, fault_text};
+use pmt_report::{RecordFault, RunError, fault_text};
 use std::alloc::{AllocError, Global};
 use std::io::Write;
 
 /// Why the program did not do what its words ask for.
-#[derive(Debug, Drop)]
+#[derive(Drop)]
 pub enum Fault {
     /// The words are wrong; the text says how, and ends with LF.
     Usage(String),
@@ -59,7 +56,7 @@ impl Fault {
             Fault::Usage(_) => 2,
             Fault::Refused(_) => 3,
             Fault::System(_) => 4,
-            Fault::Run(error) => status_of(error),
+            Fault::Run(error) => error.status(),
             Fault::Record(fault) => fault.status(),
             Fault::File => 4,
             Fault::OutOfMemory => 5,
@@ -86,29 +83,17 @@ impl Fault {
     fn text(&self, alloc: Global) -> Result<String, OutOfMemory> {
         match self {
             Fault::Usage(text) | Fault::Refused(text) | Fault::System(text) => text.clone(),
-            Fault::Run(error) => {
-                let mut line = fault_text(alloc, error)?;
-                line.push_str("\n")?;
-                Ok(line)
-            }
-            Fault::Record(fault) => {
-                let mut line = fault.line(alloc)?;
-                line.push_str("\n")?;
-                Ok(line)
-            }
+            Fault::Run(error) => ended(fault_text(alloc, error)),
+            Fault::Record(fault) => ended(fault.line(alloc)),
             Fault::File => String::from_str(alloc, "file fault\n"),
             Fault::OutOfMemory => String::from_str(alloc, "out of memory\n"),
         }
     }
 }
 
-fn status_of(error: &RunError) -> u8
-    ensures { result ≤ 6 }
-{
-    match error {
-        RunError::BadWorkers | RunError::PastEnd { events: _ } => 2,
-        RunError::Text(_) | RunError::TooMany => 3,
-        RunError::Read | RunError::Write { written: _ } => 4,
-        RunError::OutOfMemory => 5,
-    }
+// The line with its LF.
+fn ended(line: Result<String, OutOfMemory>) -> Result<String, OutOfMemory> {
+    let mut line = line?;
+    line.push_str("\n")?;
+    Ok(line)
 }

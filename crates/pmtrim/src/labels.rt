@@ -72,14 +72,14 @@ pub fn read_labels(alloc: Global, name: &str, text: &[u8]) -> Result<Labels, Fau
             break;
         }
         let Some((line, later)) = split_line(rest) else {
-            return Err(refused(alloc, name, number, rest, LabelError::Truncated)?);
+            return Err(refused(alloc, name, number, rest, LabelError::Truncated));
         };
         match judged(line, before) {
             Ok((event, label)) => {
-                labels.insert(event, String::from_str(alloc, label)?)?;
+                insert(alloc, &mut labels, event, label)?;
                 before = event;
             }
-            Err(error) => return Err(refused(alloc, name, number, line, error)?),
+            Err(error) => return Err(refused(alloc, name, number, line, error)),
         }
         rest = later;
     }
@@ -113,8 +113,19 @@ fn has_control(bytes: &[u8]) -> bool {
     bytes.iter().any(|byte| *byte < b' ' || *byte == 0x7f)
 }
 
+fn insert(alloc: Global, labels: &mut Labels, event: u64, label: &str) -> Result<(), AllocError> {
+    labels.insert(event, String::from_str(alloc, label)?)
+}
+
 // The fault of the line that is refused.
-fn refused(
+fn refused(alloc: Global, name: &str, number: u64, line: &[u8], error: LabelError<'_>) -> Fault {
+    match shown_refused(alloc, name, number, line, error) {
+        Ok(fault) => fault,
+        Err(_) => Fault::OutOfMemory,
+    }
+}
+
+fn shown_refused(
     alloc: Global,
     name: &str,
     number: u64,

@@ -2,11 +2,13 @@
 
 ghost use Rattle.std.specs.Prelude.{◌≡◌, IfOk};
 
-use crate::fault::{Fault, RecordFault};
+use crate::fault::Fault;
 use crate::opener::Opener;
-use pmt_model::{NoGate, Op, Trace};
+use crate::writing::write_whole;
+use pmt_model::{NoGate, Op, OutOfMemory, Trace};
 use pmt_recorder::{RecordError, record_scripts};
-use pmt_text::{Counted, SourceError, read_script_from, write_all_counted, write_trace};
+use pmt_report::RecordFault;
+use pmt_text::{Counted, SourceError, read_script_from, write_trace};
 use std::alloc::Global;
 use std::io::Write;
 use std::sync::Wait;
@@ -25,7 +27,15 @@ where
     W: Write,
     ensures { IfOk result (λ status. status ≡ 0) }
 {
-    let alloc = rt.alloc();
+    let scripts = scripts_of(rt.alloc(), files, names)?;
+    let trace = recorded(rt, scripts)?;
+    let text = write_trace(rt.alloc(), &trace)?;
+    write_whole(out, text.as_slice())?;
+    Ok(0)
+}
+
+// The scripts with these names.
+fn scripts_of<O: Opener>(alloc: Global, files: &O, names: &[&str]) -> Result<Vec<Vec<Op>>, Fault> {
     let mut scripts = Vec::new(alloc);
     for (place, name) in names.iter().enumerate() {
         let script = read_one(alloc, files, place as u64 + 1, name)?;
@@ -33,9 +43,7 @@ where
             return Err(Fault::OutOfMemory);
         }
     }
-    let trace = recorded(rt, scripts)?;
-    write_out(alloc, &trace, out)?;
-    Ok(0)
+    Ok(scripts)
 }
 
 // The script with this number and name.
@@ -48,11 +56,17 @@ fn read_one<O: Opener>(
     let mut input = Counted::new(files.open(name)?);
     match read_script_from(alloc, &mut input) {
         Ok(ops) => Ok(ops),
-        Err(SourceError::Text(error)) => Err(Fault::Record(RecordFault::Line { script, error })),
-        Err(SourceError::TooMany) => Err(Fault::Record(RecordFault::TooLong { script })),
-        Err(SourceError::Read) => Err(Fault::File),
-        Err(SourceError::OutOfMemory) => Err(Fault::OutOfMemory),
-        Err(SourceError::Failed) => unreachable!(),
+        Err(error) => Err(script_fault(script, error)),
+    }
+}
+
+// What is told of the script with this number, where this fault came. A script that is read once never answers that it failed before.
+fn script_fault(script: u64, error: SourceError) -> Fault {
+    match error {
+        SourceError::Text(error) => Fault::Record(RecordFault::Line { script, error }),
+        SourceError::TooMany => Fault::Record(RecordFault::TooLong { script }),
+        SourceError::Read | SourceError::Failed => Fault::File,
+        SourceError::OutOfMemory => Fault::OutOfMemory,
     }
 }
 
@@ -64,29 +78,19 @@ where
     let alloc = rt.alloc();
     match record_scripts(rt, alloc, &NoGate, scripts) {
         Ok(trace) => Ok(trace),
-        Err(RecordError::BadCount) => Err(Fault::usage(alloc, "1 to 256 scripts are recorded")?),
-        Err(RecordError::NotInFormat { recorder: _ }) => Err(Fault::Record(RecordFault::Full)),
-        Err(
-            RecordError::Full {
-                recorder: _,
-                events: _,
-            },
-        ) => Err(Fault::Record(RecordFault::Full)),
-        Err(RecordError::OutOfMemory) => Err(Fault::OutOfMemory),
-        Err(RecordError::Torn { recorder }) => Err(Fault::Record(RecordFault::Torn { recorder })),
+        Err(error) => Err(record_fault(alloc, error)?),
     }
 }
 
-// Writes the text of the trace, and flushes once.
-fn write_out<W: Write>(alloc: Global, trace: &Trace, out: &mut W) -> Result<(), Fault> {
-    let text = write_trace(alloc, trace)?;
-    let mut writer = Counted::new(out);
-    if write_all_counted(&mut writer, text.as_slice()).is_err() {
-        return Err(Fault::File);
-    }
-    match writer.flush() {
-        Ok(()) => Ok(()),
-        Err(_) => Err(Fault::File),
+// What is told where the recording ended with this.
+fn record_fault(alloc: Global, error: RecordError) -> Result<Fault, OutOfMemory> {
+    match error {
+        RecordError::BadCount => Fault::usage(alloc, "1 to 256 scripts are recorded"),
+        RecordError::NotInFormat { .. } | RecordError::Full { .. } => Ok(Fault::Record(
+            RecordFault::Full,
+        )),
+        RecordError::OutOfMemory => Ok(Fault::OutOfMemory),
+        RecordError::Torn { recorder } => Ok(Fault::Record(RecordFault::Torn { recorder })),
     }
 }
 

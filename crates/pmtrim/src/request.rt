@@ -9,7 +9,7 @@ use std::alloc::{AllocError, Global};
 use std::convert::AsStr;
 
 /// What the words ask for.
-#[derive(Debug, Drop)]
+#[derive(Drop)]
 pub enum Request<'a> {
     /// This text: help, or the version.
     Show(String),
@@ -76,24 +76,32 @@ fn shown<'a>(alloc: Global, error: &Error) -> Result<Request<'a>, Fault> {
 
 fn asked<'a>(alloc: Global, matches: &ArgMatches<'a>) -> Result<Request<'a>, Fault> {
     match matches.subcommand() {
-        Some(("check", given)) => Ok(Request::Check {
-            workers: workers_of(given),
-            file: given.get_str("FILE"),
-        }),
+        Some(("check", given)) => Ok(check(given)),
         Some(("explain", given)) => Ok(Request::Explain(explain_words(alloc, given)?)),
         Some(("fronts", given)) => fronts(alloc, given),
         Some(("record", given)) => record(alloc, given),
         Some(("draw", given)) => Ok(Request::Draw(drawing_of(alloc, given)?)),
-        Some((_, given)) => Ok(Request::Trim {
-            workers: workers_of(given),
-            stream: given.get_flag("stream"),
-            file: given.get_str("FILE"),
-        }),
+        Some((_, given)) => Ok(trim(given)),
         None => Ok(Request::Trim {
             workers: 1,
             stream: false,
             file: None,
         }),
+    }
+}
+
+fn check<'a>(given: &ArgMatches<'a>) -> Request<'a> {
+    Request::Check {
+        workers: workers_of(given),
+        file: given.get_str("FILE"),
+    }
+}
+
+fn trim<'a>(given: &ArgMatches<'a>) -> Request<'a> {
+    Request::Trim {
+        workers: workers_of(given),
+        stream: given.get_flag("stream"),
+        file: given.get_str("FILE"),
     }
 }
 
@@ -145,12 +153,11 @@ fn place_of(text: &str) -> Option<u64> {
 }
 
 fn record<'a>(alloc: Global, given: &ArgMatches<'a>) -> Result<Request<'a>, Fault> {
-    let mut scripts = Vec::new(alloc);
-    if let Some(names) = given.get_strs("SCRIPT") {
-        if names.len() > 256 {
-            return Err(Fault::usage(alloc, "more than 256 scripts")?);
-        }
-        scripts.extend_from_slice(names)?;
+    let names = given.get_strs("SCRIPT").unwrap_or(&[]);
+    if names.len() > 256 {
+        return Err(Fault::usage(alloc, "more than 256 scripts")?);
     }
+    let mut scripts = Vec::new(alloc);
+    scripts.extend_from_slice(names)?;
     Ok(Request::Record { scripts })
 }

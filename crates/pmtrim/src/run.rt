@@ -7,8 +7,8 @@ use crate::fault::Fault;
 use crate::opener::Opener;
 use crate::record::record;
 use crate::request::{Request, request_of};
-use pmt_report::{RunError, run_check, run_fronts, run_trim};
-use pmt_text::{Counted, SourceError, TextSource};
+use pmt_report::{RunError, run_check, run_error, run_fronts, run_trim};
+use pmt_text::{Counted, TextSource};
 use pmt_trim::{StreamError, trim_stream};
 use std::alloc::Global;
 use std::convert::AsStr;
@@ -60,39 +60,21 @@ where
     W: Write,
     ensures { IfOk result (λ status. status ≤ 1) }
 {
-    let alloc = rt.alloc();
     match request {
         Request::Show(text) => show(out, text.as_str()),
-        Request::Fronts { file, place } => fronts(alloc, place, files.open(file)?, out),
-        Request::Check {
-            workers,
-            file: Some(name),
-        } => check(rt, workers, files.open(name)?, out),
-        Request::Check {
-            workers,
-            file: None,
-        } => check(rt, workers, input, out),
-        Request::Explain(words) => run_explain(rt, words, files, input, out),
+        Request::Fronts { file, place } => fronts(rt.alloc(), place, files, file, out),
+        Request::Check { workers, file } => check(rt, workers, file, files, input, out),
+        Request::Explain(words) => run_explain(rt, &words, files, input, out),
         Request::Trim {
             workers: _,
             stream: true,
-            file: Some(name),
-        } => stream(alloc, files.open(name)?, out),
-        Request::Trim {
-            workers: _,
-            stream: true,
-            file: None,
-        } => stream(alloc, input, out),
+            file,
+        } => stream(rt.alloc(), file, files, input, out),
         Request::Trim {
             workers,
             stream: false,
-            file: Some(name),
-        } => trim(rt, workers, files.open(name)?, out),
-        Request::Trim {
-            workers,
-            stream: false,
-            file: None,
-        } => trim(rt, workers, input, out),
+            file,
+        } => trim(rt, workers, file, files, input, out),
         Request::Draw(drawing) => draw(rt, &drawing, files, input, out),
         Request::Record { scripts } => record(rt, files, scripts.as_slice(), out),
     }
@@ -108,20 +90,44 @@ fn show<W: Write>(out: &mut W, text: &str) -> Result<u8, Fault>
     }
 }
 
-fn fronts<R: Read + Drop, W: Write>(
+fn fronts<O: Opener, W: Write>(
     alloc: Global,
     place: u64,
-    reader: R,
+    files: &O,
+    file: &str,
     out: &mut W,
 ) -> Result<u8, Fault>
     ensures { IfOk result (λ status. status ≤ 1) }
 {
+    let reader = Counted::new(files.open(file)?);
     let mut writer = Counted::new(out);
-    let (_reader, done) = run_fronts(alloc, place, Counted::new(reader), &mut writer);
+    let (_reader, done) = run_fronts(alloc, place, reader, &mut writer);
     told(done)
 }
 
-fn trim<T, R, W>(rt: &T, workers: usize, reader: R, out: &mut W) -> Result<u8, Fault>
+// Trims the trace of the file, or that of `input` where none is named.
+fn trim<T, O, I, W>(
+    rt: &T,
+    workers: usize,
+    file: Option<&str>,
+    files: &O,
+    input: I,
+    out: &mut W,
+) -> Result<u8, Fault>
+where
+    T: AllocGlobal + Threads + Wait + Sync,
+    O: Opener,
+    I: Read + Drop,
+    W: Write,
+    ensures { IfOk result (λ status. status ≤ 1) }
+{
+    match file {
+        Some(name) => trim_reader(rt, workers, files.open(name)?, out),
+        None => trim_reader(rt, workers, input, out),
+    }
+}
+
+fn trim_reader<T, R, W>(rt: &T, workers: usize, reader: R, out: &mut W) -> Result<u8, Fault>
 where
     T: AllocGlobal + Threads + Wait + Sync,
     R: Read + Drop,
@@ -133,33 +139,74 @@ where
     told(done)
 }
 
-// Trims the trace while it is read.
-fn stream<R: Read + Drop, W: Write>(alloc: Global, reader: R, out: &mut W) -> Result<u8, Fault>
+// Trims the same trace while it is read.
+fn stream<O, I, W>(
+    alloc: Global,
+    file: Option<&str>,
+    files: &O,
+    input: I,
+    out: &mut W,
+) -> Result<u8, Fault>
+where
+    O: Opener,
+    I: Read + Drop,
+    W: Write,
+    ensures { IfOk result (λ status. status ≤ 1) }
+{
+    match file {
+        Some(name) => stream_reader(alloc, files.open(name)?, out),
+        None => stream_reader(alloc, input, out),
+    }
+}
+
+fn stream_reader<R: Read + Drop, W: Write>(
+    alloc: Global,
+    reader: R,
+    out: &mut W,
+) -> Result<u8, Fault>
     ensures { IfOk result (λ status. status ≤ 1) }
 {
     let mut source = TextSource::new(alloc, Counted::new(reader));
     let mut writer = Counted::new(out);
     match trim_stream(alloc, &mut source, &mut writer) {
         Ok(()) => Ok(0),
-        Err(error) => Err(Fault::Run(run_error(error))),
+        Err(error) => Err(Fault::Run(stream_fault(error))),
     }
 }
 
-// What a run tells in the place of the stream. A source that is fresh never answers that it failed before.
-fn run_error(error: StreamError) -> RunError {
+// What a run tells in the place of the stream.
+fn stream_fault(error: StreamError) -> RunError {
     match error {
-        StreamError::Source(SourceError::Text(fault)) => RunError::Text(fault),
-        StreamError::Source(SourceError::TooMany) => RunError::TooMany,
-        StreamError::Source(SourceError::Read) => RunError::Read,
-        StreamError::Source(SourceError::OutOfMemory) => RunError::OutOfMemory,
-        StreamError::Source(SourceError::Failed) => RunError::Read,
+        StreamError::Source(fault) => run_error(fault),
         StreamError::OutOfMemory => RunError::OutOfMemory,
         StreamError::Write { written } => RunError::Write { written },
     }
 }
 
+// Checks the trace of the file, or that of `input` where none is named.
+fn check<T, O, I, W>(
+    rt: &T,
+    workers: usize,
+    file: Option<&str>,
+    files: &O,
+    input: I,
+    out: &mut W,
+) -> Result<u8, Fault>
+where
+    T: AllocGlobal + Threads + Wait + Sync,
+    O: Opener,
+    I: Read + Drop,
+    W: Write,
+    ensures { IfOk result (λ status. status ≤ 1) }
+{
+    match file {
+        Some(name) => check_reader(rt, workers, files.open(name)?, out),
+        None => check_reader(rt, workers, input, out),
+    }
+}
+
 // The status is 1 where an assertion fails or a store is never persisted.
-fn check<T, R, W>(rt: &T, workers: usize, reader: R, out: &mut W) -> Result<u8, Fault>
+fn check_reader<T, R, W>(rt: &T, workers: usize, reader: R, out: &mut W) -> Result<u8, Fault>
 where
     T: AllocGlobal + Threads + Wait + Sync,
     R: Read + Drop,

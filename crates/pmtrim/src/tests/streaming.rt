@@ -1,5 +1,5 @@
-//! Tests of `trim --stream`: what is out when a fault comes.
-use super::{ONE_PERSIST, Outcome, told, told_to};
+//! Tests of `trim --stream`: what is out when a read or a write fails.
+use super::{ONE_PERSIST, Outcome, told_to};
 use pmt_text::devices::{LimitedWriter, PieceReader};
 use std::process::Abort;
 
@@ -13,31 +13,6 @@ where
     assert_eq!(rt; outcome.out.kept(), answer.as_bytes(), "{fault}");
     assert_eq!(rt; outcome.faults.kept(), fault.as_bytes(), "{answer}");
     assert_eq!(rt; outcome.status, status, "{answer}");
-}
-
-// The kept events before the oldest flush whose thread has not fenced since are out when a text fault shows.
-#[test]
-fn stream_before_a_fault(rt: HostRuntime) {
-    for (text, answer, fault) in [
-        (
-            "pmtrace 1\nstore 0 0x1000 01\nclwb 0 0x1000\nsfence 0\nsfence 256\n",
-            ONE_PERSIST,
-            "trace line 5: out-of-range\n",
-        ),
-        (
-            "pmtrace 1\nstore 0 0x1000 01\nclwb 0 0x1000\nstore 0 0x1040 02\nsfence 256\n",
-            "pmtrace 1\nstore 0 0x1000 01\n",
-            "trace line 5: out-of-range\n",
-        ),
-        (
-            "pmtrace 1\nflush 0\n",
-            "pmtrace 1\n",
-            "trace line 2: bad-word\n",
-        ),
-        ("pmtrace 3\n", "", "trace line 1: bad-header\n"),
-    ] {
-        expect_out(&rt, &told(&rt, &STREAM, text, 7), 3, answer, fault);
-    }
 }
 
 // The header is out before the first event is asked for.
