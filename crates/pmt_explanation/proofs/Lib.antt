@@ -4,4 +4,6 @@ pub mod LabellingLemmas
 pub mod NoFloats
 pub mod Pushing
 pub mod ShowingLemmas
+pub mod UnwritingLemmas
 pub mod WordLemmas
+pub mod WrittenLemmas

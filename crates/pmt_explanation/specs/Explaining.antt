@@ -12,6 +12,7 @@ use Rattle.pmt_explanation.specs.declared.ignoring.Ignored.{Ignored}
 use Rattle.pmt_explanation.specs.Failing.{failing_events}
 use Rattle.pmt_explanation.specs.Ignoring.{lost_store, told_stores, overwriting, told_pairs}
 use Rattle.pmt_explanation.specs.Showing.{IsShown}
+use Rattle.pmt_explanation.specs.Unwriting.{unwritten_of}
 
 -- What is told of an analysis where the bytes of these ranges are ignored.
 pub record IsExplanation (a : Analysed) (ranges : List Ignored) (x : Explanation) : Type 0 where
@@ -22,6 +23,7 @@ pub record IsExplanation (a : Analysed) (ranges : List Ignored) (x : Explanation
   pub lost : AreLostGroups a.trace x.stores.items x.lost.items
   pub dropped : AreDropped a.trace x.dropped.items
   pub overwritten : AreOverwrittenGroups a.trace (told_pairs a.trace ranges a.findings) x.overwritten.items
+  pub unwritten : x.unwritten.items ≡ unwritten_of a.trace
   pub ignored_stores : x.ignored_never_persisted ≡ count_by (λ (f : Finding). is_some (lost_store f)) a.findings - length x.stores.items
   pub ignored_pairs : x.ignored_overwritten ≡ count_by (λ (f : Finding). is_some (overwriting f)) a.findings - length (told_pairs a.trace ranges a.findings)
 

@@ -9,3 +9,4 @@ pub mod Mending
 pub mod Parts
 pub mod Showing
 pub mod Summing
+pub mod Unwriting

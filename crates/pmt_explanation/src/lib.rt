@@ -22,6 +22,7 @@ mod people_parts;
 pub mod summary;
 pub mod unwritten;
 mod words;
+mod written;
 
 pub use crate::explaining::{
     ExplainError, Explanation, Options, explain, explanation_of, has_failed,

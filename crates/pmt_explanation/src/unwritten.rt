@@ -1,8 +1,11 @@
 //! Assertions on bytes that no store has written.
+ghost use Rattle.std.specs.Prelude.{◌≡◌, ◌++◌, IfOk, OnOk};
+ghost use Rattle.std.specs.Option.{option_to_list};
+ghost use Rattle.pmt_explanation.specs.Unwriting.{entry_of as entry_in, first_unwritten as first_in, has_byte, op_unwritten, second_unwritten as second_in, unless_written as unless_in, unwritten_of};
 
-use pmt_model::{Op, OutOfMemory, Range, Trace, WordStore};
+use crate::written::WrittenBytes;
+use pmt_model::{Op, OutOfMemory, Range, Trace};
 use std::alloc::Global;
-use std::collections::HashMap;
 
 /// An assertion of which no store has written a byte of a range by then: that range demands nothing.
 #[derive(Clone, Copy, Debug, PartialEq, Eq)]
@@ -19,35 +22,43 @@ pub struct Unwritten {
 ///
 /// # Errors
 /// Where memory was refused.
-pub fn unwritten_assertions(alloc: Global, trace: &Trace) -> Result<Vec<Unwritten>, OutOfMemory> {
+pub fn unwritten_assertions(alloc: Global, trace: &Trace) -> Result<Vec<Unwritten>, OutOfMemory>
+    ensures { IfOk result (λ found. found.items ≡ unwritten_of trace.now) }
+{
     let mut found = Vec::new(alloc);
-    let mut written = HashMap::new(alloc);
+    let mut written = WrittenBytes::new(alloc);
     let events = trace.events();
     for index in 0..events.len() {
-        let op = events[index].op;
-        match op {
-            Op::Store(store) => note_store(&mut written, &store)?,
-            _ => note_assertion(&mut found, &written, index as u64 + 1, op)?,
-        }
+        let event = events[index];
+        note_assertion(&mut found, &written, index as u64 + 1, &event.op)?;
+        written.note(event.op)?;
     }
     Ok(found)
 }
 
-// Adds the assertion, if it speaks of a range without a written byte.
+// Adds what is told of the op at this event, where these bytes are written.
 fn note_assertion(
     found: &mut Vec<Unwritten>,
-    written: &HashMap<u64, [bool; 8]>,
+    written: &WrittenBytes,
     event: u64,
-    op: Op,
-) -> Result<(), OutOfMemory> {
-    let (first, second) = match op {
-        Op::IsPersist(range) => (unless_written(written, range), None),
-        Op::IsOrderedBefore(first, second) => (
-            unless_written(written, first),
-            unless_written(written, second),
-        ),
-        _ => (None, None),
-    };
+    op: &Op,
+) -> Result<(), OutOfMemory>
+    ensures { OnOk result (found.new.items ≡ found.old.items ++ option_to_list (op_unwritten (has_byte written.now) event op.now)) }
+{
+    let first = first_unwritten(written, *op);
+    let second = second_unwritten(written, *op);
+    push_entry(found, event, first, second)
+}
+
+// Adds what is told of the event, if one of these ranges is told.
+fn push_entry(
+    found: &mut Vec<Unwritten>,
+    event: u64,
+    first: Option<Range>,
+    second: Option<Range>,
+) -> Result<(), OutOfMemory>
+    ensures { OnOk result (found.new.items ≡ found.old.items ++ option_to_list (entry_in event first second)) }
+{
     if first.is_some() || second.is_some() {
         found.push(Unwritten {
             event,
@@ -58,40 +69,41 @@ fn note_assertion(
     Ok(())
 }
 
+// The range of the assertion, or its first one, unless one of its bytes is written.
+fn first_unwritten(written: &WrittenBytes, op: Op) -> Option<Range>
+    ensures { result ≡ first_in (has_byte written.now) op }
+{
+    match op {
+        Op::IsPersist(range) => unless_written(written, range),
+        Op::IsOrderedBefore(first, _) => unless_written(written, first),
+        Op::Store(_) | Op::Clwb(_) | Op::ClflushOpt(_) | Op::Clflush(_) | Op::Sfence | Op::Mfence =>
+            None,
+    }
+}
+
+// The second range of an isOrderedBefore, unless one of its bytes is written.
+fn second_unwritten(written: &WrittenBytes, op: Op) -> Option<Range>
+    ensures { result ≡ second_in (has_byte written.now) op }
+{
+    match op {
+        Op::IsOrderedBefore(_, second) => unless_written(written, second),
+        Op::IsPersist(_)
+        | Op::Store(_)
+        | Op::Clwb(_)
+        | Op::ClflushOpt(_)
+        | Op::Clflush(_)
+        | Op::Sfence
+        | Op::Mfence => None,
+    }
+}
+
 // The range, unless one of its bytes is written.
-fn unless_written(written: &HashMap<u64, [bool; 8]>, range: Range) -> Option<Range> {
-    let first = range.addr().get();
-    let end = first + range.len();
-    for word in first / 8..(end + 7) / 8 {
-        if is_word_written(written, word, first, end) {
-            return None;
-        }
+fn unless_written(written: &WrittenBytes, range: Range) -> Option<Range>
+    ensures { result ≡ unless_in (has_byte written.now) range }
+{
+    if written.has_any(range) {
+        None
+    } else {
+        Some(range)
     }
-    Some(range)
-}
-
-// Whether a byte of the aligned word from `first` to `end` is written.
-fn is_word_written(written: &HashMap<u64, [bool; 8]>, word: u64, first: u64, end: u64) -> bool {
-    let Some(bytes) = written.get(&word) else {
-        return false;
-    };
-    for offset in 0..8u64 {
-        let byte = word.saturating_mul(8).saturating_add(offset);
-        if first <= byte && byte < end && bytes[offset as usize] {
-            return true;
-        }
-    }
-    false
-}
-
-// Notes the bytes of the store, which lie in one aligned word.
-fn note_store(written: &mut HashMap<u64, [bool; 8]>, store: &WordStore) -> Result<(), OutOfMemory> {
-    let first = store.addr().get();
-    let bytes = written.entry(first / 8)?.or_insert([false; 8]);
-    let offset = (first % 8) as usize;
-    let end = offset + store.bytes().len();
-    for at in offset..end {
-        bytes[at] = true;
-    }
-    Ok(())
 }

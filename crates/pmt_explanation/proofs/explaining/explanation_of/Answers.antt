@@ -37,6 +37,7 @@ returns-clause-explained c =
       lost = lost;
       dropped = dropped;
       overwritten = subst (λ (ps : List Overwriting). AreOverwrittenGroups T ps c.in_ok-overwritten.overwritten.items) pairs groups;
+      unwritten = search rules;
       ignored_stores = left_stores;
       ignored_pairs = some_pairs ∙ ap (λ (ps : List Overwriting). count_by (λ (f : Finding). is_some (overwriting f)) a.findings - length ps) pairs;
     }

@@ -1,0 +1,22 @@
+use Rattle.std.proofs.Common.{rules, ◌≡◌, ◌<◌, suc, length, Some, arith}
+use Rattle.pmt_model.specs.Traces.{event}
+use Rattle.pmt_explanation.specs.Unwriting.{has_byte}
+use Rattle.pmt_explanation.proofs.WrittenLemmas.{has-none}
+use Rattle.pmt_explanation.proofs.UnwritingLemmas.{found-next, bytes-next, event-is}
+use Rattle.pmt_explanation.proofs.unwritten.unwritten_assertions.Goals as goal
+
+pub loop-index-init : goal.loop-index-init
+loop-index-init c = record { found = search rules; written = has-none c.new-written.result c.new-written.ensures }
+
+pub loop-index-preserved : goal.loop-index-preserved
+loop-index-preserved c =
+    let T = c.args.trace.now in
+    let i = c.loop-index.index in
+    let e = c.index-events-index.result in
+    let within : i < length c.events-events.result.now = omega arith in
+    let is : event T (suc i) ≡ Some e = event-is T c.events-events.result.now i e c.events-events.ensures.value within c.index-events-index.is in
+    record {
+      found =
+          found-next T i e (has_byte c.loop-index.written) c.loop-index.found.items c.note_assertion.new.found.items is c.loop-index.invariant.written c.loop-index.invariant.found c.in_ok-note_assertion.ensures;
+      written = bytes-next T i e (has_byte c.loop-index.written) (has_byte c.note.new.self) is c.loop-index.invariant.written c.in_ok-note.ensures;
+    }
