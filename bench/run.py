@@ -129,7 +129,7 @@ def compare_reading(plain, trace):
         ours.append(read_and_write([TEXT_BENCH, "time"], trace)[0] / 1e9)
         floor.append(read_and_write([plain, trace])[0])
     megabytes = trace.stat().st_size / 1e6
-    print(f"reading {megabytes:.0f} MB from memory: {min(ours):.3f} s, plain Rust {min(floor):.3f} s, ratio {min(ours) / min(floor):.2f} (wanted: at most 1.5)")
+    print(f"reading {megabytes:.0f} MB from memory: {min(ours):.3f} s, plain Rust {min(floor):.3f} s, ratio {min(ours) / min(floor):.2f} (wanted: at most 1.3)")
 
 
 def compare_workers(traces):
