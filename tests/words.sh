@@ -54,6 +54,14 @@ expect 4 'file fault' fronts "$folder/none" 1
 expect 4 'file fault' trim "$folder"
 expect 2 'place past end 3' fronts examples/one_persist.trace 18446744073709551615
 
+# The first script that is refused is told.
+printf 'store 0x1000 01\nclwb 0x1000\nsfence\n' > "$folder/good"
+printf 'sfence 0\n' > "$folder/bad"
+expect 3 'script 2 line 1: bad-field' record "$folder/good" "$folder/bad" "$folder/none"
+expect 4 'file fault' record "$folder/good" "$folder/none" "$folder/bad"
+yes sfence | head -n 1000000 > "$folder/million"
+expect 3 'trace full' record "$folder/million" "$folder/good"
+
 told=$("$program" trim examples/one_persist.trace 2>&1 > /dev/full)
 judge 'a full device' "$?" 4 "$told" 'file fault'
 told=$("$program" trim "$folder/none" 2> /dev/full)

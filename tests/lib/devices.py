@@ -16,6 +16,7 @@ from traces import all_traces
 FILE_FAULT = Answer(4, b"", b"file fault\n")
 TRACE = [b"pmtrace 1\n", b"store 0 0x1000 01\n", b"clwb 0 0x1000\n", b"sfence 0\n"]
 SCRIPT = [b"store 0x1000 01\n", b"clwb 0x1000\n", b"sfence\n"]
+STREAM = ["trim", "--stream"]
 BOUND = 67_108_864
 
 
@@ -141,19 +142,36 @@ def refused_in_pieces(command):
         yield TRACE[0] + event + b"\n", command.fault(2, kind), 0, {"fault_piece": 1}
     yield b"".join(TRACE[:3]) + b"foo", command.fault(4, b"truncated"), 0, {"fault_piece": 1}
     yield b"pmtrace 3\n", command.fault(1, b"bad-header"), 0, {"fault_piece": 1}
+    # the fault is told before the read that would fail
+    text = TRACE[0] + b"sfence 256\n"
+    yield text, command.fault(2, b"out-of-range"), 0, {"fault": "read", "fault_at": len(text) + 1, "fault_piece": 1}
 
 
 def examples_in_pieces(run):
-    """`check` and `trim` of all worked traces, from reads of a byte each and of seven."""
+    """`check`, `trim` and the stream of all worked traces, from reads of a byte each and of seven."""
     complaints = []
     for trace in all_traces():
-        for command in ("check", "trim"):
-            whole, _ = run([command, trace])
+        for words in (["check"], ["trim"], STREAM):
+            whole, _ = run([*words, trace])
             for piece in (1, 7):
-                answer, _ = run([command, trace], fault_piece=piece)
+                answer, _ = run([*words, trace], fault_piece=piece)
                 if answer != whole:
-                    complaints.append(f"{command} {trace.stem}, reads of {piece}: {faulty.short(answer)}")
+                    complaints.append(f"{words} {trace.stem}, reads of {piece}: {faulty.short(answer)}")
     return complaints
+
+
+def stream_over_devices(command):
+    """Reads and writes of a byte each, one of which fails: what the stream has given out before stays out."""
+    text, _ = command.whole()
+    stored = b"".join(TRACE[:2])
+    out = [b"", TRACE[0], stored, stored, text]
+    for at in range(1, len(text) + 2):
+        right = FILE_FAULT._replace(out=out[text[: at - 1].count(b"\n")])
+        yield text, right, 1, {"fault": "read", "fault_at": at, "fault_piece": 1}
+    for at in range(1, len(text) + 1):
+        right = FILE_FAULT._replace(out=text[: at - 1])
+        yield text, right, 1, {"fault": "write", "fault_at": at, "fault_piece": 1}
+    yield text, Answer(0, text), 0, {"fault_piece": 1}
 
 
 def long_inputs(command):
@@ -221,6 +239,8 @@ def main():
     with faulty.library() as library:
         run = partial(faulty.run, library, program)
         judgements = [partial(finds_what_is_wrong, run), partial(examples_in_pieces, run), partial(explain_over_devices, run)]
+        stream = Command(STREAM, TRACE, [Answer(0, b"".join(TRACE))])
+        judgements.append(partial(differences, run, stream, stream_over_devices(stream)))
         for command in commands():
             judgements.append(partial(differences_over_long_inputs, program, command))
             tables = [every_cut, every_read, every_write, every_write_of_a_fault, hostile_bytes]

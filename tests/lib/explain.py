@@ -3,6 +3,7 @@
 
 The JSON of small random traces is compared with explained.py. The texts of examples/explain and the faults below are written by hand.
 """
+import json
 import pathlib
 import random
 import subprocess
@@ -95,12 +96,47 @@ def examples(program, counts):
         counts.expect(f"the text of {path.stem}", told == wanted and done.returncode in (0, 1), f"it wrote\n{told}")
 
 
+TWO_LOST = "pmtrace 1\nstore 0 0x1000 0102\nstore 3 0x1002 0304\n"
+NEVER_STORED = (
+    "pmtrace 1\nisPersist 0 0x1000 8\nstore 0 0x1007 01\nisPersist 0 0x1000 7\nisPersist 0 0x1000 8\n"
+    "isOrderedBefore 0 0x2000 4096 0x1007 1\nclflushopt 0 0x1007\nsfence 0\n"
+)
+ALL_IN_PARTS = ["--ignore", "0x1003:281474976706557", "--ignore", "0xfff:3", "--ignore", "0x1001:2"]
+
+# A trace, words, the status, how many stores are ignored, and the kinds of what is told, each with the numbers of the events in it.
+WORKED = (
+    (TWO_LOST, [], 1, 0, [("never_persisted", [1, 2])]),
+    (TWO_LOST, ["--ignore", "0x1000:3"], 1, 1, [("never_persisted", [2, 2])]),
+    (TWO_LOST, ALL_IN_PARTS, 0, 2, []),
+    (NEVER_STORED, [], 1, 0, [("failure", [4]), ("unwritten", [1]), ("unwritten", [3]), ("unwritten", [5])]),
+    (NEVER_STORED, ["--limit", "0"], 1, 0, []),
+)
+
+
+def events_of(entry):
+    """The numbers of the events that an entry of the JSON is about."""
+    return [entry[word]["event"] for word in ("event", "first", "last") if word in entry]
+
+
+def worked(program, folder, counts):
+    """Stores of which all bytes are ignored, and assertions on bytes that were never stored; the answers are written by hand."""
+    file = folder / "worked"
+    for text, words, status, ignored, wanted in WORKED:
+        file.write_text(text)
+        done = subprocess.run([program, "explain", *words, "--json", file], capture_output=True, timeout=120)
+        summary, *entries = map(json.loads, done.stdout.splitlines())
+        told = [(entry["kind"], events_of(entry)) for entry in entries]
+        right = (done.returncode, summary["ignored_never_persisted"], told) == (status, ignored, wanted)
+        counts.expect(f"{words} of\n{text}", right, f"status {done.returncode}, {done.stdout.decode()}")
+
+
 def main():
     counts = Counts()
     program = pathlib.Path(sys.argv[1]).resolve()
     with tempfile.TemporaryDirectory() as name:
         random_traces(program, pathlib.Path(name), counts)
         examples(program, counts)
+        worked(program, pathlib.Path(name), counts)
         faults(program, pathlib.Path(name), counts)
     print(f"{counts.passed} passed, {counts.failed} failed")
     return 1 if counts.failed else 0

@@ -35,6 +35,3 @@ pub use crate::mending::{Mend, mend_for};
 pub use crate::people::text;
 pub use crate::summary::{Summary, summary_of};
 pub use crate::unwritten::Unwritten;
-
-#[cfg(test)]
-mod tests;

@@ -93,6 +93,3 @@ fn record_fault(alloc: Global, error: RecordError) -> Result<Fault, OutOfMemory>
         RecordError::Torn { recorder } => Ok(Fault::Record(RecordFault::Torn { recorder })),
     }
 }
-
-#[cfg(test)]
-mod tests;
