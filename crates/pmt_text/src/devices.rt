@@ -34,11 +34,9 @@ impl<'a> PieceReader<'a> {
         requires { 0 < most }
         ensures { bytes_left result ≡ bytes.now }
     {
-        PieceReader {
-            bytes,
-            most,
-            reads_before_failure: Some(reads),
-        }
+        let mut reader = PieceReader::new(bytes, most);
+        reader.reads_before_failure = Some(reads);
+        reader
     }
 }
 
@@ -135,24 +133,18 @@ impl LimitedWriter {
     pub fn failing_after(alloc: Global, most: usize, writes: u64) -> Self
         ensures { bytes_kept result ≡ [] }
     {
-        LimitedWriter {
-            kept: Vec::new(alloc),
-            most,
-            writes_before_failure: Some(writes),
-            flush_fails: false,
-        }
+        let mut writer = LimitedWriter::new(alloc, most);
+        writer.writes_before_failure = Some(writes);
+        writer
     }
 
     /// Fails at each flush.
     pub fn failing_flush(alloc: Global, most: usize) -> Self
         ensures { bytes_kept result ≡ [] }
     {
-        LimitedWriter {
-            kept: Vec::new(alloc),
-            most,
-            writes_before_failure: None,
-            flush_fails: true,
-        }
+        let mut writer = LimitedWriter::new(alloc, most);
+        writer.flush_fails = true;
+        writer
     }
 
     /// What was written.

@@ -21,7 +21,7 @@ pub fn split_field(line: &[u8]) -> (&[u8], Option<&[u8]>)
 
 /// The number in the next field, and what is left after it.
 #[inline]
-pub fn next_number(rest: Option<&[u8]>) -> Option<(u64, Option<&[u8]>)>
+pub(crate) fn next_number(rest: Option<&[u8]>) -> Option<(u64, Option<&[u8]>)>
     ensures { option_map with_fields result ≡ first_number (fields_left rest.entry) }
 {
     let (field, rest) = split_field(rest?);
@@ -31,7 +31,7 @@ pub fn next_number(rest: Option<&[u8]>) -> Option<(u64, Option<&[u8]>)>
 
 /// The address in the next field, and what is left after it.
 #[inline]
-pub fn next_address(rest: Option<&[u8]>) -> Option<(u64, Option<&[u8]>)>
+pub(crate) fn next_address(rest: Option<&[u8]>) -> Option<(u64, Option<&[u8]>)>
     ensures { option_map with_fields result ≡ first_address (fields_left rest.entry) }
 {
     let (field, rest) = split_field(rest?);
@@ -41,7 +41,7 @@ pub fn next_address(rest: Option<&[u8]>) -> Option<(u64, Option<&[u8]>)>
 
 /// The address and the length in the next two fields, and what is left after them.
 #[inline]
-pub fn next_span(rest: Option<&[u8]>) -> Option<((u64, u64), Option<&[u8]>)>
+pub(crate) fn next_span(rest: Option<&[u8]>) -> Option<((u64, u64), Option<&[u8]>)>
     ensures { option_map with_fields result ≡ first_span (fields_left rest.entry) }
 {
     let (addr, rest) = next_address(rest)?;

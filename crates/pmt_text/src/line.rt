@@ -179,7 +179,7 @@ pub fn judge_line(format: Format, line: &[u8]) -> Result<Event, TextKind>
 ///
 /// # Errors
 /// `BadWord`, `BadField`, `OutOfRange`, `CrossesWord`, in this order.
-pub fn judge_script_line(line: &[u8]) -> Result<Op, TextKind>
+pub(crate) fn judge_script_line(line: &[u8]) -> Result<Op, TextKind>
     ensures { result ≡ script_line_judged line.now }
 {
     let (word, rest) = split_field(line);
