@@ -5,7 +5,7 @@ Without KIND all kinds of traces.py are run. Traces and the plain Rust program a
 table gives seconds, events and megabytes of trace text per second, the peak of memory, and that peak by events (a peak of some 15 MB
 or less is this script's own, and says nothing), and how many times what the plain program takes for the same that is: for a command,
 for reading and writing. Beside it stand the times of reading from memory, those of the part that workers share, with 1 and with 4, and
-what an event costs in traces of 125,000 to 1,000,000 events.
+what an event of each kind costs in traces of 125,000 to 1,000,000 events.
 """
 import argparse
 import hashlib
@@ -21,7 +21,7 @@ TEXT_BENCH = BENCH.parent / "crates" / "text_bench" / "out" / "text_bench"
 WORKER_BENCH = BENCH.parent / "crates" / "worker_bench" / "out" / "worker_bench"
 WANTED_BYTES = {"log_appends": 400, "many_lines": 700}
 SHARED_KINDS = ("tree_inserts", "many_lines", "long_intervals")
-COMMANDS = (["check"], ["trim"], ["trim", "--stream"], ["trim", "--workers", "4"])
+COMMANDS = (["check"], ["check", "--workers", "4"], ["trim"], ["trim", "--stream"])
 GROWTH = (125_000, 250_000, 500_000, 1_000_000)
 
 
@@ -193,7 +193,8 @@ def main():
     peaks = {kind: run_kind(kind, trace, asked.events, plain, asked.program) for kind, trace in traces.items()}
     compare_reading(plain, traces.get("tree_inserts", next(iter(traces.values()))))
     compare_workers(traces)
-    show_growth("log_appends" if "log_appends" in traces else next(iter(traces)), asked.program)
+    for kind in traces:
+        show_growth(kind, asked.program)
     for kind, wanted in WANTED_BYTES.items():
         if peaks.get(kind):
             print(f"memory of trim, {kind}: {peaks[kind]:.0f} bytes an event (wanted: at most {wanted})")
