@@ -1,11 +1,11 @@
 -- A line that is spelled from its end to its front, part by part.
-use Rattle.std.proofs.Common.{◌≡◌, ℕ, suc, ◌+◌, ◌-◌, ◌*◌, ◌/◌, ◌%◌, ◌<◌, ◌≤◌, List, [], ◌∷◌, ◌++◌, length, get_or, drop, set, refl, sym, ◌∙◌, ap, ap₂, subst, arith, append_assoc, append-nil, length-set}
+use Rattle.std.proofs.Common.{◌≡◌, ℕ, suc, ◌+◌, ◌-◌, ◌*◌, ◌/◌, ◌%◌, ◌<◌, ◌≤◌, List, [], ◌∷◌, ◌++◌, length, get_or, drop, set, refl, sym, ◌∙◌, ap, subst, arith, append_assoc, append-nil, length-set}
 use Rattle.std.proofs.Math.Seq.{drop-cons}
 use Rattle.std.proofs.lemmas.List.{drop-set, drop_all}
 use Rattle.pmt_model.specs.declared.event.Event.{Event}
 use Rattle.pmt_text.specs.LineTexts.{Puts}
 use Rattle.pmt_text.specs.Reading.{IsBase}
-use Rattle.pmt_text.specs.Spelling.{glyph, hex_bytes, numeral, word_of, word_text, arguments_of, event_text}
+use Rattle.pmt_text.specs.Spelling.{glyph, hex_bytes, hex_pair, numeral, word_of, word_text, arguments_of, event_text}
 use Rattle.pmt_text.specs.Writing.{spaced}
 use Rattle.pmt_text.proofs.NumberWriting.{numeral-step, numeral-digit}
 use Rattle.pmt_text.proofs.LineWriting.{event_text-parts}
@@ -25,6 +25,10 @@ put-one line at b long some within =
 pub put-none : (line : List ℕ) (at most : ℕ) → length line ≡ 128 → Puts line at [] most at line
 put-none line at most long = record { put = refl; before = omega arith; few = omega arith; long = long }
 
+-- a field of fewer bytes
+pub put-fewer : {old field new : List ℕ} {at most start : ℕ} (more : ℕ) → Puts old at field most start new → most ≤ more → Puts old at field more start new
+put-fewer more h l = let few = h.few in record { put = h.put; before = h.before; few = omega (arith, few, l); long = h.long }
+
 -- one field, and another in front of it
 pub put-then : (old mid new : List ℕ) (at between start first most more : ℕ) (later earlier : List ℕ) → Puts old at later most between mid → Puts mid between earlier more start new
     → first ≡ most + more → Puts old at (earlier ++ later) first start new
@@ -39,6 +43,14 @@ put-then old mid new at between start first most more later earlier h g sum =
       few = omega (arith, c, d, sum);
       long = g.long;
     }
+
+-- two bytes
+pub put-two : (line : List ℕ) (at low high : ℕ) → length line ≡ 128 → 2 ≤ at → at ≤ 128 → Puts line at (high ∷ low ∷ []) 2 (at - 2) (set (set line (at - 1) low) (at - 2) high)
+put-two line at low high long some within =
+    let first = put-one line at low long (omega arith) within in
+    let back : at - 1 - 1 ≡ at - 2 = omega arith in
+    subst (λ (n : ℕ). Puts line at (high ∷ low ∷ []) 2 n (set (set line (at - 1) low) n high)) back
+    (put-then line (set line (at - 1) low) _ at (at - 1) (at - 1 - 1) 2 1 1 (low ∷ []) (high ∷ []) first (put-one (set line (at - 1) low) (at - 1) high first.long (omega arith) (omega arith)) refl)
 
 -- ---- Numbers
 
@@ -67,29 +79,21 @@ bytes-none line bytes at long =
     subst (λ (xs : List ℕ). Puts line at (hex_bytes xs) (2 * (length bytes - length bytes)) at line) (sym (drop_all (length bytes) bytes (omega arith)))
     (put-none line at (2 * (length bytes - length bytes)) long)
 
-last_bytes : (bytes : List ℕ) (left : ℕ) → 1 ≤ left → left ≤ length bytes → get_or bytes (left - 1) 0 < 256 →
-    hex_bytes (drop (left - 1) bytes) ≡ glyph (get_or bytes (left - 1) 0 / 16) ∷ glyph (get_or bytes (left - 1) 0 % 16) ∷ hex_bytes (drop left bytes)
+last_bytes : (bytes : List ℕ) (left : ℕ) → 1 ≤ left → left ≤ length bytes → hex_bytes (drop (left - 1) bytes) ≡ hex_pair (get_or bytes (left - 1) 0) ++ hex_bytes (drop left bytes)
 unfolding hex_bytes
-last_bytes bytes left some within small =
+last_bytes bytes left some within =
     let b = get_or bytes (left - 1) 0 in
     let back : suc (left - 1) ≡ left = omega arith in
-    let high : b / 16 % 16 ≡ b / 16 = omega arith in
     ap hex_bytes (drop-cons bytes (left - 1) 0 (omega arith) ∙ ap (λ (n : ℕ). b ∷ drop n bytes) back)
-    ∙ ap (λ (d : ℕ). glyph d ∷ glyph (b % 16) ∷ hex_bytes (drop left bytes)) high
 
 -- one byte more
-pub byte-more : (bytes old line low new : List ℕ) (at start next last left l h : ℕ) → 1 ≤ left → left ≤ length bytes → get_or bytes (left - 1) 0 < 256
-    → Puts old at (hex_bytes (drop left bytes)) (2 * (length bytes - left)) start line
-    → l ≡ glyph (get_or bytes (left - 1) 0 % 16) → Puts line start (l ∷ []) 1 next low → h ≡ glyph (get_or bytes (left - 1) 0 / 16) → Puts low next (h ∷ []) 1 last new
-    → Puts old at (hex_bytes (drop (left - 1) bytes)) (2 * (length bytes - (left - 1))) last new
-byte-more bytes old line low new at start next last left l h some within small so_far is_low first is_high second =
-    let n : ℕ = length bytes - left in
-    let later : List ℕ = hex_bytes (drop left bytes) in
-    let most : 2 * (length bytes - (left - 1)) ≡ (2 * n + 1) + 1 = omega arith in
-    let both = put-then old low new at next last (2 * (length bytes - (left - 1))) (2 * n + 1) 1 (l ∷ later) (h ∷ [])
-    (put-then old line low at start next (2 * n + 1) (2 * n) 1 later (l ∷ []) so_far first refl) second most in
-    subst (λ (xs : List ℕ). Puts old at xs (2 * (length bytes - (left - 1))) last new)
-    (ap₂ (λ (x y : ℕ). x ∷ y ∷ later) is_high is_low ∙ sym (last_bytes bytes left some within small)) both
+pub byte-more : (bytes old line new : List ℕ) (at start next left : ℕ) → 1 ≤ left → left ≤ length bytes
+    → Puts old at (hex_bytes (drop left bytes)) (2 * (length bytes - left)) start line → Puts line start (hex_pair (get_or bytes (left - 1) 0)) 2 next new
+    → Puts old at (hex_bytes (drop (left - 1) bytes)) (2 * (length bytes - (left - 1))) next new
+byte-more bytes old line new at start next left some within so_far pair =
+    let most : 2 * (length bytes - (left - 1)) ≡ 2 * (length bytes - left) + 2 = omega arith in
+    subst (λ (xs : List ℕ). Puts old at xs (2 * (length bytes - (left - 1))) next new) (sym (last_bytes bytes left some within))
+    (put-then old line new at start next (2 * (length bytes - (left - 1))) (2 * (length bytes - left)) 2 (hex_bytes (drop left bytes)) (hex_pair (get_or bytes (left - 1) 0)) so_far pair most)
 
 -- ---- Lines
 

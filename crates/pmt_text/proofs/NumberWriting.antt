@@ -1,5 +1,5 @@
 -- The writer of a number: one digit on, and the room that it needs.
-use Rattle.std.proofs.Common.{◌≡◌, ℕ, zero, suc, ◌+◌, ◌-◌, ◌*◌, ◌/◌, ◌%◌, ◌^◌, ◌<◌, ◌≤◌, inl, inr, List, [], ◌∷◌, ◌++◌, map, length, drop, set, refl, sym, ◌∙◌, ap, arith, append_assoc, pow-suc, div-lt_iff_lt-mul, le-div_iff_mul-le, mul-le-mul_left, one-mul, take, get_or, flat_map}
+use Rattle.std.proofs.Common.{◌≡◌, ℕ, zero, suc, ◌+◌, ◌-◌, ◌*◌, ◌/◌, ◌%◌, ◌^◌, ◌<◌, ◌≤◌, inl, inr, List, [], ◌∷◌, ◌++◌, map, length, drop, set, refl, sym, ◌∙◌, ap, ap₂, arith, append_assoc, pow-suc, div-lt_iff_lt-mul, le-div_iff_mul-le, mul-le-mul_left, one-mul, take, get_or, flat_map}
 use Rattle.std.specs.Int.Digits.{digits_of}
 use Rattle.std.proofs.lemmas.List.{map-append, drop-set, take_more, flat_map_more}
 use Rattle.std.proofs.lemmas.Int.Digits.{digits_of_step}
@@ -23,6 +23,46 @@ numeral-step base n b l =
 pub numeral-digit : (base n : ℕ) → IsBase base → n < base → numeral base n ≡ glyph n ∷ []
 numeral-digit base zero b l = numeral-zero base
 numeral-digit base (suc n) b l = numeral-above base (suc n) (omega arith) ∙ ap (map glyph) (digits_of-digit base (suc n) (base-low base b) (omega arith) l)
+
+-- a number of three digits of base 16 or more ends with two of them
+pub numeral-pair : (n : ℕ) → 256 ≤ n → numeral 16 n ≡ numeral 16 (n / 256) ++ hex_pair (n % 256)
+numeral-pair n l =
+    let twice : n / 16 / 16 ≡ n / 256 = omega arith in
+    let high : n / 16 % 16 ≡ n % 256 / 16 % 16 = omega arith in
+    let low : n % 16 ≡ n % 256 % 16 = omega arith in
+    numeral-step 16 n (inr refl) (omega arith)
+    ∙ ap (λ (xs : List ℕ). xs ++ glyph (n % 16) ∷ []) (numeral-step 16 (n / 16) (inr refl) (omega arith))
+    ∙ append_assoc (numeral 16 (n / 16 / 16)) (glyph (n / 16 % 16) ∷ []) (glyph (n % 16) ∷ [])
+    ∙ ap (λ (q : ℕ). numeral 16 q ++ glyph (n / 16 % 16) ∷ glyph (n % 16) ∷ []) twice
+    ∙ ap₂ (λ (x y : ℕ). numeral 16 (n / 256) ++ glyph x ∷ glyph y ∷ []) high low
+
+-- a number of two digits of base 16
+pub numeral-two : (n : ℕ) → 16 ≤ n → n < 256 → numeral 16 n ≡ hex_pair n
+numeral-two n l h =
+    let high : n / 16 ≡ n / 16 % 16 = omega arith in
+    numeral-step 16 n (inr refl) l
+    ∙ ap (λ (xs : List ℕ). xs ++ glyph (n % 16) ∷ []) (numeral-digit 16 (n / 16) (inr refl) (omega arith))
+    ∙ ap (λ (d : ℕ). glyph d ∷ glyph (n % 16) ∷ []) high
+
+-- of three
+pub numeral-three : (n : ℕ) → 256 ≤ n → n < 4096 → numeral 16 n ≡ glyph (n / 256) ∷ hex_pair (n % 256)
+numeral-three n l h = numeral-pair n l ∙ ap (λ (xs : List ℕ). xs ++ hex_pair (n % 256)) (numeral-digit 16 (n / 256) (inr refl) (omega arith))
+
+-- of four
+pub numeral-four : (n : ℕ) → 4096 ≤ n → n < 65536 → numeral 16 n ≡ hex_pair (n / 256) ++ hex_pair (n % 256)
+numeral-four n l h = numeral-pair n (omega arith) ∙ ap (λ (xs : List ℕ). xs ++ hex_pair (n % 256)) (numeral-two (n / 256) (omega arith) (omega arith))
+
+-- a number of five digits of base 16 or more ends with four of them
+pub numeral-fours : (n : ℕ) → 65536 ≤ n → numeral 16 n ≡ numeral 16 (n / 65536) ++ (hex_pair (n % 65536 / 256) ++ hex_pair (n % 65536 % 256))
+numeral-fours n l =
+    let twice : n / 256 / 256 ≡ n / 65536 = omega arith in
+    let high : n / 256 % 256 ≡ n % 65536 / 256 = omega arith in
+    let low : n % 256 ≡ n % 65536 % 256 = omega arith in
+    numeral-pair n (omega arith)
+    ∙ ap (λ (xs : List ℕ). xs ++ hex_pair (n % 256)) (numeral-pair (n / 256) (omega arith))
+    ∙ append_assoc (numeral 16 (n / 256 / 256)) (hex_pair (n / 256 % 256)) (hex_pair (n % 256))
+    ∙ ap (λ (q : ℕ). numeral 16 q ++ (hex_pair (n / 256 % 256) ++ hex_pair (n % 256))) twice
+    ∙ ap₂ (λ (x y : ℕ). numeral 16 (n / 65536) ++ (hex_pair x ++ hex_pair y)) high low
 
 -- a number of two digits or more has room for two
 pub room-two : (n at : ℕ) → 10 ≤ n → n < 10 ^ at → 2 ≤ at

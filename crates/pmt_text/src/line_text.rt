@@ -1,9 +1,9 @@
 //! The line of an event, spelled from its end to its front: so the digits of a number come in the order in which division gives
 //! them, and what is spelled lies at the end of the buffer.
-ghost use Rattle.std.specs.Prelude.{◌≡◌, ◌∷◌, ◌+◌, [], ◌≤◌, ◌<◌, length};
+ghost use Rattle.std.specs.Prelude.{◌≡◌, ◌∷◌, ◌++◌, ◌+◌, ◌/◌, ◌%◌, ◌^◌, [], ◌≤◌, ◌<◌, length};
 ghost use Rattle.pmt_text.specs.LineTexts.{Puts};
 ghost use Rattle.pmt_text.specs.Reading.{IsBase};
-ghost use Rattle.pmt_text.specs.Spelling.{address, arguments_of, event_text, glyph as glyph_of, hex_bytes, numeral, word_of, word_text};
+ghost use Rattle.pmt_text.specs.Spelling.{address, arguments_of, event_text, glyph as glyph_of, hex_bytes, hex_pair, numeral, word_of, word_text};
 ghost use Rattle.pmt_text.specs.Writing.{spaced};
 
 use pmt_model::{Addr, Event, Op, Range};
@@ -11,8 +11,21 @@ use pmt_model::{Addr, Event, Op, Range};
 /// Room for every line of an event.
 pub const LINE_ROOM: usize = 128;
 
+/// The number that four digits of base 16 write is below this.
+const FOUR_LIMIT: u64 = 1 << 16;
+
 /// The characters of the digits.
 static GLYPHS: [u8; 16] = *b"0123456789abcdef";
+
+/// The two digits of each byte, from 00 to ff.
+static PAIRS: [u8; 512] = *b"000102030405060708090a0b0c0d0e0f101112131415161718191a1b1c1d1e1f\
+    202122232425262728292a2b2c2d2e2f303132333435363738393a3b3c3d3e3f\
+    404142434445464748494a4b4c4d4e4f505152535455565758595a5b5c5d5e5f\
+    606162636465666768696a6b6c6d6e6f707172737475767778797a7b7c7d7e7f\
+    808182838485868788898a8b8c8d8e8f909192939495969798999a9b9c9d9e9f\
+    a0a1a2a3a4a5a6a7a8a9aaabacadaeafb0b1b2b3b4b5b6b7b8b9babbbcbdbebf\
+    c0c1c2c3c4c5c6c7c8c9cacbcccdcecfd0d1d2d3d4d5d6d7d8d9dadbdcdddedf\
+    e0e1e2e3e4e5e6e7e8e9eaebecedeeeff0f1f2f3f4f5f6f7f8f9fafbfcfdfeff";
 
 /// The character of a digit: 0 to 9, and then a to f.
 #[inline(always)]
@@ -21,6 +34,22 @@ pub(crate) fn glyph(digit: u64) -> u8
     ensures { result ≡ glyph_of digit }
 {
     GLYPHS[digit as usize]
+}
+
+/// The first of the two digits of the byte.
+#[inline(always)]
+fn high_digit(byte: u8) -> u8
+    ensures { result ≡ glyph_of (byte / 16 % 16) }
+{
+    PAIRS[2 * byte as usize]
+}
+
+/// The second of them.
+#[inline(always)]
+fn low_digit(byte: u8) -> u8
+    ensures { result ≡ glyph_of (byte % 16) }
+{
+    PAIRS[2 * byte as usize + 1]
 }
 
 /// Puts the byte in front of what stands from `at` on; so do the others with what they put. Each answers where that begins.
@@ -68,6 +97,73 @@ fn put_number(line: &mut [u8; LINE_ROOM], at: usize, base: u64, number: u64) -> 
     put(line, start, glyph(rest))
 }
 
+/// Puts the two digits of the byte.
+#[inline(always)]
+fn put_pair(line: &mut [u8; LINE_ROOM], at: usize, byte: u8) -> usize
+    requires room { 2 ≤ at }
+    requires within { at ≤ 128 }
+    ensures puts { Puts line.old at (hex_pair byte) 2 result line.new }
+    ensures before { result + 2 ≡ at }
+{
+    line[at - 1] = low_digit(byte);
+    line[at - 2] = high_digit(byte);
+    at - 2
+}
+
+/// Puts four digits of base 16, also those that are zeros in front.
+#[inline(always)]
+fn put_four(line: &mut [u8; LINE_ROOM], at: usize, number: u64) -> usize
+    requires small { number < 2 ^ 16 }
+    requires room { 4 ≤ at }
+    requires within { at ≤ 128 }
+    ensures puts { Puts line.old at (hex_pair (number / 256) ++ hex_pair (number % 256)) 4 result line.new }
+    ensures before { result + 4 ≡ at }
+{
+    let at = put_pair(line, at, (number % 256) as u8);
+    put_pair(line, at, (number / 256) as u8)
+}
+
+/// Puts the number in base 16, of at most 4 digits.
+#[inline(always)]
+fn put_short(line: &mut [u8; LINE_ROOM], at: usize, number: u64) -> usize
+    requires small { number < 2 ^ 16 }
+    requires room { 4 ≤ at }
+    requires within { at ≤ 128 }
+    ensures { Puts line.old at (numeral 16 number) 4 result line.new }
+{
+    if number >= 4096 {
+        return put_four(line, at, number);
+    }
+    if number >= 256 {
+        let at = put_pair(line, at, (number % 256) as u8);
+        return put(line, at, glyph(number / 256));
+    }
+    if number >= 16 {
+        return put_pair(line, at, number as u8);
+    }
+    put(line, at, glyph(number))
+}
+
+/// Puts the number in base 16, of at most 12 digits.
+#[inline(always)]
+fn put_hex(line: &mut [u8; LINE_ROOM], at: usize, number: u64) -> usize
+    requires small { number < 2 ^ 48 }
+    requires room { 12 ≤ at }
+    requires within { at ≤ 128 }
+    ensures { Puts line.old at (numeral 16 number) 12 result line.new }
+{
+    if number < FOUR_LIMIT {
+        return put_short(line, at, number);
+    }
+    let at = put_four(line, at, number % FOUR_LIMIT);
+    let rest = number / FOUR_LIMIT;
+    if rest < FOUR_LIMIT {
+        return put_short(line, at, rest);
+    }
+    let at = put_four(line, at, rest % FOUR_LIMIT);
+    put_short(line, at, rest / FOUR_LIMIT)
+}
+
 /// Puts a space and the number in base 10.
 #[inline(always)]
 fn put_count(line: &mut [u8; LINE_ROOM], at: usize, number: u64) -> usize
@@ -86,7 +182,7 @@ fn put_address(line: &mut [u8; LINE_ROOM], at: usize, addr: Addr) -> usize
     requires within { at ≤ 128 }
     ensures { Puts line.old at (32 ∷ address addr) 23 result line.new }
 {
-    let at = put_number(line, at, 16, addr.get());
+    let at = put_hex(line, at, addr.get());
     put_word(line, at, b" 0x")
 }
 
@@ -101,7 +197,24 @@ fn put_range(line: &mut [u8; LINE_ROOM], at: usize, range: &Range) -> usize
     put_address(line, at, range.addr())
 }
 
-/// Puts a space and two digits for each of the bytes, which are at most 8.
+/// Puts two digits for each of the bytes, which are at most 8.
+#[inline(always)]
+fn put_pairs(line: &mut [u8; LINE_ROOM], at: usize, bytes: &[u8]) -> usize
+    requires few { length bytes.now ≤ 8 }
+    requires room { 16 ≤ at }
+    requires within { at ≤ 128 }
+    ensures { Puts line.old at (hex_bytes bytes.now) 16 result line.new }
+{
+    let mut start = at;
+    let mut left = bytes.len();
+    while left > 0 {
+        left -= 1;
+        start = put_pair(line, start, bytes[left]);
+    }
+    start
+}
+
+/// Puts a space and two digits for each of the bytes, which are at most 8 and mostly 8.
 #[inline(always)]
 fn put_bytes(line: &mut [u8; LINE_ROOM], at: usize, bytes: &[u8]) -> usize
     requires few { length bytes.now ≤ 8 }
@@ -109,13 +222,11 @@ fn put_bytes(line: &mut [u8; LINE_ROOM], at: usize, bytes: &[u8]) -> usize
     requires within { at ≤ 128 }
     ensures { Puts line.old at (32 ∷ hex_bytes bytes.now) 17 result line.new }
 {
-    let mut start = at;
-    let mut left = bytes.len();
-    while left > 0 {
-        left -= 1;
-        start = put(line, start, glyph((bytes[left] % 16) as u64));
-        start = put(line, start, glyph((bytes[left] / 16) as u64));
-    }
+    let start = if bytes.len() == 8 {
+        put_pairs(line, at, &bytes[..8])
+    } else {
+        put_pairs(line, at, bytes)
+    };
     put(line, start, b' ')
 }
 
