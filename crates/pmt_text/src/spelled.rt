@@ -204,12 +204,19 @@ fn take_span(text: &[u8]) -> Option<((u64, u64), &[u8])>
 
 /// The store of the bytes.
 #[inline(always)]
-fn store_of(addr: u64, bytes: &[u8]) -> Result<Op, OpError>
-    ensures { IfOk result (λ op. op ≡ Op.Store (record { addr = addr; bytes = bytes.now })) }
+fn store_of(addr: u64, bytes: &[u8]) -> Option<Op>
+    ensures { IfSome result (λ op. op ≡ Op.Store (record { addr = addr; bytes = bytes.now })) }
 {
-    let payload = Payload::new(bytes)?;
-    let addr = Addr::new(addr)?;
-    Ok(Op::Store(WordStore::new(addr, payload)?))
+    let Ok(payload) = Payload::new(bytes) else {
+        return None;
+    };
+    let Ok(addr) = Addr::new(addr) else {
+        return None;
+    };
+    match WordStore::new(addr, payload) {
+        Ok(store) => Some(Op::Store(store)),
+        Err(_) => None,
+    }
 }
 
 /// The isPersist of the span.
@@ -239,18 +246,14 @@ fn after_store(text: &[u8]) -> Option<(Event, &[u8])>
     let text = take_space(text)?;
     let mut eight = [0; 8];
     if let Some(rest) = take_eight(text, &mut eight) {
-        return match store_of(addr, &eight) {
-            Ok(op) => Some((Event { thread, op }, rest)),
-            Err(_) => None,
-        };
+        let op = store_of(addr, &eight)?;
+        return Some((Event { thread, op }, rest));
     }
     let mut bytes = [0; 8];
     let (len, text) = take_bytes(text, &mut bytes);
     let text = take_end(text)?;
-    match store_of(addr, &bytes[..len]) {
-        Ok(op) => Some((Event { thread, op }, text)),
-        Err(_) => None,
-    }
+    let op = store_of(addr, &bytes[..len])?;
+    Some((Event { thread, op }, text))
 }
 
 /// The event of a clwb after its word, and what stands after the line.
