@@ -1,13 +1,15 @@
 -- Four digits of base 16 at once, and one digit alone.
-use Rattle.std.proofs.Common.{◌≡◌, ℕ, ◌+◌, ◌*◌, ◌/◌, ◌%◌, ◌^◌, ◌<◌, ◌≤◌, inl, inr, List, [], ◌∷◌, ◌++◌, length, get_or, take, drop, refl, sym, ◌∙◌, ap, ap₂, subst, arith, below_more}
+use Rattle.std.proofs.Common.{◌≡◌, ℕ, zero, suc, ◌+◌, ◌*◌, ◌/◌, ◌%◌, ◌^◌, ◌<◌, ◌≤◌, inl, inr, List, [], ◌∷◌, ◌++◌, length, get_or, take, drop, refl, sym, ◌∙◌, ap, ap₂, subst, arith, below_more}
 use Rattle.std.proofs.Math.Seq.{drop-cons}
 use Rattle.std.proofs.lemmas.Bool.Decides.{nat_tests}
+use Rattle.std.proofs.lemmas.Nat.{le_bytes_8}
+use Rattle.std.specs.Int.{to_le_bytes, w64}
 use Rattle.std.specs.Str.Parse.{digits_value}
 use Rattle.pmt_text.specs.Spelling.{glyph, hex_bytes, numeral}
-use Rattle.pmt_text.specs.Reading.{digit_of, wide_digit_of, four_at, HasRead}
+use Rattle.pmt_text.specs.Reading.{digit_of, wide_digit_of, four_at, turned_four_at, HasRead}
 use Rattle.pmt_text.proofs.NumeralLemmas.{glyph-digit_of}
 use Rattle.pmt_text.proofs.NumberWriting.{numeral-digit}
-use Rattle.pmt_text.proofs.SpelledReading.{value-more, two-first}
+use Rattle.pmt_text.proofs.SpelledReading.{digits-first, value-more, two-first}
 
 pub wide_digit-le : (c : ℕ) → wide_digit_of c ≤ 65536
 wide_digit-le c = grind (arith, nat_tests)
@@ -107,7 +109,7 @@ four-bytes cs n next v e l is h =
     ∙ ap₂ (λ (x y : ℕ). glyph (v / 256 / 16 % 16) ∷ glyph (v / 256 % 16) ∷ x ∷ y ∷ drop next cs) (sym (ap glyph c ∙ glyph-digit_of (get_or cs (n + 2) 0) r)) (sym (ap glyph d ∙ glyph-digit_of (get_or cs (n + 3) 0) s))
 
 -- sixteen digits and an LF are eight bytes and an LF
-pub eight-first : (cs : List ℕ) (a b c d : ℕ) → 16 < length cs → get_or cs 16 0 ≡ 10 → a ≡ four_at cs 0 → b ≡ four_at cs 4 → c ≡ four_at cs 8 → d ≡ four_at cs 12 → a < 65536 → b < 65536 → c < 65536 → d < 65536
+eight-first : (cs : List ℕ) (a b c d : ℕ) → 16 < length cs → get_or cs 16 0 ≡ 10 → a ≡ four_at cs 0 → b ≡ four_at cs 4 → c ≡ four_at cs 8 → d ≡ four_at cs 12 → a < 65536 → b < 65536 → c < 65536 → d < 65536
     → cs ≡ hex_bytes (a / 256 ∷ a % 256 ∷ b / 256 ∷ b % 256 ∷ c / 256 ∷ c % 256 ∷ d / 256 ∷ d % 256 ∷ []) ++ 10 ∷ drop 17 cs
 unfolding hex_bytes
 eight-first cs a b c d l e is_a is_b is_c is_d low_a low_b low_c low_d =
@@ -119,6 +121,61 @@ eight-first cs a b c d l e is_a is_b is_c is_d low_a low_b low_c low_d =
     ∙ ap (λ (xs : List ℕ). hex_bytes (c / 256 ∷ c % 256 ∷ []) ++ xs) (
     four-bytes cs 12 16 d refl (omega (arith, l)) is_d low_d
     ∙ ap (λ (xs : List ℕ). hex_bytes (d / 256 ∷ d % 256 ∷ []) ++ xs) (drop-cons cs 16 0 l ∙ ap (λ (x : ℕ). x ∷ drop 17 cs) e))))
+
+eight-low : (a b c d e f g h : ℕ) → a < 256 → b < 256 → c < 256 → d < 256 → e < 256 → f < 256 → g < 256 → h < 256 → (i : ℕ) → get_or (a ∷ b ∷ c ∷ d ∷ e ∷ f ∷ g ∷ h ∷ []) i 0 < 256
+eight-low a b c d e f g h p q r s t u v w zero = p
+eight-low a b c d e f g h p q r s t u v w (suc zero) = q
+eight-low a b c d e f g h p q r s t u v w (suc (suc zero)) = r
+eight-low a b c d e f g h p q r s t u v w (suc (suc (suc zero))) = s
+eight-low a b c d e f g h p q r s t u v w (suc (suc (suc (suc zero)))) = t
+eight-low a b c d e f g h p q r s t u v w (suc (suc (suc (suc (suc zero))))) = u
+eight-low a b c d e f g h p q r s t u v w (suc (suc (suc (suc (suc (suc zero)))))) = v
+eight-low a b c d e f g h p q r s t u v w (suc (suc (suc (suc (suc (suc (suc zero))))))) = w
+eight-low a b c d e f g h p q r s t u v w (suc (suc (suc (suc (suc (suc (suc (suc i)))))))) = omega arith
+
+-- two bytes, the first of them in the place of the last
+turned-four : (cs : List ℕ) (n v : ℕ) → v ≡ turned_four_at cs n → v < 65536 → v % 256 * 256 + v / 256 ≡ four_at cs n
+turned-four cs n v is h =
+    let a : wide_digit_of (get_or cs n 0) < 65536 = omega (arith, is, h) in
+    let b : wide_digit_of (get_or cs (n + 1) 0) < 65536 = omega (arith, is, h) in
+    let p = wide_digit-is (get_or cs n 0) a in
+    let q = wide_digit-is (get_or cs (n + 1) 0) b in
+    let r = wide_digit-low (get_or cs n 0) a in
+    let s = wide_digit-low (get_or cs (n + 1) 0) b in
+    let high : wide_digit_of (get_or cs n 0) * 16 + wide_digit_of (get_or cs (n + 1) 0) < 256 = omega (arith, p, q, r, s) in
+    omega (arith, is, high)
+
+-- the bytes of four such numbers
+turned-eight : (a b c d n : ℕ) → a < 65536 → b < 65536 → c < 65536 → d < 65536 → n ≡ ((d * 65536 + c) * 65536 + b) * 65536 + a
+    → to_le_bytes w64 n ≡ a % 256 ∷ a / 256 ∷ b % 256 ∷ b / 256 ∷ c % 256 ∷ c / 256 ∷ d % 256 ∷ d / 256 ∷ []
+turned-eight a b c d n p q r s is =
+    le_bytes_8 (a % 256 ∷ a / 256 ∷ b % 256 ∷ b / 256 ∷ c % 256 ∷ c / 256 ∷ d % 256 ∷ d / 256 ∷ []) n refl
+    (eight-low (a % 256) (a / 256) (b % 256) (b / 256) (c % 256) (c / 256) (d % 256) (d / 256) (omega arith) (omega arith) (omega arith) (omega arith) (omega arith) (omega arith) (omega arith) (omega arith))
+    (omega (arith, is))
+
+turned-two : (v : ℕ) (xs : List ℕ) → v < 65536 → (v % 256 * 256 + v / 256) / 256 ∷ (v % 256 * 256 + v / 256) % 256 ∷ xs ≡ v % 256 ∷ v / 256 ∷ xs
+turned-two v xs h =
+    let high : (v % 256 * 256 + v / 256) / 256 ≡ v % 256 = omega arith in
+    let low : (v % 256 * 256 + v / 256) % 256 ≡ v / 256 = omega arith in
+    ap₂ (λ (x y : ℕ). x ∷ y ∷ xs) high low
+
+-- sixteen digits and an LF are the bytes of these numbers and an LF
+pub turned-first : (cs : List ℕ) (a b c d n : ℕ) → 16 < length cs → get_or cs 16 0 ≡ 10 → a ≡ turned_four_at cs 0 → b ≡ turned_four_at cs 4 → c ≡ turned_four_at cs 8 → d ≡ turned_four_at cs 12
+    → a < 65536 → b < 65536 → c < 65536 → d < 65536 → n ≡ ((d * 65536 + c) * 65536 + b) * 65536 + a → cs ≡ hex_bytes (to_le_bytes w64 n) ++ 10 ∷ drop 17 cs
+turned-first cs a b c d n l e is_a is_b is_c is_d low_a low_b low_c low_d is =
+    let fours = eight-first cs (a % 256 * 256 + a / 256) (b % 256 * 256 + b / 256) (c % 256 * 256 + c / 256) (d % 256 * 256 + d / 256) l e
+    (turned-four cs 0 a is_a low_a) (turned-four cs 4 b is_b low_b) (turned-four cs 8 c is_c low_c) (turned-four cs 12 d is_d low_d) (omega arith) (omega arith) (omega arith) (omega arith) in
+    let bytes = turned-two a _ low_a
+    ∙ ap (λ (xs : List ℕ). a % 256 ∷ a / 256 ∷ xs) (turned-two b _ low_b ∙ ap (λ (xs : List ℕ). b % 256 ∷ b / 256 ∷ xs) (turned-two c _ low_c ∙ ap (λ (xs : List ℕ). c % 256 ∷ c / 256 ∷ xs) (turned-two d [] low_d)))
+    ∙ sym (turned-eight a b c d n low_a low_b low_c low_d is) in
+    fours ∙ ap (λ (xs : List ℕ). hex_bytes xs ++ 10 ∷ drop 17 cs) bytes
+
+-- twelve digits are a number
+pub twelve-first : (cs : List ℕ) (a b c : ℕ) → 12 ≤ length cs → (get_or cs 0 0 ≡ 48 → ⊥) → a ≡ four_at cs 0 → b ≡ four_at cs 4 → c ≡ four_at cs 8 → a < 65536 → b < 65536 → c < 65536
+    → cs ≡ numeral 16 ((a * 65536 + b) * 65536 + c) ++ drop 12 cs
+twelve-first cs a b c l other is_a is_b is_c low_a low_b low_c =
+    let read = has-four cs (a * 65536 + b) 8 12 c refl l (has-four cs a 4 8 b refl (omega (arith, l)) (has-first cs a (omega (arith, l)) is_a low_a) (omega arith) is_b low_b) (omega arith) is_c low_c in
+    digits-first 16 12 cs (inr refl) (omega arith) l other read.3 ∙ ap (λ (n : ℕ). numeral 16 n ++ drop 12 cs) (sym read.0)
 
 -- one digit is a number
 pub digit-first : (cs : List ℕ) (d : ℕ) → 0 < length cs → d ≡ digit_of (get_or cs 0 0) → d < 10 → cs ≡ numeral 10 d ++ drop 1 cs

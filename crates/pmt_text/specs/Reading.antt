@@ -30,6 +30,10 @@ wide_digit_of c = if nat_le 48 c && nat_le c 57 then c - 48 else (if nat_le 97 c
 abbrev pub four_at : List ℕ → ℕ → ℕ
 four_at cs n = (wide_digit_of (get_or cs n 0) * 16 + wide_digit_of (get_or cs (n + 1) 0)) * 256 + (wide_digit_of (get_or cs (n + 2) 0) * 16 + wide_digit_of (get_or cs (n + 3) 0))
 
+-- As four_at, of the two bytes that they write, the first of them in the place of the last.
+abbrev pub turned_four_at : List ℕ → ℕ → ℕ
+turned_four_at cs n = (wide_digit_of (get_or cs (n + 2) 0) * 16 + wide_digit_of (get_or cs (n + 3) 0)) * 256 + (wide_digit_of (get_or cs n 0) * 16 + wide_digit_of (get_or cs (n + 1) 0))
+
 abbrev pub IsBase : ℕ → Type 0
 IsBase b = (b ≡ 10) ⊎ (b ≡ 16)
 

@@ -1,8 +1,8 @@
 //! Reading numbers, addresses and bytes.
-ghost use Rattle.std.specs.Prelude.{◌≡◌, ◌+◌, ◌≤◌, length};
+ghost use Rattle.std.specs.Prelude.{◌≡◌, ◌+◌, ◌*◌, ◌≤◌, length};
 ghost use Rattle.std.specs.Option.{option_map};
 ghost use Rattle.pmt_text.specs.Fields.{number_in, address_in, bytes_in};
-ghost use Rattle.pmt_text.specs.Reading.{capped, digit_of, four_at, wide_digit_of, GivesBytes, IsBase};
+ghost use Rattle.pmt_text.specs.Reading.{capped, digit_of, four_at, turned_four_at, wide_digit_of, GivesBytes, IsBase};
 
 /// The value of each byte as a digit: 0 to 9, and a to f; 16 for any other byte.
 static DIGITS: [u8; 256] = [
@@ -50,24 +50,73 @@ static WIDE_VALUES: [u32; 256] = [
     65536, 65536, 65536, 65536, 65536, 65536, 65536, 65536, 65536, 65536, 65536, 65536, 65536,
 ];
 
+/// 16 times those of `WIDE_VALUES`.
+static RAISED_VALUES: [u32; 256] = [
+    1048576, 1048576, 1048576, 1048576, 1048576, 1048576, 1048576, 1048576, 1048576, 1048576,
+    1048576, 1048576, 1048576, 1048576, 1048576, 1048576, 1048576, 1048576, 1048576, 1048576,
+    1048576, 1048576, 1048576, 1048576, 1048576, 1048576, 1048576, 1048576, 1048576, 1048576,
+    1048576, 1048576, 1048576, 1048576, 1048576, 1048576, 1048576, 1048576, 1048576, 1048576,
+    1048576, 1048576, 1048576, 1048576, 1048576, 1048576, 1048576, 1048576, 0, 16, 32, 48, 64, 80,
+    96, 112, 128, 144, 1048576, 1048576, 1048576, 1048576, 1048576, 1048576, 1048576, 1048576,
+    1048576, 1048576, 1048576, 1048576, 1048576, 1048576, 1048576, 1048576, 1048576, 1048576,
+    1048576, 1048576, 1048576, 1048576, 1048576, 1048576, 1048576, 1048576, 1048576, 1048576,
+    1048576, 1048576, 1048576, 1048576, 1048576, 1048576, 1048576, 1048576, 1048576, 1048576,
+    1048576, 160, 176, 192, 208, 224, 240, 1048576, 1048576, 1048576, 1048576, 1048576, 1048576,
+    1048576, 1048576, 1048576, 1048576, 1048576, 1048576, 1048576, 1048576, 1048576, 1048576,
+    1048576, 1048576, 1048576, 1048576, 1048576, 1048576, 1048576, 1048576, 1048576, 1048576,
+    1048576, 1048576, 1048576, 1048576, 1048576, 1048576, 1048576, 1048576, 1048576, 1048576,
+    1048576, 1048576, 1048576, 1048576, 1048576, 1048576, 1048576, 1048576, 1048576, 1048576,
+    1048576, 1048576, 1048576, 1048576, 1048576, 1048576, 1048576, 1048576, 1048576, 1048576,
+    1048576, 1048576, 1048576, 1048576, 1048576, 1048576, 1048576, 1048576, 1048576, 1048576,
+    1048576, 1048576, 1048576, 1048576, 1048576, 1048576, 1048576, 1048576, 1048576, 1048576,
+    1048576, 1048576, 1048576, 1048576, 1048576, 1048576, 1048576, 1048576, 1048576, 1048576,
+    1048576, 1048576, 1048576, 1048576, 1048576, 1048576, 1048576, 1048576, 1048576, 1048576,
+    1048576, 1048576, 1048576, 1048576, 1048576, 1048576, 1048576, 1048576, 1048576, 1048576,
+    1048576, 1048576, 1048576, 1048576, 1048576, 1048576, 1048576, 1048576, 1048576, 1048576,
+    1048576, 1048576, 1048576, 1048576, 1048576, 1048576, 1048576, 1048576, 1048576, 1048576,
+    1048576, 1048576, 1048576, 1048576, 1048576, 1048576, 1048576, 1048576, 1048576, 1048576,
+    1048576, 1048576, 1048576, 1048576, 1048576, 1048576, 1048576, 1048576, 1048576, 1048576,
+    1048576, 1048576, 1048576, 1048576, 1048576, 1048576, 1048576,
+];
+
 /// The number that the four bytes at this place write as digits of base 16; 65536 or more where one of them is none.
 #[inline(always)]
 pub fn four_digits(text: &[u8], at: usize) -> u64
     requires { at + 4 ≤ length text.now }
     ensures { result ≡ four_at text.now at }
 {
-    let high = wide_digit(text[at]) * 16 + wide_digit(text[at + 1]);
-    let low = wide_digit(text[at + 2]) * 16 + wide_digit(text[at + 3]);
-    high * 256 + low
+    let high = raised_digit(text[at]) + wide_digit(text[at + 1]);
+    let low = raised_digit(text[at + 2]) + wide_digit(text[at + 3]);
+    (high * 256 + low) as u64
+}
+
+/// As `four_digits`, of two bytes: the first of them is the number's last byte.
+#[inline(always)]
+pub(crate) fn turned_four_digits(text: &[u8], at: usize) -> u64
+    requires { at + 4 ≤ length text.now }
+    ensures { result ≡ turned_four_at text.now at }
+{
+    let first = raised_digit(text[at]) + wide_digit(text[at + 1]);
+    let second = raised_digit(text[at + 2]) + wide_digit(text[at + 3]);
+    (second * 256 + first) as u64
 }
 
 /// The value of a digit: 0 to 9, and a to f; 65536 for any other byte.
 #[inline(always)]
-fn wide_digit(byte: u8) -> u64
+fn wide_digit(byte: u8) -> u32
     ensures value { result ≡ wide_digit_of byte }
     ensures within { result ≤ 65536 }
 {
-    WIDE_VALUES[byte as usize] as u64
+    WIDE_VALUES[byte as usize]
+}
+
+/// 16 times that value.
+#[inline(always)]
+fn raised_digit(byte: u8) -> u32
+    ensures value { result ≡ wide_digit_of byte * 16 }
+    ensures within { result ≤ 1048576 }
+{
+    RAISED_VALUES[byte as usize]
 }
 
 /// The number that the field spells in the base; at most 2^64 - 1, which also stands for every greater one.

@@ -5,7 +5,7 @@ ghost use Rattle.pmt_text.specs.Reading.{HasRead, IsBase};
 ghost use Rattle.pmt_text.specs.Spelled.{IsAfterWord, IsFirstEvent, spelled_span};
 ghost use Rattle.pmt_text.specs.Spelling.{address, event_text, hex_bytes, numeral};
 
-use crate::number::{digit, four_digits};
+use crate::number::{digit, four_digits, turned_four_digits};
 use crate::word::Word;
 use pmt_model::{Addr, Event, Format, Op, OpError, Payload, Range, WordStore};
 
@@ -82,12 +82,34 @@ fn take_word<'a>(word: &[u8], text: &'a [u8]) -> Option<&'a [u8]>
     Some(&text[word.len()..])
 }
 
-/// The address at the front, and what stands after it.
+/// The number of twelve digits of base 16 at the front, and what stands after it.
+#[inline(always)]
+fn take_twelve(text: &[u8]) -> Option<(u64, &[u8])>
+    ensures { IfSome result (λ p. text.now ≡ numeral 16 p.0 ++ p.1.now) }
+{
+    if text.len() < 12 || text[0] == b'0' {
+        return None;
+    }
+    let first = four_digits(text, 0);
+    let second = four_digits(text, 4);
+    let third = four_digits(text, 8);
+    if first >= FOUR_LIMIT || second >= FOUR_LIMIT || third >= FOUR_LIMIT {
+        return None;
+    }
+    let number = (first * FOUR_LIMIT + second) * FOUR_LIMIT + third;
+    Some((number, &text[12..]))
+}
+
+/// The address at the front, and what stands after it. Most are of twelve digits.
 #[inline(always)]
 fn take_address(text: &[u8]) -> Option<(u64, &[u8])>
     ensures { IfSome result (λ p. text.now ≡ address p.0 ++ p.1.now) }
 {
-    take_number(16, take_word(b"0x", text)?)
+    let digits = take_word(b"0x", text)?;
+    if let Some((addr, rest)) = take_twelve(digits) {
+        return Some((addr, rest));
+    }
+    take_number(16, digits)
 }
 
 /// What stands after the space at the front.
@@ -171,23 +193,15 @@ fn take_eight<'a>(text: &'a [u8], out: &mut [u8; 8]) -> Option<&'a [u8]>
     if text.len() < 17 || text[16] != b'\n' {
         return None;
     }
-    let first = four_digits(text, 0);
-    let second = four_digits(text, 4);
-    let third = four_digits(text, 8);
-    let last = four_digits(text, 12);
+    let first = turned_four_digits(text, 0);
+    let second = turned_four_digits(text, 4);
+    let third = turned_four_digits(text, 8);
+    let last = turned_four_digits(text, 12);
     if first >= FOUR_LIMIT || second >= FOUR_LIMIT || third >= FOUR_LIMIT || last >= FOUR_LIMIT {
         return None;
     }
-    *out = [
-        (first / 256) as u8,
-        (first % 256) as u8,
-        (second / 256) as u8,
-        (second % 256) as u8,
-        (third / 256) as u8,
-        (third % 256) as u8,
-        (last / 256) as u8,
-        (last % 256) as u8,
-    ];
+    let value = ((last * FOUR_LIMIT + third) * FOUR_LIMIT + second) * FOUR_LIMIT + first;
+    *out = value.to_le_bytes();
     Some(&text[17..])
 }
 
