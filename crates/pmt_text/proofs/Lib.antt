@@ -15,6 +15,7 @@ pub mod LinePutting
 pub mod SpelledLemmas
 pub mod SpelledReading
 pub mod FourReading
+pub mod FrontReading
 pub mod WholeLemmas
 pub mod AheadLemmas
 pub mod ListLemmas

@@ -1,5 +1,5 @@
 -- What the parts of the reader in one pass take.
-use Rattle.std.specs.Prelude.{◌≡◌, ℕ, List, ◌∷◌, ◌++◌}
+use Rattle.std.specs.Prelude.{◌≡◌, ℕ, List, [], ◌∷◌, ◌++◌, get_or}
 use Rattle.pmt_model.specs.declared.event.Event.{Event}
 use Rattle.pmt_model.specs.Values.{Layout}
 use Rattle.pmt_model.specs.Traces.{IsEventIn}
@@ -18,3 +18,7 @@ IsAfterWord w text e rest = (word_of e.op ≡ w) × (text ≡ numeral 10 e.threa
 -- the text has the line of this event of the format first, and then this
 abbrev pub IsFirstEvent : Layout → Event → List ℕ → List ℕ → Type 0
 IsFirstEvent f e text rest = IsEventIn f e × (text ≡ event_text e ++ rest)
+
+-- the first four bytes
+abbrev pub front_four : List ℕ → List ℕ
+front_four cs = get_or cs 0 0 ∷ get_or cs 1 0 ∷ get_or cs 2 0 ∷ get_or cs 3 0 ∷ []

@@ -1,8 +1,9 @@
 //! One pass over the bytes of a line that is spelled rightly. Where a line is not, or where that is not plain at once, these answer
 //! `None`, and the line is judged.
 ghost use Rattle.std.specs.Prelude.{◌≡◌, ◌∷◌, ◌++◌, ◌≤◌, length, take, IfOk, IfSome};
+ghost use Rattle.std.specs.Int.{to_le_bytes, w32};
 ghost use Rattle.pmt_text.specs.Reading.{HasRead, IsBase};
-ghost use Rattle.pmt_text.specs.Spelled.{IsAfterWord, IsFirstEvent, spelled_span};
+ghost use Rattle.pmt_text.specs.Spelled.{IsAfterWord, IsFirstEvent, front_four, spelled_span};
 ghost use Rattle.pmt_text.specs.Spelling.{address, event_text, hex_bytes, numeral};
 
 use crate::number::{digit, four_digits, turned_four_digits};
@@ -66,7 +67,16 @@ fn take_number(base: u64, text: &[u8]) -> Option<(u64, &[u8])>
     Some((number, &text[at..]))
 }
 
-/// What stands after the word at the front.
+/// The first four bytes as one number.
+#[inline(always)]
+fn first_four(text: &[u8]) -> u32
+    requires { 4 ≤ length text.now }
+    ensures { to_le_bytes w32 result ≡ front_four text.now }
+{
+    u32::from_le_bytes([text[0], text[1], text[2], text[3]])
+}
+
+/// What stands after the word at the front. Four bytes are compared at once.
 #[inline(always)]
 fn take_word<'a>(word: &[u8], text: &'a [u8]) -> Option<&'a [u8]>
     ensures { IfSome result (λ rest. text.now ≡ word.now ++ rest.now) }
@@ -74,10 +84,18 @@ fn take_word<'a>(word: &[u8], text: &'a [u8]) -> Option<&'a [u8]>
     if text.len() < word.len() {
         return None;
     }
-    for i in 0..word.len() {
-        if text[i] != word[i] {
+    let mut at = 0;
+    if word.len() >= 4 {
+        if first_four(text) != first_four(word) {
             return None;
         }
+        at = 4;
+    }
+    while at < word.len() {
+        if text[at] != word[at] {
+            return None;
+        }
+        at += 1;
     }
     Some(&text[word.len()..])
 }
