@@ -2,7 +2,6 @@
 //! them, and what is spelled lies at the end of the buffer.
 ghost use Rattle.std.specs.Prelude.{◌≡◌, ◌∷◌, ◌++◌, ◌+◌, ◌/◌, ◌%◌, ◌^◌, [], ◌≤◌, ◌<◌, length};
 ghost use Rattle.pmt_text.specs.LineTexts.{Puts};
-ghost use Rattle.pmt_text.specs.Reading.{IsBase};
 ghost use Rattle.pmt_text.specs.Spelling.{address, arguments_of, event_text, glyph as glyph_of, hex_bytes, hex_pair, numeral, word_of, word_text};
 ghost use Rattle.pmt_text.specs.Writing.{spaced};
 
@@ -80,19 +79,18 @@ fn put_word(line: &mut [u8; LINE_ROOM], at: usize, word: &[u8]) -> usize
     start
 }
 
-/// Puts the number in base 10 or 16, of at most 20 digits.
+/// Puts the number in base 10, of at most 20 digits.
 #[inline(always)]
-fn put_number(line: &mut [u8; LINE_ROOM], at: usize, base: u64, number: u64) -> usize
-    requires base { IsBase base }
+fn put_decimal(line: &mut [u8; LINE_ROOM], at: usize, number: u64) -> usize
     requires room { 20 ≤ at }
     requires within { at ≤ 128 }
-    ensures { Puts line.old at (numeral base number) 20 result line.new }
+    ensures { Puts line.old at (numeral 10 number) 20 result line.new }
 {
     let mut start = at;
     let mut rest = number;
-    while rest >= base {
-        start = put(line, start, glyph(rest % base));
-        rest /= base;
+    while rest >= 10 {
+        start = put(line, start, glyph(rest % 10));
+        rest /= 10;
     }
     put(line, start, glyph(rest))
 }
@@ -171,7 +169,7 @@ fn put_count(line: &mut [u8; LINE_ROOM], at: usize, number: u64) -> usize
     requires within { at ≤ 128 }
     ensures { Puts line.old at (32 ∷ numeral 10 number) 21 result line.new }
 {
-    let at = put_number(line, at, 10, number);
+    let at = put_decimal(line, at, number);
     put(line, at, b' ')
 }
 
