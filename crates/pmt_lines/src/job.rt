@@ -66,11 +66,11 @@ impl LineJob {
     }
 
     // Adds a later step.
-    pub(crate) fn push(&mut self, step: Step) -> Result<(), OutOfMemory>
-        requires later { last_number 0 self.old.steps < step.number }
-        requires within { step.number ≤ event_limit }
-        requires inside { IsStepKind step.kind }
-        ensures ok { OnOk result (self.new ≡ with_step self.old step) }
+    pub(crate) fn push(&mut self, step: &Step) -> Result<(), OutOfMemory>
+        requires later { last_number 0 self.old.steps < step.now.number }
+        requires within { step.now.number ≤ event_limit }
+        requires inside { IsStepKind step.now.kind }
+        ensures ok { OnOk result (self.new ≡ with_step self.old step.now) }
         ensures err { OnErr result (self.new ≡ self.old) }
     {
         push_step(&mut self.steps, step)?;
@@ -79,10 +79,10 @@ impl LineJob {
 }
 
 // Adds the step.
-fn push_step(steps: &mut Vec<SmallStep>, step: Step) -> Result<(), OutOfMemory>
-    requires within { step.number ≤ event_limit }
-    requires inside { IsStepKind step.kind }
-    ensures ok { OnOk result (steps.new.items ≡ steps.old.items ++ step ∷ []) }
+fn push_step(steps: &mut Vec<SmallStep>, step: &Step) -> Result<(), OutOfMemory>
+    requires within { step.now.number ≤ event_limit }
+    requires inside { IsStepKind step.now.kind }
+    ensures ok { OnOk result (steps.new.items ≡ steps.old.items ++ step.now ∷ []) }
     ensures err { OnErr result (steps.new.items ≡ steps.old.items) }
 {
     if steps.is_empty() {

@@ -285,9 +285,9 @@ mod tests {
     #[test]
     fn overwritten(rt: HostRuntime) -> Result<(), Fail> {
         let mut job = LineJob::new(rt.alloc(), 64);
-        job.push(store(1, 0x1000, 1))?;
-        job.push(store(2, 0x1001, 1))?;
-        job.push(store(3, 0x1000, 2))?;
+        job.push(&store(1, 0x1000, 1))?;
+        job.push(&store(2, 0x1001, 1))?;
+        job.push(&store(3, 0x1000, 2))?;
         let never = |event| Finding::NeverPersisted {
             event,
             flushed: false,
@@ -305,11 +305,11 @@ mod tests {
     #[test]
     fn redundant(rt: HostRuntime) -> Result<(), Fail> {
         let mut job = LineJob::new(rt.alloc(), 64);
-        job.push(store(1, 0x1000, 1))?;
-        job.push(step(2, StepKind::Flush))?;
-        job.push(step(3, StepKind::Flush))?;
-        job.push(step(4, StepKind::Fence))?;
-        job.push(step(5, StepKind::Flush))?;
+        job.push(&store(1, 0x1000, 1))?;
+        job.push(&step(2, StepKind::Flush))?;
+        job.push(&step(3, StepKind::Flush))?;
+        job.push(&step(4, StepKind::Fence))?;
+        job.push(&step(5, StepKind::Flush))?;
         let flush = |event| Finding::RedundantFlush { event };
         let found = run_line(rt.alloc(), job)?;
         assert_eq!(rt; found.findings(), [flush(3), flush(5)].as_slice());

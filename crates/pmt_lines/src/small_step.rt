@@ -40,20 +40,20 @@ impl Model for SmallStep {
 
 impl SmallStep {
     // The step, small.
-    pub(crate) fn new(step: Step) -> Self
-        requires within { step.number ≤ event_limit }
-        requires inside { IsStepKind step.kind }
-        ensures { result ≡ step }
+    pub(crate) fn new(step: &Step) -> Self
+        requires within { step.now.number ≤ event_limit }
+        requires inside { IsStepKind step.now.kind }
+        ensures { result ≡ step.now }
     {
         let number = step.number as u32;
         let thread = step.thread;
-        match step.kind {
+        match &step.kind {
             StepKind::Store { addr, len } => SmallStep {
                 number,
-                low: (addr % (1 << 32)) as u32,
-                high: (addr / (1 << 32)) as u16,
+                low: (*addr % (1 << 32)) as u32,
+                high: (*addr / (1 << 32)) as u16,
                 thread,
-                tag: len as u8,
+                tag: *len as u8,
             },
             StepKind::Flush => plain(number, thread, FLUSH),
             StepKind::Clflush => plain(number, thread, CLFLUSH),

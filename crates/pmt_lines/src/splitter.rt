@@ -91,10 +91,9 @@ impl Splitter {
         ensures so_far { OnOk result (IsSplitting (with_event self.old.trace event.now) self.new.lines.keys self.new.jobs.items self.new.open_flushes self.new.fences) }
     {
         let thread = event.thread;
-        let op = event.op;
         let format = self.trace.format();
         let number = self.trace.len() as u64 + 1;
-        match op {
+        match &event.op {
             Op::Store(store) => {
                 let addr = store.addr();
                 let kind = StepKind::Store {
@@ -111,14 +110,14 @@ impl Splitter {
                 )
             }
             Op::Clwb(addr) | Op::ClflushOpt(addr) => self.take_flush(
-                line_of(format, addr),
+                line_of(format, *addr),
                 number,
                 thread,
             ),
             Op::Clflush(addr) => {
                 let kind = StepKind::Clflush;
                 self.take_access(
-                    line_of(format, addr),
+                    line_of(format, *addr),
                     Step {
                         number,
                         thread,
@@ -141,7 +140,7 @@ impl Splitter {
         ensures so_far { OnOk result ((e : Event) → e.thread ≡ step.thread → IsAccess line step.kind (act self.old.trace.format e)
             → IsSplitting (with_event self.old.trace e) self.new.lines.keys self.new.jobs.items self.new.open_flushes self.new.fences) }
     {
-        let place = take_on_line(&mut self.lines, &mut self.jobs, self.last, line, step)?;
+        let place = take_on_line(&mut self.lines, &mut self.jobs, self.last, line, &step)?;
         self.last = place;
         Ok(())
     }
@@ -161,10 +160,10 @@ impl Splitter {
             thread,
             kind,
         };
-        let place = take_on_line(&mut self.lines, &mut self.jobs, self.last, line, step)?;
+        let place = take_on_line(&mut self.lines, &mut self.jobs, self.last, line, &step)?;
         self.last = place;
         self.open_flushes.add(thread, place)?;
-        self.fences.push(step)?;
+        self.fences.push(&step)?;
         Ok(())
     }
 
@@ -183,9 +182,9 @@ impl Splitter {
             thread,
             kind,
         };
-        end_intervals(&mut self.jobs, self.open_flushes.of(thread), step)?;
+        end_intervals(&mut self.jobs, self.open_flushes.of(thread), &step)?;
         self.open_flushes.clear(thread);
-        self.fences.push(step)?;
+        self.fences.push(&step)?;
         Ok(())
     }
 }
@@ -213,14 +212,14 @@ fn take_on_line(
     jobs: &mut Vec<LineJob>,
     last: usize,
     line: u64,
-    step: Step,
+    step: &Step,
 ) -> Result<usize, OutOfMemory>
     requires same { map line_in jobs.old.items ≡ lines.old.keys }
-    requires numbered { 1 ≤ step.number }
-    requires later { EndBefore step.number jobs.old.items }
-    requires within { step.number ≤ event_limit }
-    requires kind { IsStepKind step.kind }
-    ensures { IfOk result (λ place. TakesOnLine line step place lines.old.keys lines.new.keys jobs.old.items jobs.new.items) }
+    requires numbered { 1 ≤ step.now.number }
+    requires later { EndBefore step.now.number jobs.old.items }
+    requires within { step.now.number ≤ event_limit }
+    requires kind { IsStepKind step.now.kind }
+    ensures { IfOk result (λ place. TakesOnLine line step.now place lines.old.keys lines.new.keys jobs.old.items jobs.new.items) }
 {
     let (place, is_new) = place_of(lines, last, line)?;
     if is_new {
@@ -231,12 +230,12 @@ fn take_on_line(
 }
 
 // Adds the fence to each job at one of the places, once.
-fn end_intervals(jobs: &mut Vec<LineJob>, places: &[usize], fence: Step) -> Result<(), OutOfMemory>
+fn end_intervals(jobs: &mut Vec<LineJob>, places: &[usize], fence: &Step) -> Result<(), OutOfMemory>
     requires placed { All (λ place. place < vec_len jobs.old) places.now }
-    requires later { EndBefore fence.number jobs.old.items }
-    requires within { fence.number ≤ event_limit }
-    requires kind { IsStepKind fence.kind }
-    ensures { OnOk result (EndsAt places.now fence jobs.old.items jobs.new.items) }
+    requires later { EndBefore fence.now.number jobs.old.items }
+    requires within { fence.now.number ≤ event_limit }
+    requires kind { IsStepKind fence.now.kind }
+    ensures { OnOk result (EndsAt places.now fence.now jobs.old.items jobs.new.items) }
 {
     for place in places {
         let job = &mut jobs[*place];

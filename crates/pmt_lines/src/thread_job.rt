@@ -46,11 +46,11 @@ impl ThreadJob {
     }
 
     // Adds a later step.
-    pub(crate) fn push(&mut self, step: Step) -> Result<(), OutOfMemory>
-        requires later { last_number 0 self.old < step.number }
-        requires within { step.number ≤ event_limit }
-        requires inside { IsStepKind step.kind }
-        ensures ok { OnOk result (self.new ≡ self.old ++ step ∷ []) }
+    pub(crate) fn push(&mut self, step: &Step) -> Result<(), OutOfMemory>
+        requires later { last_number 0 self.old < step.now.number }
+        requires within { step.now.number ≤ event_limit }
+        requires inside { IsStepKind step.now.kind }
+        ensures ok { OnOk result (self.new ≡ self.old ++ step.now ∷ []) }
         ensures err { OnErr result (self.new ≡ self.old) }
     {
         self.steps.push(SmallStep::new(step))?;

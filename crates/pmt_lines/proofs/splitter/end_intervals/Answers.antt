@@ -18,11 +18,11 @@ loop-place-preserved c =
     let more : take (i + 1) places ≡ take i places ++ place ∷ [] = take_more places i 0 c.loop-place-test.true in
     rw more (elim c.if-last_number-fence.branch [
       | then-last_number-fence+in_ok-push w ↦
-          let told : c.if-last_number-fence.jobs.items ≡ set mid place (with_step (get_or mid place job) c.args.fence) = rw w.jobs-is (ap (set mid place) (w.in_ok-push.ensures.ok ∙ ap (λ j. with_step j c.args.fence) read)) in
-          let lacks : last_number 0 (get_or mid place job).steps < c.args.fence.number = omega (arith, w.if-last_number-fence.true, c.last_number.ensures, ap (λ (j : LineWork). last_number 0 j.steps) read) in
-          rw told (ends-more (take i places) c.args.fence old mid place job c.loop-place.invariant within c.requires.later lacks)
+          let told : c.if-last_number-fence.jobs.items ≡ set mid place (with_step (get_or mid place job) c.args.fence.now) = rw w.jobs-is (ap (set mid place) (w.in_ok-push.ensures.ok ∙ ap (λ j. with_step j c.args.fence.now) read)) in
+          let lacks : last_number 0 (get_or mid place job).steps < c.args.fence.now.number = omega (arith, w.if-last_number-fence.true, c.last_number.ensures, ap (λ (j : LineWork). last_number 0 j.steps) read) in
+          rw told (ends-more (take i places) c.args.fence.now old mid place job c.loop-place.invariant within c.requires.later lacks)
       | else-last_number-fence w ↦
           let told : c.if-last_number-fence.jobs.items ≡ mid = rw w.jobs-is (ap (set mid place) read ∙ set-get_or mid place job) in
-          let has : c.args.fence.number ≤ last_number 0 (get_or mid place job).steps = omega (arith, w.if-last_number-fence.false, c.last_number.ensures, ap (λ (j : LineWork). last_number 0 j.steps) read) in
-          rw told (ends-same (take i places) c.args.fence old mid place job c.loop-place.invariant within c.requires.later has)
+          let has : c.args.fence.now.number ≤ last_number 0 (get_or mid place job).steps = omega (arith, w.if-last_number-fence.false, c.last_number.ensures, ap (λ (j : LineWork). last_number 0 j.steps) read) in
+          rw told (ends-same (take i places) c.args.fence.now old mid place job c.loop-place.invariant within c.requires.later has)
     ])

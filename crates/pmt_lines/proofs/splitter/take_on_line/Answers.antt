@@ -27,11 +27,11 @@ jobs_then c =
 keys_then : (c : After-index_mut) → c.place_of.new.lines.keys ≡ with_line c.args.line c.args.lines.now.keys
 keys_then c = c.in_ok-place.ensures.keys ∙ insert_key-with_line c.args.line c.args.lines.now.keys
 
-taken : (c : After-index_mut) → TakesOnLine c.args.line c.args.step c.in_ok-place.place c.args.lines.now.keys (with_line c.args.line c.args.lines.now.keys) c.args.jobs.now.items (set (with_job c.args.line c.args.lines.now.keys c.args.jobs.now.items) c.in_ok-place.place (with_step (get_or (with_job c.args.line c.args.lines.now.keys c.args.jobs.now.items) c.in_ok-place.place (record { line = c.args.line; steps = [] })) c.args.step))
+taken : (c : After-index_mut) → TakesOnLine c.args.line c.args.step.now c.in_ok-place.place c.args.lines.now.keys (with_line c.args.line c.args.lines.now.keys) c.args.jobs.now.items (set (with_job c.args.line c.args.lines.now.keys c.args.jobs.now.items) c.in_ok-place.place (with_step (get_or (with_job c.args.line c.args.lines.now.keys c.args.jobs.now.items) c.in_ok-place.place (record { line = c.args.line; steps = [] })) c.args.step.now))
 taken c =
     let stored = c.in_ok-place.ensures.stored in
     let here = ap (λ ks. slice_get ks c.in_ok-place.place) (sym (keys_then c)) ∙ stored.1 in
-    takes_on_line c.args.line c.args.step c.in_ok-place.place c.args.lines.now.keys c.args.jobs.now.items stored.0 c.requires.same
+    takes_on_line c.args.line c.args.step.now c.in_ok-place.place c.args.lines.now.keys c.args.jobs.now.items stored.0 c.requires.same
     (subst (IsDistinct nat_eq) (keys_then c) c.in_ok-place.ensures.unique) here stored.2
 
 -- the job that the step is added to
@@ -40,7 +40,7 @@ read_then c = c.index_mut.ensures.value ∙ ap (λ jobs. get_or jobs c.in_ok-pla
 
 pub push-requires-2-clause-later : goal.push-requires-2-clause-later
 push-requires-2-clause-later c =
-    let before = end_before-with_job c.args.step.number c.args.line c.args.lines.now.keys c.args.jobs.now.items c.requires.numbered c.requires.later in
+    let before = end_before-with_job c.args.step.now.number c.args.line c.args.lines.now.keys c.args.jobs.now.items c.requires.numbered c.requires.later in
     omega (arith, before c.in_ok-place.place c.index_mut.result.now (taken c).within, ap (λ (j : LineWork). last_number 0 j.steps) (read_then c))
 
 pub returns : goal.returns
@@ -53,6 +53,6 @@ returns c =
     let blank : LineWork = record { line = l; steps = [] } in
     let job = c.index_mut.result.now in
     let same : job ≡ get_or (with_job l keys jobs) place blank = read_then a ∙ get_or_default (with_job l keys jobs) place job blank (taken a).within in
-    let added : set c.if-is_new.jobs.items place c.push-2.new.self ≡ set (with_job l keys jobs) place (with_step (get_or (with_job l keys jobs) place blank) c.args.step) =
-    ap (λ js. set js place c.push-2.new.self) (jobs_then a) ∙ ap (set (with_job l keys jobs) place) (c.in_ok-push-2.ensures.ok ∙ ap (λ j. with_step j c.args.step) same) in
+    let added : set c.if-is_new.jobs.items place c.push-2.new.self ≡ set (with_job l keys jobs) place (with_step (get_or (with_job l keys jobs) place blank) c.args.step.now) =
+    ap (λ js. set js place c.push-2.new.self) (jobs_then a) ∙ ap (set (with_job l keys jobs) place) (c.in_ok-push-2.ensures.ok ∙ ap (λ j. with_step j c.args.step.now) same) in
     rw (added, keys_then a) (taken a)
