@@ -1,18 +1,11 @@
 -- The fences without flush, by what each thread has flushed since its last fence.
-use Rattle.std.proofs.Common.{◌≡◌, ◌≢◌, ℕ, zero, suc, ◌+◌, ◌-◌, ◌<◌, ◌≤◌, ◌⊎◌, inl, inr, Bool, true, false, List, [], ◌∷◌, ◌++◌, length, get_or, set, drop, refl, sym, ap, subst, ◌∙◌, arith}
-use Rattle.std.specs.Prelude.{◌==◌, ◌||◌, if◌then◌else◌, ◌↔◌}
-use Rattle.std.proofs.lemmas.Bool.{cases_lt, cases_eq, eq-eqb, ne_eqb, eqb-true, false≢true, both_ways}
-use Rattle.std.proofs.lemmas.List.{drop_more, drop_all, get_or-set_same, get_or-set_other, length-set}
+use Rattle.std.proofs.Common.{◌≡◌, ◌≢◌, ℕ, zero, suc, ◌<◌, ◌≤◌, ◌⊎◌, inl, inr, Bool, true, false, List, [], ◌∷◌, length, refl, sym, subst, arith}
+use Rattle.std.specs.Prelude.{◌==◌, if◌then◌else◌}
+use Rattle.std.proofs.lemmas.Bool.{cases_lt, cases_eq, eq-eqb, ne_eqb}
 use Rattle.pmt_model.specs.Machine.{Act, Stores, Flushes, Clflushes, Fences, Asserts}
 use Rattle.pmt_model.specs.Traces.{Recording, IsAct, history}
 use Rattle.pmt_model.specs.Findings.{IsEmptyFence}
-use Rattle.pmt_model.specs.Selections.{IsRising, Has}
 use Rattle.pmt_laws.proofs.Histories.{history-act, history-step, act-within, act-unique}
-use Rattle.pmt_lines.specs.declared.step.StepKind.{StepKind}
-use Rattle.pmt_lines.specs.declared.step.StepKind.TheVariants.{Store, Flush, Clflush, Fence}
-use Rattle.pmt_lines.specs.declared.step.Step.{Step}
-use Rattle.pmt_lines.specs.Jobs.{IsThreadKind, IsThreadStep, IsFlushOrFence, AFlush, AFence, IsWalkFrom, IsThreadJobOf}
-use Rattle.pmt_lines.specs.Fences.{IsEmptyFences}
 
 -- the thread has flushed a line since its last fence
 abbrev pub has_flushed : ℕ → List Act → Bool

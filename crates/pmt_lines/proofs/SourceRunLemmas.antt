@@ -1,18 +1,17 @@
 -- What a source has told and given while its events are taken.
-use Rattle.std.proofs.Common.{◌≡◌, ◌≢◌, ℕ, ◌+◌, ◌<◌, ◌≤◌, ◌⊎◌, inl, inr, List, [], ◌∷◌, ◌++◌, length, Option, Some, None, Result, Ok, Err, refl, sym, ap, subst, ◌∙◌, arith}
-use Rattle.std.specs.Prelude.{IfSome}
+use Rattle.std.proofs.Common.{◌≡◌, ◌≢◌, ℕ, ◌+◌, ◌≤◌, [], ◌∷◌, length, Option, Some, None, Result, Ok, Err, refl, ap, subst, ◌∙◌, arith}
 use Rattle.std.proofs.lemmas.List.{length-append}
 use Rattle.pmt_model.specs.declared.event.Event.{Event}
 use Rattle.pmt_model.specs.Values.{Layout}
-use Rattle.pmt_model.specs.Traces.{Recording, IsEventIn, event_limit}
+use Rattle.pmt_model.specs.Traces.{Recording, event_limit}
 use Rattle.pmt_model.specs.Pushing.{with_event, empty}
 use Rattle.pmt_text.specs.declared.kind.SourceError.{SourceError}
-use Rattle.pmt_text.specs.declared.kind.SourceError.TheVariants.{Text, TooMany, Read, OutOfMemory, Failed}
+use Rattle.pmt_text.specs.declared.kind.SourceError.TheVariants.{Failed}
 use Rattle.pmt_text.specs.declared.source.SourceState.{SourceState}
 use Rattle.pmt_text.specs.declared.source.SourceState.TheVariants as states
 use Rattle.pmt_text.specs.Coming.{Coming}
-use Rattle.pmt_text.specs.Sources.{Gives, IsOver, Faults, TakesNext, HasFormat, TakesFormat, TellsNext, TellsFormat, KeepsFormat, IsGivenIn, LeavesFewer, read_faults, CountsReads}
-use Rattle.pmt_text.proofs.SourceLemmas.{Gives-nil, Gives-trans, Gives-over, HasFormat-Gives}
+use Rattle.pmt_text.specs.Sources.{Gives, TakesNext, HasFormat, TakesFormat, TellsNext, TellsFormat, KeepsFormat, LeavesFewer, CountsReads}
+use Rattle.pmt_text.proofs.SourceLemmas.{Gives-trans}
 
 -- no read has failed since
 abbrev pub SameReads : Option ℕ → Option ℕ → Type 0

@@ -1,21 +1,21 @@
 -- The jobs of the lines while events come.
-use Rattle.std.proofs.Common.{◌≡◌, ◌≢◌, ℕ, zero, suc, ◌+◌, ◌-◌, ◌<◌, ◌≤◌, ◌⊎◌, inl, inr, Bool, true, false, List, [], ◌∷◌, ◌++◌, length, get_or, set, map, Option, Some, None, refl, sym, ap, subst, ◌∙◌, arith}
+use Rattle.std.proofs.Common.{◌≡◌, ◌≢◌, ℕ, suc, ◌<◌, ◌≤◌, ◌⊎◌, inl, inr, Bool, true, false, List, [], ◌∷◌, ◌++◌, length, get_or, set, map, Some, None, refl, sym, ap, subst, ◌∙◌, arith}
 use Rattle.std.specs.Prelude.{◌==◌, ◌&&◌, ◌↔◌, if◌then◌else◌, All}
-use Rattle.std.proofs.lemmas.Bool.{cases_lt, cases_eq, eq-eqb, ne_eqb, both_ways, eqb-true, cases_Bool, or_cases}
-use Rattle.std.proofs.lemmas.List.{get_or-set_same, get_or-set_other, get_or_default, length-set, map-set, set-get_or, get_or_append_left, get_or_at, length-append, same_lists, get_or-map, length-map}
-use Rattle.std.proofs.lemmas.List.Elements.{All-push, All-nil, recursion_from_All}
+use Rattle.std.proofs.lemmas.Bool.{cases_lt, cases_eq, eq-eqb, ne_eqb, both_ways}
+use Rattle.std.proofs.lemmas.List.{get_or-set_same, get_or-set_other, length-set, get_or_append_left, get_or_at, length-append, same_lists, get_or-map, length-map}
+use Rattle.std.proofs.lemmas.List.Elements.{All-push}
 use Rattle.pmt_model.specs.declared.event.Event.{Event}
-use Rattle.pmt_model.specs.Machine.{Act, Stores, Flushes, Clflushes, Fences, Asserts, count}
+use Rattle.pmt_model.specs.Machine.{Act, Flushes, count}
 use Rattle.pmt_model.specs.Traces.{Recording, act, IsAct, history, has_line, with_line, lines_of}
 use Rattle.pmt_model.specs.Pushing.{with_event}
 use Rattle.pmt_model.specs.Fronts.{open_mark}
 use Rattle.pmt_lines.specs.declared.step.Step.{Step}
-use Rattle.pmt_lines.specs.Steps.{LineWork, last_number, with_step}
-use Rattle.pmt_lines.specs.Jobs.{IsStepOf, Touches, ByFence, IsThreadJobOf}
-use Rattle.pmt_lines.specs.Splitting.{IsLeanJob, line_in, places_of, with_place, OpenEach, ArePlaces, IsSplitting, IsSplit, with_job, TakesOnLine, EndBefore, EndsAt}
-use Rattle.pmt_lines.proofs.GrowLemmas.{length-grown, history-old, history-new, act-new, job-stays, job-takes}
+use Rattle.pmt_lines.specs.Steps.{LineWork, with_step}
+use Rattle.pmt_lines.specs.Jobs.{IsStepOf, Touches, IsThreadJobOf}
+use Rattle.pmt_lines.specs.Splitting.{IsLeanJob, line_in, places_of, with_place, OpenEach, ArePlaces, IsSplitting, with_job, TakesOnLine}
+use Rattle.pmt_lines.proofs.GrowLemmas.{length-grown, history-new, act-new, job-stays, job-takes}
 use Rattle.pmt_lines.proofs.PlaceLemmas.{has_line-push_same, has_line-push_other, lines-with_job}
-use Rattle.pmt_lines.proofs.LineActLemmas.{IsOnLine, touches-own_line, untouched-other_line, untouched-assert, untouched-fence, lines_of-on_line, open_mark-absent, empty_job}
+use Rattle.pmt_lines.proofs.LineActLemmas.{IsOnLine, touches-own_line, untouched-other_line, lines_of-on_line, open_mark-absent, empty_job}
 
 -- no list of places below n has n
 has_line-beyond : (n : ℕ) (places : List ℕ) → All (λ place. place < n) places → has_line n places ≡ false

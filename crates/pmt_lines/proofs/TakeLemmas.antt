@@ -1,9 +1,8 @@
 -- The jobs after the next event.
-use Rattle.std.proofs.Common.{◌≡◌, ◌≢◌, ℕ, zero, suc, ◌+◌, ◌<◌, ◌≤◌, List, [], ◌∷◌, ◌++◌, length, get_or, set, Option, Some, None, refl, sym, ap, subst, ◌∙◌, arith}
-use Rattle.std.specs.Prelude.{All}
+use Rattle.std.proofs.Common.{◌≡◌, ◌≢◌, ℕ, suc, ◌<◌, List, [], ◌∷◌, ◌++◌, length, get_or, set, refl, sym, ap, subst, ◌∙◌, arith}
 use Rattle.std.proofs.lemmas.List.{length-set}
 use Rattle.pmt_model.specs.declared.event.Event.{Event}
-use Rattle.pmt_model.specs.Machine.{Act, Stores, Flushes, Clflushes, Fences, Asserts}
+use Rattle.pmt_model.specs.Machine.{Act, Flushes, Fences}
 use Rattle.pmt_model.specs.Traces.{Recording, act, IsAct, history}
 use Rattle.pmt_model.specs.Pushing.{with_event}
 use Rattle.pmt_model.specs.Fronts.{open_mark}
@@ -11,11 +10,11 @@ use Rattle.pmt_lines.specs.declared.step.StepKind.{StepKind}
 use Rattle.pmt_lines.specs.declared.step.StepKind.TheVariants.{Store, Flush, Clflush, Fence}
 use Rattle.pmt_lines.specs.declared.step.Step.{Step}
 use Rattle.pmt_lines.specs.Steps.{LineWork, last_number}
-use Rattle.pmt_lines.specs.Jobs.{IsKind, IsStepOf, IsBy}
+use Rattle.pmt_lines.specs.Jobs.{IsKind, IsBy}
 use Rattle.pmt_lines.specs.Splitting.{IsSplitting, IsAccess, with_job, with_place, places_of, OpenEach, TakesOnLine, EndBefore, EndsAt}
 use Rattle.pmt_lines.proofs.GrowLemmas.{event-new, act-new, thread_job-stays, thread_job-takes, last-lean, last-thread}
 use Rattle.pmt_lines.proofs.LineActLemmas.{IsOnLine}
-use Rattle.pmt_lines.proofs.SplitLemmas.{prepared-jobs, prepared-placed, prepared-open, open-stays, open-flush, placed-flush, split-on_line}
+use Rattle.pmt_lines.proofs.SplitLemmas.{prepared-placed, prepared-open, open-stays, open-flush, placed-flush, split-on_line}
 use Rattle.pmt_lines.proofs.FenceActLemmas.{no_flush_or_fence, split-fence}
 
 -- all steps so far come before the next event

@@ -1,4 +1,4 @@
-use Rattle.std.proofs.Common.{◌≡◌, ℕ, List, length, arith, ◌∙◌}
+use Rattle.std.proofs.Common.{arith, ◌∙◌}
 use Rattle.std.proofs.lemmas.List.{length-map}
 use Rattle.pmt_lines.proofs.PlaceLemmas.{get_or-map_none}
 use Rattle.pmt_lines.proofs.open.OpenFlushes.new.Goals as goal
