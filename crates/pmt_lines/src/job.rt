@@ -9,8 +9,9 @@ use pmt_model::OutOfMemory;
 use std::alloc::Global;
 use std::marker::Model;
 
-// The room that is asked for first: many lines have one step or two, and the smallest block of memory has place for two.
-const FIRST_ROOM: usize = 2;
+// How much more than the steps that it has a job makes room for: for 2 steps at first, then for 6, 14, 30 and so on. Many lines have
+// one step or two, and blocks of memory have place for just so many: they are multiples of 16 bytes, 8 of which are taken.
+const MORE_ROOM: usize = 2;
 
 /// The events of a trace that matter to one line, in order.
 #[derive(Debug, Drop)]
@@ -85,8 +86,9 @@ fn push_step(steps: &mut Vec<SmallStep>, step: &Step) -> Result<(), OutOfMemory>
     ensures ok { OnOk result (steps.new.items ≡ steps.old.items ++ step.now ∷ []) }
     ensures err { OnErr result (steps.new.items ≡ steps.old.items) }
 {
-    if steps.is_empty() {
-        steps.reserve_exact(FIRST_ROOM)?;
+    let count = steps.len();
+    if count == steps.capacity() {
+        steps.reserve_exact(count + MORE_ROOM)?;
     }
     steps.push(SmallStep::new(step))?;
     Ok(())
