@@ -31,6 +31,9 @@ pub(crate) struct Ending {
     pub(crate) flush: u64,
 }
 
+// More than every number of 32 bits.
+const ABOVE_ALL: u64 = 1 << 32;
+
 // The front after the last raise.
 fn last_front(raises: &[Raise]) -> u64
     ensures { result ≡ last_front_of 0 raises.now }
@@ -59,13 +62,18 @@ fn last_flush(steps: &[SmallStep]) -> u64
 fn next_above(numbers: &[u32], low: u32) -> Option<u32>
     ensures { MatchOption result (IsNoneAbove low numbers.now) (IsNextAbove low numbers.now) }
 {
-    let mut next = None;
+    let mut least = ABOVE_ALL;
     for number in numbers {
-        if *number > low && next.is_none_or(|least| *number < least) {
-            next = Some(*number);
+        let number = *number as u64;
+        if number > low as u64 && number < least {
+            least = number;
         }
     }
-    next
+    if least == ABOVE_ALL {
+        None
+    } else {
+        Some(least as u32)
+    }
 }
 
 // Adds the finding. Many lines have one: more room is asked for where there is another.
