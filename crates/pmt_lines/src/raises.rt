@@ -105,6 +105,7 @@ pub fn run_line(alloc: Global, job: LineJob) -> Result<LineResult, OutOfMemory>
 }
 
 // What the step does to the line's state: true where the front rose.
+#[inline(always)]
 pub(crate) fn take_step(state: &mut LineState, step: Step) -> Result<bool, OutOfMemory>
     requires { state.old.count < event_limit }
     ensures takes { OnOk result (TakesStep step state.old state.new) }
