@@ -1,13 +1,13 @@
 -- Last stores to bytes, by their ranks: what a search finds, and what a walk over the bytes adds up.
 use Rattle.std.proofs.Common.{◌≡◌, ℕ, zero, suc, ◌+◌, ◌-◌, ◌<◌, ◌≤◌, ◌⊎◌, inl, inr, Bool, true, false, List, [], ◌∷◌, length, get_or, Option, Some, None, refl, sym, ap, subst, ◌∙◌, arith}
-use Rattle.std.specs.Prelude.{if◌then◌else◌, ◌==◌, nat_le, nat_lt, All, max, min}
+use Rattle.std.specs.Prelude.{if◌then◌else◌, ◌==◌, nat_le, nat_lt, max, min}
 use Rattle.std.specs.List.Sorted.{IsPartitionPoint, IsPartitionedBy}
 use Rattle.std.proofs.lemmas.Bool.{cases_lt, cases_Bool, cases_eq, both_ways, ne_eqb, leb-true, ltb-true, ltb-false, le-leb, lt-ltb, and_parts, and_from}
 use Rattle.std.proofs.lemmas.Bool.Decides.{eqb_tells, leb_tells}
 use Rattle.std.proofs.lemmas.List.Elements.{Contains-get_or}
 use Rattle.pmt_asserts.specs.declared.put.Put.{Put}
 use Rattle.pmt_asserts.specs.declared.put.Write.{Write}
-use Rattle.pmt_asserts.specs.Puts.{covers, no_put, put_at, last_in, IsGreatestIn, IsLeastIn, IsLeastOf, IsUpTo, is_up_to, AreWritesOf, IsInside, IsLesser}
+use Rattle.pmt_asserts.specs.Puts.{covers, Meets, no_put, put_at, last_in, IsGreatestIn, IsLeastIn, IsLeastOf, IsUpTo, is_up_to, AreWritesOf, IsLesser}
 
 -- what a test of an order tells
 ltb_tells : (a b : ℕ) → ((nat_lt a b ≡ true) × (a < b)) ⊎ ((nat_lt a b ≡ false) × (b ≤ a))
@@ -16,6 +16,10 @@ ltb_tells a b = elim (cases_Bool (nat_lt a b)) [ inl t ↦ inl (t, ltb-true a b 
 -- what a store covers
 pub covers-range : (p : Put) (b : ℕ) → p.addr ≤ b → b < p.addr + p.len → covers p b ≡ true
 covers-range p b low high = and_from (nat_le p.addr b) (nat_lt (b - p.addr) p.len) (le-leb p.addr b low) (lt-ltb (b - p.addr) p.len (omega (arith, low, high)))
+
+-- a store writes its first byte
+pub covers-own : (p : Put) → 0 < p.len → covers p p.addr ≡ true
+covers-own p h = covers-range p p.addr (omega arith) (omega (arith, h))
 
 pub range-covers : (p : Put) (b : ℕ) → covers p b ≡ true → (p.addr ≤ b) × (b < p.addr + p.len)
 range-covers p b h =
@@ -169,10 +173,6 @@ found-last puts writes b c end d are within point inside some same = omega (arit
 pub greatest-none : (puts : List Put) (c low : ℕ) → IsGreatestIn puts c low low 0
 greatest-none puts c low = record { bound = λ b above below. absurd (omega arith); reached = inl refl }
 
--- of no stores
-pub greatest-zero : (puts : List Put) (low high : ℕ) → IsGreatestIn puts 0 low high 0
-greatest-zero puts low high = record { bound = λ b above below. last_in-le puts b 0; reached = inl refl }
-
 -- one more byte
 pub greatest-more : (puts : List Put) (c low b g : ℕ) → low ≤ b → IsGreatestIn puts c low b g → IsGreatestIn puts c low (b + 1) (max (last_in puts b c) g)
 greatest-more puts c low b g h is = record { bound = bound; reached = reached (cases_lt g (last_in puts b c)) }
@@ -184,23 +184,66 @@ greatest-more puts c low b g h is = record { bound = bound; reached = reached (c
     reached (inl more) = inr (b, h, omega arith, omega arith)
     reached (inr less) = elim is.reached [ inl none ↦ inl (omega arith) | inr some ↦ inr (some.0, some.1, omega (arith, some.2), omega (arith, some.3)) ]
 
--- a store writes its first byte
-pub covers-own : (p : Put) → 0 < p.len → covers p p.addr ≡ true
-covers-own p h =
-    elim (leb_tells p.addr p.addr) [
-      | inl a ↦ let e : p.addr - p.addr ≡ 0 = omega arith in elim (ltb_tells 0 p.len) [ inl b ↦ rw (a.0, e, b.0) refl | inr b ↦ absurd (omega (arith, b.1)) ]
-      | inr a ↦ absurd (omega (arith, a.1))
+-- an element within the list is the same at any default
+put-any : (puts : List Put) (k : ℕ) (d e : Put) → k < length puts → get_or puts k d ≡ get_or puts k e
+put-any [] k d e h = absurd (omega arith)
+put-any (x ∷ puts) zero d e h = refl
+put-any (x ∷ puts) (suc k) d e h = put-any puts k d e (omega arith)
+
+-- the newest of some stores writes the byte
+pub last_in-here : (puts : List Put) (b r : ℕ) (d : Put) → 0 < r → r ≤ length puts → covers (get_or puts (r - 1) d) b ≡ true → last_in puts b r ≡ r
+unfolding last_in
+last_in-here puts b zero d some within hit = absurd (omega arith)
+last_in-here puts b (suc r) d some within hit =
+    let e : suc r - 1 ≡ r = omega arith in
+    let read : get_or puts (suc r - 1) d ≡ put_at puts r = ap (λ k. get_or puts k d) e ∙ put-any puts r d no_put (omega arith) in
+    let there : covers (put_at puts r) b ≡ true = subst (λ p. covers p b ≡ true) read hit in
+    rw there refl
+
+-- or it does not
+pub last_in-earlier : (puts : List Put) (b r : ℕ) (d : Put) → 0 < r → r ≤ length puts → covers (get_or puts (r - 1) d) b ≡ false → last_in puts b r ≡ last_in puts b (r - 1)
+unfolding last_in
+last_in-earlier puts b zero d some within free = absurd (omega arith)
+last_in-earlier puts b (suc r) d some within free =
+    let e : suc r - 1 ≡ r = omega arith in
+    let read : get_or puts (suc r - 1) d ≡ put_at puts r = ap (λ k. get_or puts k d) e ∙ put-any puts r d no_put (omega arith) in
+    let there : covers (put_at puts r) b ≡ false = subst (λ p. covers p b ≡ false) read free in
+    rw there (ap (last_in puts b) (sym e))
+
+-- none of no stores writes it
+pub last_in-none : (puts : List Put) (b r : ℕ) → r ≤ 0 → last_in puts b r ≡ 0
+last_in-none puts b r none = omega (arith, last_in-le puts b r)
+
+-- where a store writes one of the bytes, and those after it none
+pub greatest-met :
+    (puts : List Put) (c r low high : ℕ) (d : Put) → 0 < r → r ≤ length puts → Meets (get_or puts (r - 1) d) low high →
+    ((b : ℕ) → low ≤ b → b < high → last_in puts b c ≡ last_in puts b r) → IsGreatestIn puts c low high r
+greatest-met puts c r low high d some within met same = record {
+  bound = λ b above below. omega (arith, same b above below, last_in-le puts b r);
+  reached = let e = last_in-here puts met.0 r d some within met.3 in inr (met.0, met.1, met.2, same met.0 met.1 met.2 ∙ e);
+}
+
+-- where a store writes none of the bytes
+pub unmet-earlier :
+    (puts : List Put) (c r low high : ℕ) (d : Put) → 0 < r → r ≤ length puts → (Meets (get_or puts (r - 1) d) low high → ⊥) →
+    ((b : ℕ) → low ≤ b → b < high → last_in puts b c ≡ last_in puts b r) → (b : ℕ) → low ≤ b → b < high → last_in puts b c ≡ last_in puts b (r - 1)
+unmet-earlier puts c r low high d some within unmet same b above below =
+    same b above below
+    ∙ elim (cases_Bool (covers (get_or puts (r - 1) d) b)) [
+      | inl hit ↦ absurd (unmet (b, above, below, hit))
+      | inr free ↦ last_in-earlier puts b r d some within free
     ]
 
--- where the newest store writes one of the bytes
-pub greatest-newest : (puts : List Put) (c low high : ℕ) → 0 < c → 0 < (put_at puts (c - 1)).len → low ≤ (put_at puts (c - 1)).addr → (put_at puts (c - 1)).addr < high → IsGreatestIn puts c low high c
-greatest-newest puts c low high some wide above below =
-    let p = put_at puts (c - 1) in
-    let hit : covers p p.addr ≡ true = covers-own p wide in
-    record {
-      bound = λ b a z. last_in-le puts b c;
-      reached = inr (p.addr, above, below, omega (arith, last_in-le puts p.addr c, last_in-above puts p.addr c (c - 1) (omega arith) hit));
-    }
+-- where the later stores write none of the bytes
+pub greatest-unmet : (puts : List Put) (c r low high g : ℕ) → ((b : ℕ) → low ≤ b → b < high → last_in puts b c ≡ last_in puts b r) → IsGreatestIn puts r low high g → IsGreatestIn puts c low high g
+greatest-unmet puts c r low high g same is = record {
+  bound = λ b above below. omega (arith, same b above below, is.bound b above below);
+  reached = elim is.reached [ inl none ↦ inl none | inr there ↦ inr (there.0, there.1, there.2, same there.0 there.1 there.2 ∙ there.3) ];
+}
+
+-- of no stores
+pub greatest-zero : (puts : List Put) (low high : ℕ) → IsGreatestIn puts 0 low high 0
+greatest-zero puts low high = record { bound = λ b above below. last_in-le puts b 0; reached = inl refl }
 
 -- one more byte
 pub least-more : (puts : List Put) (c low b : ℕ) (old new : Option ℕ) → low ≤ b → IsLeastOf puts c low b old → IsLesser old (last_in puts b c) new → IsLeastOf puts c low (b + 1) new
@@ -294,44 +337,6 @@ put-read puts P k x same h e = e ∙ ap (λ ps. get_or ps k x) same ∙ any P k 
     any (y ∷ xs) zero d e' m = refl
     any (y ∷ xs) (suc j) d e' m = any xs j d e' (omega arith)
 
--- where the newest store writes one of the bytes, as it is read
-pub newest-in : (puts P : List Put) (c low high : ℕ) (x : Put) → puts ≡ P → All IsInside puts → 0 < c → c ≤ length P → x ≡ get_or puts (c - 1) x → low ≤ x.addr → x.addr < high → IsGreatestIn P c low high c
-newest-in puts P c low high x same inside some within e above below =
-    let read = put-read puts P (c - 1) x same (omega arith) e in
-    let wide = (subst (All IsInside) same inside) (c - 1) no_put (omega arith) in
-    let addr : x.addr ≡ (put_at P (c - 1)).addr = ap (λ (p : Put). p.addr) read in
-    greatest-newest P c low high some wide.some (omega (arith, addr)) (omega (arith, addr))
-
 -- the least rank is that of a store
 pub least-within : (puts : List Put) (c low high m : ℕ) → IsLeastIn puts c low high m → m ≤ c
 least-within puts c low high m is = let r = is.reached in omega (arith, r.3, last_in-le puts r.0 c)
-
--- an element within the list is the same at any default
-put-any : (puts : List Put) (k : ℕ) (d e : Put) → k < length puts → get_or puts k d ≡ get_or puts k e
-put-any [] k d e h = absurd (omega arith)
-put-any (x ∷ puts) zero d e h = refl
-put-any (x ∷ puts) (suc k) d e h = put-any puts k d e (omega arith)
-
--- the newest of some stores writes the byte
-pub last_in-here : (puts : List Put) (b r : ℕ) (d : Put) → 0 < r → r ≤ length puts → covers (get_or puts (r - 1) d) b ≡ true → last_in puts b r ≡ r
-unfolding last_in
-last_in-here puts b zero d some within hit = absurd (omega arith)
-last_in-here puts b (suc r) d some within hit =
-    let e : suc r - 1 ≡ r = omega arith in
-    let read : get_or puts (suc r - 1) d ≡ put_at puts r = ap (λ k. get_or puts k d) e ∙ put-any puts r d no_put (omega arith) in
-    let there : covers (put_at puts r) b ≡ true = subst (λ p. covers p b ≡ true) read hit in
-    rw there refl
-
--- or it does not
-pub last_in-earlier : (puts : List Put) (b r : ℕ) (d : Put) → 0 < r → r ≤ length puts → covers (get_or puts (r - 1) d) b ≡ false → last_in puts b r ≡ last_in puts b (r - 1)
-unfolding last_in
-last_in-earlier puts b zero d some within free = absurd (omega arith)
-last_in-earlier puts b (suc r) d some within free =
-    let e : suc r - 1 ≡ r = omega arith in
-    let read : get_or puts (suc r - 1) d ≡ put_at puts r = ap (λ k. get_or puts k d) e ∙ put-any puts r d no_put (omega arith) in
-    let there : covers (put_at puts r) b ≡ false = subst (λ p. covers p b ≡ false) read free in
-    rw there (ap (last_in puts b) (sym e))
-
--- none of no stores writes it
-pub last_in-none : (puts : List Put) (b r : ℕ) → r ≤ 0 → last_in puts b r ≡ 0
-last_in-none puts b r none = omega (arith, last_in-le puts b r)

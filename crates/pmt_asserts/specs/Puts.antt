@@ -10,6 +10,10 @@ use Rattle.pmt_asserts.specs.declared.put.Write.{Write}
 abbrev pub covers : Put → ℕ → Bool
 covers p b = nat_le p.addr b && nat_lt (b - p.addr) p.len
 
+-- The store writes a byte from low to high.
+abbrev pub Meets : Put → ℕ → ℕ → Type 0
+Meets p low high = (b : ℕ) × (low ≤ b) × (b < high) × (covers p b ≡ true)
+
 abbrev pub with_put : ℕ → StepKind → List Put → List Put
 with_put number (Store addr len) puts = record { number = number; addr = addr; len = len } ∷ puts
 with_put number Flush puts = puts

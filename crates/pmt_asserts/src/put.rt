@@ -1,6 +1,6 @@
 //! The stores of a line and the bytes that they write.
-ghost use Rattle.std.specs.Prelude.{◌≡◌, ◌≤◌, length};
-ghost use Rattle.pmt_asserts.specs.Puts.{covers, last_in};
+ghost use Rattle.std.specs.Prelude.{◌≡◌, ◌≤◌, ◌↔◌, IsTrue, length};
+ghost use Rattle.pmt_asserts.specs.Puts.{covers, Meets, last_in};
 
 /// A store of a line's job.
 #[derive(Clone, Copy, Debug, PartialEq, Eq)]
@@ -24,6 +24,13 @@ impl Put {
         ensures { result ≡ covers self.now byte }
     {
         self.addr <= byte && byte - self.addr < self.len
+    }
+
+    /// Whether the store writes a byte from `low` to `high`.
+    pub fn meets(&self, low: u64, high: u64) -> bool
+        ensures { IsTrue result ↔ Meets self.now low high }
+    {
+        low.max(self.addr) < high.min(self.addr.saturating_add(self.len))
     }
 }
 

@@ -96,18 +96,32 @@ impl LineTable {
         if last.byte == byte { last.rank } else { 0 }
     }
 
-    // The greatest rank of a last one of the first `count` stores to a byte from `low` to `high`, or 0.
+    // The greatest rank of a last one of the first `count` stores to a byte from `low` to `high`, or 0. It is that of the last one
+    // that writes such a byte, which mostly is one of the newest.
     fn greatest(&self, low: u64, high: u64, count: usize) -> u64
         requires { count ≤ length (puts_of self.now.job.steps) }
         ensures { IsGreatestIn (puts_of self.now.job.steps) count low high result }
     {
-        if count == 0 {
+        let fence = count.saturating_sub(FEW);
+        let mut rank = count;
+        while fence < rank {
+            let put = self.puts[rank - 1];
+            if put.meets(low, high) {
+                return rank as u64;
+            }
+            rank -= 1;
+        }
+        if rank == 0 {
             return 0;
         }
-        let newest = self.puts[count - 1];
-        if low <= newest.addr && newest.addr < high {
-            return count as u64;
-        }
+        self.greatest_by_byte(low, high, rank)
+    }
+
+    // The same rank, byte by byte.
+    fn greatest_by_byte(&self, low: u64, high: u64, count: usize) -> u64
+        requires { count ≤ length (puts_of self.now.job.steps) }
+        ensures { IsGreatestIn (puts_of self.now.job.steps) count low high result }
+    {
         let mut greatest = 0;
         for byte in low..high {
             greatest = self.last(byte, count).max(greatest);

@@ -1,35 +1,35 @@
-use Rattle.std.proofs.Common.{◌∙◌, ◌+◌, ap, subst, sym, arith, refl}
-use Rattle.std.specs.Prelude.{max}
+use Rattle.std.proofs.Common.{◌≡◌, ◌∙◌, ◌-◌, List, get_or, ap, subst, sym, arith}
 use Rattle.pmt_lines.specs.Raises.{LineFound}
-use Rattle.pmt_asserts.specs.Puts.{puts_of, IsGreatestIn}
-use Rattle.pmt_asserts.proofs.RankLemmas.{greatest-zero, greatest-none, greatest-more, greatest-end, newest-in}
+use Rattle.pmt_asserts.specs.declared.put.Put.{Put}
+use Rattle.pmt_asserts.specs.Puts.{puts_of, Meets, IsGreatestIn}
+use Rattle.pmt_asserts.proofs.RankLemmas.{greatest-met, unmet-earlier, greatest-unmet, greatest-zero}
 use Rattle.pmt_asserts.proofs.table.LineTable.greatest.Goals as goal
 
-pub returns-then-count-eq0 : goal.returns-then-count-eq0
-returns-then-count-eq0 c =
-    let puts = puts_of c.args.self.now.job.steps in
-    subst (λ k. IsGreatestIn puts k c.args.low c.args.high 0) (sym c.if-count-eq0.true) (greatest-zero puts c.args.low c.args.high)
+pub returns-then-meets : goal.returns-then-meets
+returns-then-meets c =
+    let x = c.index.result.now in
+    let stores = c.self.invariant.stores ∙ ap (λ (g : LineFound). puts_of g.job.steps) c.self.view_is in
+    let read : x ≡ get_or (puts_of c.args.self.now.job.steps) (c.loop-rank.rank - 1) x = c.index.ensures ∙ ap (λ (ps : List Put). get_or ps (c.loop-rank.rank - 1) x) stores in
+    let within = c.loop-rank.invariant.0 in
+    greatest-met (puts_of c.args.self.now.job.steps) c.args.count c.loop-rank.rank c.args.low c.args.high x (omega (arith, c.loop-rank-test.true)) (omega (arith, within, c.requires))
+    (subst (λ (p : Put). Meets p c.args.low c.args.high) read (c.meets.ensures.0 c.if-meets.true)) c.loop-rank.invariant.1
 
-pub returns-then-newest-high : goal.returns-then-newest-high
-returns-then-newest-high c =
-    newest-in c.self.inside.puts.items (puts_of c.args.self.now.job.steps) c.args.count c.args.low c.args.high c.index-newest.result.now
-    (c.self.invariant.stores ∙ ap (λ (g : LineFound). puts_of g.job.steps) c.self.view_is) c.self.invariant.inside
-    (omega (arith, c.if-count-eq0.false)) c.requires c.index-newest.ensures c.if-low-newest.true c.if-newest-high.true
-
-pub loop-byte-init : goal.loop-byte-init
-loop-byte-init c = (greatest-none (puts_of c.args.self.now.job.steps) c.args.count c.args.low, λ h. refl)
-
-pub loop-byte-preserved : goal.loop-byte-preserved
-loop-byte-preserved c =
-    let puts = puts_of c.args.self.now.job.steps in
-    let low = c.loop-byte.auto.byte in
-    let below = c.loop-byte-test.true in (
-      subst (IsGreatestIn puts c.args.count c.args.low (c.loop-byte.byte + 1)) (sym (c.max-greatest.ensures ∙ ap (λ r. max r c.loop-byte.greatest) c.last.ensures))
-          (greatest-more puts c.args.count c.args.low c.loop-byte.byte c.loop-byte.greatest low c.loop-byte.invariant.0),
-      λ h. absurd (omega (arith, h, low, below)),
+pub loop-rank-preserved : goal.loop-rank-preserved
+loop-rank-preserved c =
+    let x = c.index.result.now in
+    let stores = c.self.invariant.stores ∙ ap (λ (g : LineFound). puts_of g.job.steps) c.self.view_is in
+    let read : x ≡ get_or (puts_of c.args.self.now.job.steps) (c.loop-rank.rank - 1) x = c.index.ensures ∙ ap (λ (ps : List Put). get_or ps (c.loop-rank.rank - 1) x) stores in
+    let within = c.loop-rank.invariant.0 in (
+      omega (arith, within),
+      unmet-earlier (puts_of c.args.self.now.job.steps) c.args.count c.loop-rank.rank c.args.low c.args.high x (omega (arith, c.loop-rank-test.true)) (omega (arith, within, c.requires))
+          (λ met. absurd (let told = c.meets.ensures.1 (subst (λ (p : Put). Meets p c.args.low c.args.high) (sym read) met) in cc)) c.loop-rank.invariant.1,
     )
 
+pub returns-then-rank-eq0 : goal.returns-then-rank-eq0
+returns-then-rank-eq0 c =
+    let puts = puts_of c.args.self.now.job.steps in
+    greatest-unmet puts c.args.count c.loop-rank.rank c.args.low c.args.high 0 c.loop-rank.invariant.1
+    (subst (λ k. IsGreatestIn puts k c.args.low c.args.high 0) (sym c.if-rank-eq0.true) (greatest-zero puts c.args.low c.args.high))
+
 pub returns : goal.returns
-returns c =
-    greatest-end (puts_of c.args.self.now.job.steps) c.args.count c.args.low c.loop-byte.byte c.args.high c.loop-byte.greatest c.loop-byte-test.false c.loop-byte.auto.byte-end
-    c.loop-byte.invariant.1 c.loop-byte.invariant.0
+returns c = greatest-unmet (puts_of c.args.self.now.job.steps) c.args.count c.loop-rank.rank c.args.low c.args.high c.greatest_by_byte.result c.loop-rank.invariant.1 c.greatest_by_byte.ensures

@@ -1,4 +1,4 @@
-use Rattle.std.proofs.Common.{◌∙◌, ap, length, arith}
+use Rattle.std.proofs.Common.{◌∙◌, ap, arith}
 use Rattle.pmt_lines.specs.Raises.{LineFound}
 use Rattle.pmt_asserts.specs.Puts.{puts_of}
 use Rattle.pmt_asserts.proofs.RankLemmas.{last_in-le}
