@@ -1,5 +1,5 @@
 -- What a line's table tells of a trace.
-use Rattle.std.proofs.Common.{◌≡◌, ℕ, zero, suc, ◌-◌, ◌<◌, ◌≤◌, ◌⊎◌, ◌↔◌, inl, inr, true, false, List, length, get_or, Some, IfSome, sym, ap, subst, ◌∙◌, arith}
+use Rattle.std.proofs.Common.{◌≡◌, ℕ, zero, suc, ◌-◌, ◌<◌, ◌≤◌, ◌⊎◌, ◌↔◌, inl, inr, true, false, List, length, get_or, Some, IfSome, refl, sym, ap, subst, ◌∙◌, arith}
 use Rattle.std.specs.Prelude.{nat_le}
 use Rattle.std.specs.List.Sorted.{IsPartitionPoint, IsPartitionedBy}
 use Rattle.std.proofs.lemmas.Bool.{leb-true}
@@ -18,6 +18,7 @@ use Rattle.pmt_asserts.specs.Puts.{puts_of, no_put, put_at, last_in, IsGreatestI
 use Rattle.pmt_asserts.specs.Tables.{LieIn, EachFrom, PersistedBy, RankedBy, ComesFrom, IsLastAt, IsOldest, IsUnwritten}
 use Rattle.pmt_asserts.proofs.TraceLemmas.{ArePuts, job-puts, counted, numbers-rise}
 use Rattle.pmt_asserts.proofs.RaiseLemmas.{no_raise, front_after, front-raised, places-rise}
+use Rattle.pmt_asserts.proofs.RankLemmas.{put-read}
 use Rattle.pmt_asserts.proofs.LastLemmas.{LastIs, NoLast, LastAt, last-is}
 
 -- a test of an order that failed
@@ -37,6 +38,21 @@ pub count-found :
 count-found T l steps puts n i job is within point =
     let are = subst (ArePuts T l 0) (sym is) (job-puts T l steps job) in
     counted T l n i puts are within (λ k h. leb-true (put_at puts k).number n (point.0 k no_put (omega arith) h)) (λ k h m. past-from (put_at puts k).number n (point.1 k no_put h m))
+
+-- where there are none, none come by it
+pub count-none : (T : Recording) (l : ℕ) (steps : List Step) (puts : List Put) (n : ℕ) → IsJobOf T l steps → puts ≡ puts_of steps → length puts ≡ 0 → count_at T l n ≡ 0
+count-none T l steps puts n job is none =
+    counted T l n 0 puts (subst (ArePuts T l 0) (sym is) (job-puts T l steps job)) (omega arith) (λ k h. absurd (omega arith)) (λ k h m. absurd (omega (arith, m, none)))
+
+-- where the newest one comes by it, all do
+pub count-all :
+    (T : Recording) (l : ℕ) (steps : List Step) (puts : List Put) (n : ℕ) (x : Put) → IsJobOf T l steps → puts ≡ puts_of steps → 0 < length puts →
+    x ≡ get_or puts (length puts - 1) x → x.number ≤ n → count_at T l n ≡ length puts
+count-all T l steps puts n x job is some read by_now =
+    let are = subst (ArePuts T l 0) (sym is) (job-puts T l steps job) in
+    let newest : x.number ≡ (put_at puts (length puts - 1)).number = ap (λ (p : Put). p.number) (put-read puts puts (length puts - 1) x refl (omega (arith, some)) read) in
+    counted T l n (length puts) puts are (omega arith) (λ k h. omega (arith, newest, by_now, numbers-rise T l puts are k (length puts - 1) (omega (arith, h)) (omega (arith, some))))
+    (λ k h m. absurd (omega (arith, h, m)))
 
 -- the raises are those of the line
 raises-are : (T : Recording) (found : LineFound) (raises : List Raise) → raises ≡ found.raises → IsLineResult found → IsJob T found.job → RaisesBetween T found.job.line 0 (length T.events) raises
@@ -60,6 +76,17 @@ front-found T found raises n i same right job by_end within point =
 pub front_after-some : (raises : List Raise) (i : ℕ) → 0 < i → front_after 0 raises i ≡ (get_or raises (i - 1) no_raise).front
 front_after-some raises zero h = absurd (omega arith)
 front_after-some raises (suc i) h = let e : suc i - 1 ≡ i = omega arith in ap (λ k. (get_or raises k no_raise).front) (sym e)
+
+-- where the newest raise comes by a place, the front there is that of this raise
+pub front-all :
+    (T : Recording) (found : LineFound) (raises : List Raise) (n : ℕ) → raises ≡ found.raises → IsLineResult found → IsJob T found.job → n ≤ length T.events → 0 < length raises →
+    (get_or raises (length raises - 1) no_raise).place ≤ n → front_at T found.job.line n ≡ (get_or raises (length raises - 1) no_raise).front
+front-all T found raises n same right job by_end some by_now =
+    let are = raises-are T found raises same right job in
+    let rise : (k : ℕ) → k < length raises → (get_or raises k no_raise).place ≤ (get_or raises (length raises - 1) no_raise).place =
+    λ k h. places-rise T found.job.line 0 (length T.events) raises are k (length raises - 1) (omega (arith, h)) (omega (arith, some)) in
+    front-raised T found.job.line 0 (length T.events) n (length raises) raises are (omega arith) by_end (omega arith) (λ k h. omega (arith, by_now, rise k h)) (λ k h m. absurd (omega (arith, h, m)))
+    ∙ front_after-some raises (length raises) some
 
 -- the greatest rank decides what is asked of each last store of the line
 greatest-decides :

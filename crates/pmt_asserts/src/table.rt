@@ -53,19 +53,34 @@ impl LineTable {
         })
     }
 
-    // How many stores come by the place.
+    // How many stores come by the place, which mostly lies past all of them.
     fn count_at(&self, place: u64) -> usize
         ensures value { OfEachTrace self.now (λ T l. stores_by T l place ≡ result) }
         ensures within { result ≤ length (puts_of self.now.job.steps) }
     {
+        let all = self.puts.len();
+        if all == 0 {
+            return 0;
+        }
+        let newest = self.puts[all - 1];
+        if newest.number <= place {
+            return all;
+        }
         self.puts.partition_point(|put| put.number <= place)
     }
 
-    // The front at the place.
+    // The front at the place, which mostly lies past all raises.
     fn front_at(&self, place: u64) -> u64
         ensures { OfEachTrace self.now (λ T l. place ≤ length T.events → front_by T l place ≡ result) }
     {
         let raises = self.found.raises();
+        let all = raises.len();
+        if all == 0 {
+            return 0;
+        }
+        if raises[all - 1].place as u64 <= place {
+            return raises[all - 1].front as u64;
+        }
         let count = raises.partition_point(|raise| raise.place as u64 <= place);
         if count == 0 {
             0
