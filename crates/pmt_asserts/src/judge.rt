@@ -7,7 +7,7 @@ ghost use Rattle.pmt_model.specs.Analyses.{IsVerdicts};
 ghost use Rattle.pmt_asserts.specs.Tables.{AreResultsOf};
 ghost use Rattle.pmt_asserts.specs.Judging.{AreAssertions, asserts, IsEarliestOf, IsVerdictAt, IsLineInOrder, IsLineOrdered, earlier_of, place_for};
 
-use crate::oldest::{Earliest, Oldest};
+use crate::oldest::{Earliest, Oldest, Spot};
 use crate::part::{is_line_persisted, is_line_ranked, line_oldest};
 use crate::tables::Tables;
 use pmt_model::{Op, OutOfMemory, Range, Trace, Verdict};
@@ -100,8 +100,9 @@ fn persists(tables: &Tables, trace: &Trace, number: u64, range: Range) -> bool
     ensures { IsTrue result ↔ PersistPasses (history trace.now number) range }
 {
     let (first, end) = lines_of(trace, range);
+    let shift = tables.shift(first);
     for line in first..end {
-        if !is_line_persisted(tables, trace, range, line, number, number) {
+        if !is_line_persisted(tables, trace, range, Spot { line, shift }, number, number) {
             return false;
         }
     }
@@ -134,13 +135,14 @@ fn earliest(
     ensures { IsEarliestOf trace.now number skipped range result }
 {
     let (first, end) = lines_of(trace, range);
+    let shift = tables.shift(first);
     let mut earliest = None;
     for line in first..end {
         if skipped != Some(line) {
             earliest = earlier(
                 earliest,
                 line,
-                line_oldest(tables, trace, range, line, number),
+                line_oldest(tables, trace, range, Spot { line, shift }, number),
             );
         }
     }
@@ -195,9 +197,11 @@ fn is_ordered(tables: &Tables, trace: &Trace, number: u64, first: Range, second:
     };
     let (start, end) = lines_of(trace, first);
     let other = next_earliest(tables, trace, number, second, found, start, end);
+    let shift = tables.shift(start);
     for line in start..end {
         let by = place_by(found, other, line);
-        if !is_line_ordered(tables, trace, number, first, second, line, by) {
+        let spot = Spot { line, shift };
+        if !is_line_ordered(tables, trace, number, first, second, spot, by) {
             return false;
         }
     }
@@ -225,20 +229,20 @@ fn is_line_ordered(
     number: u64,
     first: Range,
     second: Range,
-    line: u64,
+    spot: Spot,
     by: Option<u64>,
 ) -> bool
     requires results { AreResultsOf trace.now tables.now }
-    requires line { line < 2 ^ 48 }
+    requires line { spot.line < 2 ^ 48 }
     requires by { IfSome by (λ place. place ≤ length trace.now.events) }
-    ensures { IsTrue result ↔ IsLineOrdered trace.now number first second line by }
+    ensures { IsTrue result ↔ IsLineOrdered trace.now number first second spot.line by }
 {
-    if !is_line_in_order(tables, trace, number, first, second, line) {
+    if !is_line_in_order(tables, trace, number, first, second, spot) {
         return false;
     }
     match by {
         None => true,
-        Some(place) => is_line_persisted(tables, trace, first, line, number, place),
+        Some(place) => is_line_persisted(tables, trace, first, spot, number, place),
     }
 }
 
@@ -249,14 +253,14 @@ fn is_line_in_order(
     number: u64,
     first: Range,
     second: Range,
-    line: u64,
+    spot: Spot,
 ) -> bool
     requires results { AreResultsOf trace.now tables.now }
-    requires line { line < 2 ^ 48 }
-    ensures { IsTrue result ↔ IsLineInOrder trace.now number first second line }
+    requires line { spot.line < 2 ^ 48 }
+    ensures { IsTrue result ↔ IsLineInOrder trace.now number first second spot.line }
 {
-    match line_oldest(tables, trace, second, line, number) {
+    match line_oldest(tables, trace, second, spot, number) {
         None => true,
-        Some(oldest) => is_line_ranked(tables, trace, first, line, number, oldest.rank),
+        Some(oldest) => is_line_ranked(tables, trace, first, spot, number, oldest.rank),
     }
 }

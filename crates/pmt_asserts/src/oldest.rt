@@ -1,4 +1,4 @@
-//! The first stores to lines, as the second range of isOrderedBefore asks for them.
+//! The first stores to lines, as the second range of isOrderedBefore asks for them, and where they are looked for.
 
 /// The first one of some stores to a line: its rank among the line's stores and its event's number.
 #[derive(Clone, Copy, Debug, PartialEq, Eq)]
@@ -19,4 +19,11 @@ pub struct Earliest {
 pub struct Part {
     pub low: u64,
     pub high: u64,
+}
+
+/// A line, and how far the place of its table is thought to lie from it.
+#[derive(Clone, Copy, Debug, PartialEq, Eq)]
+pub struct Spot {
+    pub line: u64,
+    pub shift: u64,
 }

@@ -5,7 +5,7 @@ ghost use Rattle.pmt_model.specs.Assertions.{InSpan};
 ghost use Rattle.pmt_asserts.specs.Tables.{AreResultsOf, PersistedBy, RankedBy};
 ghost use Rattle.pmt_asserts.specs.Judging.{EachIn, IsOldestOfLine};
 
-use crate::oldest::{Oldest, Part};
+use crate::oldest::{Oldest, Part, Spot};
 use crate::tables::Tables;
 use pmt_model::{Format, Range, Trace};
 
@@ -29,17 +29,17 @@ pub fn is_line_persisted(
     tables: &Tables,
     trace: &Trace,
     range: Range,
-    line: u64,
+    spot: Spot,
     place: u64,
     by: u64,
 ) -> bool
     requires results { AreResultsOf trace.now tables.now }
-    requires line { line < 2 ^ 48 }
+    requires line { spot.line < 2 ^ 48 }
     requires by { by ≤ length trace.now.events }
-    ensures { IsTrue result ↔ EachIn trace.now line range (PersistedBy trace.now place by) }
+    ensures { IsTrue result ↔ EachIn trace.now spot.line range (PersistedBy trace.now place by) }
 {
-    let part = part_of(trace.format(), range, line);
-    match tables.find(line) {
+    let part = part_of(trace.format(), range, spot.line);
+    match tables.find(spot) {
         None => true,
         Some(table) => table.is_persisted_by(part.low, part.high, place, by),
     }
@@ -51,16 +51,16 @@ pub fn is_line_ranked(
     tables: &Tables,
     trace: &Trace,
     range: Range,
-    line: u64,
+    spot: Spot,
     place: u64,
     rank: u64,
 ) -> bool
     requires results { AreResultsOf trace.now tables.now }
-    requires line { line < 2 ^ 48 }
-    ensures { IsTrue result ↔ EachIn trace.now line range (RankedBy trace.now place rank) }
+    requires line { spot.line < 2 ^ 48 }
+    ensures { IsTrue result ↔ EachIn trace.now spot.line range (RankedBy trace.now place rank) }
 {
-    let part = part_of(trace.format(), range, line);
-    match tables.find(line) {
+    let part = part_of(trace.format(), range, spot.line);
+    match tables.find(spot) {
         None => true,
         Some(table) => table.is_ranked_by(part.low, part.high, place, rank),
     }
@@ -71,15 +71,15 @@ pub fn line_oldest(
     tables: &Tables,
     trace: &Trace,
     range: Range,
-    line: u64,
+    spot: Spot,
     place: u64,
 ) -> Option<Oldest>
     requires results { AreResultsOf trace.now tables.now }
-    requires line { line < 2 ^ 48 }
-    ensures { IsOldestOfLine trace.now place line range result }
+    requires line { spot.line < 2 ^ 48 }
+    ensures { IsOldestOfLine trace.now place spot.line range result }
 {
-    let part = part_of(trace.format(), range, line);
-    match tables.find(line) {
+    let part = part_of(trace.format(), range, spot.line);
+    match tables.find(spot) {
         None => None,
         Some(table) => table.oldest(part.low, part.high, place),
     }

@@ -8,12 +8,12 @@ returns-then-not-is_line_in_order c = (λ t. absurd cc, λ ordered. absurd (let 
 
 pub returns-in-None : goal.returns-in-None
 returns-in-None c =
-    let persisted : ℕ → Type 0 = λ n. EachIn c.args.trace.now c.args.line c.args.first (PersistedBy c.args.trace.now c.args.number n) in
+    let persisted : ℕ → Type 0 = λ n. EachIn c.args.trace.now c.args.spot.line c.args.first (PersistedBy c.args.trace.now c.args.number n) in
     (λ t. (c.is_line_in_order.ensures.0 c.if-not-is_line_in_order.false, subst (λ o. IfSome o persisted) (sym c.in-None.is) tt), λ ordered. refl)
 
 pub returns-in-Some : goal.returns-in-Some
 returns-in-Some c =
-    let persisted : ℕ → Type 0 = λ n. EachIn c.args.trace.now c.args.line c.args.first (PersistedBy c.args.trace.now c.args.number n) in (
+    let persisted : ℕ → Type 0 = λ n. EachIn c.args.trace.now c.args.spot.line c.args.first (PersistedBy c.args.trace.now c.args.number n) in (
       λ t. (c.is_line_in_order.ensures.0 c.if-not-is_line_in_order.false, subst (λ o. IfSome o persisted) (sym c.in-Some.is) (c.is_line_persisted.ensures.0 t)),
       λ ordered. c.is_line_persisted.ensures.1 (subst (λ o. IfSome o persisted) c.in-Some.is ordered.1),
     )
