@@ -328,6 +328,14 @@ least-end puts c low b high (Some m) past fits none is = record {
     go (inl empty) = let never : Some m ≡ None = none (omega arith) in cc
     go (inr some) = let up = fits (omega arith) in let r = is.reached in (r.0, r.1, omega (arith, up, r.2), r.3)
 
+-- no rank is less than 1
+pub least-first : (puts : List Put) (c low b high v : ℕ) → low ≤ b → b < high → v ≡ last_in puts b c → v ≡ 1 → IsLeastIn puts c low high v
+least-first puts c low b high v from below same first = record {
+  some = omega (arith, first);
+  bound = λ a above under. elim (cases_lt 0 (last_in puts a c)) [ inl some ↦ inr (omega (arith, first, some)) | inr none ↦ inl (omega (arith, none)) ];
+  reached = (b, from, below, sym same);
+}
+
 -- an element that was read, at any default
 pub put-read : (puts P : List Put) (k : ℕ) (x : Put) → puts ≡ P → k < length P → x ≡ get_or puts k x → x ≡ put_at P k
 put-read puts P k x same h e = e ∙ ap (λ ps. get_or ps k x) same ∙ any P k x no_put h

@@ -179,7 +179,7 @@ impl LineTable {
         self.writes[count - 1].byte < high
     }
 
-    // The same rank, byte by byte.
+    // The same rank, byte by byte, until it is the least of all.
     fn least_by_byte(&self, low: u64, high: u64, count: usize) -> Option<u64>
         requires { count ≤ length (puts_of self.now.job.steps) }
         ensures { IsLeastOf (puts_of self.now.job.steps) count low high result }
@@ -188,6 +188,9 @@ impl LineTable {
         let mut byte = low;
         while byte < high {
             let rank = self.last(byte, count);
+            if rank == 1 {
+                return Some(rank);
+            }
             least = lesser(least, rank);
             byte = self.past(byte, rank, high);
         }

@@ -1,6 +1,6 @@
 use Rattle.std.proofs.Common.{arith, refl}
 use Rattle.pmt_asserts.specs.Puts.{puts_of}
-use Rattle.pmt_asserts.proofs.RankLemmas.{last_in-le, least-none, least-next, least-end}
+use Rattle.pmt_asserts.proofs.RankLemmas.{last_in-le, least-none, least-next, least-end, least-first}
 use Rattle.pmt_asserts.proofs.table.LineTable.least_by_byte.Goals as goal
 
 pub past-byte-requires-clause-within : goal.past-byte-requires-clause-within
@@ -31,3 +31,7 @@ pub returns : goal.returns
 returns c =
     let old = c.loop-byte.invariant in
     least-end (puts_of c.args.self.now.job.steps) c.args.count c.args.low c.loop-byte.byte c.args.high c.loop-byte.least (omega (arith, c.loop-byte-test.false)) old.fits old.none old.least
+
+pub returns-then-rank-eq1 : goal.returns-then-rank-eq1
+returns-then-rank-eq1 c =
+    least-first (puts_of c.args.self.now.job.steps) c.args.count c.args.low c.loop-byte.byte c.args.high c.last-rank.result c.loop-byte.invariant.started c.loop-byte-test.true c.last-rank.ensures c.if-rank-eq1.true
