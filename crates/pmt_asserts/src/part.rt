@@ -79,6 +79,9 @@ pub fn line_oldest(
     ensures { IsOldestOfLine trace.now place spot.line range result }
 {
     let part = part_of(trace.format(), range, spot.line);
+    if part.high <= part.low {
+        return None;
+    }
     match tables.find(spot) {
         None => None,
         Some(table) => table.oldest(part.low, part.high, place),
