@@ -210,10 +210,6 @@ last_in-earlier puts b (suc r) d some within free =
     let there : covers (put_at puts r) b ≡ false = subst (λ p. covers p b ≡ false) read free in
     rw there (ap (last_in puts b) (sym e))
 
--- none of no stores writes it
-pub last_in-none : (puts : List Put) (b r : ℕ) → r ≤ 0 → last_in puts b r ≡ 0
-last_in-none puts b r none = omega (arith, last_in-le puts b r)
-
 -- where a store writes one of the bytes, and those after it none
 pub greatest-met :
     (puts : List Put) (c r low high : ℕ) (d : Put) → 0 < r → r ≤ length puts → Meets (get_or puts (r - 1) d) low high →

@@ -1,5 +1,5 @@
 //! The stores of a line and the bytes that they write.
-ghost use Rattle.std.specs.Prelude.{◌≡◌, ◌≤◌, ◌↔◌, IsTrue, length};
+ghost use Rattle.std.specs.Prelude.{◌≡◌, ◌<◌, ◌≤◌, ◌↔◌, IsTrue, length};
 ghost use Rattle.pmt_asserts.specs.Puts.{covers, Meets, last_in};
 
 /// A store of a line's job.
@@ -34,13 +34,15 @@ impl Put {
     }
 }
 
-// The rank of the last one of the first `count` stores that writes the byte, or 0: it goes through them from the last one on.
-pub fn last_among(puts: &[Put], byte: u64, count: usize) -> u64
+// The rank of the last one of the first `count` stores that writes the byte, or 0 where it isn't above `fence`: it goes through
+// them from the last one on.
+pub fn last_above(puts: &[Put], byte: u64, count: usize, fence: usize) -> u64
     requires { count ≤ length puts.now }
-    ensures { result ≡ last_in puts.now byte count }
+    ensures found { 0 < result → result ≡ last_in puts.now byte count }
+    ensures none { result ≡ 0 → last_in puts.now byte count ≤ fence }
 {
     let mut rank = count;
-    while rank > 0 {
+    while rank > fence {
         let put = puts[rank - 1];
         if put.covers(byte) {
             return rank as u64;

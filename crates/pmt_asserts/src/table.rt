@@ -8,7 +8,7 @@ ghost use Rattle.pmt_asserts.specs.Tables.{OfEachTrace, LieIn, EachFrom, Persist
 use crate::build::{collect_puts, collect_writes};
 use crate::ends::{collect_ends, collect_oldest};
 use crate::oldest::Oldest;
-use crate::put::{Put, Write, last_among};
+use crate::put::{Put, Write, last_above};
 use pmt_lines::LineResult;
 use pmt_model::OutOfMemory;
 use std::alloc::Global;
@@ -96,14 +96,18 @@ impl LineTable {
         }
     }
 
-    // The rank of the last one of the first `count` stores that writes the byte, or 0.
+    // The rank of the last one of the first `count` stores that writes the byte, or 0. Mostly it is one of the newest.
     fn last(&self, byte: u64, count: usize) -> u64
         requires { count ≤ length (puts_of self.now.job.steps) }
         ensures { result ≡ last_in (puts_of self.now.job.steps) byte count }
     {
         let known = self.writes.len();
         if known == 0 {
-            return last_among(&self.puts, byte, count);
+            return last_above(&self.puts, byte, count, 0);
+        }
+        let newest = last_above(&self.puts, byte, count, count.saturating_sub(FEW));
+        if newest > 0 {
+            return newest;
         }
         let rank = count as u64;
         let end = self.writes.partition_point(

@@ -1,5 +1,6 @@
-use Rattle.std.proofs.Common.{◌≡◌, ◌≤◌, ◌<◌, ap, subst, sym, ◌∙◌, length, true, false, get_or, ◌-◌, arith, rules}
+use Rattle.std.proofs.Common.{inl, inr, ◌≡◌, ◌≤◌, ◌<◌, ap, subst, sym, ◌∙◌, length, true, false, get_or, ◌-◌, arith, rules}
 use Rattle.std.specs.List.Sorted.{IsPartitionPoint}
+use Rattle.std.proofs.lemmas.Bool.{cases_lt}
 use Rattle.std.proofs.lemmas.List.Sorted.{IsPartitionPoint-from_clause}
 use Rattle.pmt_lines.specs.Raises.{LineFound}
 use Rattle.pmt_asserts.specs.declared.put.Write.{Write}
@@ -17,14 +18,14 @@ are c =
 -- where the search ended
 point : (c : After-partition_point-end) → IsPartitionPoint (λ w. is_up_to c.args.byte c.args.count w ≡ true) (λ w. is_up_to c.args.byte c.args.count w ≡ false) c.self.inside.writes.items c.partition_point-end.result
 point c =
-    let same : c.deref-2.result.now ≡ c.self.inside.writes.items = c.deref-2.ensures.value in
+    let same : c.deref-3.result.now ≡ c.self.inside.writes.items = c.deref-3.ensures.value in
     subst (λ ws. IsPartitionPoint (λ w. is_up_to c.args.byte c.args.count w ≡ true) (λ w. is_up_to c.args.byte c.args.count w ≡ false) ws c.partition_point-end.result) same
-    (IsPartitionPoint-from_clause (is_up_to c.args.byte c.args.count) c.deref-2.result.now c.partition_point-end.result c.partition_point-end.ensures.partitioned
-    (writes-partitioned (puts_of c.args.self.now.job.steps) c.deref-2.result.now c.args.byte c.args.count (subst (AreWritesOf (puts_of c.args.self.now.job.steps)) (sym same) (are c))) (λ a r g q. search rules))
+    (IsPartitionPoint-from_clause (is_up_to c.args.byte c.args.count) c.deref-3.result.now c.partition_point-end.result c.partition_point-end.ensures.partitioned
+    (writes-partitioned (puts_of c.args.self.now.job.steps) c.deref-3.result.now c.args.byte c.args.count (subst (AreWritesOf (puts_of c.args.self.now.job.steps)) (sym same) (are c))) (λ a r g q. search rules))
 
 -- and that it did so within the writes
 inside : (c : After-partition_point-end) → c.partition_point-end.result ≤ length c.self.inside.writes.items
-inside c = subst (λ ws. c.partition_point-end.result ≤ length ws) c.deref-2.ensures.value c.partition_point-end.ensures.bound
+inside c = subst (λ ws. c.partition_point-end.result ≤ length ws) c.deref-3.ensures.value c.partition_point-end.ensures.bound
 
 pub returns-then-end-eq0 : goal.returns-then-end-eq0
 returns-then-end-eq0 c =
@@ -49,9 +50,23 @@ returns-else-last-byte c =
 pub returns-then-known-eq0 : goal.returns-then-known-eq0
 returns-then-known-eq0 c =
     let same : c.deref.result.now ≡ puts_of c.args.self.now.job.steps = c.deref.ensures.value ∙ c.self.invariant.stores ∙ ap (λ (g : LineFound). puts_of g.job.steps) c.self.view_is in
-    c.last_among.ensures ∙ ap (λ ps. last_in ps c.args.byte c.args.count) same
+    let all : last_in c.deref.result.now c.args.byte c.args.count ≡ last_in (puts_of c.args.self.now.job.steps) c.args.byte c.args.count = ap (λ ps. last_in ps c.args.byte c.args.count) same in
+    elim (cases_lt 0 c.last_above.result) [
+      | inl some ↦ c.last_above.ensures.found some ∙ all
+      | inr none ↦ omega (arith, none, c.last_above.ensures.none (omega (arith, none)), all)
+    ]
 
-pub last_among-requires : goal.last_among-requires
-last_among-requires c =
+pub last_above-requires : goal.last_above-requires
+last_above-requires c =
     let same : c.deref.result.now ≡ puts_of c.args.self.now.job.steps = c.deref.ensures.value ∙ c.self.invariant.stores ∙ ap (λ (g : LineFound). puts_of g.job.steps) c.self.view_is in
+    subst (λ ps. c.args.count ≤ length ps) (sym same) c.requires
+
+pub returns-then-newest-gt0 : goal.returns-then-newest-gt0
+returns-then-newest-gt0 c =
+    let same : c.deref-2.result.now ≡ puts_of c.args.self.now.job.steps = c.deref-2.ensures.value ∙ c.self.invariant.stores ∙ ap (λ (g : LineFound). puts_of g.job.steps) c.self.view_is in
+    c.last_above-newest.ensures.found c.if-newest-gt0.true ∙ ap (λ ps. last_in ps c.args.byte c.args.count) same
+
+pub last_above-newest-requires : goal.last_above-newest-requires
+last_above-newest-requires c =
+    let same : c.deref-2.result.now ≡ puts_of c.args.self.now.job.steps = c.deref-2.ensures.value ∙ c.self.invariant.stores ∙ ap (λ (g : LineFound). puts_of g.job.steps) c.self.view_is in
     subst (λ ps. c.args.count ≤ length ps) (sym same) c.requires

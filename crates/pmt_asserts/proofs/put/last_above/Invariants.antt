@@ -1,6 +1,6 @@
 use Rattle.std.proofs.Common.{◌≡◌, ◌≤◌}
 use Rattle.pmt_asserts.specs.Puts.{last_in}
-use Rattle.pmt_asserts.proofs.put.last_among.Given as goal
+use Rattle.pmt_asserts.proofs.put.last_above.Given as goal
 
 abbrev pub decreases-loop-rank : goal.decreases-loop-rank
 decreases-loop-rank l = l.rank
