@@ -2,7 +2,7 @@
 use Rattle.std.proofs.Common.{◌≡◌, ℕ, zero, suc, ◌-◌, ◌<◌, ◌≤◌, ◌⊎◌, ◌↔◌, inl, inr, true, false, List, length, get_or, Some, IfSome, refl, sym, ap, subst, ◌∙◌, arith}
 use Rattle.std.specs.Prelude.{nat_le}
 use Rattle.std.specs.List.Sorted.{IsPartitionPoint, IsPartitionedBy}
-use Rattle.std.proofs.lemmas.Bool.{leb-true}
+use Rattle.std.proofs.lemmas.Bool.{cases_lt, leb-true}
 use Rattle.std.proofs.lemmas.Bool.Decides.{leb_tells}
 use Rattle.std.proofs.lemmas.List.Sorted.{IsPartitionedBy-leb, IsNonDecreasingBy-from_default}
 use Rattle.pmt_model.specs.Traces.{Recording, IsTrace, history, count_at}
@@ -16,7 +16,7 @@ use Rattle.pmt_lines.specs.Raises.{LineFound, IsLineResult, RaisesBetween}
 use Rattle.pmt_asserts.specs.declared.put.Put.{Put}
 use Rattle.pmt_asserts.specs.Puts.{puts_of, no_put, put_at, last_in, IsGreatestIn, IsLeastIn}
 use Rattle.pmt_asserts.specs.Tables.{LieIn, EachFrom, PersistedBy, RankedBy, ComesFrom, IsLastAt, IsOldest, IsUnwritten}
-use Rattle.pmt_asserts.proofs.TraceLemmas.{ArePuts, job-puts, counted, numbers-rise}
+use Rattle.pmt_asserts.proofs.TraceLemmas.{ArePuts, job-puts, counted, numbers-rise, count-below, count-above, count_at-le_length, puts-length}
 use Rattle.pmt_asserts.proofs.RaiseLemmas.{no_raise, front_after, front-raised, places-rise}
 use Rattle.pmt_asserts.proofs.RankLemmas.{put-read}
 use Rattle.pmt_asserts.proofs.LastLemmas.{LastIs, NoLast, LastAt, last-is}
@@ -53,6 +53,25 @@ count-all T l steps puts n x job is some read by_now =
     let newest : x.number ≡ (put_at puts (length puts - 1)).number = ap (λ (p : Put). p.number) (put-read puts puts (length puts - 1) x refl (omega (arith, some)) read) in
     counted T l n (length puts) puts are (omega arith) (λ k h. omega (arith, newest, by_now, numbers-rise T l puts are k (length puts - 1) (omega (arith, h)) (omega (arith, some))))
     (λ k h m. absurd (omega (arith, h, m)))
+
+-- one look at a store tells whether at most so many come by a place
+pub count-told :
+    (T : Recording) (l : ℕ) (steps : List Step) (puts : List Put) (n i : ℕ) (x : Put) → IsJobOf T l steps → puts ≡ puts_of steps → i < length puts →
+    x ≡ get_or puts i x → (n < x.number) ↔ (count_at T l n ≤ i)
+count-told T l steps puts n i x job is within read = (λ later. count-below T l n i puts are within (omega (arith, own, later)), back)
+  where
+    are : ArePuts T l 0 puts
+    are = subst (ArePuts T l 0) (sym is) (job-puts T l steps job)
+
+    own : x.number ≡ (put_at puts i).number
+    own = ap (λ (p : Put). p.number) (put-read puts puts i x refl within read)
+
+    back : count_at T l n ≤ i → n < x.number
+    back few = elim (cases_lt n x.number) [ inl later ↦ later | inr by_now ↦ absurd (omega (arith, few, count-above T l n i puts are within (omega (arith, own, by_now)))) ]
+
+-- no more come than there are
+pub count-within : (T : Recording) (l : ℕ) (steps : List Step) (puts : List Put) (n : ℕ) → IsJobOf T l steps → puts ≡ puts_of steps → count_at T l n ≤ length puts
+count-within T l steps puts n job is = omega (arith, count_at-le_length T l n, puts-length T l 0 puts (subst (ArePuts T l 0) (sym is) (job-puts T l steps job)))
 
 -- the raises are those of the line
 raises-are : (T : Recording) (found : LineFound) (raises : List Raise) → raises ≡ found.raises → IsLineResult found → IsJob T found.job → RaisesBetween T found.job.line 0 (length T.events) raises
@@ -114,6 +133,16 @@ pub persisted-by :
     (T : Recording) (l : ℕ) (steps : List Step) (i n low high g : ℕ) → IsTrace T → IsJobOf T l steps → LieIn T l low high →
     IsGreatestIn (puts_of steps) (count_at T l i) low high g → (g ≤ front_at T l n) ↔ EachFrom low high (PersistedBy T i n)
 persisted-by T l steps i n low high g trace job lie is = greatest-decides T l (puts_of steps) i low high g (λ k. front_at T k n) trace (job-puts T l steps job) lie is
+
+-- where all stores by a place are behind the front, so are the last ones
+pub persisted-all :
+    (T : Recording) (l : ℕ) (steps : List Step) (i n low high : ℕ) → IsTrace T → IsJobOf T l steps → LieIn T l low high →
+    count_at T l i ≤ front_at T l n → EachFrom low high (PersistedBy T i n)
+persisted-all T l steps i n low high trace job lie behind b above below = go (last-is T l (puts_of steps) b i trace (job-puts T l steps job) (lie b above below))
+  where
+    go : LastIs T l (puts_of steps) b i (count_at T l i) (history T i) → PersistedBy T i n b
+    go (NoLast none rank) = subst (λ o. IfSome o (λ x. x.rank ≤ front_at T x.line n)) (sym none) tt
+    go (LastAt r some rank w by m past) = subst (λ o. IfSome o (λ x. x.rank ≤ front_at T x.line n)) (sym some) (omega (arith, by, behind))
 
 -- what it tells of ranks
 pub ranked-by :

@@ -137,21 +137,25 @@ count_at-le_length T l n =
               ]
         ]
 
+-- a store that comes later, and one that has come, bound their number
+pub count-below : (T : Recording) (l n i : ℕ) (puts : List Put) → ArePuts T l 0 puts → i < length puts → n < (put_at puts i).number → count_at T l n ≤ i
+count-below T l n i puts are within later =
+    let p = put-at T l 0 puts are i within in
+    omega (arith, p.1, count_at-before T l (put_at puts i).number (p.0).what (p.0).is, count-mono T l n ((put_at puts i).number - 1) (omega arith))
+
+pub count-above : (T : Recording) (l n i : ℕ) (puts : List Put) → ArePuts T l 0 puts → i < length puts → (put_at puts i).number ≤ n → i < count_at T l n
+count-above T l n i puts are within by_now = let p = put-at T l 0 puts are i within in omega (arith, p.1, count-mono T l (put_at puts i).number n by_now)
+
 -- how many stores have come by a place, from their numbers
 pub counted : (T : Recording) (l n i : ℕ) (puts : List Put) → ArePuts T l 0 puts → i ≤ length puts → ((k : ℕ) → k < i → (put_at puts k).number ≤ n) → ((k : ℕ) → i ≤ k → k < length puts → n < (put_at puts k).number) → count_at T l n ≡ i
 counted T l n i puts are within by_now later = omega (arith, at_least i within by_now, at_most (cases_lt i (length puts)))
   where
     at_least : (j : ℕ) → j ≤ length puts → ((k : ℕ) → k < j → (put_at puts k).number ≤ n) → j ≤ count_at T l n
     at_least zero h f = omega arith
-    at_least (suc j) h f =
-        let p = put-at T l 0 puts are j (omega arith) in
-        omega (arith, p.1, count-mono T l (put_at puts j).number n (f j (omega arith)))
+    at_least (suc j) h f = count-above T l n j puts are (omega arith) (f j (omega arith))
 
     at_most : (i < length puts) ⊎ (length puts ≤ i) → count_at T l n ≤ i
-    at_most (inl more) =
-        let p = put-at T l 0 puts are i more in
-        let after = later i (omega arith) more in
-        omega (arith, p.1, count_at-before T l (put_at puts i).number (p.0).what (p.0).is, count-mono T l n ((put_at puts i).number - 1) (omega arith))
+    at_most (inl more) = count-below T l n i puts are more (later i (omega arith) more)
     at_most (inr all) = omega (arith, count_at-le_length T l n, puts-length T l 0 puts are)
 
 -- the numbers of the stores rise

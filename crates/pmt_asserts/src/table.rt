@@ -76,6 +76,18 @@ impl LineTable {
         self.puts.partition_point(|put| put.number <= place)
     }
 
+    // Whether at most so many stores come by the place: one look at the next store tells it.
+    fn are_at_most(&self, place: u64, limit: u64) -> bool
+        ensures { OfEachTrace self.now (λ T l. IsTrue result ↔ (stores_by T l place ≤ limit)) }
+    {
+        let next = limit as usize;
+        if next >= self.puts.len() {
+            return true;
+        }
+        let put = self.puts[next];
+        place < put.number
+    }
+
     // The front at the place, which mostly lies past all raises.
     fn front_at(&self, place: u64) -> u64
         ensures { OfEachTrace self.now (λ T l. place ≤ length T.events → front_by T l place ≡ result) }
@@ -223,7 +235,12 @@ impl LineTable {
     pub fn is_persisted_by(&self, low: u64, high: u64, place: u64, by: u64) -> bool
         ensures { OfEachTrace self.now (λ T l. by ≤ length T.events → LieIn T l low high → IsTrue result ↔ EachFrom low high (PersistedBy T place by)) }
     {
-        self.greatest(low, high, self.count_at(place)) <= self.front_at(by)
+        let front = self.front_at(by);
+        // mostly the front has reached all the stores
+        if self.are_at_most(place, front) {
+            return true;
+        }
+        self.greatest(low, high, self.count_at(place)) <= front
     }
 
     /// Whether the last one of the events up to `place` that stores to a byte has at most this rank, for each byte from `low`
