@@ -37,9 +37,10 @@ impl Put {
 // The rank of the last one of the first `count` stores that writes the byte, or 0 where it isn't above `fence`: it goes through
 // them from the last one on.
 pub fn last_above(puts: &[Put], byte: u64, count: usize, fence: usize) -> u64
-    requires { count ≤ length puts.now }
+    requires within { count ≤ length puts.now }
+    requires fence { fence ≤ count }
     ensures found { 0 < result → result ≡ last_in puts.now byte count }
-    ensures none { result ≡ 0 → last_in puts.now byte count ≤ fence }
+    ensures none { result ≡ 0 → last_in puts.now byte count ≡ last_in puts.now byte fence }
 {
     let mut rank = count;
     while rank > fence {

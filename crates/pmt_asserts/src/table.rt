@@ -17,6 +17,9 @@ use std::marker::Model;
 // So many stores are gone through one by one: tables of their bytes would take more than they save.
 const FEW: usize = 16;
 
+// So many of the newest stores are looked at before a byte is searched for: as many as there are words in a line of 64 bytes.
+const WORDS: usize = 8;
+
 /// A line's result, made ready for searches by place and by byte.
 #[derive(Drop)]
 pub struct LineTable {
@@ -113,13 +116,22 @@ impl LineTable {
         requires { count ≤ length (puts_of self.now.job.steps) }
         ensures { result ≡ last_in (puts_of self.now.job.steps) byte count }
     {
+        let fence = count.saturating_sub(WORDS);
+        let newest = last_above(&self.puts, byte, count, fence);
+        if newest > 0 {
+            return newest;
+        }
+        self.last_by_search(byte, fence)
+    }
+
+    // The same rank, without a look at the newest.
+    fn last_by_search(&self, byte: u64, count: usize) -> u64
+        requires { count ≤ length (puts_of self.now.job.steps) }
+        ensures { result ≡ last_in (puts_of self.now.job.steps) byte count }
+    {
         let known = self.writes.len();
         if known == 0 {
             return last_above(&self.puts, byte, count, 0);
-        }
-        let newest = last_above(&self.puts, byte, count, count.saturating_sub(FEW));
-        if newest > 0 {
-            return newest;
         }
         let rank = count as u64;
         let end = self.writes.partition_point(
@@ -162,7 +174,7 @@ impl LineTable {
     {
         let mut greatest = 0;
         for byte in low..high {
-            greatest = self.last(byte, count).max(greatest);
+            greatest = self.last_by_search(byte, count).max(greatest);
         }
         greatest
     }

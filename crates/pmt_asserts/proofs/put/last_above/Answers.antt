@@ -1,21 +1,26 @@
-use Rattle.std.proofs.Common.{◌∙◌, sym, arith}
-use Rattle.pmt_asserts.proofs.RankLemmas.{last_in-here, last_in-earlier, last_in-le}
+use Rattle.pmt_asserts.specs.Puts.{last_in}
+use Rattle.std.proofs.Common.{◌≡◌, ap, ◌∙◌, sym, arith}
+use Rattle.pmt_asserts.proofs.RankLemmas.{last_in-here, last_in-earlier}
 use Rattle.pmt_asserts.proofs.put.last_above.Goals as goal
 
 pub returns-then-covers-clause-found : goal.returns-then-covers-clause-found
 returns-then-covers-clause-found c = λ some.
     let within = c.loop-rank.invariant.0 in
     sym
-    (c.loop-rank.invariant.1
-    ∙ last_in-here c.args.puts.now c.args.byte c.loop-rank.rank _ (omega (arith, c.loop-rank-test.true)) (omega (arith, within, c.requires)) (sym (c.if-covers.ensures {u = tt})))
+    (c.loop-rank.invariant.2
+    ∙ last_in-here c.args.puts.now c.args.byte c.loop-rank.rank _ (omega (arith, c.loop-rank-test.true)) (omega (arith, within, c.requires.within)) (sym (c.if-covers.ensures {u = tt})))
 
 pub loop-rank-preserved : goal.loop-rank-preserved
 loop-rank-preserved c =
     let within = c.loop-rank.invariant.0 in (
       omega (arith, within),
-      c.loop-rank.invariant.1
-          ∙ last_in-earlier c.args.puts.now c.args.byte c.loop-rank.rank _ (omega (arith, c.loop-rank-test.true)) (omega (arith, within, c.requires)) (sym (c.if-covers.ensures {u = tt})),
+      omega (arith, c.loop-rank-test.true),
+      c.loop-rank.invariant.2
+          ∙ last_in-earlier c.args.puts.now c.args.byte c.loop-rank.rank _ (omega (arith, c.loop-rank-test.true)) (omega (arith, within, c.requires.within)) (sym (c.if-covers.ensures {u = tt})),
     )
 
 pub returns-clause-none : goal.returns-clause-none
-returns-clause-none c = λ none. omega (arith, c.loop-rank.invariant.1, last_in-le c.args.puts.now c.args.byte c.loop-rank.rank, c.loop-rank-test.false)
+returns-clause-none c = λ none.
+    let above = c.loop-rank.invariant.1 in
+    let e : c.loop-rank.rank ≡ c.args.fence = omega (arith, above, c.loop-rank-test.false) in
+    c.loop-rank.invariant.2 ∙ ap (last_in c.args.puts.now c.args.byte) e

@@ -12,7 +12,7 @@ loop-byte-preserved c =
     let puts = puts_of c.args.self.now.job.steps in
     let low = c.loop-byte.auto.byte in
     let below = c.loop-byte-test.true in (
-      subst (IsGreatestIn puts c.args.count c.args.low (c.loop-byte.byte + 1)) (sym (c.max-greatest.ensures ∙ ap (λ r. max r c.loop-byte.greatest) c.last.ensures))
+      subst (IsGreatestIn puts c.args.count c.args.low (c.loop-byte.byte + 1)) (sym (c.max-greatest.ensures ∙ ap (λ r. max r c.loop-byte.greatest) c.last_by_search.ensures))
           (greatest-more puts c.args.count c.args.low c.loop-byte.byte c.loop-byte.greatest low c.loop-byte.invariant.0),
       λ h. absurd (omega (arith, h, low, below)),
     )
