@@ -1,7 +1,7 @@
 -- Queues of lines.
-use Rattle.std.proofs.Common.{◌≡◌, ℕ, suc, ◌+◌, ◌≤◌, Bool, List, [], ◌∷◌, ◌++◌, length, drop, sum, refl, ap, ap₂, ◌∙◌, arith, append_assoc, length-drop}
+use Rattle.std.proofs.Common.{◌≡◌, ℕ, suc, ◌+◌, ◌≤◌, Bool, List, [], ◌∷◌, ◌++◌, length, drop, sum, refl, ap, ap₂, ◌∙◌, arith, append_assoc, length-append, length-drop}
 use Rattle.std.proofs.lemmas.List.{drop-append-le, take-append-le, take_all}
-use Rattle.std.proofs.lemmas.List.Sums.{sum_by-cons}
+use Rattle.std.proofs.lemmas.List.Sums.{sum_by-append, sum_by-cons}
 use Rattle.pmt_trim.specs.LineQueues.{cut_by, AreCut, kept_text, kept_texts, Pops}
 
 -- a line more
@@ -20,6 +20,14 @@ queue-more old_lengths lengths start n old_bytes bytes line all len more longer 
     ap₂ (λ (ns bs : List ℕ). cut_by ns (drop start bs)) (more ∙ ap (λ (m : ℕ). old_lengths ++ m ∷ []) len) longer
     ∙ ap (cut_by (old_lengths ++ length line ∷ [])) (drop-append-le start old_bytes line (omega (arith, all)))
     ∙ cut-more old_lengths (drop start old_bytes) line (omega (arith, all, length-drop start old_bytes))
+
+-- they are still cut where the bytes of lines that have left are given up
+pub still-cut : (lengths : List ℕ) (start n : ℕ) (old new : List ℕ) → AreCut lengths start old → drop n new ≡ drop start old → n ≤ length new → AreCut lengths n new
+still-cut lengths start n old new all rest within = omega (arith, all, within, length-drop start old, length-drop n new, ap length rest)
+
+-- and where a line comes
+pub cut-with : (lengths longer : List ℕ) (start : ℕ) (bytes more line : List ℕ) → AreCut lengths start bytes → longer ≡ lengths ++ length line ∷ [] → more ≡ bytes ++ line → AreCut longer start more
+cut-with lengths longer start bytes more line all lengths_are bytes_are = omega (arith, all, ap sum lengths_are, sum_by-append (λ x. x) lengths (length line ∷ []), ap length bytes_are, length-append bytes line)
 
 -- as many lines as lengths
 pub length-cut : (lengths bytes : List ℕ) → length (cut_by lengths bytes) ≡ length lengths

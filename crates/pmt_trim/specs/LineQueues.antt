@@ -1,5 +1,5 @@
 -- Lines that lie in a row, and what leaves their front.
-use Rattle.std.specs.Prelude.{◌≡◌, ℕ, ◌+◌, Bool, true, false, List, [], ◌∷◌, ◌++◌, length, take, drop, sum}
+use Rattle.std.specs.Prelude.{◌≡◌, ℕ, ◌+◌, ◌<◌, ◌≤◌, ◌⊎◌, Bool, true, false, List, [], ◌∷◌, ◌++◌, length, take, drop, sum}
 
 -- These bytes, cut into lines of these lengths.
 abbrev pub cut_by : List ℕ → List ℕ → List (List ℕ)
@@ -9,6 +9,10 @@ cut_by (n ∷ lengths) bytes = take n bytes ∷ cut_by lengths (drop n bytes)
 -- The bytes from this place on are just those of the lines.
 abbrev pub AreCut : List ℕ → ℕ → List ℕ → Type 0
 AreCut lengths start bytes = start + sum lengths ≡ length bytes
+
+-- The bytes before this place, whose lines have left, are fewer than 4096, or no more than half of all.
+abbrev pub HasLittleLeft : ℕ → List ℕ → Type 0
+HasLittleLeft start bytes = (start < 4096) ⊎ (start + start ≤ length bytes)
 
 -- A line that is kept; nothing of one that is not.
 abbrev pub kept_text : Bool → List ℕ → List ℕ

@@ -1,6 +1,6 @@
 //! A queue of lines, whose bytes lie in a row.
-ghost use Rattle.std.specs.Prelude.{◌≡◌, ◌==◌, ◌<◌, List, ℕ, [], ◌∷◌, ◌++◌, length, OnOk};
-ghost use Rattle.pmt_trim.specs.LineQueues.{Pops};
+ghost use Rattle.std.specs.Prelude.{◌≡◌, ◌==◌, ◌<◌, ◌≤◌, List, ℕ, [], ◌∷◌, ◌++◌, length, drop, OnOk};
+ghost use Rattle.pmt_trim.specs.LineQueues.{HasLittleLeft, Pops};
 
 use pmt_model::OutOfMemory;
 use std::alloc::Global;
@@ -53,25 +53,10 @@ impl LineQueue {
         requires { length line.now < 256 }
         ensures { OnOk result (self.new ≡ self.old ++ line.now ∷ []) }
     {
-        self.give_up_room()?;
+        give_up_room(&mut self.bytes, &mut self.start)?;
         self.lengths.reserve(1)?;
         self.bytes.extend_from_slice(line)?;
         self.lengths.push_back_reserved(line.len() as u8);
-        Ok(())
-    }
-
-    // Gives up the room of lines that have left, where it is most of all room.
-    fn give_up_room(&mut self) -> Result<(), OutOfMemory>
-        ensures { self.new ≡ self.old }
-    {
-        if self.start == self.bytes.len() {
-            self.bytes.clear();
-            self.start = 0;
-        } else if self.start >= KEPT_ROOM && self.start > self.bytes.len() / 2 {
-            let rest = self.bytes.split_off(self.start)?;
-            self.bytes = rest;
-            self.start = 0;
-        }
         Ok(())
     }
 
@@ -91,4 +76,22 @@ impl LineQueue {
         self.start = end;
         put
     }
+}
+
+// Gives up the bytes before the start, where they are many and most of all bytes.
+fn give_up_room(bytes: &mut Vec<u8>, start: &mut usize) -> Result<(), OutOfMemory>
+    requires { start.old ≤ length bytes.old.items }
+    ensures rest { drop start.new bytes.new.items ≡ drop start.old bytes.old.items }
+    ensures within { start.new ≤ length bytes.new.items }
+    ensures little { OnOk result (HasLittleLeft start.new bytes.new.items) }
+{
+    if *start == bytes.len() {
+        bytes.clear();
+        *start = 0;
+    } else if *start >= KEPT_ROOM && *start > bytes.len() / 2 {
+        let rest = bytes.split_off(*start)?;
+        *bytes = rest;
+        *start = 0;
+    }
+    Ok(())
 }
