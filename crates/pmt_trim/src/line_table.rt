@@ -51,12 +51,20 @@ impl LineTable {
     }
 
     // The place of the line, which it gets if it has none yet.
+    #[inline(always)]
     pub(crate) fn place_of(&mut self, line: u64) -> Result<usize, OutOfMemory>
         ensures { IfOk result (λ place. Reaches line place self.old self.new) }
     {
         if self.last < self.rows.len() && self.rows[self.last].line == line {
             return Ok(self.last);
         }
+        self.look_up(line)
+    }
+
+    // As `place_of`, by a look-up.
+    fn look_up(&mut self, line: u64) -> Result<usize, OutOfMemory>
+        ensures { IfOk result (λ place. Reaches line place self.old self.new) }
+    {
         self.rows.reserve(1)?;
         let (place, is_new) = self.lines.insert_full(line)?;
         if is_new {

@@ -38,52 +38,54 @@ impl Stream {
     }
 
     // The next event comes, perhaps with its line, which is not spelled again then. The text is what leaves with it: each event before which no flush is left whose thread has not fenced since.
-    pub(crate) fn take(&mut self, event: Event, line: Option<&[u8]>) -> Result<(), OutOfMemory>
+    pub(crate) fn take(&mut self, event: &Event, line: Option<&[u8]>) -> Result<(), OutOfMemory>
         requires stream { IsStream self.old }
-        requires line { IfSome line (λ bytes. bytes.now ≡ event_text event) }
+        requires line { IfSome line (λ bytes. bytes.now ≡ event_text event.now) }
         requires room { taken self.old.pass < event_limit }
-        ensures stream { (T : Recording) (text : List ℕ) → IsStreamOf T self.old text → OnOk result (IsStreamOf (with_event T event) self.new (text ++ self.new.text.items)) }
-        ensures out { (T : Recording) (text : List ℕ) → IsStreamOf T self.old text → OnOk result (IsOut (with_event T event) (text ++ self.new.text.items)) }
+        ensures stream { (T : Recording) (text : List ℕ) → IsStreamOf T self.old text → OnOk result (IsStreamOf (with_event T event.now) self.new (text ++ self.new.text.items)) }
+        ensures out { (T : Recording) (text : List ℕ) → IsStreamOf T self.old text → OnOk result (IsOut (with_event T event.now) (text ++ self.new.text.items)) }
     {
         self.text.clear();
         self.take_more(event, line)
     }
 
     // As `take`, and what leaves comes after the text.
-    pub(crate) fn take_more(&mut self, event: Event, line: Option<&[u8]>) -> Result<(), OutOfMemory>
+    pub(crate) fn take_more(
+        &mut self,
+        event: &Event,
+        line: Option<&[u8]>,
+    ) -> Result<(), OutOfMemory>
         requires stream { IsStreamSoFar self.old }
-        requires line { IfSome line (λ bytes. bytes.now ≡ event_text event) }
+        requires line { IfSome line (λ bytes. bytes.now ≡ event_text event.now) }
         requires room { taken self.old.pass < event_limit }
-        ensures stream { (T : Recording) (text : List ℕ) → IsStreamOf T self.old (text ++ self.old.text.items) → OnOk result (IsStreamOf (with_event T event) self.new (text ++ self.new.text.items)) }
-        ensures out { (T : Recording) (text : List ℕ) → IsStreamOf T self.old (text ++ self.old.text.items) → OnOk result (IsOut (with_event T event) (text ++ self.new.text.items)) }
+        ensures stream { (T : Recording) (text : List ℕ) → IsStreamOf T self.old (text ++ self.old.text.items) → OnOk result (IsStreamOf (with_event T event.now) self.new (text ++ self.new.text.items)) }
+        ensures out { (T : Recording) (text : List ℕ) → IsStreamOf T self.old (text ++ self.old.text.items) → OnOk result (IsOut (with_event T event.now) (text ++ self.new.text.items)) }
     {
         if self.waiting.is_empty() {
             return self.take_alone(event, line);
         }
-        wait(&mut self.waiting, &event, line)?;
+        wait(&mut self.waiting, event, line)?;
         self.pass.take(event)?;
         self.leave()
     }
 
     // As `take_more`, where no event waits: it leaves at once, or it waits.
-    fn take_alone(&mut self, event: Event, line: Option<&[u8]>) -> Result<(), OutOfMemory>
+    fn take_alone(&mut self, event: &Event, line: Option<&[u8]>) -> Result<(), OutOfMemory>
         requires stream { IsStreamSoFar self.old }
         requires alone { self.old.waiting ≡ [] }
-        requires line { IfSome line (λ bytes. bytes.now ≡ event_text event) }
+        requires line { IfSome line (λ bytes. bytes.now ≡ event_text event.now) }
         requires room { taken self.old.pass < event_limit }
-        ensures stream { (T : Recording) (text : List ℕ) → IsStreamOf T self.old (text ++ self.old.text.items) → OnOk result (IsStreamOf (with_event T event) self.new (text ++ self.new.text.items)) }
-        ensures out { (T : Recording) (text : List ℕ) → IsStreamOf T self.old (text ++ self.old.text.items) → OnOk result (IsOut (with_event T event) (text ++ self.new.text.items)) }
+        ensures stream { (T : Recording) (text : List ℕ) → IsStreamOf T self.old (text ++ self.old.text.items) → OnOk result (IsStreamOf (with_event T event.now) self.new (text ++ self.new.text.items)) }
+        ensures out { (T : Recording) (text : List ℕ) → IsStreamOf T self.old (text ++ self.old.text.items) → OnOk result (IsOut (with_event T event.now) (text ++ self.new.text.items)) }
     {
-        let thread = event.thread;
-        let op = event.op;
-        self.pass.take(Event { thread, op })?;
+        self.pass.take(event)?;
         match self.pass.next_settled() {
             Some(kept) => {
-                put(&mut self.text, kept, &event, line)?;
+                put(&mut self.text, kept, event, line)?;
                 Ok(())
             }
             None => {
-                wait(&mut self.waiting, &event, line)?;
+                wait(&mut self.waiting, event, line)?;
                 Ok(())
             }
         }
@@ -148,16 +150,16 @@ fn put(
     }
     match line {
         Some(bytes) => text.extend_from_slice(bytes),
-        None => put_spelled(text, event),
+        None => put_spelled(text, *event),
     }
 }
 
 // Puts the spelled line of the event after the text.
-fn put_spelled(text: &mut Vec<u8>, event: &Event) -> Result<(), OutOfMemory>
-    ensures { OnOk result (text.new.items ≡ text.old.items ++ event_text event.now) }
+fn put_spelled(text: &mut Vec<u8>, event: Event) -> Result<(), OutOfMemory>
+    ensures { OnOk result (text.new.items ≡ text.old.items ++ event_text event) }
 {
     let mut room = [0; LINE_ROOM];
-    text.extend_from_slice(spell_event(&mut room, event))
+    text.extend_from_slice(spell_event(&mut room, &event))
 }
 
 // The line of the event waits. It is spelled where none was given that fits the queue.
@@ -171,15 +173,15 @@ fn wait(waiting: &mut LineQueue, event: &Event, line: Option<&[u8]>) -> Result<(
             return waiting.push(bytes);
         }
     }
-    wait_spelled(waiting, event)
+    wait_spelled(waiting, *event)
 }
 
 // The line of the event is spelled, and waits.
-fn wait_spelled(waiting: &mut LineQueue, event: &Event) -> Result<(), OutOfMemory>
-    ensures { OnOk result (waiting.new ≡ waiting.old ++ event_text event.now ∷ []) }
+fn wait_spelled(waiting: &mut LineQueue, event: Event) -> Result<(), OutOfMemory>
+    ensures { OnOk result (waiting.new ≡ waiting.old ++ event_text event ∷ []) }
 {
     let mut room = [0; LINE_ROOM];
-    waiting.push(spell_event(&mut room, event))
+    waiting.push(spell_event(&mut room, &event))
 }
 
 // Puts the lines whose flag is set after the text.

@@ -46,7 +46,7 @@ pub fn trim_stream<S: EventSource, W: Write>(
     'take: loop {
         match source.next() {
             Ok(Some(event)) => {
-                let Ok(()) = stream.take(event, source.last_line()) else {
+                let Ok(()) = stream.take(&event, source.last_line()) else {
                     return close(out, written, Err(StreamError::OutOfMemory));
                 };
                 match write_piece(out, stream.text.as_slice(), written) {

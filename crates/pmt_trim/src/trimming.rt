@@ -28,7 +28,7 @@ fn kept_flags(alloc: Global, trace: &Trace) -> Result<Vec<bool>, OutOfMemory>
 {
     let mut pass = Pass::new(alloc, trace.format())?;
     for event in trace.events() {
-        pass.take(*event)?;
+        pass.take(event)?;
     }
     pass.finish(alloc)
 }

@@ -57,7 +57,7 @@ pub fn trimmed_text<S: EventSource>(alloc: Global, source: &mut S) -> Result<Vec
     let format = source.format()?;
     let mut stream = Stream::new(alloc, format)?;
     while let Some(event) = source.next()? {
-        stream.take_more(event, source.last_line())?;
+        stream.take_more(&event, source.last_line())?;
     }
     let text = stream.into_text(alloc)?;
     Ok(text)

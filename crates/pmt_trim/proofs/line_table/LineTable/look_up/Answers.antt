@@ -2,8 +2,8 @@ use Rattle.std.proofs.Common.{◌≡◌, ◌++◌, ◌∷◌, [], ap, sym, subst
 use Rattle.std.specs.Prelude.{nat_eq, slice_get}
 use Rattle.std.specs.List.{IsDistinct}
 use Rattle.pmt_trim.proofs.TableLemmas.{rows_with, reaches, fresh}
-use Rattle.pmt_trim.proofs.line_table.LineTable.place_of.Goals as goal
-use Rattle.pmt_trim.proofs.line_table.LineTable.place_of.Goals.{then-is_new, else-is_new}
+use Rattle.pmt_trim.proofs.line_table.LineTable.look_up.Goals as goal
+use Rattle.pmt_trim.proofs.line_table.LineTable.look_up.Goals.{then-is_new, else-is_new}
 
 pub returns : goal.returns
 returns c =
