@@ -85,6 +85,7 @@ impl Pass {
     }
 
     // A store to the line.
+    #[inline(always)]
     fn take_store(&mut self, line: u64) -> Result<(), OutOfMemory>
         requires passing { IsPassing self.old }
         requires room { taken self.old < event_limit }
