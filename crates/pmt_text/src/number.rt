@@ -21,7 +21,7 @@ static DIGITS: [u8; 256] = [
 
 /// The value of a digit: 0 to 9, and a to f; 16 for any other byte.
 #[inline(always)]
-pub fn digit(byte: u8) -> u64
+pub(crate) fn digit(byte: u8) -> u64
     ensures { result ≡ digit_of byte }
 {
     DIGITS[byte as usize] as u64
@@ -81,7 +81,7 @@ static RAISED_VALUES: [u32; 256] = [
 
 /// The number that the four bytes at this place write as digits of base 16; 65536 or more where one of them is none.
 #[inline(always)]
-pub fn four_digits(text: &[u8], at: usize) -> u64
+pub(crate) fn four_digits(text: &[u8], at: usize) -> u64
     requires { at + 4 ≤ length text.now }
     ensures { result ≡ four_at text.now at }
 {
