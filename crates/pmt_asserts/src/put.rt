@@ -34,16 +34,16 @@ impl Put {
     }
 }
 
-// The rank of the last one of the first `count` stores that writes the byte, or 0 where it isn't above `fence`: it goes through
+// The rank of the last one of the first `count` stores that writes the byte, or 0 where it isn't above `floor`: it goes through
 // them from the last one on.
-pub fn last_above(puts: &[Put], byte: u64, count: usize, fence: usize) -> u64
+pub fn last_above(puts: &[Put], byte: u64, count: usize, floor: usize) -> u64
     requires within { count ≤ length puts.now }
-    requires fence { fence ≤ count }
+    requires floor { floor ≤ count }
     ensures found { 0 < result → result ≡ last_in puts.now byte count }
-    ensures none { result ≡ 0 → last_in puts.now byte count ≡ last_in puts.now byte fence }
+    ensures none { result ≡ 0 → last_in puts.now byte count ≡ last_in puts.now byte floor }
 {
     let mut rank = count;
-    while rank > fence {
+    while rank > floor {
         let put = puts[rank - 1];
         if put.covers(byte) {
             return rank as u64;

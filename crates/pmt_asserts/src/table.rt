@@ -116,12 +116,12 @@ impl LineTable {
         requires { count ≤ length (puts_of self.now.job.steps) }
         ensures { result ≡ last_in (puts_of self.now.job.steps) byte count }
     {
-        let fence = count.saturating_sub(WORDS);
-        let newest = last_above(&self.puts, byte, count, fence);
+        let floor = count.saturating_sub(WORDS);
+        let newest = last_above(&self.puts, byte, count, floor);
         if newest > 0 {
             return newest;
         }
-        self.last_by_search(byte, fence)
+        self.last_by_search(byte, floor)
     }
 
     // The same rank, without a look at the newest.
@@ -152,9 +152,9 @@ impl LineTable {
         requires { count ≤ length (puts_of self.now.job.steps) }
         ensures { IsGreatestIn (puts_of self.now.job.steps) count low high result }
     {
-        let fence = count.saturating_sub(FEW);
+        let floor = count.saturating_sub(FEW);
         let mut rank = count;
-        while fence < rank {
+        while floor < rank {
             let put = self.puts[rank - 1];
             if put.meets(low, high) {
                 return rank as u64;

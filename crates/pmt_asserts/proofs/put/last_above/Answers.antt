@@ -22,5 +22,5 @@ loop-rank-preserved c =
 pub returns-clause-none : goal.returns-clause-none
 returns-clause-none c = λ none.
     let above = c.loop-rank.invariant.1 in
-    let e : c.loop-rank.rank ≡ c.args.fence = omega (arith, above, c.loop-rank-test.false) in
+    let e : c.loop-rank.rank ≡ c.args.floor = omega (arith, above, c.loop-rank-test.false) in
     c.loop-rank.invariant.2 ∙ ap (last_in c.args.puts.now c.args.byte) e

@@ -6,4 +6,4 @@ abbrev pub decreases-loop-rank : goal.decreases-loop-rank
 decreases-loop-rank l = l.rank
 
 abbrev pub invariant-loop-rank : goal.invariant-loop-rank
-invariant-loop-rank l = (l.rank ≤ l.count) × (l.fence ≤ l.rank) × (last_in l.puts l.byte l.count ≡ last_in l.puts l.byte l.rank)
+invariant-loop-rank l = (l.rank ≤ l.count) × (l.floor ≤ l.rank) × (last_in l.puts l.byte l.count ≡ last_in l.puts l.byte l.rank)

@@ -16,5 +16,5 @@ returns-then-newest-gt0 c =
 pub returns : goal.returns
 returns c =
     let same : c.deref.result.now ≡ puts_of c.args.self.now.job.steps = c.deref.ensures.value ∙ c.self.invariant.stores ∙ ap (λ (g : LineFound). puts_of g.job.steps) c.self.view_is in
-    let fence = c.saturating_sub-fence.result in
-    c.last_by_search.ensures ∙ sym (ap (λ ps. last_in ps c.args.byte fence) same) ∙ sym (c.last_above-newest.ensures.none (omega (arith, c.if-newest-gt0.false))) ∙ ap (λ ps. last_in ps c.args.byte c.args.count) same
+    let floor = c.saturating_sub-floor.result in
+    c.last_by_search.ensures ∙ sym (ap (λ ps. last_in ps c.args.byte floor) same) ∙ sym (c.last_above-newest.ensures.none (omega (arith, c.if-newest-gt0.false))) ∙ ap (λ ps. last_in ps c.args.byte c.args.count) same
