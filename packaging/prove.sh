@@ -25,9 +25,9 @@ link_crate() {
   cp -al out/rlib "$place/out"
 }
 
-# Proves a crate over those that it stands on, in a tree of these crates alone.
+# Proves a crate over those that it stands on, in a tree of these crates alone, with so many jobs and so nicely.
 prove_crate() {
-  local crate=$1 tree=$trees/$1 other needed
+  local crate=$1 jobs=$2 niceness=$3 tree=$trees/$1 other needed
   needed=$(closure "$crate")
   mkdir -p "$tree/crates" && cp "$top/HANDLES" "$tree" || return
   awk 'NR == FNR { needed[$1] = 1; next } { name = $1; sub(/:$/, "", name) } name in needed' - "$top/crates.txt" <<< "$needed" > "$tree/crates.txt" || return
@@ -35,12 +35,22 @@ prove_crate() {
     (link_crate "$other") || return
   done
   cp -al "$top/crates/$crate" "$tree/crates" || return
-  (cd "$tree/crates/$crate" && rt lib --jobs "$(nproc)" 2>&1) | tee "$tree/told" | progress "$crate"
+  (cd "$tree/crates/$crate" && nice -n "$niceness" rt lib --jobs "$jobs" 2>&1) | tee "$tree/told" | progress "$crate"
   if [ "${PIPESTATUS[0]}" -ne 0 ]; then
     tail -n 3 "$tree/told" >&2
     return 1
   fi
   rm -rf "$top/crates/$crate/out" && mv "$tree/crates/$crate/out" "$top/crates/$crate" && rm -rf "$tree"
+}
+
+# The crates of the program, those first on which the longest chain of others waits, by their lines.
+by_chain() {
+  local crate
+  for crate in $(closure pmtrim | tac); do
+    echo "$crate $(find "$top/crates/$crate" -name out -prune -o -name '*.rt' -print -o -name '*.antt' -print | xargs cat | wc -l)" $(closure "$crate")
+  done | awk '
+    { waiting = $2 + longest[$1]; print waiting, $1
+      for (k = 3; k <= NF; k++) if ($k != $1 && longest[$k] < waiting) longest[$k] = waiting }' | sort -rn | cut -d ' ' -f 2
 }
 
 # The first crate that waits, and of which all that it stands on is proved.
@@ -56,20 +66,29 @@ ready_crate() {
   return 1
 }
 
-# Proves all crates below the program.
+# Proves all crates below the program: one on which much waits by all processors, and beside it one in the time that these leave.
 prove_crates() {
-  local crate ended waiting proved=' '
-  local -A proving=()
-  waiting=$(closure pmtrim | grep -vx pmtrim)
-  while [ -n "$waiting" ] || [ "${#proving[@]}" -gt 0 ]; do
-    while [ "${#proving[@]}" -lt 2 ] && crate=$(ready_crate); do
+  local crate ended waiting first='' beside='' proved=' '
+  waiting=$(by_chain | grep -vx pmtrim)
+  while [ -n "$waiting$first$beside" ]; do
+    if [ -z "$first" ] && crate=$(ready_crate); then
       waiting=$(grep -vx "$crate" <<< "$waiting")
-      prove_crate "$crate" &
-      proving[$!]=$crate
-    done
+      prove_crate "$crate" "$(nproc)" 0 &
+      first="$! $crate"
+    fi
+    if [ -z "$beside" ] && crate=$(ready_crate); then
+      waiting=$(grep -vx "$crate" <<< "$waiting")
+      prove_crate "$crate" "$((($(nproc) + 1) / 2))" 10 &
+      beside="$! $crate"
+    fi
     wait -n -p ended || return
-    proved+="${proving[$ended]} "
-    unset "proving[$ended]"
+    if [ "$ended" = "${first% *}" ]; then
+      proved+="${first#* } "
+      first=''
+    else
+      proved+="${beside#* } "
+      beside=''
+    fi
   done
 }
 
