@@ -43,14 +43,23 @@ prove_crate() {
   rm -rf "$top/crates/$crate/out" && mv "$tree/crates/$crate/out" "$top/crates/$crate" && rm -rf "$tree"
 }
 
-# The crates of the program, those first on which the longest chain of others waits, by their lines.
+# The crates of the program, those first on which the longest chain of others waits, by their lines; behind each, whether it is
+# of the longest chain of all.
 by_chain() {
   local crate
   for crate in $(closure pmtrim | tac); do
     echo "$crate $(find "$top/crates/$crate" -name out -prune -o -name '*.rt' -print -o -name '*.antt' -print | xargs cat | wc -l)" $(closure "$crate")
   done | awk '
-    { waiting = $2 + longest[$1]; print waiting, $1
-      for (k = 3; k <= NF; k++) if ($k != $1 && longest[$k] < waiting) longest[$k] = waiting }' | sort -rn | cut -d ' ' -f 2
+    { name[NR] = $1; lines[$1] = $2; needed[NR] = $0; waiting[$1] = $2 + longest[$1]
+      for (k = 3; k <= NF; k++) if ($k != $1 && longest[$k] < waiting[$1]) longest[$k] = waiting[$1] }
+    END {
+      for (at = NR; at > 0; at--) {
+        count = split(needed[at], word, " "); own = name[at]
+        for (k = 3; k <= count; k++) if (word[k] != own && below[own] < below[word[k]] + lines[word[k]]) below[own] = below[word[k]] + lines[word[k]]
+        if (most < below[own] + waiting[own]) most = below[own] + waiting[own]
+      }
+      for (at = 1; at <= NR; at++) print waiting[name[at]], name[at], below[name[at]] + waiting[name[at]] == most
+    }' | sort -rn | cut -d ' ' -f 2,3
 }
 
 # The first crate that waits, and of which all that it stands on is proved.
@@ -66,29 +75,27 @@ ready_crate() {
   return 1
 }
 
-# Proves all crates below the program: one on which much waits by all processors, and beside it one in the time that these leave.
+# Proves all crates below the program, two at a time: those of the longest chain by all processors, beside them one in the time that
+# is left.
 prove_crates() {
-  local crate ended waiting first='' beside='' proved=' '
-  waiting=$(by_chain | grep -vx pmtrim)
-  while [ -n "$waiting$first$beside" ]; do
-    if [ -z "$first" ] && crate=$(ready_crate); then
+  local crate ended waiting chain proved=' '
+  local -A proving=()
+  waiting=$(by_chain | grep -v '^pmtrim ')
+  chain=$(awk '$2 { print $1 }' <<< "$waiting")
+  waiting=$(cut -d ' ' -f 1 <<< "$waiting")
+  while [ -n "$waiting" ] || [ "${#proving[@]}" -gt 0 ]; do
+    while [ "${#proving[@]}" -lt 2 ] && crate=$(ready_crate); do
       waiting=$(grep -vx "$crate" <<< "$waiting")
-      prove_crate "$crate" "$(nproc)" 0 &
-      first="$! $crate"
-    fi
-    if [ -z "$beside" ] && crate=$(ready_crate); then
-      waiting=$(grep -vx "$crate" <<< "$waiting")
-      prove_crate "$crate" "$((($(nproc) + 1) / 2))" 10 &
-      beside="$! $crate"
-    fi
+      if grep -qx "$crate" <<< "$chain"; then
+        prove_crate "$crate" "$(nproc)" 0 &
+      else
+        prove_crate "$crate" "$((($(nproc) + 1) / 2))" 10 &
+      fi
+      proving[$!]=$crate
+    done
     wait -n -p ended || return
-    if [ "$ended" = "${first% *}" ]; then
-      proved+="${first#* } "
-      first=''
-    else
-      proved+="${beside#* } "
-      beside=''
-    fi
+    proved+="${proving[$ended]} "
+    unset "proving[$ended]"
   done
 }
 
@@ -106,5 +113,7 @@ end_proving() {
 build() {
   set -m
   trees=$(mktemp -d "$top/.proving.XXXXXX") || return
-  prove_crates && (cd "$top/crates/pmtrim" && rt run --jobs "$(nproc)" < stdin 2>&1 > /dev/null) | progress pmtrim
+  prove_crates || return
+  { (cd "$top/crates/pmtrim" && rt run --jobs "$(nproc)" < stdin 2>&1 > /dev/null) | progress pmtrim; } &
+  wait $!
 }
