@@ -4,7 +4,7 @@
 
 # Says how far the proof of a crate is, and tells errors as they are.
 progress() {
-  local crate=$1 line proved all built
+  local crate=$1 line proved all built other
   while IFS= read -r line; do
     case $line in
       'so far: '*)

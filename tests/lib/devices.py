@@ -1,7 +1,8 @@
 #!/usr/bin/env python3
 """Runs a program over devices that fail, end early or never end: devices.py PROGRAM. The last line is 'N passed, M failed'.
 
-Each of the commands reads its trace or script from standard input; `explain`, whose faults are in other words, is tried apart.
+Each of the commands reads its trace or script from standard input; `explain`, whose faults are in other words, and the
+stream, which has written before it fails, are tried apart.
 """
 import os
 import subprocess
