@@ -1,5 +1,5 @@
 -- How an address lies in memory: in three parts of 16 bits.
-use Rattle.std.specs.Prelude.{◌≡◌, ℕ, ◌+◌, ◌*◌, ◌/◌, ◌%◌, ◌^◌, ◌<◌}
+use Rattle.std.specs.Prelude.{◌≡◌, ℕ, ◌+◌, ◌*◌, ◌/◌, ◌%◌, ◌<◌}
 use Rattle.std.proofs.Common.{ap, ◌∙◌, arith}
 use Rattle.pmt_model.specs.declared.addr.Addr.TheInside.{Inside}
 

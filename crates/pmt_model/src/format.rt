@@ -76,5 +76,9 @@ impl Format {
 pub fn line_of(format: Format, addr: Addr) -> u64
     ensures { result ≡ line_in format addr }
 {
-    addr.get() / format.line_size()
+    match format.line_size() {
+        // a shift, where any other size takes a division
+        64 => addr.get() / 64,
+        size => addr.get() / size,
+    }
 }

@@ -5,7 +5,6 @@ ghost use Rattle.pmt_model.specs.Machine.{Stores, Flushes, Clflushes, Fences, As
 ghost use Rattle.pmt_model.specs.Pushing.{empty, with_event};
 ghost use Rattle.pmt_model.specs.Traces.{Recording, act, event_limit};
 ghost use Rattle.pmt_model.specs.Values.{Written};
-ghost use Rattle.pmt_model.specs.Values.{line_of as line_in};
 ghost use Rattle.pmt_model.specs.declared.event.Event.{Event};
 ghost use Rattle.pmt_trim.specs.LineTables.{KeepsPlaces};
 ghost use Rattle.pmt_trim.specs.Passing.{IsPassOf, IsPassing, taken, Settles, AreFlags, ArePlaced, mark_from, decision_by, flag_by};
@@ -13,7 +12,7 @@ ghost use Rattle.pmt_trim.specs.Fencing.{HaveMarks, IsAtFence, IsPastFence};
 
 use crate::line_table::LineTable;
 use crate::open::{OpenFlush, OpenFlushes};
-use pmt_model::{Addr, Event, Format, Op, OutOfMemory, line_of};
+use pmt_model::{Event, Format, Op, OutOfMemory, line_of};
 use std::alloc::Global;
 use std::collections::VecDeque;
 
@@ -73,10 +72,10 @@ impl Pass {
         let thread = event.thread;
         let op = event.op;
         match op {
-            Op::Store(store) => self.take_store(line_at(self.format, store.addr())),
-            Op::Clwb(addr) => self.take_flush(thread, line_at(self.format, addr)),
-            Op::ClflushOpt(addr) => self.take_flush(thread, line_at(self.format, addr)),
-            Op::Clflush(addr) => self.take_clflush(line_at(self.format, addr)),
+            Op::Store(store) => self.take_store(line_of(self.format, store.addr())),
+            Op::Clwb(addr) => self.take_flush(thread, line_of(self.format, addr)),
+            Op::ClflushOpt(addr) => self.take_flush(thread, line_of(self.format, addr)),
+            Op::Clflush(addr) => self.take_clflush(line_of(self.format, addr)),
             Op::Sfence => self.take_fence(thread),
             Op::Mfence => self.take_fence(thread),
             Op::IsPersist(_) => self.take_assertion(),
@@ -179,18 +178,6 @@ impl Pass {
         ensures { IfOk result (λ flags. (T : Recording) → IsPassOf T self → AreFlags T self.settled flags.items) }
     {
         flags(alloc, &self.marks)
-    }
-}
-
-// The line of the address. Most lines have 64 bytes: by that a processor divides faster than by a size that it has to look up.
-#[inline(always)]
-fn line_at(format: Format, addr: Addr) -> u64
-    ensures { result ≡ line_in format addr }
-{
-    if format.line_size() == 64 {
-        addr.get() / 64
-    } else {
-        line_of(format, addr)
     }
 }
 
