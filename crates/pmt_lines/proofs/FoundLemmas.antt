@@ -17,17 +17,17 @@ use Rattle.pmt_lines.specs.declared.step.StepKind.TheVariants.{Store, Flush, Clf
 use Rattle.pmt_lines.specs.declared.step.Step.{Step}
 use Rattle.pmt_lines.specs.declared.line_findings.Scan.{Scan}
 use Rattle.pmt_lines.specs.declared.line_findings.Ending.{Ending}
-use Rattle.pmt_lines.specs.Steps.{AreSteps}
+use Rattle.pmt_lines.specs.Steps.{LineWork, AreSteps}
 use Rattle.pmt_lines.specs.Jobs.{IsKind, IsStepOf, Touches, ByStore, ByFlush, ByClflush, IsWalkFrom, IsJobOf}
-use Rattle.pmt_lines.specs.Raises.{RaisesBetween, IsRaises}
+use Rattle.pmt_lines.specs.Raises.{RaisesBetween, IsRaises, FindsLine}
 use Rattle.pmt_lines.specs.Running.{TakesStep}
 use Rattle.pmt_lines.specs.LineFindings.{IsLineFinding, AreLineFindings}
-use Rattle.pmt_lines.specs.Scans.{last_front_of, last_flush_of, flush_after, AreStoresAt, TakesBytes, Reports, ReportsKind}
+use Rattle.pmt_lines.specs.Scans.{IsEnding, FindsBefore, last_front_of, last_flush_of, flush_after, AreStoresAt, TakesBytes, Reports, ReportsKind}
 use Rattle.pmt_lines.proofs.RunLemmas.{kind-within}
 use Rattle.pmt_lines.proofs.ScanLemmas.{IsScan, scan-over, scan-kind, flush-over, flush-kind}
 use Rattle.pmt_lines.proofs.FindingLists.{has-append, has-left, has-right, ordered-append}
 use Rattle.pmt_lines.proofs.ReportLemmas.{AreFoundAt, HasAct, AStore, AFlush, AClflush, finding-act, found-fence, found-at_flush, found-at_clflush}
-use Rattle.pmt_lines.proofs.StoreLemmas.{IsEnding, found-at_store}
+use Rattle.pmt_lines.proofs.StoreLemmas.{found-at_store}
 
 -- The findings of line l that are reported at events up to n, in report order, and no others.
 pub record AreFoundTo (T : Recording) (l n : ℕ) (found : List Finding) : Type 0 where
@@ -44,7 +44,7 @@ finding-touches T l f h = go (finding-act T l f h)
     go (AClflush is) = ByClflush is
 
 -- and that has a number from 1 on
-finding-numbered : (T : Recording) (l : ℕ) (f : Finding) → IsLineFinding T l f → 1 ≤ reported_at f
+pub finding-numbered : (T : Recording) (l : ℕ) (f : Finding) → IsLineFinding T l f → 1 ≤ reported_at f
 finding-numbered T l f h = go (finding-act T l f h)
   where
     go : HasAct T l (reported_at f) → 1 ≤ reported_at f
@@ -53,7 +53,7 @@ finding-numbered T l f h = go (finding-act T l f h)
     go (AClflush is) = (act-within T (reported_at f) (Clflushes l) is).0
 
 -- what is found at the next event that matters is added
-found-next : (T : Recording) (l low i : ℕ) (old fs : List Finding) → low < i → ((k : ℕ) → low < k → k < i → ¬ Touches T l k) → AreFoundTo T l low old → AreFoundAt T l i fs → AreFoundTo T l i (old ++ fs)
+pub found-next : (T : Recording) (l low i : ℕ) (old fs : List Finding) → low < i → ((k : ℕ) → low < k → k < i → ¬ Touches T l k) → AreFoundTo T l low old → AreFoundAt T l i fs → AreFoundTo T l i (old ++ fs)
 found-next T l low i old fs later untouched before here = record {
   ordered = ordered-append old fs before.ordered here.ordered (λ x y first second. inl (omega (arith, ((before.just x).0 first).1, ((here.just y).0 second).1)));
   just = λ f. (there f, back f);
@@ -74,7 +74,7 @@ found-next T l low i old fs later untouched before here = record {
     back f h = at f h.0 h.1 (cases_lt (reported_at f) i) (cases_lt low (reported_at f))
 
 -- where no event that matters comes any more, all is found
-found-end : (T : Recording) (l low : ℕ) (found : List Finding) → ((k : ℕ) → low < k → ¬ Touches T l k) → AreFoundTo T l low found → AreLineFindings T l found
+pub found-end : (T : Recording) (l low : ℕ) (found : List Finding) → ((k : ℕ) → low < k → ¬ Touches T l k) → AreFoundTo T l low found → AreLineFindings T l found
 found-end T l low found untouched f = record { ordered = f.ordered; just = λ g. (λ has. ((f.just g).0 has).0, λ is. (f.just g).1 (is, by_now g is (cases_lt low (reported_at g)))) }
   where
     by_now : (g : Finding) → IsLineFinding T l g → (low < reported_at g) ⊎ (reported_at g ≤ low) → reported_at g ≤ low
@@ -82,7 +82,7 @@ found-end T l low found untouched f = record { ordered = f.ordered; just = λ g.
     by_now g is (inr within) = within
 
 -- What is added at event i is what is found there.
-abbrev Adds : Recording → ℕ → ℕ → List Finding → List Finding → Type 0
+abbrev pub Adds : Recording → ℕ → ℕ → List Finding → List Finding → Type 0
 Adds T l i old new = (fs : List Finding) × (new ≡ old ++ fs) × AreFoundAt T l i fs
 
 -- what is added at a step
@@ -90,8 +90,8 @@ added-kind : (T : Recording) (l n t : ℕ) (kind : StepKind) (scan : Scan) (endi
 added-kind T l n t (Store addr len) scan ending old new is_trace end s is same r =
     let at : AreStoresAt scan.stores.numbers is.0.addr (length is.0.bytes) r.numbers = rw (is.2, is.3) r.are_numbers in
     (_, r.pushed, found-at_store T l n is.0 scan ending r.numbers r.above is_trace end s is.1 at r.are_above)
-added-kind T l n t Flush scan ending old new is_trace end s is same r = (_, r, found-at_flush T l n t scan s is)
-added-kind T l n t Clflush scan ending old new is_trace end s is same r = (_, r, found-at_clflush T l n scan s is)
+added-kind T l n t Flush scan ending old new is_trace end s is same r = (_, r, found-at_flush T l n t scan.state s.follows is)
+added-kind T l n t Clflush scan ending old new is_trace end s is same r = (_, r, found-at_clflush T l n scan.state s.follows is)
 added-kind T l n t Fence scan ending old new is_trace end s is same r = ([], r ∙ same, found-fence T l (suc n) t is)
 
 -- A pass after event low, with the rest of the job to come.
@@ -160,11 +160,16 @@ ending-flush T l low (s ∷ steps) within walk =
         ∙ ap (λ k. last_flush l (history T k)) (sym is)
 
 -- What is known of the line at the end of the trace, from its job and its raises.
-pub ending-from_raises : (T : Recording) (l : ℕ) (steps : List Step) (raises : List Raise) (ending : Ending) → ending.front ≡ last_front_of 0 raises → ending.flush ≡ last_flush_of 0 steps → IsJobOf T l steps → IsRaises T l raises → IsEnding T l ending
+ending-from_raises : (T : Recording) (l : ℕ) (steps : List Step) (raises : List Raise) (ending : Ending) → ending.front ≡ last_front_of 0 raises → ending.flush ≡ last_flush_of 0 steps → IsJobOf T l steps → IsRaises T l raises → IsEnding T l ending
 ending-from_raises T l steps raises ending front flush job right = record {
   front = front ∙ ending-front T l 0 (length T.events) raises right;
   flush = flush ∙ ending-flush T l 0 steps (omega arith) job;
 }
+
+-- The findings that the end of the line tells are those that its raises tell.
+pub finds-line : (job : LineWork) (raises : List Raise) (ending : Ending) (found : List Finding) → ending.front ≡ last_front_of 0 raises → ending.flush ≡ last_flush_of 0 job.steps → FindsBefore job ending found → FindsLine job raises found
+finds-line job raises ending found front flush finds = λ T is_trace of_line right.
+    finds T is_trace of_line (ending-from_raises T job.line job.steps raises ending front flush of_line right)
 
 -- A pass in whatever trace the job is of, with the rest of the job to come.
 pub record Scanning (l : ℕ) (steps rest : List Step) (ending : Ending) (scan : Scan) (found : List Finding) : Type 0 where

@@ -10,6 +10,7 @@ pub mod FindingLists
 pub mod ReportLemmas
 pub mod StoreLemmas
 pub mod FoundLemmas
+pub mod LoneLemmas
 pub mod PlaceLemmas
 pub mod GrowLemmas
 pub mod LineActLemmas

@@ -12,11 +12,9 @@ use Rattle.pmt_model.specs.Findings.{IsRedundantFlush, IsRedundantClflush}
 use Rattle.pmt_model.specs.Analyses.{reported_at, InReportOrder, HasFinding}
 use Rattle.pmt_laws.proofs.Histories.{act-unique, history-act}
 use Rattle.pmt_laws.proofs.RedundantLemmas.{redundant_flush_by_fronts, redundant_clflush_by_fronts}
-use Rattle.pmt_marks.specs.Lines.{mark_in}
-use Rattle.pmt_lines.specs.declared.line_findings.Scan.{Scan}
+use Rattle.pmt_marks.specs.Lines.{Line, Follows, mark_in}
 use Rattle.pmt_lines.specs.LineFindings.{IsLineFinding}
 use Rattle.pmt_lines.specs.Scans.{found_if, is_flush_covered}
-use Rattle.pmt_lines.proofs.ScanLemmas.{IsScan}
 use Rattle.pmt_lines.proofs.FindingLists.{has-if, if-has, if-ordered}
 
 -- The findings of line l that are reported at event i, in report order, and no others.
@@ -68,8 +66,8 @@ le-test : (a b : ℕ) → a ≤ b → nat_le a b ≡ true
 le-test a b h = grind arith
 
 -- at a flush
-pub found-at_flush : (T : Recording) (l n t : ℕ) (scan : Scan) → IsScan T l n scan → IsAct T (suc n) (Flushes t l) → AreFoundAt T l (suc n) (found_if (is_flush_covered scan.state t) (RedundantFlush (suc n)))
-found-at_flush T l n t scan s is = found-flush T l (suc n) (is_flush_covered scan.state t) no_store (λ e. inl (t, to e)) from
+pub found-at_flush : (T : Recording) (l n t : ℕ) (line : Line) → Follows l (history T n) line → IsAct T (suc n) (Flushes t l) → AreFoundAt T l (suc n) (found_if (is_flush_covered line t) (RedundantFlush (suc n)))
+found-at_flush T l n t line f is = found-flush T l (suc n) (is_flush_covered line t) no_store (λ e. inl (t, to e)) from
   where
     law : IsRedundantFlush T t l (suc n) ↔ (count_at T l (suc n) ≤ max (front_at T l (suc n - 1)) (unwrap_or (open_mark t l (history T (suc n - 1))) 0))
     law = redundant_flush_by_fronts T t l (suc n) is
@@ -80,17 +78,17 @@ found-at_flush T l n t scan s is = found-flush T l (suc n) (is_flush_covered sca
     before : suc n - 1 ≡ n
     before = omega arith
 
-    counted : count_at T l (suc n) ≡ scan.state.count
-    counted = ap (count l) (history-act T n (Flushes t l) is) ∙ sym s.follows.counts
+    counted : count_at T l (suc n) ≡ line.count
+    counted = ap (count l) (history-act T n (Flushes t l) is) ∙ sym f.counts
 
-    fronted : front_at T l (suc n - 1) ≡ scan.state.front
-    fronted = ap (front_at T l) before ∙ sym s.follows.fronts
+    fronted : front_at T l (suc n - 1) ≡ line.front
+    fronted = ap (front_at T l) before ∙ sym f.fronts
 
-    marked : unwrap_or (open_mark t l (history T (suc n - 1))) 0 ≡ unwrap_or (mark_in t scan.state.marks) 0
-    marked = ap (λ k. unwrap_or (open_mark t l (history T k)) 0) before ∙ ap (λ o. unwrap_or o 0) (sym (s.follows.marks t))
+    marked : unwrap_or (open_mark t l (history T (suc n - 1))) 0 ≡ unwrap_or (mark_in t line.marks) 0
+    marked = ap (λ k. unwrap_or (open_mark t l (history T k)) 0) before ∙ ap (λ o. unwrap_or o 0) (sym (f.marks t))
 
-    to : is_flush_covered scan.state t ≡ true → IsRedundantFlush T t l (suc n)
-    to e = law.1 (omega (arith, counted, fronted, marked, leb-true scan.state.count (max scan.state.front (unwrap_or (mark_in t scan.state.marks) 0)) e))
+    to : is_flush_covered line t ≡ true → IsRedundantFlush T t l (suc n)
+    to e = law.1 (omega (arith, counted, fronted, marked, leb-true line.count (max line.front (unwrap_or (mark_in t line.marks) 0)) e))
 
     same : (u : ℕ) → IsRedundantFlush T u l (suc n) → IsRedundantFlush T t l (suc n)
     same u r =
@@ -98,13 +96,13 @@ found-at_flush T l n t scan s is = found-flush T l (suc n) (is_flush_covered sca
         let thread : u ≡ t = cc in
         subst (λ v. IsRedundantFlush T v l (suc n)) thread r
 
-    from : IsLineFinding T l (RedundantFlush (suc n)) → is_flush_covered scan.state t ≡ true
-    from (inl h) = le-test scan.state.count (max scan.state.front (unwrap_or (mark_in t scan.state.marks) 0)) (omega (arith, counted, fronted, marked, law.0 (same h.0 h.1)))
+    from : IsLineFinding T l (RedundantFlush (suc n)) → is_flush_covered line t ≡ true
+    from (inl h) = le-test line.count (max line.front (unwrap_or (mark_in t line.marks) 0)) (omega (arith, counted, fronted, marked, law.0 (same h.0 h.1)))
     from (inr h) = let e = act-unique T (suc n) (Clflushes l) (Flushes t l) h.is_clflush is in let no : ⊥ = cc in absurd no
 
 -- at a clflush
-pub found-at_clflush : (T : Recording) (l n : ℕ) (scan : Scan) → IsScan T l n scan → IsAct T (suc n) (Clflushes l) → AreFoundAt T l (suc n) (found_if (nat_le scan.state.count scan.state.front) (RedundantFlush (suc n)))
-found-at_clflush T l n scan s is = found-flush T l (suc n) (nat_le scan.state.count scan.state.front) no_store (λ e. inr (to e)) from
+pub found-at_clflush : (T : Recording) (l n : ℕ) (line : Line) → Follows l (history T n) line → IsAct T (suc n) (Clflushes l) → AreFoundAt T l (suc n) (found_if (nat_le line.count line.front) (RedundantFlush (suc n)))
+found-at_clflush T l n line f is = found-flush T l (suc n) (nat_le line.count line.front) no_store (λ e. inr (to e)) from
   where
     law : IsRedundantClflush T l (suc n) ↔ (count_at T l (suc n) ≤ front_at T l (suc n - 1))
     law = redundant_clflush_by_fronts T l (suc n) is
@@ -115,15 +113,15 @@ found-at_clflush T l n scan s is = found-flush T l (suc n) (nat_le scan.state.co
     before : suc n - 1 ≡ n
     before = omega arith
 
-    counted : count_at T l (suc n) ≡ scan.state.count
-    counted = ap (count l) (history-act T n (Clflushes l) is) ∙ sym s.follows.counts
+    counted : count_at T l (suc n) ≡ line.count
+    counted = ap (count l) (history-act T n (Clflushes l) is) ∙ sym f.counts
 
-    fronted : front_at T l (suc n - 1) ≡ scan.state.front
-    fronted = ap (front_at T l) before ∙ sym s.follows.fronts
+    fronted : front_at T l (suc n - 1) ≡ line.front
+    fronted = ap (front_at T l) before ∙ sym f.fronts
 
-    to : nat_le scan.state.count scan.state.front ≡ true → IsRedundantClflush T l (suc n)
-    to e = law.1 (omega (arith, counted, fronted, leb-true scan.state.count scan.state.front e))
+    to : nat_le line.count line.front ≡ true → IsRedundantClflush T l (suc n)
+    to e = law.1 (omega (arith, counted, fronted, leb-true line.count line.front e))
 
-    from : IsLineFinding T l (RedundantFlush (suc n)) → nat_le scan.state.count scan.state.front ≡ true
+    from : IsLineFinding T l (RedundantFlush (suc n)) → nat_le line.count line.front ≡ true
     from (inl h) = let e = act-unique T (suc n) (Flushes h.0 l) (Clflushes l) h.1.is_flush is in let no : ⊥ = cc in absurd no
-    from (inr h) = le-test scan.state.count scan.state.front (omega (arith, counted, fronted, law.0 h))
+    from (inr h) = le-test line.count line.front (omega (arith, counted, fronted, law.0 h))

@@ -17,7 +17,7 @@ use Rattle.pmt_laws.proofs.OverwrittenLemmas.{overwritten_by_numbers, last_store
 use Rattle.pmt_lines.specs.declared.line_findings.Scan.{Scan}
 use Rattle.pmt_lines.specs.declared.line_findings.Ending.{Ending}
 use Rattle.pmt_lines.specs.LineFindings.{IsLineFinding}
-use Rattle.pmt_lines.specs.Scans.{IsAmong, AreAbove, AreStoresAt, found_if, overwritten_by, never_persisted_of}
+use Rattle.pmt_lines.specs.Scans.{IsEnding, IsAmong, AreAbove, AreStoresAt, found_if, overwritten_by, never_persisted_of}
 use Rattle.pmt_lines.proofs.TraceLemmas.{IsSize, size-of_format, store-of_trace, byte-line, byte-from_writes, writes-from_byte}
 use Rattle.pmt_lines.proofs.ScanLemmas.{IsScan, IsTable}
 use Rattle.pmt_lines.proofs.FindingLists.{has-append, has-left, has-right, ordered-append, has-overwritten, overwritten-has, overwritten-ordered, has-if, if-has, if-ordered}
@@ -118,11 +118,6 @@ overwritten-from T l n j w table numbers is_trace is right at o = (unflushed, (k
 
     last : last_store_number x.3 (history T n) ≡ Some j
     last = ap (λ m. last_store_number x.3 (history T m)) (sym before) ∙ x.4.last
-
--- What is known of line l at the end of the trace.
-pub record IsEnding (T : Recording) (l : ℕ) (ending : Ending) : Type 0 where
-  pub front : ending.front ≡ front_at T l (length T.events)
-  pub flush : ending.flush ≡ last_flush l (history T (length T.events))
 
 lt-test : (a b : ℕ) → a < b → nat_lt a b ≡ true
 lt-test a b h = grind arith

@@ -6,18 +6,21 @@ ghost use Rattle.pmt_lines.specs.Steps.{IsStepKind, AreSteps, last_number, with_
 use crate::small_step::SmallStep;
 use crate::step::Step;
 use pmt_model::OutOfMemory;
+use smallvec::SmallVec;
 use std::alloc::Global;
 use std::marker::Model;
 
-// How much more than the steps that it has a job makes room for: for 2 steps at first, then for 6, 14, 30 and so on. Many lines have
-// one step or two, and blocks of memory have place for just so many: they are multiples of 16 bytes, 8 of which are taken.
-const MORE_ROOM: usize = 2;
+// Most lines have at most this many steps, and hold them with no block of memory.
+const FEW: usize = 3;
+
+// How much more than half the steps that it has a job makes room for: for 10 steps after the first 3, then for 21, 37, 61 and so on.
+const MORE_ROOM: usize = 6;
 
 /// The events of a trace that matter to one line, in order.
 #[derive(Debug, Drop)]
 pub struct LineJob {
     line: u64,
-    steps: Vec<SmallStep>,
+    steps: SmallVec<SmallStep, FEW>,
 }
 
 impl Model for LineJob {
@@ -37,7 +40,7 @@ impl LineJob {
     {
         LineJob {
             line,
-            steps: Vec::new(alloc),
+            steps: SmallVec::new(alloc),
         }
     }
 
@@ -80,15 +83,15 @@ impl LineJob {
 }
 
 // Adds the step.
-fn push_step(steps: &mut Vec<SmallStep>, step: &Step) -> Result<(), OutOfMemory>
+fn push_step(steps: &mut SmallVec<SmallStep, FEW>, step: &Step) -> Result<(), OutOfMemory>
     requires within { step.now.number ≤ event_limit }
     requires inside { IsStepKind step.now.kind }
     ensures ok { OnOk result (steps.new.items ≡ steps.old.items ++ step.now ∷ []) }
     ensures err { OnErr result (steps.new.items ≡ steps.old.items) }
 {
-    let count = steps.len();
+    let count = steps.as_slice().len();
     if count == steps.capacity() {
-        steps.reserve_exact(count + MORE_ROOM)?;
+        steps.reserve_exact(count / 2 + MORE_ROOM)?;
     }
     steps.push(SmallStep::new(step))?;
     Ok(())

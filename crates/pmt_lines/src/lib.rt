@@ -3,6 +3,7 @@
 //! The definitions stand in `specs/`.
 #![tactic(auto)]
 
+pub mod fence_step;
 pub mod fences;
 pub mod job;
 mod last_stores;
@@ -13,8 +14,10 @@ pub mod small_step;
 mod splitter;
 pub mod splitting;
 pub mod step;
+mod survey;
 pub mod thread_job;
 
+pub use crate::fence_step::FenceStep;
 pub use crate::fences::{ThreadResult, run_fences};
 pub use crate::job::LineJob;
 pub use crate::raises::{LineResult, Raise, run_line};

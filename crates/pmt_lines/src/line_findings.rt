@@ -4,13 +4,13 @@ ghost use Rattle.pmt_model.specs.Traces.{event_limit};
 ghost use Rattle.pmt_lines.specs.Steps.{IsStepKind};
 ghost use Rattle.pmt_lines.specs.Running.{TakesStep};
 ghost use Rattle.pmt_lines.specs.Raises.{FindsLine};
-ghost use Rattle.pmt_lines.specs.Scans.{found_if, last_front_of, last_flush_of, flush_after, is_flush_covered, IsNextAbove, IsNoneAbove, PushesOverwritten, Reports, ReportsStore, TakesBytes};
+ghost use Rattle.pmt_lines.specs.Scans.{found_if, last_front_of, last_flush_of, flush_after, store_count, never_persisted_of, is_flush_covered, FindsBefore, IsNextAbove, IsNoneAbove, PushesOverwritten, Reports, ReportsOthers, ReportsStore, TakesBytes};
 
 use crate::job::LineJob;
 use crate::last_stores::LastStores;
 use crate::raises::{Raise, take_step};
-use crate::small_step::SmallStep;
 use crate::step::{Step, StepKind};
+use crate::survey::Survey;
 use pmt_marks::LineState;
 use pmt_model::{Finding, OutOfMemory};
 use std::alloc::Global;
@@ -42,20 +42,6 @@ fn last_front(raises: &[Raise]) -> u64
         Some(raise) => raise.front as u64,
         None => 0,
     }
-}
-
-// The number of the last flush or clflush, or 0.
-fn last_flush(steps: &[SmallStep]) -> u64
-    ensures { result ≡ last_flush_of 0 steps.now }
-{
-    let mut last = 0;
-    for step in steps {
-        match step.kind() {
-            StepKind::Flush | StepKind::Clflush => last = step.number(),
-            StepKind::Store { .. } | StepKind::Fence => {}
-        }
-    }
-    last
 }
 
 // The least of the numbers that are above low.
@@ -120,6 +106,60 @@ fn push_overwritten(
     Ok(())
 }
 
+// Adds that the store is never persisted, if so, before it is counted.
+fn push_never_persisted(
+    state: &LineState,
+    found: &mut Vec<Finding>,
+    ending: Ending,
+    number: u64,
+) -> Result<(), OutOfMemory>
+    ensures { OnOk result (found.new.items ≡ found.old.items ++ never_persisted_of ending (state.now.count + 1) number) }
+{
+    let flushed = number < ending.flush;
+    push_if(
+        found,
+        ending.front < state.count() + 1,
+        Finding::NeverPersisted {
+            event: number,
+            flushed,
+        },
+    )
+}
+
+// Whether the front or the mark of the thread counts all stores to the line already.
+fn is_flush_covered(state: &LineState, thread: u8) -> bool
+    ensures { result ≡ is_flush_covered state.now thread }
+{
+    let mark = state.mark(thread).unwrap_or(0);
+    state.count() <= state.front().max(mark)
+}
+
+// Adds what is found at the step, apart from overwritten stores, before it is taken.
+fn report_others(
+    state: &LineState,
+    found: &mut Vec<Finding>,
+    ending: Ending,
+    step: Step,
+) -> Result<(), OutOfMemory>
+    ensures { OnOk result (ReportsOthers state.now ending step.number step.thread step.kind found.old.items found.new.items) }
+{
+    let number = step.number;
+    match step.kind {
+        StepKind::Store { .. } => push_never_persisted(state, found, ending, number),
+        StepKind::Flush => push_if(
+            found,
+            is_flush_covered(state, step.thread),
+            Finding::RedundantFlush { event: number },
+        ),
+        StepKind::Clflush => push_if(
+            found,
+            state.count() <= state.front(),
+            Finding::RedundantFlush { event: number },
+        ),
+        StepKind::Fence => Ok(()),
+    }
+}
+
 impl Scan {
     // Nothing has come yet.
     fn new(alloc: Global) -> Self
@@ -134,14 +174,6 @@ impl Scan {
         }
     }
 
-    // Whether the front or the mark of the thread counts all stores to the line already.
-    fn is_flush_covered(&self, thread: u8) -> bool
-        ensures { result ≡ is_flush_covered self.now.state thread }
-    {
-        let mark = self.state.mark(thread).unwrap_or(0);
-        self.state.count() <= self.state.front().max(mark)
-    }
-
     // Adds what is found at the step, before it is taken.
     fn report(
         &self,
@@ -152,20 +184,23 @@ impl Scan {
         requires { IsStepKind step.kind }
         ensures { OnOk result (Reports self.now ending step found.old.items found.new.items) }
     {
-        let number = step.number;
-        match step.kind {
+        let Step {
+            number,
+            thread,
+            kind,
+        } = step;
+        match kind {
             StepKind::Store { addr, len } => self.report_store(found, ending, number, addr, len),
-            StepKind::Flush => push_if(
+            StepKind::Flush | StepKind::Clflush | StepKind::Fence => report_others(
+                &self.state,
                 found,
-                self.is_flush_covered(step.thread),
-                Finding::RedundantFlush { event: number },
+                ending,
+                Step {
+                    number,
+                    thread,
+                    kind,
+                },
             ),
-            StepKind::Clflush => push_if(
-                found,
-                self.state.count() <= self.state.front(),
-                Finding::RedundantFlush { event: number },
-            ),
-            StepKind::Fence => Ok(()),
         }
     }
 
@@ -181,15 +216,7 @@ impl Scan {
         ensures { OnOk result (ReportsStore self.now ending number addr len found.old.items found.new.items) }
     {
         push_overwritten(found, self.stores.of(addr, len), self.flush, number)?;
-        let flushed = number < ending.flush;
-        push_if(
-            found,
-            ending.front < self.state.count() + 1,
-            Finding::NeverPersisted {
-                event: number,
-                flushed,
-            },
-        )
+        push_never_persisted(&self.state, found, ending, number)
     }
 
     // Takes the step.
@@ -229,14 +256,72 @@ pub(crate) fn line_findings(
     alloc: Global,
     job: &LineJob,
     raises: &[Raise],
+    survey: Survey,
 ) -> Result<Vec<Finding>, OutOfMemory>
+    requires flush { survey.last_flush ≡ last_flush_of 0 job.now.steps }
+    requires stores { survey.stores ≡ store_count job.now.steps }
     ensures { IfOk result (λ found. FindsLine job.now raises.now found.items) }
 {
-    let steps = job.steps();
     let ending = Ending {
         front: last_front(raises),
-        flush: last_flush(steps),
+        flush: survey.last_flush,
     };
+    if survey.stores < 2 {
+        findings_of_lone_store(alloc, job, ending)
+    } else {
+        findings_of_stores(alloc, job, ending)
+    }
+}
+
+// The findings of a line that has one store or none: nothing is overwritten, and no last stores are kept.
+fn findings_of_lone_store(
+    alloc: Global,
+    job: &LineJob,
+    ending: Ending,
+) -> Result<Vec<Finding>, OutOfMemory>
+    requires { store_count job.now.steps < 2 }
+    ensures { IfOk result (λ found. FindsBefore job.now ending found.items) }
+{
+    let steps = job.steps();
+    let mut state = LineState::new(alloc);
+    let mut found = Vec::new(alloc);
+    for step in steps {
+        let Step {
+            number,
+            thread,
+            kind,
+        } = step.step();
+        report_others(
+            &state,
+            &mut found,
+            ending,
+            Step {
+                number,
+                thread,
+                kind,
+            },
+        )?;
+        take_step(
+            &mut state,
+            Step {
+                number,
+                thread,
+                kind,
+            },
+        )?;
+    }
+    Ok(found)
+}
+
+// The findings of a line that may have any number of stores.
+fn findings_of_stores(
+    alloc: Global,
+    job: &LineJob,
+    ending: Ending,
+) -> Result<Vec<Finding>, OutOfMemory>
+    ensures { IfOk result (λ found. FindsBefore job.now ending found.items) }
+{
+    let steps = job.steps();
     let mut scan = Scan::new(alloc);
     let mut found = Vec::new(alloc);
     for step in steps {

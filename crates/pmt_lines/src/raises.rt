@@ -7,13 +7,18 @@ ghost use Rattle.pmt_lines.specs.Raises.{IsLineResult};
 use crate::job::LineJob;
 use crate::line_findings::line_findings;
 use crate::step::{Step, StepKind};
+use crate::survey::Survey;
 use pmt_marks::LineState;
 use pmt_model::{Finding, OutOfMemory};
+use smallvec::SmallVec;
 use std::alloc::Global;
 use std::marker::Model;
 
+// Most lines have at most this many raises, and hold them with no block of memory.
+const FEW: usize = 2;
+
 /// A place where the front of a line rose.
-#[derive(Clone, Copy, Debug, PartialEq, Eq)]
+#[derive(Clone, Copy, Debug, Default, PartialEq, Eq)]
 pub struct Raise {
     /// The number of the event that raised it.
     pub place: u32,
@@ -25,7 +30,7 @@ pub struct Raise {
 #[derive(Debug, Drop)]
 pub struct LineResult {
     job: LineJob,
-    raises: Vec<Raise>,
+    raises: SmallVec<Raise, FEW>,
     findings: Vec<Finding>,
 }
 
@@ -73,9 +78,10 @@ pub fn run_line(alloc: Global, job: LineJob) -> Result<LineResult, OutOfMemory>
     ensures job { IfOk result (λ found. found.job ≡ job) }
     ensures right { IfOk result IsLineResult }
 {
-    let mut state = LineState::new(alloc);
-    let mut raises = Vec::new(alloc);
     let steps = job.steps();
+    let survey = Survey::of(steps);
+    let mut state = LineState::new(alloc);
+    let mut raises = SmallVec::with_capacity(alloc, survey.completions)?;
     for step in steps {
         let Step {
             number,
@@ -96,7 +102,7 @@ pub fn run_line(alloc: Global, job: LineJob) -> Result<LineResult, OutOfMemory>
             })?;
         }
     }
-    let findings = line_findings(alloc, &job, raises.as_slice())?;
+    let findings = line_findings(alloc, &job, raises.as_slice(), survey)?;
     Ok(LineResult {
         job,
         raises,

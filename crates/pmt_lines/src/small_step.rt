@@ -17,7 +17,7 @@ const FLUSH: u8 = 9;
 const CLFLUSH: u8 = 10;
 
 /// A step in 12 bytes.
-#[derive(Drop)]
+#[derive(Default, Drop)]
 pub struct SmallStep {
     number: u32,
     low: u32,

@@ -1,9 +1,10 @@
 //! The job of the fences: all flushes and fences.
 ghost use Rattle.std.specs.Prelude.{◌≡◌, ◌<◌, ◌≤◌, OnOk, OnErr, [], ◌∷◌, ◌++◌};
 ghost use Rattle.pmt_model.specs.Traces.{event_limit};
-ghost use Rattle.pmt_lines.specs.Steps.{IsStepKind, AreSteps, last_number};
+ghost use Rattle.pmt_lines.specs.FenceSteps.{IsFlushOrFence};
+ghost use Rattle.pmt_lines.specs.Steps.{AreSteps, last_number};
 
-use crate::small_step::SmallStep;
+use crate::fence_step::FenceStep;
 use crate::step::Step;
 use pmt_model::OutOfMemory;
 use std::alloc::Global;
@@ -12,7 +13,7 @@ use std::marker::Model;
 /// The flushes and fences of a trace, in order.
 #[derive(Debug, Drop)]
 pub struct ThreadJob {
-    steps: Vec<SmallStep>,
+    steps: Vec<FenceStep>,
 }
 
 impl Model for ThreadJob {
@@ -38,7 +39,7 @@ impl ThreadJob {
     }
 
     /// The flushes and fences, by rising numbers from 1 to 1,000,000.
-    pub fn steps(&self) -> &[SmallStep]
+    pub fn steps(&self) -> &[FenceStep]
         ensures value { result.now ≡ self.now }
         ensures rising { AreSteps 0 self.now }
     {
@@ -49,11 +50,11 @@ impl ThreadJob {
     pub(crate) fn push(&mut self, step: &Step) -> Result<(), OutOfMemory>
         requires later { last_number 0 self.old < step.now.number }
         requires within { step.now.number ≤ event_limit }
-        requires inside { IsStepKind step.now.kind }
+        requires kind { IsFlushOrFence step.now.kind }
         ensures ok { OnOk result (self.new ≡ self.old ++ step.now ∷ []) }
         ensures err { OnErr result (self.new ≡ self.old) }
     {
-        self.steps.push(SmallStep::new(step))?;
+        self.steps.push(FenceStep::new(step))?;
         Ok(())
     }
 }

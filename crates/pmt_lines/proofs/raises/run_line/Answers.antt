@@ -25,7 +25,7 @@ loop-step-preserved c =
     let running = subst (λ x. Running c.args.job.line steps (x ∷ drop (i + 1) steps) old c.loop-step.raises.items) (sym (c.step-number.ensures.value ∙ c.step-item.is)) (running-next c.args.job.line steps i c.step-item.result old c.loop-step.raises.items c.loop-step-test.true c.loop-step.invariant) in
     elim c.if-branch.branch [
       | then-branch+in_ok-push w ↦
-          let told : c.if-branch.raises.items ≡ c.loop-step.raises.items ++ record { place = s.number; front = new.front } ∷ [] = rw (w.raises-is, w.in_ok-push.ensures.items, w.front.ensures.value) refl in
+          let told : c.if-branch.raises.items ≡ c.loop-step.raises.items ++ record { place = s.number; front = new.front } ∷ [] = rw (w.raises-is, w.in_ok-push.ensures.ok, w.front.ensures.value) refl in
           rw told (running-raised c.args.job.line steps s (drop (i + 1) steps) old new c.loop-step.raises.items running said.takes said.counted (said.rose.0 w.if-branch.true))
       | else-branch w ↦
           let told : c.if-branch.raises.items ≡ c.loop-step.raises.items = cc in
@@ -46,7 +46,7 @@ right c T job = go (rw (← c.steps-steps.ensures.value) at job)
 whole : (c : In_ok-findings) → IsLineResult (record { job = c.args.job; raises = c.loop-step.raises.items; findings = c.in_ok-findings.findings.items })
 whole c = record {
   raises = raised;
-  findings = λ T is_trace job. c.in_ok-findings.ensures T is_trace job (rw c.as_slice.ensures.value (raised T job));
+  findings = λ T is_trace job. c.in_ok-findings.ensures T is_trace job (rw c.as_slice.ensures (raised T job));
 }
   where
     raised : (T : Recording) → IsJobOf T c.args.job.line c.args.job.steps → IsRaises T c.args.job.line c.loop-step.raises.items
