@@ -3,6 +3,7 @@
 //! The definitions stand in `specs/` and in pmt_model.
 #![tactic(auto)]
 
+mod by_event;
 pub mod merge;
 
 pub use crate::merge::findings;
