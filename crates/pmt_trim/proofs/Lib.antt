@@ -2,6 +2,7 @@ pub mod HeadlineLemmas
 pub mod Waiting
 pub mod RaiseLemmas
 pub mod BackLemmas
+pub mod AddingLemmas
 pub mod MarkingLemmas
 pub mod LineLemmas
 pub mod JoinLemmas

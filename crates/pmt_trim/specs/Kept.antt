@@ -1,10 +1,12 @@
--- What is kept for one line, and the lists of what is kept for all lines.
-use Rattle.std.specs.Prelude.{◌≡◌, ◌≢◌, ℕ, ◌-◌, ◌↔◌, List, [], ◌∷◌, length}
+-- What is kept for one line, and for all lines, one after another.
+use Rattle.std.specs.Prelude.{◌≡◌, ◌≢◌, ℕ, ◌-◌, ◌↔◌, List, [], ◌∷◌, ◌++◌, length}
 use Rattle.pmt_model.specs.Machine.{Fences}
 use Rattle.pmt_model.specs.Traces.{Recording, IsAct, history, lines_of}
 use Rattle.pmt_model.specs.Fronts.{front_at}
 use Rattle.pmt_model.specs.Selections.{IsRising, Has}
 use Rattle.pmt_model.specs.Keeping.{IsUsefulFlush, IsUsefulClflush}
+use Rattle.pmt_lines.specs.Steps.{LineWork}
+use Rattle.pmt_lines.specs.Jobs.{IsJobOf}
 
 -- Event n is kept for line l: a useful flush or clflush of it, or a fence that raises its front.
 pub data IsKeptFor (T : Recording) (l n : ℕ) : Type 0 where
@@ -17,13 +19,21 @@ pub record IsLineKept (T : Recording) (l : ℕ) (kept : List ℕ) : Type 0 where
   pub rising : IsRising 0 kept
   pub just : (n : ℕ) → Has kept n ↔ IsKeptFor T l n
 
--- One such list for each of these lines, in their order.
-abbrev pub AreLinesKept : Recording → List ℕ → List (List ℕ) → Type 0
-AreLinesKept T [] [] = Unit {0}
-AreLinesKept T [] (kept ∷ lists) = ⊥
-AreLinesKept T (l ∷ lines) [] = ⊥
-AreLinesKept T (l ∷ lines) (kept ∷ lists) = IsLineKept T l kept × AreLinesKept T lines lists
+-- These are the numbers that are kept for the line of the job, in whatever trace it is that line's.
+abbrev pub IsJobKept : LineWork → List ℕ → Type 0
+IsJobKept job kept = (T : Recording) → IsJobOf T job.line job.steps → IsLineKept T job.line kept
 
--- One such list for each line of the trace that is stored or flushed, in order of first appearance.
-abbrev pub AreAllKept : Recording → List (List ℕ) → Type 0
-AreAllKept T lists = AreLinesKept T (lines_of (history T (length T.events))) lists
+-- After the old numbers stand those that are kept for the line of the job.
+pub record AddsLineKept (job : LineWork) (old new : List ℕ) : Type 0 where
+  pub more : List ℕ
+  pub added : new ≡ old ++ more
+  pub kept : IsJobKept job more
+
+-- The numbers that are kept for the first of these lines, then those for the next one, and so on.
+abbrev pub AreLinesKept : Recording → List ℕ → List ℕ → Type 0
+AreLinesKept T [] kept = kept ≡ []
+AreLinesKept T (l ∷ lines) kept = (first rest : List ℕ) × (kept ≡ first ++ rest) × IsLineKept T l first × AreLinesKept T lines rest
+
+-- Those for each line of the trace that is stored or flushed, in order of first appearance.
+abbrev pub AreAllKept : Recording → List ℕ → Type 0
+AreAllKept T kept = AreLinesKept T (lines_of (history T (length T.events))) kept

@@ -8,19 +8,17 @@ ghost use Rattle.pmt_trim.specs.Marking.{op_stays, is_kept_at, MarksThese};
 use pmt_model::{Event, Op, OutOfMemory, Selection, Trace};
 use std::alloc::Global;
 
-/// All that is kept of the trace: what is kept for its lines, one list for each, and the stores and assertions.
+/// All that is kept of the trace: what is kept for its lines, for one line after another, and the stores and assertions.
 ///
 /// # Errors
 /// Where memory was refused.
-pub fn liveness(alloc: Global, trace: &Trace, lists: &[Vec<u32>]) -> Result<Selection, OutOfMemory>
-    requires { AreAllKept trace.now (map (λ kept. kept.items) lists.now) }
+pub fn liveness(alloc: Global, trace: &Trace, kept: &[u32]) -> Result<Selection, OutOfMemory>
+    requires { AreAllKept trace.now kept.now }
     ensures { IfOk result (λ selection. IsKeep trace.now selection) }
 {
     let mut marks = stores_and_assertions(alloc, trace.events())?;
     let marked = marks.as_mut_slice();
-    for list in lists {
-        mark_all(marked, list.as_slice());
-    }
+    mark_all(marked, kept);
     marked_numbers(alloc, marked)
 }
 

@@ -1,26 +1,43 @@
 //! What is kept of one line.
-ghost use Rattle.std.specs.Prelude.{◌≡◌, ◌+◌, IfOk, MatchOption};
-ghost use Rattle.pmt_model.specs.Traces.{Recording};
-ghost use Rattle.pmt_lines.specs.Jobs.{IsJobOf};
-ghost use Rattle.pmt_trim.specs.Kept.{IsLineKept};
-ghost use Rattle.pmt_trim.specs.Backwards.{is_kept, waiting_before, LastIsAt, LastIsElsewhere};
+ghost use Rattle.std.specs.Prelude.{◌≡◌, ◌≤◌, ◌++◌, length, take, drop, reverse, OnOk, MatchOption};
+ghost use Rattle.pmt_trim.specs.Kept.{AddsLineKept};
+ghost use Rattle.pmt_trim.specs.Backwards.{AddsBack, is_kept, waiting_before, LastIsAt, LastIsElsewhere};
 
 use pmt_lines::{LineResult, Raise, Step, StepKind};
 use pmt_model::OutOfMemory;
-use std::alloc::Global;
 
-/// The rising numbers of the line's useful flushes and clflushes, and of the fences that raise its front: in whatever trace the
+/// Adds the rising numbers of the line's useful flushes and clflushes, and of the fences that raise its front: in whatever trace the
 /// result's job is the line's.
 ///
 /// # Errors
-/// Where memory was refused.
-pub fn line_kept(alloc: Global, found: &LineResult) -> Result<Vec<u32>, OutOfMemory>
-    ensures { IfOk result (λ kept. (T : Recording) → IsJobOf T found.now.job.line found.now.job.steps → IsLineKept T found.now.job.line kept.items) }
+/// Where memory was refused; some of the numbers may be added then.
+pub fn add_line_kept(kept: &mut Vec<u32>, found: &LineResult) -> Result<(), OutOfMemory>
+    ensures { OnOk result (AddsLineKept found.now.job kept.old.items kept.new.items) }
+{
+    if found.raises().is_empty() {
+        return Ok(());
+    }
+    let start = kept.len();
+    add_back(kept, found)?;
+    turn_from(kept, start);
+    Ok(())
+}
+
+// Turns the numbers from this place on.
+fn turn_from(numbers: &mut Vec<u32>, start: usize)
+    requires { start ≤ length numbers.old.items }
+    ensures { numbers.new.items ≡ take start numbers.old.items ++ reverse (drop start numbers.old.items) }
+{
+    numbers[start..].reverse();
+}
+
+// Adds the line's numbers, from the last one to the first.
+fn add_back(kept: &mut Vec<u32>, found: &LineResult) -> Result<(), OutOfMemory>
+    ensures { OnOk result (AddsBack found.now.job kept.old.items kept.new.items) }
 {
     let steps = found.job().steps();
     let mut raises = found.raises();
     let mut waiting = [false; 256];
-    let mut kept = Vec::new(alloc);
     for i in (0..steps.len()).rev() {
         let Step {
             number,
@@ -33,8 +50,7 @@ pub fn line_kept(alloc: Global, found: &LineResult) -> Result<Vec<u32>, OutOfMem
             kept.push(number as u32)?;
         }
     }
-    kept.reverse();
-    Ok(kept)
+    Ok(())
 }
 
 // The raises before the last one, if that one is at this place.

@@ -21,7 +21,7 @@ pub mod trimming;
 pub mod whole_text;
 
 pub use crate::join::liveness;
-pub use crate::kept::line_kept;
+pub use crate::kept::add_line_kept;
 pub use crate::pass::Pass;
 pub use crate::shortest::{all_events, shortest_selection};
 pub use crate::stream_error::StreamError;

@@ -1,5 +1,5 @@
 //! Tests of trimming.
-use crate::{all_events, line_kept, shortest_selection, trim};
+use crate::{add_line_kept, all_events, shortest_selection, trim};
 use pmt_lines::{Jobs, run_line, split};
 use pmt_model::{Event, Format, Op, OpError, Range, Trace};
 use pmt_text::ListSource;
@@ -85,25 +85,31 @@ fn six_threads(rt: HostRuntime) -> Result<(), Fail> {
     keeps(&rt, b"0p0c1c2c3c4c5c5s4s3s2s1s0s", &[1, 7, 8])
 }
 
-// What each line keeps of the trace.
-fn kept_by_lines(alloc: Global, trace: &Trace) -> Result<Vec<Vec<u32>>, Fail> {
-    let Jobs { lines, .. } = split(alloc, &mut ListSource::new(trace))?;
-    let mut lists = Vec::new(alloc);
+// The lines of the trace keep these numbers, one line's after another's, and there are so many once each line has added its own.
+fn lines_keep(
+    rt: &(impl Abort + AllocGlobal),
+    events: &[u8],
+    kept: &[u32],
+    ends: &[usize],
+) -> Result<(), Fail> {
+    let trace = short_trace(rt.alloc(), events)?;
+    let Jobs { lines, .. } = split(rt.alloc(), &mut ListSource::new(&trace))?;
+    let mut numbers = Vec::new(rt.alloc());
+    let mut counts = Vec::new(rt.alloc());
     for job in lines {
-        lists.push(line_kept(alloc, &run_line(alloc, job)?)?)?;
+        add_line_kept(&mut numbers, &run_line(rt.alloc(), job)?)?;
+        counts.push(numbers.len())?;
     }
-    Ok(lists)
+    assert_eq!(rt; numbers.as_slice(), kept);
+    assert_eq!(rt; counts.as_slice(), ends);
+    Ok(())
 }
 
 // The parts of which the selection of the workers is made, called one by one.
 #[test]
 fn two_lines_by_parts(rt: HostRuntime) -> Result<(), Fail> {
-    let trace = short_trace(rt.alloc(), b"0p1c1y0o1m")?;
-    let lists = kept_by_lines(rt.alloc(), &trace)?;
-    assert_eq!(rt; lists.len(), 2);
-    assert_eq!(rt; lists[0].as_slice(), [2, 5].as_slice());
-    assert!(rt; lists[1].is_empty());
-    Ok(())
+    lines_keep(&rt, b"0p1c1y0o1m", &[2, 5], &[2, 2])?;
+    lines_keep(&rt, b"0p0c0o1x0s1s", &[2, 5, 4, 6], &[2, 4])
 }
 
 #[test]

@@ -14,8 +14,7 @@ ghost use Rattle.pmt_workers.specs.Halving.{is_worker_count};
 use crate::analysis::Analysis;
 use crate::halves::run_in_halves;
 use crate::judging::judged;
-use crate::results::taken_apart;
-use crate::shard::ShardGate;
+use crate::shard::{ShardAnswer, ShardGate};
 use pmt_findings::findings;
 use pmt_lines::{Jobs, SplitError, run_fences, split_source};
 use pmt_model::OutOfMemory;
@@ -115,11 +114,10 @@ fn analysis_of<R: Threads + Sync, G: ShardGate + Sync>(
         fences,
     } = jobs;
     let touched = lines.len();
-    let answers = run_in_halves(rt, alloc, gate, 0, workers, lines)?;
-    let (results, lists) = taken_apart(alloc, answers)?;
-    let selection = liveness(alloc, &trace, lists.as_slice())?;
+    let ShardAnswer { results, kept } = run_in_halves(rt, alloc, gate, 0, workers, lines)?;
     let threads = run_fences(alloc, fences)?;
     let found = findings(alloc, results.as_slice(), &threads)?;
+    let selection = liveness(alloc, &trace, kept.as_slice())?;
     let verdicts = judged(rt, alloc, results, &trace)?;
     Ok(Analysis::new(trace, touched, found, verdicts, selection))
 }

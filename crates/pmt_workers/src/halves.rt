@@ -1,11 +1,11 @@
 //! Running jobs by halves of the workers.
 ghost use Rattle.std.specs.Prelude.{◌≡◌, ◌<◌, ◌≤◌, ◌+◌, ◌^◌, IfOk, IsTrue, take, drop, vec_len, ◌++◌};
 ghost use Rattle.std.specs.Thread.{IsSync};
-ghost use Rattle.pmt_workers.specs.Answering.{AreAnswersTo};
+ghost use Rattle.pmt_workers.specs.Answering.{IsAnswerTo};
 ghost use Rattle.pmt_workers.specs.Halving.{is_worker_count};
 
 use crate::cut::fair_cut;
-use crate::shard::{LineAnswer, ShardGate};
+use crate::shard::{ShardAnswer, ShardGate};
 use pmt_lines::LineJob;
 use pmt_model::OutOfMemory;
 use std::alloc::Global;
@@ -25,10 +25,10 @@ pub(crate) fn run_in_halves<R: Threads + Sync, G: ShardGate + Sync>(
     first: usize,
     workers: usize,
     jobs: Vec<LineJob>,
-) -> Result<Vec<LineAnswer>, OutOfMemory>
+) -> Result<ShardAnswer, OutOfMemory>
     requires count { IsTrue (is_worker_count workers) }
     requires numbered { first + workers ≤ 16 }
-    ensures { IfOk result (λ answers. AreAnswersTo jobs.items answers.items) }
+    ensures { IfOk result (IsAnswerTo jobs.items) }
 {
     if workers == 1 {
         return gate.run(alloc, first, jobs);
@@ -37,26 +37,28 @@ pub(crate) fn run_in_halves<R: Threads + Sync, G: ShardGate + Sync>(
     let mut front = jobs;
     let at = fair_cut(front.as_slice());
     let back = front.split_off(at)?;
-    let (answers, more) = join(
+    let (answer, more) = join(
         rt,
-        move || -> Result<Vec<LineAnswer>, OutOfMemory>
+        move || -> Result<ShardAnswer, OutOfMemory>
             requires { IsSync R.row × IsSync G.row × IsTrue (is_worker_count half) × (first + half ≤ 16) }
-            ensures { IfOk result (λ answers. AreAnswersTo front.items answers.items) }
+            ensures { IfOk result (IsAnswerTo front.items) }
         { run_in_halves(rt, alloc, gate, first, half, front) },
-        move || -> Result<Vec<LineAnswer>, OutOfMemory>
+        move || -> Result<ShardAnswer, OutOfMemory>
             requires { IsSync R.row × IsSync G.row × IsTrue (is_worker_count half) × (first + half + half ≤ 16) }
-            ensures { IfOk result (λ answers. AreAnswersTo back.items answers.items) }
+            ensures { IfOk result (IsAnswerTo back.items) }
         { run_in_halves(rt, alloc, gate, first + half, half, back) },
     );
-    joined(answers?, more?)
+    joined(answer?, more?)
 }
 
-// The answers of the front part and then those of the back part.
-fn joined(front: Vec<LineAnswer>, back: Vec<LineAnswer>) -> Result<Vec<LineAnswer>, OutOfMemory>
-    ensures { IfOk result (λ answers. answers.items ≡ front.items ++ back.items) }
+// The answer of the front part and then that of the back part.
+fn joined(front: ShardAnswer, back: ShardAnswer) -> Result<ShardAnswer, OutOfMemory>
+    ensures results { IfOk result (λ all. all.results.items ≡ front.results.items ++ back.results.items) }
+    ensures kept { IfOk result (λ all. all.kept.items ≡ front.kept.items ++ back.kept.items) }
 {
     let mut all = front;
     let mut back = back;
-    all.append(&mut back)?;
+    all.results.append(&mut back.results)?;
+    all.kept.append(&mut back.kept)?;
     Ok(all)
 }

@@ -6,12 +6,11 @@ pub mod analysis;
 mod cut;
 mod halves;
 mod judging;
-mod results;
 pub mod shard;
 
 pub use crate::analyse::{AnalyseError, analyse_with, are_allowed};
 pub use crate::analysis::Analysis;
-pub use crate::shard::{LineAnswer, ShardGate, run_shard};
+pub use crate::shard::{ShardAnswer, ShardGate, run_shard};
 
 #[cfg(test)]
 mod tests;

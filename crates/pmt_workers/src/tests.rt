@@ -1,8 +1,8 @@
 //! Tests of the workers over forty lines.
 ghost use Rattle.std.specs.Prelude.{◌≤◌};
 
-use crate::{LineAnswer, ShardGate, analyse_with, run_shard};
-use pmt_lines::{Jobs, LineJob, StepKind, split};
+use crate::{ShardAnswer, ShardGate, analyse_with, run_shard};
+use pmt_lines::{Jobs, LineJob, LineResult, StepKind, split};
 use pmt_model::{Event, Finding, Op, OutOfMemory, Trace};
 use pmt_text::ListSource;
 use std::alloc::Global;
@@ -62,22 +62,29 @@ fn steps_of_a_job(rt: HostRuntime) -> Result<(), Fail> {
     Ok(())
 }
 
-// The answer is that of the line at this place.
-fn is_kept(rt: &impl Abort, answer: &LineAnswer, place: u32) {
-    let flush = place.saturating_add(41);
+// The result is that of the line at this place.
+fn is_result(rt: &impl Abort, found: &LineResult, place: u32) {
     let line = place.saturating_add(0x40);
-    assert_eq!(rt; answer.result.job().line(), line as u64);
-    assert_eq!(rt; answer.kept.as_slice(), [flush, 81].as_slice());
+    assert_eq!(rt; found.job().line(), line as u64);
 }
 
-// Each line keeps its flush and the first fence.
+// The line at this place keeps its flush and the first fence.
+fn is_kept(rt: &impl Abort, kept: &[u32], place: u32) {
+    let flush = place.saturating_add(41);
+    let at = (place as usize).saturating_mul(2);
+    assert_eq!(rt; kept.get(at).copied(), Some(flush));
+    assert_eq!(rt; kept.get(at.saturating_add(1)).copied(), Some(81));
+}
+
+// Each line keeps two events, one line's after another's.
 #[test]
 fn kept_by_a_shard(rt: HostRuntime) -> Result<(), Fail> {
     let Jobs { lines, .. } = forty_lines(rt.alloc())?;
-    let answers = run_shard(rt.alloc(), lines)?;
-    assert_eq!(rt; answers.len(), 40);
-    for (place, answer) in answers.iter().enumerate() {
-        is_kept(&rt, answer, place as u32);
+    let ShardAnswer { results, kept } = run_shard(rt.alloc(), lines)?;
+    assert_eq!(rt; (results.len(), kept.len()), (40, 80));
+    for (place, found) in results.iter().enumerate() {
+        is_result(&rt, found, place as u32);
+        is_kept(&rt, kept.as_slice(), place as u32);
     }
     Ok(())
 }
@@ -99,7 +106,7 @@ impl ShardGate for Meeting {
         alloc: Global,
         worker: usize,
         jobs: Vec<LineJob>,
-    ) -> Result<Vec<LineAnswer>, OutOfMemory> {
+    ) -> Result<ShardAnswer, OutOfMemory> {
         if worker < 16 {
             self.numbers.fetch_or(1 << worker, Ordering::SeqCst);
         }

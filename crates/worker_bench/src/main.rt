@@ -5,7 +5,7 @@
 use pmt_lines::LineJob;
 use pmt_model::{OutOfMemory, Trace};
 use pmt_text::{ListSource, read_trace};
-use pmt_workers::{LineAnswer, ShardGate, analyse_with, run_shard};
+use pmt_workers::{ShardAnswer, ShardGate, analyse_with, run_shard};
 use std::alloc::Global;
 use std::env;
 use std::io::Read;
@@ -26,16 +26,16 @@ impl<R: Clock> ShardGate for Stopwatch<'_, R> {
         alloc: Global,
         _worker: usize,
         jobs: Vec<LineJob>,
-    ) -> Result<Vec<LineAnswer>, OutOfMemory> {
+    ) -> Result<ShardAnswer, OutOfMemory> {
         let start = Instant::now(self.rt);
-        let answers = run_shard(alloc, jobs);
+        let answer = run_shard(alloc, jobs);
         if let Ok(start) = start {
             if let Ok(time) = start.elapsed(self.rt) {
                 let nanos = u64::try_from(time.as_nanos()).unwrap_or(u64::MAX);
                 self.longest.fetch_max(nanos, Ordering::SeqCst);
             }
         }
-        answers
+        answer
     }
 }
 
