@@ -1,21 +1,18 @@
 -- How the table of a line is made.
-use Rattle.std.proofs.Common.{◌≡◌, ℕ, zero, suc, ◌+◌, ◌-◌, ◌<◌, ◌≤◌, ◌⊎◌, ◌↔◌, inl, inr, true, false, List, [], ◌∷◌, ◌++◌, length, get_or, take, refl, sym, ap, subst, ◌∙◌, arith}
+use Rattle.std.proofs.Common.{◌≡◌, ℕ, zero, suc, ◌+◌, ◌-◌, ◌<◌, ◌≤◌, ◌⊎◌, ◌↔◌, inl, inr, true, List, [], ◌∷◌, ◌++◌, length, get_or, take, refl, sym, ap, subst, ◌∙◌, arith}
 use Rattle.std.specs.Prelude.{Contains, All}
-use Rattle.std.proofs.lemmas.Bool.{cases_lt, cases_order, both_ways, le-ltb, eq-eqb, lt-ltb}
+use Rattle.std.proofs.lemmas.Bool.{cases_lt}
 use Rattle.std.proofs.lemmas.List.{take_more}
 use Rattle.std.proofs.lemmas.List.Elements.{Contains-append_left, Contains-push, Contains-push_cases, All-from_recursion}
+use Rattle.pmt_model.specs.Traces.{event_limit}
 use Rattle.pmt_lines.specs.declared.step.StepKind.{StepKind}
 use Rattle.pmt_lines.specs.declared.step.StepKind.TheVariants.{Store, Flush, Clflush, Fence}
 use Rattle.pmt_lines.specs.declared.step.Step.{Step}
 use Rattle.pmt_asserts.specs.declared.put.Put.{Put}
 use Rattle.pmt_asserts.specs.declared.put.Write.{Write}
-use Rattle.pmt_asserts.specs.Puts.{covers, with_put, puts_of, put_at, IsUpTo, IsWriteOf, AreWritesOf, IsInside}
-use Rattle.pmt_asserts.proofs.RankLemmas.{covers-range, range-covers, up_to-trans}
-use Rattle.std.specs.declared.cmp.Ordering.{Ordering}
-use Rattle.std.specs.Ordering.{is_lt, nat_cmp, ordering_then}
+use Rattle.pmt_asserts.specs.Puts.{covers, with_put, puts_of, put_at, IsWriteOf, IsInside}
+use Rattle.pmt_asserts.proofs.RankLemmas.{covers-range, range-covers}
 use Rattle.std.specs.List.{AllByRecursion}
-use Rattle.std.specs.List.Sorted.{IsSorted, IsPermutation}
-use Rattle.std.proofs.lemmas.List.Sorted.{IsPermutation-sym, Contains-permutation}
 use Rattle.pmt_lines.specs.Steps.{AreSteps, IsStepKind}
 
 -- one store, if it is one, before others
@@ -76,13 +73,10 @@ pub writes-none : (puts : List Put) → HasWrites puts [] 0
 writes-none puts w = (λ c. absurd (omega (arith, c.1)), λ h. absurd (omega (arith, h.0.some, h.1)))
 
 pub writes-more :
-    (puts : List Put) (old new : List Write) (i : ℕ) (p : Put) → i < length puts → HasWrites puts old i →
-    ((w : Write) → Contains new w ↔ (Contains old w ⊎ ((w.rank ≡ i + 1) × (covers (put_at puts i) w.byte ≡ true)))) → HasWrites puts new (i + 1)
-writes-more puts old new i p h is added w = (there, back)
+    (puts : List Put) (old new : List Write) (i : ℕ) (p : Put) → p ≡ put_at puts i → i < length puts → HasWrites puts old i →
+    ((w : Write) → Contains new w ↔ (Contains old w ⊎ ((w.rank ≡ i + 1) × (covers p w.byte ≡ true)))) → HasWrites puts new (i + 1)
+writes-more puts old new i p read h is added w = (there, back)
   where
-    read : put_at puts i ≡ put_at puts i
-    read = refl
-
     there : Contains new w → IsWriteOf puts w × (w.rank ≤ i + 1)
     there c =
         elim ((added w).0 c) [
@@ -105,42 +99,11 @@ writes-more puts old new i p h is added w = (there, back)
           | inr before ↦ (added w).1 (inl ((is w).1 (g.0, before)))
         ]
 
--- By byte and then by rank.
-abbrev pub compared : Write → Write → Ordering
-compared v w = ordering_then (nat_cmp v.byte w.byte) (nat_cmp v.rank w.rank)
-
--- what doesn't come before
-up_to-from : (v w : Write) → is_lt (compared w v) ≡ false → IsUpTo v w
-up_to-from v w h =
-    elim (cases_order v.byte w.byte) [
-      | inl same ↦ elim (cases_lt w.rank v.rank) [
-        | inl less ↦ absurd (both_ways (is_lt (compared w v)) h (let a = le-ltb w.byte v.byte (omega (arith, same)) in let b = eq-eqb w.byte v.byte (sym same) in let d = lt-ltb w.rank v.rank less in rw (a, b, d) refl))
-        | inr more ↦ inr (same, more)
-      ]
-      | inr other ↦ elim other [
-        | inl less ↦ inl less
-        | inr more ↦ absurd (both_ways (is_lt (compared w v)) h (let a = lt-ltb w.byte v.byte more in rw a refl))
-      ]
-    ]
-
-up_to-refl : (w : Write) → IsUpTo w w
-up_to-refl w = inr (refl, omega arith)
-
--- sorted writes
-sorted-far : (ws : List Write) → IsSorted compared ws → (i n : ℕ) (d : Write) → i + n < length ws → IsUpTo (get_or ws i d) (get_or ws (i + n) d)
-sorted-far ws sorted i zero d h = let e : i ≡ i + 0 = omega arith in subst (λ k. IsUpTo (get_or ws i d) (get_or ws k d)) e (up_to-refl (get_or ws i d))
-sorted-far ws sorted i (suc n) d h =
-    let e : (i + n) + 1 ≡ i + suc n = omega arith in
-    let next = up_to-from (get_or ws (i + n) d) (get_or ws ((i + n) + 1) d) (sorted (i + n) d (omega arith) (omega arith)) in
-    subst (λ k. IsUpTo (get_or ws i d) (get_or ws k d)) e (up_to-trans (get_or ws i d) (get_or ws (i + n) d) (get_or ws ((i + n) + 1) d) (sorted-far ws sorted i n d (omega arith)) next)
-
--- the writes are all there, in order
-pub writes-sorted : (puts : List Put) (old new : List Write) (i : ℕ) → length puts ≤ i → HasWrites puts old i → IsPermutation old new → IsSorted compared new → AreWritesOf puts new
-writes-sorted puts old new i past has moved sorted = record {
-  sorted = λ j k d h within. let e : j + (k - j) ≡ k = omega arith in subst (λ n. IsUpTo (get_or new j d) (get_or new n d)) e (sorted-far new sorted j (k - j) d (omega (arith, e)));
-  just = λ w c. ((has w).0 (Contains-permutation new old w (IsPermutation-sym old new moved) c)).0;
-  all = λ w is. Contains-permutation old new w moved ((has w).1 (is, omega (arith, is.within)));
-}
+-- a step of a job has a small number, and its store lies inside one word
+pub step-fits : (low : ℕ) (steps : List Step) (i : ℕ) (d : Step) → AreSteps low steps → i < length steps → ((get_or steps i d).number ≤ event_limit) × IsStepKind (get_or steps i d).kind
+step-fits low [] i d are h = absurd (omega arith)
+step-fits low (s ∷ steps) zero d are h = (are.1, are.2)
+step-fits low (s ∷ steps) (suc i) d are h = step-fits s.number steps i d are.3 (omega arith)
 
 -- the stores of a job have bytes within the addresses
 pub puts-inside : (low : ℕ) (steps : List Step) → AreSteps low steps → All IsInside (puts_of steps)

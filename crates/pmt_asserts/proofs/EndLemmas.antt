@@ -22,7 +22,7 @@ at-write ws w c = (c.0, c.1, any ws c.0 no_write w c.1 ∙ c.2)
     any (x ∷ xs) (suc j) d e h = any xs j d e (omega arith)
 
 -- the store of a last rank has its write in the list
-last-write : (puts : List Put) (ws : List Write) (b c r : ℕ) → AreWritesOf puts ws → c ≤ length puts → last_in puts b c ≡ suc r → (j : ℕ) × (j < length ws) × (write_at ws j ≡ record { byte = b; rank = suc r })
+pub last-write : (puts : List Put) (ws : List Write) (b c r : ℕ) → AreWritesOf puts ws → c ≤ length puts → last_in puts b c ≡ suc r → (j : ℕ) × (j < length ws) × (write_at ws j ≡ record { byte = b; rank = suc r })
 last-write puts ws b c r are within e =
     let there = last_in-covers puts b c r e in
     let back : r ≡ suc r - 1 = omega arith in
@@ -299,12 +299,10 @@ least-found puts P leasts c low high x same are some within e lie =
 
 -- the range of the bytes as it is read
 pub between-found :
-    (puts P : List Put) (ws : List Write) (n low high : ℕ) (x y : Write) → puts ≡ P → AreWritesOf puts ws → n ≡ length ws → (n ≡ 0 → ⊥) → x ≡ get_or ws 0 x → y ≡ get_or ws (n - 1) y →
+    (puts P : List Put) (ws : List Write) (n low high : ℕ) (x y : Write) → puts ≡ P → AreWritesOf puts ws → n ≡ length ws → (n ≡ 0 → ⊥) → x ≡ write_at ws 0 → y ≡ write_at ws (n - 1) →
     low ≤ x.byte → y.byte < high → LieBetween P low high
 between-found puts P ws n low high x y same are long some first last from to =
-    let a : x ≡ write_at ws 0 = get_or_read ws 0 x (omega (arith, some)) first no_write in
-    let b : y ≡ write_at ws (n - 1) = get_or_read ws (n - 1) y (omega (arith, some)) last no_write in
     let e : n - 1 ≡ length ws - 1 = omega arith in
-    let low' : x.byte ≡ (write_at ws 0).byte = ap (λ (w : Write). w.byte) a in
-    let high' : y.byte ≡ (write_at ws (length ws - 1)).byte = ap (λ (w : Write). w.byte) (b ∙ ap (write_at ws) e) in
+    let low' : x.byte ≡ (write_at ws 0).byte = ap (λ (w : Write). w.byte) first in
+    let high' : y.byte ≡ (write_at ws (length ws - 1)).byte = ap (λ (w : Write). w.byte) (last ∙ ap (write_at ws) e) in
     subst (λ ps. LieBetween ps low high) same (writes-between puts ws low high are (omega (arith, low')) (omega (arith, high')))

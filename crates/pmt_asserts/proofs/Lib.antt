@@ -7,6 +7,7 @@ pub mod TableLemmas
 pub mod BuildLemmas
 pub mod PlacingLemmas
 pub mod EndLemmas
+pub mod CodeLemmas
 pub mod PartLemmas
 pub mod JudgeLemmas
 pub mod EarliestLemmas

@@ -9,8 +9,10 @@ mod judge;
 mod oldest;
 mod part;
 mod put;
+mod small_put;
 mod table;
 mod tables;
+mod writes;
 
 pub use crate::judge::{is_assertion, verdict, verdicts};
 pub use crate::tables::Tables;

@@ -2,8 +2,10 @@
 ghost use Rattle.std.specs.Prelude.{◌≡◌, ◌<◌, ◌≤◌, ◌↔◌, IsTrue, length};
 ghost use Rattle.pmt_asserts.specs.Puts.{covers, Meets, last_in};
 
+use crate::small_put::SmallPut;
+
 /// A store of a line's job.
-#[derive(Clone, Copy, Debug, PartialEq, Eq)]
+#[derive(Clone, Copy)]
 pub struct Put {
     /// The event's number.
     pub number: u64,
@@ -12,10 +14,10 @@ pub struct Put {
 }
 
 /// A byte that a store writes, with the store's rank among those of its line, from 1.
-#[derive(Clone, Copy, Debug, PartialEq, Eq, PartialOrd, Ord)]
+#[derive(Clone, Copy)]
 pub struct Write {
     pub byte: u64,
-    pub rank: u64,
+    pub rank: u32,
 }
 
 impl Put {
@@ -36,7 +38,7 @@ impl Put {
 
 // The rank of the last one of the first `count` stores that writes the byte, or 0 where it isn't above `floor`: it goes through
 // them from the last one on.
-pub fn last_above(puts: &[Put], byte: u64, count: usize, floor: usize) -> u64
+pub fn last_above(puts: &[SmallPut], byte: u64, count: usize, floor: usize) -> u64
     requires within { count ≤ length puts.now }
     requires floor { floor ≤ count }
     ensures found { 0 < result → result ≡ last_in puts.now byte count }
@@ -44,7 +46,7 @@ pub fn last_above(puts: &[Put], byte: u64, count: usize, floor: usize) -> u64
 {
     let mut rank = count;
     while rank > floor {
-        let put = puts[rank - 1];
+        let put = puts[rank - 1].put();
         if put.covers(byte) {
             return rank as u64;
         }

@@ -2,13 +2,15 @@
 ghost use Rattle.std.specs.Prelude.{◌≡◌, ℕ, ◌+◌, ◌-◌, ◌<◌, ◌≤◌, ◌↔◌, IsTrue, IfOk, All, length};
 ghost use Rattle.pmt_model.specs.Traces.{count_at as stores_by};
 ghost use Rattle.pmt_model.specs.Fronts.{front_at as front_by};
-ghost use Rattle.pmt_asserts.specs.Puts.{puts_of, put_at, last_in, LieBetween, IsGreatestIn, IsLeastOf, IsLesser, IsInside, AreReady, is_up_to};
+ghost use Rattle.pmt_asserts.specs.Puts.{puts_of, put_at, last_in, LieBetween, IsGreatestIn, IsLeastOf, IsLesser, IsInside, AreReady};
 ghost use Rattle.pmt_asserts.specs.Tables.{OfEachTrace, LieIn, EachFrom, PersistedBy, RankedBy, IsOldestOf};
 
-use crate::build::{collect_puts, collect_writes};
+use crate::build::collect_puts;
 use crate::ends::{collect_ends, collect_oldest};
 use crate::oldest::Oldest;
-use crate::put::{Put, Write, last_above};
+use crate::put::last_above;
+use crate::small_put::SmallPut;
+use crate::writes::Writes;
 use pmt_lines::LineResult;
 use pmt_model::OutOfMemory;
 use std::alloc::Global;
@@ -17,6 +19,9 @@ use std::marker::Model;
 // So many stores are gone through one by one: tables of their bytes would take more than they save.
 const FEW: usize = 16;
 
+// With so many none is made, so that ranks stay small. No trace has as many.
+const MANY: usize = 1 << 24;
+
 // So many of the newest stores are looked at before a byte is searched for: as many as there are words in a line of 64 bytes.
 const WORDS: usize = 8;
 
@@ -24,11 +29,11 @@ const WORDS: usize = 8;
 #[derive(Drop)]
 pub struct LineTable {
     found: LineResult,
-    puts: Vec<Put>,
-    // All that the stores write, by byte and then by rank; nothing where there are few stores.
-    writes: Vec<Write>,
+    puts: Vec<SmallPut>,
+    // Nothing where there are few stores.
+    writes: Writes,
     // After each number of stores, the least rank of a last store to a byte; nothing where there are few stores.
-    oldest: Vec<u64>,
+    oldest: Vec<u32>,
 }
 
 impl Model for LineTable {
@@ -39,7 +44,7 @@ impl Model for LineTable {
 
     ghost view = { λ t. t.found };
 
-    ghost invariant = { λ t. IsTableOf t.found.job.steps t.puts.items t.writes.items t.oldest.items };
+    ghost invariant = { λ t. IsTableOf t.found.job.steps t.puts.items t.writes t.oldest.items };
 }
 
 impl LineTable {
@@ -72,11 +77,11 @@ impl LineTable {
         if all == 0 {
             return 0;
         }
-        let newest = self.puts[all - 1];
-        if newest.number <= place {
+        let newest = self.puts[all - 1].number();
+        if newest <= place {
             return all;
         }
-        self.puts.partition_point(|put| put.number <= place)
+        self.puts.partition_point(|put| put.number() <= place)
     }
 
     // Whether at most so many stores come by the place: one look at the next store tells it.
@@ -87,8 +92,7 @@ impl LineTable {
         if next >= self.puts.len() {
             return true;
         }
-        let put = self.puts[next];
-        place < put.number
+        place < self.puts[next].number()
     }
 
     // The front at the place, which mostly lies past all raises.
@@ -133,17 +137,7 @@ impl LineTable {
         if known == 0 {
             return last_above(&self.puts, byte, count, 0);
         }
-        let rank = count as u64;
-        let end = self.writes.partition_point(
-            |write: &Write| -> bool
-                ensures { result ≡ is_up_to byte rank write.now }
-            { write.byte < byte || (write.byte == byte && write.rank <= rank) },
-        );
-        if end == 0 {
-            return 0;
-        }
-        let last = self.writes[end - 1];
-        if last.byte == byte { last.rank } else { 0 }
+        self.writes.last(byte, count as u64)
     }
 
     // The greatest rank of a last one of the first `count` stores to a byte from `low` to `high`, or 0. It is that of the last one
@@ -155,7 +149,7 @@ impl LineTable {
         let floor = count.saturating_sub(FEW);
         let mut rank = count;
         while floor < rank {
-            let put = self.puts[rank - 1];
+            let put = self.puts[rank - 1].put();
             if put.meets(low, high) {
                 return rank as u64;
             }
@@ -188,7 +182,7 @@ impl LineTable {
             return None;
         }
         if count <= self.oldest.len() && self.lies_between(low, high) {
-            return Some(self.oldest[count - 1]);
+            return Some(self.oldest[count - 1] as u64);
         }
         self.least_by_byte(low, high, count)
     }
@@ -201,10 +195,12 @@ impl LineTable {
         if count == 0 {
             return false;
         }
-        if self.writes[0].byte < low {
+        let first = self.writes.at(0);
+        if first.byte < low {
             return false;
         }
-        self.writes[count - 1].byte < high
+        let last = self.writes.at(count - 1);
+        last.byte < high
     }
 
     // The same rank, byte by byte, until it is the least of all.
@@ -238,7 +234,7 @@ impl LineTable {
         if rank == 0 {
             return byte + 1;
         }
-        let put = self.puts[rank as usize - 1];
+        let put = self.puts[rank as usize - 1].put();
         put.addr.saturating_add(put.len).min(high).max(byte + 1)
     }
 
@@ -270,22 +266,25 @@ impl LineTable {
         match self.least(low, high, self.count_at(place)) {
             None => None,
             Some(rank) => {
-                let number = self.puts[rank as usize - 1].number;
+                let number = self.puts[rank as usize - 1].number();
                 Some(Oldest { rank, number })
             }
         }
     }
 }
 
-// All that the stores write and the least ranks, or neither where there are few stores.
-fn tables_of(alloc: Global, puts: &[Put]) -> Result<(Vec<Write>, Vec<u64>), OutOfMemory>
+// All that the stores write and the least ranks, or neither where there are few stores, or too many.
+fn tables_of(alloc: Global, puts: &[SmallPut]) -> Result<(Writes, Vec<u32>), OutOfMemory>
     requires { All IsInside puts.now }
-    ensures { IfOk result (λ pair. AreReady puts.now pair.0.items pair.1.items) }
+    ensures { IfOk result (λ pair. AreReady puts.now pair.0 pair.1.items) }
 {
-    if puts.len() <= FEW {
-        return Ok((Vec::new(alloc), Vec::new(alloc)));
+    if puts.len() <= FEW || puts.len() >= MANY {
+        return Ok((Writes::none(alloc), Vec::new(alloc)));
     }
-    let writes = collect_writes(alloc, puts)?;
+    let writes = Writes::collect(alloc, puts)?;
+    if writes.len() == 0 {
+        return Ok((writes, Vec::new(alloc)));
+    }
     let ends = collect_ends(alloc, puts, &writes)?;
     let oldest = collect_oldest(alloc, puts, &ends)?;
     Ok((writes, oldest))

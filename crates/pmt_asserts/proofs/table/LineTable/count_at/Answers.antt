@@ -28,6 +28,6 @@ returns-then-newest-place-clause-value c = λ T trace job.
     let puts = c.self.inside.puts.items in
     let stores = c.self.invariant.stores ∙ ap (λ (g : LineFound). puts_of g.job.steps) c.self.view_is in
     let all : c.len-all.result ≡ length puts = c.len-all.ensures ∙ c.self.inside.puts.ok.0 in
-    let x = c.index-newest.result.now in
-    count-all T f.job.line f.job.steps puts c.args.place x job stores (omega (arith, all, c.if-all-eq0.false)) (c.index-newest.ensures ∙ ap (λ n. get_or puts (n - 1) x) all) c.if-newest-place.true
+    let x = c.index.result.now in
+    count-all T f.job.line f.job.steps puts c.args.place x job stores (omega (arith, all, c.if-all-eq0.false)) (c.index.ensures ∙ ap (λ n. get_or puts (n - 1) x) all) (omega (arith, c.if-newest-place.true, c.number-newest.ensures))
     ∙ sym all

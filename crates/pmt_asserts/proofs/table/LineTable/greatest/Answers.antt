@@ -12,7 +12,7 @@ returns-then-meets c =
     let read : x ≡ get_or (puts_of c.args.self.now.job.steps) (c.loop-rank.rank - 1) x = c.index.ensures ∙ ap (λ (ps : List Put). get_or ps (c.loop-rank.rank - 1) x) stores in
     let within = c.loop-rank.invariant.0 in
     greatest-met (puts_of c.args.self.now.job.steps) c.args.count c.loop-rank.rank c.args.low c.args.high x (omega (arith, c.loop-rank-test.true)) (omega (arith, within, c.requires))
-    (subst (λ (p : Put). Meets p c.args.low c.args.high) read (c.meets.ensures.0 c.if-meets.true)) c.loop-rank.invariant.1
+    (subst (λ (p : Put). Meets p c.args.low c.args.high) (c.put-put.ensures.value ∙ read) (c.meets.ensures.0 c.if-meets.true)) c.loop-rank.invariant.1
 
 pub loop-rank-preserved : goal.loop-rank-preserved
 loop-rank-preserved c =
@@ -22,7 +22,7 @@ loop-rank-preserved c =
     let within = c.loop-rank.invariant.0 in (
       omega (arith, within),
       unmet-earlier (puts_of c.args.self.now.job.steps) c.args.count c.loop-rank.rank c.args.low c.args.high x (omega (arith, c.loop-rank-test.true)) (omega (arith, within, c.requires))
-          (λ met. absurd (let told = c.meets.ensures.1 (subst (λ (p : Put). Meets p c.args.low c.args.high) (sym read) met) in cc)) c.loop-rank.invariant.1,
+          (λ met. absurd (let told = c.meets.ensures.1 (subst (λ (p : Put). Meets p c.args.low c.args.high) (sym (c.put-put.ensures.value ∙ read)) met) in cc)) c.loop-rank.invariant.1,
     )
 
 pub returns-then-rank-eq0 : goal.returns-then-rank-eq0

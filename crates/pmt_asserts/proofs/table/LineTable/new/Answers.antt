@@ -19,5 +19,5 @@ invariant_of-result c =
     record {
       stores = own ∙ ap puts_of steps;
       inside = subst (All IsInside) (sym own) (puts-inside 0 job.steps c.steps.ensures.rising);
-      ready = subst (λ ps. AreReady ps c.in_ok-writes.writes.items c.in_ok-writes.oldest.items) c.deref.ensures.value (c.in_ok-writes.ensures {u = tt});
+      ready = subst (λ ps. AreReady ps c.in_ok-writes.writes c.in_ok-writes.oldest.items) c.deref.ensures.value (c.in_ok-writes.ensures {u = tt});
     }
