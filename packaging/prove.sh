@@ -1,6 +1,11 @@
-# For ./pmtrim: proves the crates of the program, two at a time, and builds it.
-# Two runs of rt wait for each other where both stand on one crate. So each of the two works in a tree of its own, over links to
-# what is proved; what it has proved goes to its place when it is whole.
+#!/usr/bin/env bash
+# Proves the crates of the program, a few at a time, and builds it. Until the file $1 is there, another build is answering: the proof
+# says nothing of how far it is, and takes the time that is left.
+# Two runs of rt wait for each other where both stand on one crate. So each works in a tree of its own, over links to what is proved;
+# what it has proved goes to its place when it is whole.
+set -uo pipefail
+. "$(dirname "${BASH_SOURCE[0]}")/crates.sh" || exit 1
+answered=$1
 
 # Says how far the proof of a crate is, and tells errors as they are.
 progress() {
@@ -8,6 +13,7 @@ progress() {
   while IFS= read -r line; do
     case $line in
       'so far: '*)
+        [ -e "$answered" ] || continue
         read -r _ _ proved _ all _ <<< "$line"
         built=$(for other in $(closure pmtrim); do ls "$top/crates/$other/out/rlib/stamp" 2> /dev/null; done | wc -l)
         tell "$built of $(closure pmtrim | wc -l) crates are proved; $crate: $proved of $all functions"
@@ -28,6 +34,7 @@ link_crate() {
 # Proves a crate over those that it stands on, in a tree of these crates alone, with so many jobs and so nicely.
 prove_crate() {
   local crate=$1 jobs=$2 niceness=$3 tree=$trees/$1 other needed
+  [ -e "$answered" ] || niceness=$((niceness + 9))
   needed=$(closure "$crate")
   mkdir -p "$tree/crates" && cp "$top/HANDLES" "$tree" || return
   awk 'NR == FNR { needed[$1] = 1; next } { name = $1; sub(/:$/, "", name) } name in needed' - "$top/crates.txt" <<< "$needed" > "$tree/crates.txt" || return
@@ -75,16 +82,17 @@ ready_crate() {
   return 1
 }
 
-# Proves all crates below the program, two at a time: those of the longest chain by all processors, beside them one in the time that
-# is left.
+# Proves all crates below the program: those of the longest chain by all processors, beside each of them one or two in the time that
+# is left, since a proof has long stretches that one processor does.
 prove_crates() {
-  local crate ended waiting chain proved=' '
+  local crate ended waiting chain proved=' ' most=2
+  [ "$(nproc)" -lt 4 ] || most=3
   local -A proving=()
   waiting=$(by_chain | grep -v '^pmtrim ')
   chain=$(awk '$2 { print $1 }' <<< "$waiting")
   waiting=$(cut -d ' ' -f 1 <<< "$waiting")
   while [ -n "$waiting" ] || [ "${#proving[@]}" -gt 0 ]; do
-    while [ "${#proving[@]}" -lt 2 ] && crate=$(ready_crate); do
+    while [ "${#proving[@]}" -lt "$most" ] && crate=$(ready_crate); do
       waiting=$(grep -vx "$crate" <<< "$waiting")
       if grep -qx "$crate" <<< "$chain"; then
         prove_crate "$crate" "$(nproc)" 0 &
@@ -108,12 +116,13 @@ end_proving() {
   [ -z "${trees-}" ] || rm -rf "$trees"
 }
 
-# Proves the crates, and builds the program, which then runs on its stored input. Each process is a group of its own, so that an
-# interrupt ends all that it has begun.
-build() {
-  set -m
-  trees=$(mktemp -d "$top/.proving.XXXXXX") || return
-  prove_crates || return
-  { (cd "$top/crates/pmtrim" && rt run --jobs "$(nproc)" < stdin 2>&1 > /dev/null) | progress pmtrim; } &
-  wait $!
-}
+trap end_proving EXIT
+# an interrupt says nothing of the processes that it ends
+trap 'exec 2> /dev/null; exit 130' INT TERM HUP
+# each process is a group of its own, so that an interrupt ends all that it has begun
+set -m
+trees=$(mktemp -d "$top/.proving.XXXXXX") || exit 1
+prove_crates || exit 1
+# the program is built by a run on its stored input
+{ (cd "$top/crates/pmtrim" && rt run --jobs "$(nproc)" < stdin 2>&1 > /dev/null) | progress pmtrim; } &
+wait $!
