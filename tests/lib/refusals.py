@@ -142,9 +142,9 @@ def answers_of_many_lines(folder):
     yield Case(["fronts", trace, "20001"], {Answer(0, text(fronts, "place 20001 lines 10000"))}, sparse=0.3)
 
 
-def under_a_limit(program, trace, words, kilobytes):
-    """A million events, with too little memory for them."""
-    limited = ["bash", "-c", f'ulimit -v {kilobytes}; exec "$@"', "limited", program, *words, trace]
+def under_a_limit(program, trace, words):
+    """A million events, with too little memory for them: `trim` needs 105 MB of addresses, `check` 125."""
+    limited = ["bash", "-c", 'ulimit -v 60000; exec "$@"', "limited", program, *words, trace]
     done = subprocess.run(limited, capture_output=True, timeout=120)
     answer = Answer(done.returncode, done.stdout, done.stderr)
     return [] if answer == WANT_OF_MEMORY else [f"{words}, a million events: {faulty.short(answer)}"]
@@ -267,8 +267,8 @@ def main():
         if STREAMS:
             cases += streams(folder)
         (folder / "million").write_bytes(lines(499999))
-        limited = ((["trim"], 60000), (["trim", "--workers", "4"], 60000), (["check"], 150000))
-        judgements = [partial(under_a_limit, program, folder / "million", *limit) for limit in limited]
+        limited = (["trim"], ["trim", "--workers", "4"], ["check"])
+        judgements = [partial(under_a_limit, program, folder / "million", words) for words in limited]
         judgements += [judgement for case in cases for judgement in sweeps(run, case)]
         judgements += [partial(sweep_of_calls, calls, VERDICTS), partial(finds_what_is_wrong, run, calls)]
         faulty.judge(judgements)
