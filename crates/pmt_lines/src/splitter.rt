@@ -47,6 +47,7 @@ impl Splitter {
     }
 
     // Takes the next event. What it leaves where memory was refused is not told.
+    #[inline(always)]
     pub(crate) fn take(&mut self, event: Event) -> Result<(), OutOfMemory>
         requires so_far { IsSplitting self.old.trace self.old.lines.keys self.old.jobs.items self.old.open_flushes self.old.fences }
         requires room { length self.old.trace.events < event_limit }

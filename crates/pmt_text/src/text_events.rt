@@ -23,6 +23,7 @@ fn fault(line: u64, kind: TextKind) -> SourceError
 }
 
 /// The next event, where so many were given, or None at the end.
+#[inline(always)]
 pub(crate) fn next_event<R: Read>(
     lines: &mut LineReader<R>,
     format: Format,

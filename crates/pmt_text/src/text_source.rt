@@ -62,6 +62,7 @@ impl<R: Read> TextSource<R> {
     }
 
     // The next event, where the format is known.
+    #[inline(always)]
     fn next_in(&mut self, format: Format) -> Result<Option<Event>, SourceError>
         requires open { text_state self.old ≡ states.Open }
         requires known { text_format self.old ≡ Some format }
@@ -132,19 +133,18 @@ impl<R: Read> EventSource for TextSource<R> {
         }
     }
 
+    #[inline(always)]
     fn next(&mut self) -> Result<Option<Event>, SourceError> {
         match self.state {
             SourceState::Open => {}
             SourceState::Ended => return Ok(None),
             SourceState::Failed(_) => return Err(SourceError::Failed),
         }
-        match self.format {
-            Some(format) => self.next_in(format),
-            None => match self.format() {
-                Ok(format) => self.next_in(format),
-                Err(e) => Err(e),
-            },
-        }
+        let format = match self.format {
+            Some(format) => format,
+            None => self.format()?,
+        };
+        self.next_in(format)
     }
 
     fn last_line(&self) -> Option<&[u8]> {
