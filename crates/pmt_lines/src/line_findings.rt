@@ -135,6 +135,7 @@ fn is_flush_covered(state: &LineState, thread: u8) -> bool
 }
 
 // Adds what is found at the step, apart from overwritten stores, before it is taken.
+#[inline(always)]
 fn report_others(
     state: &LineState,
     found: &mut Vec<Finding>,

@@ -79,6 +79,7 @@ impl LineState {
     ///
     /// # Errors
     /// Where a place for a fifth or later mark was refused. Nothing is changed then.
+    #[inline(always)]
     pub fn on_flush(&mut self, thread: u8) -> Result<(), OutOfMemory>
         ensures ok { OnOk result (Marks thread self.old self.new) }
         ensures again { IsSome (mark_in thread self.old.marks) → IsOk result }
@@ -101,6 +102,7 @@ impl LineState {
     }
 
     /// A fence by the thread, which completes its last flush of the line and takes its mark away: true where the front rose.
+    #[inline(always)]
     pub fn on_fence(&mut self, thread: u8) -> bool
         ensures done { Completes thread self.old self.new }
         ensures unmarked { mark_in thread self.old.marks ≡ None → self.new ≡ self.old }
