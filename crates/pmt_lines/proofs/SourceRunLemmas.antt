@@ -1,5 +1,5 @@
 -- What a source has told and given while its events are taken.
-use Rattle.std.proofs.Common.{◌≡◌, ◌≢◌, ℕ, ◌+◌, ◌≤◌, [], ◌∷◌, length, Option, Some, None, Result, Ok, Err, refl, ap, subst, ◌∙◌, arith}
+use Rattle.std.proofs.Common.{◌≡◌, ◌≢◌, ℕ, ◌+◌, ◌<◌, ◌≤◌, inl, inr, [], ◌∷◌, length, Option, Some, None, Result, Ok, Err, refl, ap, subst, ◌∙◌, arith}
 use Rattle.std.proofs.lemmas.List.{length-append}
 use Rattle.pmt_model.specs.declared.event.Event.{Event}
 use Rattle.pmt_model.specs.Values.{Layout}
@@ -9,9 +9,10 @@ use Rattle.pmt_text.specs.declared.kind.SourceError.{SourceError}
 use Rattle.pmt_text.specs.declared.kind.SourceError.TheVariants.{Failed}
 use Rattle.pmt_text.specs.declared.source.SourceState.{SourceState}
 use Rattle.pmt_text.specs.declared.source.SourceState.TheVariants as states
-use Rattle.pmt_text.specs.Coming.{Coming}
-use Rattle.pmt_text.specs.Sources.{Gives, TakesNext, HasFormat, TakesFormat, TellsNext, TellsFormat, KeepsFormat, LeavesFewer, CountsReads}
-use Rattle.pmt_text.proofs.SourceLemmas.{Gives-trans}
+use Rattle.pmt_text.specs.Coming.{Coming, ComesWhole}
+use Rattle.pmt_text.specs.Sources.{Gives, IsOver, TakesNext, HasFormat, TakesFormat, TellsNext, TellsFormat, KeepsFormat, LeavesFewer, CountsReads}
+use Rattle.pmt_text.proofs.SourceLemmas.{Gives-over, Gives-same, Gives-trans, whole-parts}
+use Rattle.pmt_lines.specs.Sourcing.{TakesFirst, TellsEnd, TellsNothing}
 
 -- no read has failed since
 abbrev pub SameReads : Option ℕ → Option ℕ → Type 0
@@ -98,3 +99,37 @@ so_far-more first now next T e so_far takes tells kept counts fewer =
       same_reads = same_reads-more first.failures now.failures next.failures (Some e) so_far.same_reads counts;
       roomy = omega (arith, so_far.roomy, fewer, length-append T.events (e ∷ []));
     }
+
+-- where so many events were taken as were asked for
+tells-nothing : (old new : SourceState) → new ≡ old → ((told : SourceError) → old ≢ states.Failed told) → TellsNothing old new
+tells-nothing states.Open new same unfailed = same
+tells-nothing states.Ended new same unfailed = same
+tells-nothing (states.Failed told) new same unfailed = absurd (unfailed told refl)
+
+pub so_far-full : (most : ℕ) (first now : Shown) (T : Recording) → SoFar first now T → length T.events ≡ most → TakesFirst most first.coming now.coming first.state now.state T
+so_far-full most first now T so_far full = record {
+  format = so_far.format;
+  events = so_far.given;
+  few = inr (full, tells-nothing first.state now.state so_far.same_state so_far.unfailed);
+}
+
+-- where the end came before
+tells-end : (old new : SourceState) → TellsNext old (Ok None) new → TellsEnd old new
+tells-end states.Open new tells = tells
+tells-end states.Ended new tells = tells.1
+tells-end (states.Failed told) new tells =
+    let failed : ◌≡◌ {A = Result (Option Event) SourceError} (Ok None) (Err Failed) = tells.0 in cc
+
+all-taken : (old now : Option Coming) (T : Recording) → HasFormat old (Some T.format) → Gives old T.events now → IsOver now None → ComesWhole old T
+all-taken None now T format given over = tt
+all-taken (Some c) now T format given over =
+    let all = Gives-over (Some c) now T.events None given over in
+    whole-parts c T format all.0 all.1
+
+pub so_far-ended : (most : ℕ) (first now next : Shown) (T : Recording) → SoFar first now T → length T.events < most → TakesNext now.coming (Ok None) next.coming → TellsNext now.state (Ok None) next.state →
+    TakesFirst most first.coming next.coming first.state next.state T
+so_far-ended most first now next T so_far fewer takes tells = record {
+  format = so_far.format;
+  events = Gives-same first.coming now.coming next.coming T.events so_far.given takes.1;
+  few = inl (fewer, all-taken first.coming now.coming T so_far.format so_far.given takes.0, tells-end first.state next.state (subst (λ s. TellsNext s (Ok None) next.state) so_far.same_state tells));
+}

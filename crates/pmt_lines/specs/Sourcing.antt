@@ -1,10 +1,12 @@
 -- What the split of a source tells.
-use Rattle.std.specs.Prelude.{◌≡◌, ◌≢◌, ◌⊎◌, Some, Result, Ok, Err}
+use Rattle.std.specs.Prelude.{◌≡◌, ◌≢◌, ℕ, ◌<◌, ◌⊎◌, length, Option, Some, Result, Ok, Err}
+use Rattle.pmt_model.specs.Traces.{Recording}
 use Rattle.pmt_text.specs.declared.kind.SourceError.{SourceError}
 use Rattle.pmt_text.specs.declared.kind.SourceError.TheVariants.{Text, TooMany, Read, OutOfMemory, Failed}
 use Rattle.pmt_text.specs.declared.source.SourceState.{SourceState}
 use Rattle.pmt_text.specs.declared.source.SourceState.TheVariants as states
-use Rattle.pmt_text.specs.Coming.{Coming}
+use Rattle.pmt_text.specs.Coming.{Coming, ComesWhole}
+use Rattle.pmt_text.specs.Sources.{Gives, HasFormat}
 use Rattle.pmt_lines.specs.declared.splitting.SplitError.{SplitError}
 use Rattle.pmt_lines.specs.declared.splitting.SplitError.TheVariants as splits
 
@@ -56,3 +58,17 @@ TellsSplit old (Err splits.OutOfMemory) new = TellsNothing old new
 abbrev pub TellsWhole : {A : Type 0} → SourceState → Result A SourceError → SourceState → Type 0
 TellsWhole old (Ok x) new = TellsEnd old new
 TellsWhole old (Err e) new = TellsFault old e new ⊎ ((e ≡ OutOfMemory) × TellsNothing old new)
+
+-- ---- What a split of the first events answers
+
+-- These are the first events, at most so many. Where they are fewer, they are all, and the source told its end; else it told nothing.
+pub record TakesFirst (most : ℕ) (old new : Option Coming) (before after : SourceState) (T : Recording) : Type 0 where
+  pub format : HasFormat old (Some T.format)
+  pub events : Gives old T.events new
+  pub few : ((length T.events < most) × ComesWhole old T × TellsEnd before after) ⊎ ((length T.events ≡ most) × TellsNothing before after)
+
+-- The source told the fault that is answered; where memory was refused to the split itself, it told nothing.
+abbrev pub TellsRefusal : {A : Type 0} → SourceState → Result A SplitError → SourceState → Type 0
+TellsRefusal old (Ok x) new = Unit {0}
+TellsRefusal old (Err (splits.Source e)) new = TellsFault old e new
+TellsRefusal old (Err splits.OutOfMemory) new = TellsNothing old new

@@ -46,6 +46,13 @@ impl Splitter {
         })
     }
 
+    // How many events it has taken.
+    pub(crate) fn len(&self) -> u64
+        ensures { result ≡ length self.now.trace.events }
+    {
+        self.trace.len() as u64
+    }
+
     // Takes the next event. What it leaves where memory was refused is not told.
     #[inline(always)]
     pub(crate) fn take(&mut self, event: Event) -> Result<(), OutOfMemory>

@@ -3,7 +3,7 @@ ghost use Rattle.std.specs.Prelude.{◌≡◌, IfOk, IfErr, IfSome};
 ghost use Rattle.pmt_text.specs.Coming.{ComesWhole};
 ghost use Rattle.pmt_text.specs.Sources.{CountsReads};
 ghost use Rattle.pmt_lines.specs.Splitting.{IsSplit};
-ghost use Rattle.pmt_lines.specs.Sourcing.{IsFaultOf, TellsSplit, TellsWhole, told_by};
+ghost use Rattle.pmt_lines.specs.Sourcing.{IsFaultOf, TakesFirst, TellsRefusal, TellsSplit, TellsWhole, told_by};
 ghost use Rattle.pmt_lines.specs.declared.splitting.SplitError.TheVariants.{Source, OutOfMemory};
 
 use crate::job::LineJob;
@@ -83,10 +83,33 @@ pub fn split_source<S: EventSource>(alloc: Global, source: &mut S) -> Result<Job
     ensures told { TellsSplit (S.state source.old) result (S.state source.new) }
     ensures failures { CountsReads (S.failures source.old) (told_by result) (S.failures source.new) }
 {
+    let jobs = split_first(alloc, source, u64::MAX)?;
+    let _is_trace = jobs.trace.len();
+    Ok(jobs)
+}
+
+/// As `split_source`, of the first events of the source alone, at most so many. Where it told no end, the next event is still to come.
+///
+/// # Errors
+/// As `split_source`.
+pub fn split_first<S: EventSource>(
+    alloc: Global,
+    source: &mut S,
+    most: u64,
+) -> Result<Jobs, SplitError>
+    ensures apart { IfOk result (λ jobs. IsSplit jobs.trace jobs.lines.items jobs.fences) }
+    ensures first { IfOk result (λ jobs. TakesFirst most (S.coming source.old) (S.coming source.new) (S.state source.old) (S.state source.new) jobs.trace) }
+    ensures fault { IfErr (told_by result) (λ e. IfSome (S.coming source.old) (λ c. IsFaultOf c e)) }
+    ensures told { TellsRefusal (S.state source.old) result (S.state source.new) }
+    ensures failures { CountsReads (S.failures source.old) (told_by result) (S.failures source.new) }
+{
     let format = source.format()?;
     let mut splitter = Splitter::new(alloc, format)?;
-    while let Some(event) = source.next()? {
-        splitter.take(event)?;
+    'first: while splitter.len() < most {
+        match source.next()? {
+            Some(event) => splitter.take(event)?,
+            None => return Ok(splitter.finish()),
+        }
     }
     Ok(splitter.finish())
 }
@@ -94,7 +117,7 @@ pub fn split_source<S: EventSource>(alloc: Global, source: &mut S) -> Result<Job
 #[cfg(test)]
 mod tests {
     use super::*;
-    use crate::{StepKind, run_fences, run_line};
+    use crate::{StepKind, last_state, run_fences, run_line};
     use pmt_model::{Event, Op};
     use pmt_text::ListSource;
     use std::test::Fail;
@@ -139,6 +162,29 @@ mod tests {
         assert_eq!(rt; lines[1].steps().len(), 2);
         assert_eq!(rt; lines[0].steps()[2].number(), 4);
         assert!(rt; matches!(lines[0].steps()[2].kind(), StepKind::Fence));
+        Ok(())
+    }
+
+    // The line is persisted before the place, and stored again after it.
+    #[test]
+    fn first_events(rt: HostRuntime) -> Result<(), Fail> {
+        let alloc = rt.alloc();
+        let events = [
+            (0, Op::store(0x1000, &[1])?),
+            (0, Op::clwb(0x1000)?),
+            (0, Op::Sfence),
+            (0, Op::store(0x1000, &[2])?),
+        ];
+        let trace = trace_of(alloc, events.as_slice())?;
+        let mut source = ListSource::new(&trace);
+        let first = split_first(alloc, &mut source, 3)?;
+        assert_eq!(rt; first.trace.len(), 3);
+        assert_eq!(rt; first.lines.len(), 1);
+        let state = last_state(alloc, &first.lines[0])?;
+        assert_eq!(rt; state.front(), 1);
+        assert_eq!(rt; state.count(), 1);
+        let rest = split(alloc, &mut source)?;
+        assert_eq!(rt; rest.trace.len(), 1);
         Ok(())
     }
 

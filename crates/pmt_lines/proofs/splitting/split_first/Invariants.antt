@@ -1,13 +1,15 @@
+use Rattle.std.proofs.Common.{◌≤◌, length}
 use Rattle.pmt_lines.specs.Splitting.{IsSplitting}
 use Rattle.pmt_lines.proofs.SourceRunLemmas.{SoFar, shown_by}
-use Rattle.pmt_lines.proofs.splitting.split_source.Given as goal
+use Rattle.pmt_lines.proofs.splitting.split_first.Given as goal
 
-abbrev pub invariant-loop-splitter : goal.invariant-loop-splitter
-invariant-loop-splitter g l =
+abbrev pub invariant-first : goal.invariant-first
+invariant-first g l =
     let source = g.S.EventSource in
     let shown = shown_by source.coming source.state source.known_format source.failures source.room in
     SoFar (shown l.fn.source) (shown l.source) l.splitter.trace
     × IsSplitting l.splitter.trace l.splitter.lines.keys l.splitter.jobs.items l.splitter.open_flushes l.splitter.fences
+    × (length l.splitter.trace.events ≤ l.most)
 
-abbrev pub decreases-loop-splitter : goal.decreases-loop-splitter
-decreases-loop-splitter g l = g.S.EventSource.room l.source
+abbrev pub decreases-first : goal.decreases-first
+decreases-first g l = g.S.EventSource.room l.source
