@@ -3,7 +3,6 @@ pub mod Pushing
 pub mod EntryLemmas
 pub mod ListingLemmas
 pub mod TakingLemmas
-pub mod CountLemmas
 pub mod BoundLemmas
 pub mod LineLists
 pub mod RunLemmas

@@ -1,5 +1,5 @@
 -- Runs: what was taken from the source, and the answer that was written.
-use Rattle.std.proofs.Common.{◌≡◌, ℕ, ◌*◌, ◌≤◌, ◌<◌, inl, inr, List, ◌++◌, length, map, reverse, Option, Some, None, Result, Ok, Err, refl, sym, ap, ◌∙◌, subst, arith, length-append}
+use Rattle.std.proofs.Common.{◌≡◌, ℕ, ◌*◌, ◌≤◌, inl, inr, List, ◌++◌, length, map, reverse, Option, Some, None, Result, Ok, Err, refl, sym, ap, ◌∙◌, subst, arith, length-append}
 use Rattle.std.specs.List.{flat_map}
 use Rattle.std.proofs.lemmas.List.{take-append-le}
 use Rattle.pmt_model.specs.declared.event.Event.{Event}
@@ -11,10 +11,11 @@ use Rattle.pmt_text.specs.Coming.{Coming, ComesWhole}
 use Rattle.pmt_text.specs.Sources.{Gives, HasFormat}
 use Rattle.pmt_text.proofs.SourceLemmas.{whole-parts}
 use Rattle.pmt_text.specs.declared.source.SourceState.{SourceState}
+use Rattle.pmt_lines.specs.Sourcing.{TakesFirst}
 use Rattle.pmt_trim.specs.Streaming.{IsTextOfTrimmed}
 use Rattle.pmt_trim.specs.WholeTexts.{IsTextOfWhole}
 use Rattle.pmt_report.specs.Reports.{fronts_head, front_entry, fronts_text}
-use Rattle.pmt_report.specs.Taking.{EndsAfter, TakesFirst}
+use Rattle.pmt_report.specs.Taking.{EndsAfter}
 use Rattle.pmt_report.specs.declared.fault.RunError.{RunError}
 use Rattle.pmt_report.specs.declared.fault.RunError.TheVariants.{BadWorkers, Text, TooMany, Read, PastEnd, OutOfMemory, Write}
 use Rattle.pmt_report.specs.Runs.{IsComputed, IsFrontsAt, WritesText, Runs}
@@ -50,29 +51,19 @@ all-from_parts (Some c) b P es f given ends =
     let left : EndsAfter (Some (record { format = c.format; events = given.0; fault = c.fault })) es = subst (λ (o : Option Coming). EndsAfter o es) given.2 ends in
     whole-parts c (longer P es) f (given.1 ∙ ap (λ (l : List Event). P.events ++ l) left.0) left.1
 
--- the first events reach the place
-reached : (most : ℕ) (a b : Option Coming) (P : Recording) (s : SourceState) → TakesFirst most a P b s → most ≤ length P.events → length P.events ≡ most
-reached most a b P s taken h = elim taken.few [ inl fewer ↦ absurd (omega (arith, fewer.0)) | inr full ↦ full.0 ]
-
 -- the fronts of the first events are those of all that comes
-pub fronts-computed : (place : ℕ) (a b : Option Coming) (P : Recording) (s : SourceState) (es : List Event) (text : List ℕ) → TakesFirst place a P b s → place ≤ length P.events → EndsAfter b es →
-    text ≡ fronts_text P (length P.events) → IsComputed (IsFrontsAt place) a text
-fronts-computed place a b P s es text taken enough ends is =
-    let at : length P.events ≡ place = reached place a b P s taken enough in
+pub fronts-computed : (place : ℕ) (old new : Option Coming) (before after : SourceState) (P : Recording) (es : List Event) (text : List ℕ) → TakesFirst place old new before after P → place ≤ length P.events → EndsAfter new es →
+    text ≡ fronts_text P (length P.events) → IsComputed (IsFrontsAt place) old text
+fronts-computed place old new before after P es text taken enough ends is =
+    let at : length P.events ≡ place = elim taken.few [ inl fewer ↦ absurd (omega (arith, fewer.0)) | inr full ↦ full.0 ] in
     record {
       trace = longer P es;
-      all = all-from_parts a b P es taken.format taken.events ends;
+      all = all-from_parts old new P es taken.format taken.events ends;
       answer = record {
         within = omega (arith, length-append P.events es);
         fronts = is ∙ fronts-longer P es ∙ ap (fronts_text (longer P es)) at;
       };
     }
-
--- where fewer events came than were asked for, they are all
-pub all-taken : (most : ℕ) (a b : Option Coming) (P : Recording) (s : SourceState) → TakesFirst most a P b s → length P.events < most → ComesWhole a P
-all-taken most None b P s taken few = tt
-all-taken most (Some c) b P s taken few =
-    elim taken.few [ inl fewer ↦ whole-parts c P taken.format fewer.1.0 fewer.1.1 | inr full ↦ absurd (omega (arith, full.0)) ]
 
 -- an answer that was computed and then written
 pub runs-written : (IsAnswer : Recording → List ℕ → Type 0) (IsFault : Option Coming → RunError → Type 0) (coming : Option Coming) (old new : Option (List ℕ)) (text : List ℕ)

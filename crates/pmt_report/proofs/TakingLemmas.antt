@@ -3,9 +3,8 @@ use Rattle.std.proofs.Common.{◌≡◌, ℕ, List, Option, Some, None, Ok, add-
 use Rattle.pmt_model.specs.declared.event.Event.{Event}
 use Rattle.pmt_text.specs.declared.source.SourceState.{SourceState}
 use Rattle.pmt_text.specs.declared.source.SourceState.TheVariants.{Open, Ended, Failed}
-use Rattle.pmt_model.specs.Values.{Layout}
 use Rattle.pmt_text.specs.Coming.{Coming}
-use Rattle.pmt_text.specs.Sources.{Gives, TellsNext, TakesNext, CountsReads, KeepsFormat}
+use Rattle.pmt_text.specs.Sources.{Gives, TellsNext, TakesNext, CountsReads}
 use Rattle.pmt_text.proofs.SourceLemmas.{Gives-over}
 use Rattle.pmt_report.specs.Taking.{EndsAfter, KeepsCount}
 
@@ -24,8 +23,3 @@ count-ok (Some n) (Some m) d x k r = cc (add-zero m)
 -- at the end all that was given is all that came
 pub ends-after : (a b d : Option Coming) (es : List Event) → Gives a es b → TakesNext b (Ok None) d → EndsAfter a es
 ends-after a b d es given taken = Gives-over a b es None given taken.0
-
--- a known format stays
-pub kept-format : (a b : Option Layout) (f : Layout) → a ≡ Some f → KeepsFormat a b → b ≡ Some f
-kept-format None b f e k = cc
-kept-format (Some h) b f e k = cc

@@ -1,9 +1,6 @@
 -- The fronts of a trace, line by line, from the jobs of its lines.
-use Rattle.std.specs.Prelude.{ℕ, ◌+◌, ◌*◌, ◌^◌, ◌<◌, List, [], ◌∷◌, length}
+use Rattle.std.specs.Prelude.{ℕ, ◌*◌, ◌^◌, ◌<◌, List, length}
 use Rattle.pmt_model.specs.Traces.{Recording}
-use Rattle.pmt_lines.specs.declared.step.StepKind.{StepKind}
-use Rattle.pmt_lines.specs.declared.step.StepKind.TheVariants.{Store, Flush, Clflush, Fence}
-use Rattle.pmt_lines.specs.declared.step.Step.{Step}
 use Rattle.pmt_lines.specs.Steps.{LineWork}
 use Rattle.pmt_lines.specs.Splitting.{IsJob}
 use Rattle.pmt_report.specs.Reports.{line_entry}
@@ -16,15 +13,3 @@ pub record IsLineOf (T : Recording) (job : LineWork) : Type 0 where
 -- The line's entry at the end of the trace.
 abbrev pub job_entry : Recording → LineWork → List ℕ
 job_entry T job = line_entry T (length T.events) job.line
-
--- 1 for a store
-abbrev pub stores_of_step : StepKind → ℕ
-stores_of_step (Store addr len) = 1
-stores_of_step Flush = 0
-stores_of_step Clflush = 0
-stores_of_step Fence = 0
-
--- how many of the steps are stores
-abbrev pub stores_in : List Step → ℕ
-stores_in [] = 0
-stores_in (s ∷ steps) = stores_of_step s.kind + stores_in steps

@@ -5,9 +5,10 @@ ghost use Rattle.pmt_text.specs.Counting.{failure_count, inner_device};
 ghost use Rattle.pmt_report.specs.Runs.{CountsRuns, IsComputed, IsFrontsAt, IsFrontsFault, Runs, coming_from_reader, run_read_faults, write_faults};
 
 use crate::fault::{RunError, run_error};
-use crate::fronts::fronts_of_trace;
+use crate::fronts::fronts_of_jobs;
 use crate::output::write_answer;
-use crate::taking::{TakeError, first_events, skip_events};
+use crate::taking::skip_events;
+use pmt_lines::{Jobs, SplitError, split_first};
 use pmt_text::{Counted, EventSource, TextSource};
 use std::alloc::Global;
 use std::io::{Read, Write};
@@ -45,12 +46,16 @@ fn fronts_of<S: EventSource>(alloc: Global, place: u64, source: &mut S) -> Resul
     ensures err { IfErr result (IsFrontsFault place (S.coming source.old)) }
     ensures failures { CountsRuns (S.failures source.old) result (S.failures source.new) }
 {
-    let first = match first_events(alloc, source, place) {
-        Ok(first) => first,
-        Err(TakeError::Source(fault)) => return Err(run_error(fault)),
-        Err(TakeError::OutOfMemory) => return Err(RunError::OutOfMemory),
+    let Jobs {
+        trace,
+        lines,
+        fences: _,
+    } = match split_first(alloc, source, place) {
+        Ok(jobs) => jobs,
+        Err(SplitError::Source(fault)) => return Err(run_error(fault)),
+        Err(SplitError::OutOfMemory) => return Err(RunError::OutOfMemory),
     };
-    let events = first.len() as u64;
+    let events = trace.len() as u64;
     if events < place {
         return Err(RunError::PastEnd { events });
     }
@@ -58,7 +63,7 @@ fn fronts_of<S: EventSource>(alloc: Global, place: u64, source: &mut S) -> Resul
         Ok(()) => {}
         Err(error) => return Err(run_error(error)),
     }
-    match fronts_of_trace(alloc, &first) {
+    match fronts_of_jobs(alloc, &trace, lines) {
         Ok(text) => Ok(text),
         Err(_) => Err(RunError::OutOfMemory),
     }

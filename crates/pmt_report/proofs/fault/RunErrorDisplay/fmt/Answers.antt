@@ -1,4 +1,4 @@
-use Rattle.std.proofs.Common.{◌≡◌, ℕ, List, ◌<◌, ◌^◌, ◌++◌, arith, ap, sym, ◌∙◌, codes}
+use Rattle.std.proofs.Common.{ℕ, List, ◌<◌, ◌^◌, ◌++◌, arith, ap, sym, ◌∙◌, codes}
 use Rattle.std.proofs.Output.{has_written_of_eq}
 use Rattle.pmt_text.specs.Spelling.{numeral}
 use Rattle.pmt_text.specs.Kinds.{name_of}
