@@ -5,7 +5,7 @@ use Rattle.pmt_model.specs.declared.finding.Finding.{Finding}
 use Rattle.pmt_explain.specs.Dropping.{AreDropped}
 use Rattle.pmt_explain.specs.LostGroups.{AreLostGroups}
 use Rattle.pmt_explain.specs.OverwrittenGroups.{AreOverwrittenGroups}
-use Rattle.pmt_workers.specs.Analysing.{Analysed}
+use Rattle.pmt_analysis.specs.Analysing.{Analysed}
 use Rattle.pmt_explanation.specs.declared.explaining.Explanation.{Explanation}
 use Rattle.pmt_explanation.specs.declared.failures.ShownFailure.{ShownFailure}
 use Rattle.pmt_explanation.specs.declared.ignoring.Ignored.{Ignored}

@@ -1,4 +1,3 @@
-pub mod Asking
 pub mod Counting
 pub mod Entries
 pub mod Explaining

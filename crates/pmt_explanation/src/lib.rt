@@ -24,9 +24,7 @@ pub mod unwritten;
 mod words;
 mod written;
 
-pub use crate::explaining::{
-    ExplainError, Explanation, Options, explain, explanation_of, has_failed,
-};
+pub use crate::explaining::{Explanation, Options, explanation_of, has_failed};
 pub use crate::failures::{RangeAfter, ShownFailure};
 pub use crate::ignoring::Ignored;
 pub use crate::json_lines::json_text;

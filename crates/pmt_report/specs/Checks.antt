@@ -6,7 +6,7 @@ use Rattle.pmt_model.specs.declared.finding.Finding.TheVariants.{Overwritten, Ne
 use Rattle.pmt_model.specs.declared.finding.Verdict.{Verdict}
 use Rattle.pmt_model.specs.Traces.{Recording}
 use Rattle.pmt_text.specs.Coming.{Coming, ComesWhole}
-use Rattle.pmt_workers.specs.Analysing.{Analysed, IsAnalysed}
+use Rattle.pmt_analysis.specs.Analysing.{Analysed, IsAnalysed}
 use Rattle.pmt_report.specs.Reports.{report}
 
 -- The report of an analysis.

@@ -6,4 +6,5 @@ pub mod Reports
 pub mod Taking
 pub mod Checks
 pub mod Runs
+pub mod Asking
 pub mod FrontsOf

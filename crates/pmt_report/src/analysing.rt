@@ -2,14 +2,15 @@
 ghost use Rattle.std.specs.Prelude.{◌≡◌, ◌+◌, ◌-◌, ◌^◌, ◌<◌, IfOk, IfErr, true, not};
 ghost use Rattle.pmt_text.specs.Coming.{ComesWhole};
 ghost use Rattle.pmt_text.specs.Counting.{failure_count, inner_device};
-ghost use Rattle.pmt_workers.specs.Analysing.{IsAnalysed};
+ghost use Rattle.pmt_analysis.specs.Analysing.{IsAnalysed};
 ghost use Rattle.pmt_workers.specs.Halving.{is_worker_count};
 ghost use Rattle.pmt_report.specs.Runs.{IsAnalysisFault, coming_from_reader, run_read_faults, tells_workers};
 
 use crate::fault::{RunError, run_error};
+use pmt_analysis::Analysis;
 use pmt_model::NoGate;
 use pmt_text::{Counted, TextSource};
-use pmt_workers::{AnalyseError, Analysis, analyse_with};
+use pmt_workers::{AnalyseError, analyse_with};
 use std::alloc::Global;
 use std::io::Read;
 use std::sync::Wait;

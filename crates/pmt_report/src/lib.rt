@@ -1,10 +1,11 @@
-//! Reports of traces, and the runs that read a trace, judge it and write the answer.
+//! Reports of traces, the runs that read a trace, judge it and write the answer, and the run that explains a trace.
 //!
 //! The definitions stand in `specs/`: the text of each answer, and the line and status of each fault.
 #![tactic(auto)]
 
 pub mod analysing;
 pub mod check;
+pub mod explaining;
 pub mod fault;
 mod fronts;
 pub mod fronts_run;
@@ -18,6 +19,7 @@ pub mod trim;
 
 pub use crate::analysing::analysed;
 pub use crate::check::{failed, report_text, run_check};
+pub use crate::explaining::{ExplainError, explain};
 pub use crate::fault::{RunError, fault_text, run_error};
 pub use crate::fronts_run::run_fronts;
 pub use crate::record_fault::RecordFault;

@@ -1,5 +1,4 @@
 pub mod Answering
 pub mod Halving
-pub mod Analysing
 pub mod Results
 pub mod Asking

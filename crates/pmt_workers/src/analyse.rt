@@ -6,15 +6,15 @@ ghost use Rattle.pmt_text.specs.Sources.{CountsReads};
 ghost use Rattle.pmt_lines.specs.Splitting.{IsSplit};
 ghost use Rattle.pmt_lines.specs.Sourcing.{IsFaultOf};
 ghost use Rattle.pmt_trim.specs.Headline.{IsTrimmed};
-ghost use Rattle.pmt_workers.specs.Analysing.{IsAnalysed};
+ghost use Rattle.pmt_analysis.specs.Analysing.{IsAnalysed};
 ghost use Rattle.pmt_workers.specs.Asking.{TellsSource, error_of, told_by};
 ghost use Rattle.pmt_workers.specs.declared.analyse.AnalyseError.TheVariants.{OutOfMemory};
 ghost use Rattle.pmt_workers.specs.Halving.{is_worker_count};
 
-use crate::analysis::Analysis;
 use crate::halves::run_in_halves;
 use crate::judging::judged;
 use crate::shard::{ShardAnswer, ShardGate};
+use pmt_analysis::Analysis;
 use pmt_findings::findings;
 use pmt_lines::{Jobs, SplitError, run_fences, split_source};
 use pmt_model::OutOfMemory;

@@ -2,15 +2,16 @@
 #![tactic(auto)]
 
 pub mod analyse;
-pub mod analysis;
 mod cut;
 mod halves;
 mod judging;
 pub mod shard;
+pub mod trimming;
 
 pub use crate::analyse::{AnalyseError, analyse_with, are_allowed};
-pub use crate::analysis::Analysis;
 pub use crate::shard::{ShardAnswer, ShardGate, run_shard};
+pub use crate::trimming::trimmed;
+pub use pmt_analysis::Analysis;
 
 #[cfg(test)]
 mod tests;

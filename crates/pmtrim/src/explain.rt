@@ -8,11 +8,9 @@ use crate::labels::read_labels;
 use crate::opener::{OpenError, Opener};
 use crate::reading::{read_whole, system_fault};
 use crate::refused::{line_of_text, refused_line};
-use pmt_explanation::{
-    ExplainError, Explanation, Labels, Options, explain, has_failed, json_text, text,
-};
+use pmt_explanation::{Explanation, Labels, Options, has_failed, json_text, text};
 use pmt_model::OutOfMemory;
-use pmt_report::RunError;
+use pmt_report::{ExplainError, RunError, explain};
 use pmt_text::{Counted, SourceError, TextError, TextSource};
 use std::alloc::Global;
 use std::io::{Cursor, Read, Write};

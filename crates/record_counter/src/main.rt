@@ -9,7 +9,7 @@ use anyhow::{Error, Result, bail};
 use pmt_model::{NoGate, Op, Range, Trace};
 use pmt_recorder::{Roll, Session, Tape};
 use pmt_text::ListSource;
-use pmt_workers::{Analysis, analyse_with};
+use pmt_workers::{Analysis, analyse_with, trimmed};
 use std::alloc::Global;
 use std::marker::Brand;
 use std::sync::Wait;
@@ -110,7 +110,7 @@ fn main(rt: HostRuntime) -> Result<()> {
     )?;
     println!(rt;
         "the trimmed trace has {} events",
-        analysis.trimmed()?.len()
+        trimmed(&analysis)?.len()
     )?;
     Ok(())
 }

@@ -1,5 +1,5 @@
 //! Tests of the analysis.
-use crate::{AnalyseError, Analysis, analyse_with};
+use crate::{AnalyseError, Analysis, analyse_with, trimmed};
 use pmt_model::{Finding, NoGate, Verdict};
 use pmt_text::devices::PieceReader;
 use pmt_text::{Counted, ListSource, SourceError, TextSource, write_trace};
@@ -30,7 +30,7 @@ fn one_line_by_sixteen_workers(rt: HostRuntime) -> Result<(), Fail> {
     assert_eq!(rt; analysis.findings(), [].as_slice());
     assert_eq!(rt; analysis.verdicts(), [].as_slice());
     assert_eq!(rt; analysis.selection().numbers(), [1, 2, 3].as_slice());
-    assert_eq!(rt; analysis.trimmed()?.len(), 3);
+    assert_eq!(rt; trimmed(&analysis)?.len(), 3);
     Ok(())
 }
 
@@ -55,7 +55,7 @@ fn fenced_by_another<R: Threads + Abort + Sync>(
     };
     assert_eq!(rt; analysis.verdicts(), [fails].as_slice());
     assert_eq!(rt; analysis.selection().numbers(), [1, 4].as_slice());
-    assert_eq!(rt; analysis.trimmed()?.len(), 2);
+    assert_eq!(rt; trimmed(&analysis)?.len(), 2);
     Ok(())
 }
 
@@ -122,11 +122,12 @@ fn trims<R: Threads + Abort + Sync>(
     rt: &R,
     alloc: Global,
     text: &[u8],
-    trimmed: &[u8],
+    wanted: &[u8],
     left: (usize, &[Finding]),
 ) -> Result<(), Fail> {
-    let trace = analysis_of_text(rt, alloc, text, 2)?.trimmed()?;
-    assert_eq!(rt; write_trace(alloc, &trace)?.as_slice(), trimmed);
+    let analysis = analysis_of_text(rt, alloc, text, 2)?;
+    let trace = trimmed(&analysis)?;
+    assert_eq!(rt; write_trace(alloc, &trace)?.as_slice(), wanted);
     let mut source = ListSource::new(&trace);
     let again = analyse_with(rt, alloc, &NoGate, &mut source, 2)?;
     assert_eq!(rt; (again.lines(), again.findings()), left);

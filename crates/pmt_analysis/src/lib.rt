@@ -1,10 +1,13 @@
-//! The analysis of a trace.
-ghost use Rattle.std.specs.Prelude.{◌≡◌, IfOk};
-ghost use Rattle.pmt_model.specs.Analyses.{IsAnalysis};
-ghost use Rattle.pmt_trim.specs.Headline.{IsTrimmed};
-ghost use Rattle.pmt_workers.specs.Analysing.{IsAnalysed};
+//! The analysis of a trace, as a value that is right whenever it can be looked at.
+//!
+//! What an analysis is stands in `specs/` and in pmt_model.
+#![tactic(auto)]
 
-use pmt_model::{Finding, OutOfMemory, Selection, Trace, Verdict};
+ghost use Rattle.std.specs.Prelude.{◌≡◌};
+ghost use Rattle.pmt_model.specs.Analyses.{IsAnalysis};
+ghost use Rattle.pmt_analysis.specs.Analysing.{IsAnalysed};
+
+use pmt_model::{Finding, Selection, Trace, Verdict};
 use std::marker::Model;
 
 /// The analysis of a trace.
@@ -18,7 +21,7 @@ pub struct Analysis {
 }
 
 impl Model for Analysis {
-    ghost use Rattle.pmt_workers.specs.Analysing.{Analysed, IsAnalysed};
+    ghost use Rattle.pmt_analysis.specs.Analysing.{Analysed, IsAnalysed};
 
     ghost Value = { Analysed };
 
@@ -28,8 +31,9 @@ impl Model for Analysis {
 }
 
 impl Analysis {
-    // The analysis that these are.
-    pub(crate) fn new(
+    /// The analysis that these are: of the trace, with how many lines of it are stored or flushed, its findings in report order, its
+    /// verdicts in event order, and what is kept of it.
+    pub fn new(
         trace: Trace,
         lines: usize,
         findings: Vec<Finding>,
@@ -88,16 +92,5 @@ impl Analysis {
         ensures right { IsAnalysed self.now }
     {
         &self.selection
-    }
-
-    /// The trimmed trace: the events that are kept.
-    ///
-    /// # Errors
-    /// Where memory was refused.
-    pub fn trimmed(&self) -> Result<Trace, OutOfMemory>
-        ensures { IfOk result (IsTrimmed self.now.trace self.now.selection) }
-    {
-        let trimmed = self.trace.select(&self.selection)?;
-        Ok(trimmed)
     }
 }

@@ -3,8 +3,8 @@ use Rattle.std.specs.Prelude.{◌⊎◌, Result, Ok, Err}
 use Rattle.pmt_text.specs.declared.kind.SourceError.{SourceError}
 use Rattle.pmt_text.specs.declared.source.SourceState.{SourceState}
 use Rattle.pmt_lines.specs.Sourcing.{TellsEnd, TellsFault, TellsNothing}
-use Rattle.pmt_explanation.specs.declared.explaining.ExplainError.{ExplainError}
-use Rattle.pmt_explanation.specs.declared.explaining.ExplainError.TheVariants.{Source, OutOfMemory}
+use Rattle.pmt_report.specs.declared.explaining.ExplainError.{ExplainError}
+use Rattle.pmt_report.specs.declared.explaining.ExplainError.TheVariants.{Source, OutOfMemory}
 
 -- The fault that the source told, if it told one.
 abbrev pub told_by : {A : Type 0} → Result A ExplainError → Result (Unit {0}) SourceError
