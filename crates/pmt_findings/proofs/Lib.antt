@@ -1,5 +1,6 @@
 pub mod SortLemmas
 pub mod StableLemmas
-pub mod ChainLemmas
 pub mod GatherLemmas
+pub mod PlaceLemmas
+pub mod PutLemmas
 pub mod WholeLemmas

@@ -5,5 +5,6 @@
 
 mod by_event;
 pub mod merge;
+mod survey;
 
 pub use crate::merge::findings;
