@@ -31,10 +31,10 @@ link_crate() {
   cp -al out/rlib "$place/out"
 }
 
-# Proves a crate over those that it stands on, in a tree of these crates alone, with so many jobs and so nicely.
+# Proves a crate over those that it stands on, in a tree of these crates alone, with so many jobs.
 prove_crate() {
-  local crate=$1 jobs=$2 niceness=$3 tree=$trees/$1 other needed
-  [ -e "$answered" ] || niceness=$((niceness + 9))
+  local crate=$1 jobs=$2 niceness=0 tree=$trees/$1 other needed
+  [ -e "$answered" ] || niceness=9
   needed=$(closure "$crate")
   mkdir -p "$tree/crates" && cp "$top/HANDLES" "$tree" || return
   awk 'NR == FNR { needed[$1] = 1; next } { name = $1; sub(/:$/, "", name) } name in needed' - "$top/crates.txt" <<< "$needed" > "$tree/crates.txt" || return
@@ -50,23 +50,15 @@ prove_crate() {
   rm -rf "$top/crates/$crate/out" && mv "$tree/crates/$crate/out" "$top/crates/$crate" && rm -rf "$tree"
 }
 
-# The crates of the program, those first on which the longest chain of others waits, by their lines; behind each, whether it is
-# of the longest chain of all.
+# The crates of the program, each behind the lines of the longest chain of crates that waits for it, itself among them; the longest
+# first.
 by_chain() {
   local crate
   for crate in $(closure pmtrim | tac); do
-    echo "$crate $(find "$top/crates/$crate" -name out -prune -o -name '*.rt' -print -o -name '*.antt' -print | xargs cat | wc -l)" $(closure "$crate")
+    echo "$crate $(find "$top/crates/$crate" -name out -prune -o -name '*.rt' -print0 | xargs -0 cat | wc -l)" $(closure "$crate")
   done | awk '
-    { name[NR] = $1; lines[$1] = $2; needed[NR] = $0; waiting[$1] = $2 + longest[$1]
-      for (k = 3; k <= NF; k++) if ($k != $1 && longest[$k] < waiting[$1]) longest[$k] = waiting[$1] }
-    END {
-      for (at = NR; at > 0; at--) {
-        count = split(needed[at], word, " "); own = name[at]
-        for (k = 3; k <= count; k++) if (word[k] != own && below[own] < below[word[k]] + lines[word[k]]) below[own] = below[word[k]] + lines[word[k]]
-        if (most < below[own] + waiting[own]) most = below[own] + waiting[own]
-      }
-      for (at = 1; at <= NR; at++) print waiting[name[at]], name[at], below[name[at]] + waiting[name[at]] == most
-    }' | sort -rn | cut -d ' ' -f 2,3
+    { chain = $2 + longest[$1]; print chain, $1
+      for (k = 3; k <= NF; k++) if ($k != $1 && longest[$k] < chain) longest[$k] = chain }' | sort -rn
 }
 
 # The first crate that waits, and of which all that it stands on is proved.
@@ -82,23 +74,30 @@ ready_crate() {
   return 1
 }
 
-# Proves all crates below the program: those of the longest chain by all processors, beside each of them one or two in the time that
-# is left, since a proof has long stretches that one processor does.
+# Whether no crate that is being proved has a longer chain than this one.
+has_longest_chain() {
+  local other
+  for other in "${proving[@]}"; do
+    [ "${chain[$other]}" -le "${chain[$1]}" ] || return 1
+  done
+}
+
+# Proves all crates below the program, as many at a time as there are processors. A crate gets one job, since several take half as
+# much processor time again; the one on which the most waits gets as many as there are processors, up to eight.
 prove_crates() {
-  local crate ended waiting chain proved=' ' most=2
-  [ "$(nproc)" -lt 4 ] || most=3
-  local -A proving=()
-  waiting=$(by_chain | grep -v '^pmtrim ')
-  chain=$(awk '$2 { print $1 }' <<< "$waiting")
-  waiting=$(cut -d ' ' -f 1 <<< "$waiting")
-  while [ -n "$waiting" ] || [ "${#proving[@]}" -gt 0 ]; do
+  local lines crate ended jobs proved=' ' waiting='' most
+  local -A chain=() proving=()
+  most=$(nproc)
+  while read -r lines crate; do
+    [ "$crate" = pmtrim ] || waiting+="$crate "
+    chain[$crate]=$lines
+  done < <(by_chain)
+  while [ "${waiting// /}" ] || [ "${#proving[@]}" -gt 0 ]; do
     while [ "${#proving[@]}" -lt "$most" ] && crate=$(ready_crate); do
-      waiting=$(grep -vx "$crate" <<< "$waiting")
-      if grep -qx "$crate" <<< "$chain"; then
-        prove_crate "$crate" "$(nproc)" 0 &
-      else
-        prove_crate "$crate" "$((($(nproc) + 1) / 2))" 10 &
-      fi
+      waiting=${waiting/"$crate "/}
+      jobs=1
+      ! has_longest_chain "$crate" || jobs=$((most < 8 ? most : 8))
+      prove_crate "$crate" "$jobs" &
       proving[$!]=$crate
     done
     wait -n -p ended || return
