@@ -50,59 +50,50 @@ prove_crate() {
   rm -rf "$top/crates/$crate/out" && mv "$tree/crates/$crate/out" "$top/crates/$crate" && rm -rf "$tree"
 }
 
-# The crates of the program, each behind the lines of the longest chain of crates that waits for it, itself among them; the longest
-# first.
+# The crates of the program, first those for which the longest chain of crates waits, by their lines of code.
 by_chain() {
   local crate
   for crate in $(closure pmtrim | tac); do
     echo "$crate $(find "$top/crates/$crate" -name out -prune -o -name '*.rt' -print0 | xargs -0 cat | wc -l)" $(closure "$crate")
   done | awk '
     { chain = $2 + longest[$1]; print chain, $1
-      for (k = 3; k <= NF; k++) if ($k != $1 && longest[$k] < chain) longest[$k] = chain }' | sort -rn
+      for (k = 3; k <= NF; k++) if ($k != $1 && longest[$k] < chain) longest[$k] = chain }' | sort -rn | cut -d ' ' -f 2
 }
 
-# The first crate that waits, and of which all that it stands on is proved.
-ready_crate() {
+# The crates that wait, and of which all that they stand on is proved.
+ready_crates() {
   local crate other
   for crate in $waiting; do
     for other in $(closure "$crate"); do
       [ "$other" = "$crate" ] || [[ $proved == *" $other "* ]] || continue 2
     done
     echo "$crate"
-    return
-  done
-  return 1
-}
-
-# Whether no crate that is being proved has a longer chain than this one.
-has_longest_chain() {
-  local other
-  for other in "${proving[@]}"; do
-    [ "${chain[$other]}" -le "${chain[$1]}" ] || return 1
   done
 }
 
-# Proves all crates below the program, as many at a time as there are processors. A crate gets one job, since several take half as
-# much processor time again; the one on which the most waits gets as many as there are processors, up to eight.
+# Proves all crates below the program. Several jobs in one crate take more processor time than one, since each reads what the crate
+# stands on. So a crate gets one, and besides as many as there are processors for which no other crate is ready.
 prove_crates() {
-  local lines crate ended jobs proved=' ' waiting='' most
-  local -A chain=() proving=()
-  most=$(nproc)
-  while read -r lines crate; do
-    [ "$crate" = pmtrim ] || waiting+="$crate "
-    chain[$crate]=$lines
-  done < <(by_chain)
-  while [ "${waiting// /}" ] || [ "${#proving[@]}" -gt 0 ]; do
-    while [ "${#proving[@]}" -lt "$most" ] && crate=$(ready_crate); do
-      waiting=${waiting/"$crate "/}
-      jobs=1
-      ! has_longest_chain "$crate" || jobs=$((most < 8 ? most : 8))
-      prove_crate "$crate" "$jobs" &
-      proving[$!]=$crate
+  local waiting ready ended jobs free proved=' '
+  local -A proving=() taken=()
+  free=$(nproc)
+  waiting=$(by_chain | grep -vx pmtrim)
+  while [ -n "$waiting" ] || [ "${#proving[@]}" -gt 0 ]; do
+    while [ "$free" -gt 0 ]; do
+      mapfile -t ready < <(ready_crates)
+      [ "${#ready[@]}" -gt 0 ] || break
+      waiting=$(grep -vx "${ready[0]}" <<< "$waiting")
+      jobs=$((free - ${#ready[@]} + 1))
+      [ "$jobs" -ge 1 ] || jobs=1
+      prove_crate "${ready[0]}" "$jobs" &
+      proving[$!]=${ready[0]}
+      taken[$!]=$jobs
+      free=$((free - jobs))
     done
     wait -n -p ended || return
     proved+="${proving[$ended]} "
-    unset "proving[$ended]"
+    free=$((free + ${taken[$ended]}))
+    unset "proving[$ended]" "taken[$ended]"
   done
 }
 
