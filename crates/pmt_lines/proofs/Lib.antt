@@ -17,4 +17,5 @@ pub mod LineActLemmas
 pub mod SplitLemmas
 pub mod FenceActLemmas
 pub mod TakeLemmas
+pub mod TakenLemmas
 pub mod SourceRunLemmas

@@ -8,4 +8,5 @@ pub mod Raises
 pub mod Fences
 pub mod Scans
 pub mod Splitting
+pub mod Splitters
 pub mod Sourcing

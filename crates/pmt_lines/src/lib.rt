@@ -16,6 +16,7 @@ mod splitter;
 pub mod splitting;
 pub mod step;
 mod survey;
+pub mod taking;
 pub mod thread_job;
 
 pub use crate::fence_step::FenceStep;
@@ -24,6 +25,7 @@ pub use crate::job::LineJob;
 pub use crate::playing::last_state;
 pub use crate::raises::{LineResult, Raise, run_line};
 pub use crate::small_step::SmallStep;
-pub use crate::splitting::{Jobs, SplitError, split, split_first, split_source};
+pub use crate::splitting::{Jobs, SplitError, split, split_first, split_source, split_trace};
 pub use crate::step::{Step, StepKind};
+pub use crate::taking::take_trace;
 pub use crate::thread_job::ThreadJob;

@@ -1,13 +1,14 @@
 //! Where each event of a trace goes while it is split.
-ghost use Rattle.std.specs.Prelude.{◌≡◌, ℕ, suc, ◌<◌, ◌≤◌, length, map, vec_len, All, IfOk, OnOk, Some, true, not, nat_eq, slice_get};
+ghost use Rattle.std.specs.Prelude.{◌≡◌, ℕ, ◌<◌, ◌≤◌, map, vec_len, All, IfOk, OnOk, Some, true, not, nat_eq, slice_get};
 ghost use Rattle.std.specs.List.{IsDistinct, list_any};
 ghost use Rattle.indexmap.specs.IndexSet.{insert_key};
 ghost use Rattle.pmt_model.specs.declared.event.Event.{Event};
-ghost use Rattle.pmt_model.specs.Machine.{Flushes, Fences};
+ghost use Rattle.pmt_model.specs.Machine.{Flushes, Fences, Asserts};
 ghost use Rattle.pmt_model.specs.Pushing.{empty, with_event};
-ghost use Rattle.pmt_model.specs.Traces.{event_limit, act, IsEventIn};
+ghost use Rattle.pmt_model.specs.Traces.{Recording, event_limit, act};
 ghost use Rattle.pmt_lines.specs.Steps.{IsStepKind};
-ghost use Rattle.pmt_lines.specs.Splitting.{line_in, IsSplitting, IsAccess, TakesOnLine, EndBefore, EndsAt};
+ghost use Rattle.pmt_lines.specs.Splitting.{line_in, IsSplit, IsAccess, TakesOnLine, EndBefore, EndsAt};
+ghost use Rattle.pmt_lines.specs.Splitters.{HasTaken, IsTaking};
 
 use crate::job::LineJob;
 use crate::open::OpenFlushes;
@@ -16,12 +17,14 @@ use crate::step::{Step, StepKind};
 use crate::thread_job::ThreadJob;
 use indexmap::IndexSet;
 use pmt_model::{Event, Format, Op, OutOfMemory, Trace, line_of};
-use std::alloc::{AllocError, Global};
+use std::alloc::Global;
 
-/// A trace that is taken apart while its events come.
+/// The jobs of a trace while its events come. It holds none of the events.
 #[derive(Drop)]
 pub(crate) struct Splitter {
-    trace: Trace,
+    format: Format,
+    // How many events it has taken.
+    taken: u64,
     lines: IndexSet<u64>,
     jobs: Vec<LineJob>,
     open_flushes: OpenFlushes,
@@ -31,13 +34,13 @@ pub(crate) struct Splitter {
 }
 
 impl Splitter {
-    // No events yet.
+    // No events of this format yet.
     pub(crate) fn new(alloc: Global, format: Format) -> Result<Self, OutOfMemory>
-        ensures trace { IfOk result (λ s. s.trace ≡ empty format) }
-        ensures so_far { IfOk result (λ s. IsSplitting s.trace s.lines.keys s.jobs.items s.open_flushes s.fences) }
+        ensures { IfOk result (HasTaken (empty format)) }
     {
         Ok(Splitter {
-            trace: Trace::new_with(alloc, format),
+            format,
+            taken: 0,
             lines: IndexSet::new(alloc),
             jobs: Vec::new(alloc),
             open_flushes: OpenFlushes::new(alloc)?,
@@ -46,38 +49,45 @@ impl Splitter {
         })
     }
 
-    // How many events it has taken.
-    pub(crate) fn len(&self) -> u64
-        ensures { result ≡ length self.now.trace.events }
-    {
-        self.trace.len() as u64
-    }
-
     // Takes the next event. What it leaves where memory was refused is not told.
     #[inline(always)]
-    pub(crate) fn take(&mut self, event: Event) -> Result<(), OutOfMemory>
-        requires so_far { IsSplitting self.old.trace self.old.lines.keys self.old.jobs.items self.old.open_flushes self.old.fences }
-        requires room { length self.old.trace.events < event_limit }
-        requires known { IsEventIn self.old.trace.format event }
-        ensures trace { OnOk result (self.new.trace ≡ with_event self.old.trace event) }
-        ensures so_far { OnOk result (IsSplitting self.new.trace self.new.lines.keys self.new.jobs.items self.new.open_flushes self.new.fences) }
+    pub(crate) fn take(&mut self, event: &Event) -> Result<(), OutOfMemory>
+        requires taking { IsTaking self.old }
+        requires room { self.old.taken < event_limit }
+        ensures { (T : Recording) → HasTaken T self.old → OnOk result (HasTaken (with_event T event.now) self.new) }
     {
-        self.sort(&event)?;
-        let Event { thread, op } = event;
-        match self.trace.push(Event { thread, op }) {
-            Ok(()) => Ok(()),
-            Err(_) => Err(AllocError),
+        let thread = event.thread;
+        match &event.op {
+            Op::Store(store) => {
+                let addr = store.addr();
+                let kind = StepKind::Store {
+                    addr: addr.get(),
+                    len: store.bytes().len() as u64,
+                };
+                self.take_access(thread, line_of(self.format, addr), kind)
+            }
+            Op::Clwb(addr) | Op::ClflushOpt(addr) => self.take_flush(
+                thread,
+                line_of(self.format, *addr),
+            ),
+            Op::Clflush(addr) => {
+                let kind = StepKind::Clflush;
+                self.take_access(thread, line_of(self.format, *addr), kind)
+            }
+            Op::Sfence | Op::Mfence => self.take_fence(thread),
+            Op::IsPersist(_) | Op::IsOrderedBefore(_, _) => self.take_assertion(),
         }
     }
 
-    // The trace and the jobs.
-    pub(crate) fn finish(self) -> Jobs
-        ensures trace { result.trace ≡ self.trace }
-        ensures lines { result.lines.items ≡ self.jobs.items }
-        ensures fences { result.fences ≡ self.fences }
+    // The trace, whose events it has taken, and the jobs.
+    pub(crate) fn finish(self, trace: Trace) -> Jobs
+        requires { HasTaken trace self }
+        ensures trace { result.trace ≡ trace }
+        ensures apart { IsSplit result.trace result.lines.items result.fences }
     {
         let Splitter {
-            trace,
+            format: _,
+            taken: _,
             lines: _,
             jobs,
             open_flushes: _,
@@ -91,77 +101,32 @@ impl Splitter {
         }
     }
 
-    // Adds the event to the jobs that it matters to.
-    fn sort(&mut self, event: &Event) -> Result<(), OutOfMemory>
-        requires so_far { IsSplitting self.old.trace self.old.lines.keys self.old.jobs.items self.old.open_flushes self.old.fences }
-        requires room { length self.old.trace.events < event_limit }
-        ensures trace { self.new.trace ≡ self.old.trace }
-        ensures so_far { OnOk result (IsSplitting (with_event self.old.trace event.now) self.new.lines.keys self.new.jobs.items self.new.open_flushes self.new.fences) }
-    {
-        let thread = event.thread;
-        let format = self.trace.format();
-        let number = self.trace.len() as u64 + 1;
-        match &event.op {
-            Op::Store(store) => {
-                let addr = store.addr();
-                let kind = StepKind::Store {
-                    addr: addr.get(),
-                    len: store.bytes().len() as u64,
-                };
-                self.take_access(
-                    line_of(format, addr),
-                    Step {
-                        number,
-                        thread,
-                        kind,
-                    },
-                )
-            }
-            Op::Clwb(addr) | Op::ClflushOpt(addr) => self.take_flush(
-                line_of(format, *addr),
-                number,
-                thread,
-            ),
-            Op::Clflush(addr) => {
-                let kind = StepKind::Clflush;
-                self.take_access(
-                    line_of(format, *addr),
-                    Step {
-                        number,
-                        thread,
-                        kind,
-                    },
-                )
-            }
-            Op::Sfence | Op::Mfence => self.take_fence(number, thread),
-            Op::IsPersist(_) | Op::IsOrderedBefore(_, _) => Ok(()),
-        }
-    }
-
     // A store to the line, or a clflush of it.
-    fn take_access(&mut self, line: u64, step: Step) -> Result<(), OutOfMemory>
-        requires so_far { IsSplitting self.old.trace self.old.lines.keys self.old.jobs.items self.old.open_flushes self.old.fences }
-        requires number { step.number ≡ suc (length self.old.trace.events) }
-        requires within { step.number ≤ event_limit }
-        requires kind { IsStepKind step.kind }
-        ensures trace { self.new.trace ≡ self.old.trace }
-        ensures so_far { OnOk result ((e : Event) → e.thread ≡ step.thread → IsAccess line step.kind (act self.old.trace.format e)
-            → IsSplitting (with_event self.old.trace e) self.new.lines.keys self.new.jobs.items self.new.open_flushes self.new.fences) }
+    fn take_access(&mut self, thread: u8, line: u64, kind: StepKind) -> Result<(), OutOfMemory>
+        requires taking { IsTaking self.old }
+        requires room { self.old.taken < event_limit }
+        requires kind { IsStepKind kind }
+        ensures { (T : Recording) (e : Event) → e.thread ≡ thread → IsAccess line kind (act T.format e) → HasTaken T self.old → OnOk result (HasTaken (with_event T e) self.new) }
     {
+        let number = self.taken + 1;
+        let step = Step {
+            number,
+            thread,
+            kind,
+        };
         let place = take_on_line(&mut self.lines, &mut self.jobs, self.last, line, &step)?;
         self.last = place;
+        self.taken = number;
         Ok(())
     }
 
     // A flush of the line by the thread.
-    fn take_flush(&mut self, line: u64, number: u64, thread: u8) -> Result<(), OutOfMemory>
-        requires so_far { IsSplitting self.old.trace self.old.lines.keys self.old.jobs.items self.old.open_flushes self.old.fences }
-        requires number { number ≡ suc (length self.old.trace.events) }
-        requires within { number ≤ event_limit }
-        ensures trace { self.new.trace ≡ self.old.trace }
-        ensures so_far { OnOk result ((e : Event) → e.thread ≡ thread → act self.old.trace.format e ≡ Flushes thread line
-            → IsSplitting (with_event self.old.trace e) self.new.lines.keys self.new.jobs.items self.new.open_flushes self.new.fences) }
+    fn take_flush(&mut self, thread: u8, line: u64) -> Result<(), OutOfMemory>
+        requires taking { IsTaking self.old }
+        requires room { self.old.taken < event_limit }
+        ensures { (T : Recording) (e : Event) → e.thread ≡ thread → act T.format e ≡ Flushes thread line → HasTaken T self.old → OnOk result (HasTaken (with_event T e) self.new) }
     {
+        let number = self.taken + 1;
         let kind = StepKind::Flush;
         let step = Step {
             number,
@@ -172,18 +137,17 @@ impl Splitter {
         self.last = place;
         self.open_flushes.add(thread, place)?;
         self.fences.push(&step)?;
+        self.taken = number;
         Ok(())
     }
 
     // A fence by the thread.
-    fn take_fence(&mut self, number: u64, thread: u8) -> Result<(), OutOfMemory>
-        requires so_far { IsSplitting self.old.trace self.old.lines.keys self.old.jobs.items self.old.open_flushes self.old.fences }
-        requires number { number ≡ suc (length self.old.trace.events) }
-        requires within { number ≤ event_limit }
-        ensures trace { self.new.trace ≡ self.old.trace }
-        ensures so_far { OnOk result ((e : Event) → e.thread ≡ thread → act self.old.trace.format e ≡ Fences thread
-            → IsSplitting (with_event self.old.trace e) self.new.lines.keys self.new.jobs.items self.new.open_flushes self.new.fences) }
+    fn take_fence(&mut self, thread: u8) -> Result<(), OutOfMemory>
+        requires taking { IsTaking self.old }
+        requires room { self.old.taken < event_limit }
+        ensures { (T : Recording) (e : Event) → e.thread ≡ thread → act T.format e ≡ Fences thread → HasTaken T self.old → OnOk result (HasTaken (with_event T e) self.new) }
     {
+        let number = self.taken + 1;
         let kind = StepKind::Fence;
         let step = Step {
             number,
@@ -193,6 +157,16 @@ impl Splitter {
         end_intervals(&mut self.jobs, self.open_flushes.of(thread), &step)?;
         self.open_flushes.clear(thread);
         self.fences.push(&step)?;
+        self.taken = number;
+        Ok(())
+    }
+
+    // An assertion.
+    fn take_assertion(&mut self) -> Result<(), OutOfMemory>
+        requires room { self.old.taken < event_limit }
+        ensures { (T : Recording) (e : Event) → act T.format e ≡ Asserts → HasTaken T self.old → OnOk result (HasTaken (with_event T e) self.new) }
+    {
+        self.taken += 1;
         Ok(())
     }
 }

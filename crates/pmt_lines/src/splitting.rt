@@ -1,15 +1,19 @@
 //! Splitting a trace into jobs by line.
-ghost use Rattle.std.specs.Prelude.{◌≡◌, IfOk, IfErr, IfSome};
+ghost use Rattle.std.specs.Prelude.{◌≡◌, ◌<◌, length, IfOk, IfErr, IfSome, OnOk};
+ghost use Rattle.pmt_model.specs.Pushing.{with_event};
+ghost use Rattle.pmt_model.specs.Traces.{event_limit, IsEventIn};
 ghost use Rattle.pmt_text.specs.Coming.{ComesWhole};
 ghost use Rattle.pmt_text.specs.Sources.{CountsReads};
 ghost use Rattle.pmt_lines.specs.Splitting.{IsSplit};
+ghost use Rattle.pmt_lines.specs.Splitters.{HasTaken};
 ghost use Rattle.pmt_lines.specs.Sourcing.{IsFaultOf, TakesFirst, TellsRefusal, TellsSplit, TellsWhole, told_by};
 ghost use Rattle.pmt_lines.specs.declared.splitting.SplitError.TheVariants.{Source, OutOfMemory};
 
 use crate::job::LineJob;
 use crate::splitter::Splitter;
+use crate::taking::add;
 use crate::thread_job::ThreadJob;
-use pmt_model::Trace;
+use pmt_model::{Event, OutOfMemory, Trace};
 use pmt_text::{EventSource, SourceError};
 use std::alloc::{AllocError, Global};
 use thiserror::Error;
@@ -105,20 +109,50 @@ pub fn split_first<S: EventSource>(
 {
     let format = source.format()?;
     let mut splitter = Splitter::new(alloc, format)?;
-    'first: while splitter.len() < most {
+    let mut trace = Trace::new_with(alloc, format);
+    'first: while (trace.len() as u64) < most {
         match source.next()? {
-            Some(event) => splitter.take(event)?,
-            None => return Ok(splitter.finish()),
+            Some(event) => take_into(&mut trace, &mut splitter, event)?,
+            None => return Ok(splitter.finish(trace)),
         }
     }
-    Ok(splitter.finish())
+    Ok(splitter.finish(trace))
+}
+
+// Adds the event to the trace, and to its jobs.
+#[inline(always)]
+fn take_into(trace: &mut Trace, splitter: &mut Splitter, event: Event) -> Result<(), OutOfMemory>
+    requires taken { HasTaken trace.old splitter.old }
+    requires room { length trace.old.events < event_limit }
+    requires known { IsEventIn trace.old.format event }
+    ensures trace { OnOk result (trace.new ≡ with_event trace.old event) }
+    ensures taken { OnOk result (HasTaken trace.new splitter.new) }
+{
+    splitter.take(&event)?;
+    add(trace, event)
+}
+
+/// Takes the trace apart by lines, for instance one of `take_trace`.
+///
+/// # Errors
+/// Where memory was refused. The trace is dropped then.
+pub fn split_trace(alloc: Global, trace: Trace) -> Result<Jobs, OutOfMemory>
+    ensures trace { IfOk result (λ jobs. jobs.trace ≡ trace) }
+    ensures apart { IfOk result (λ jobs. IsSplit jobs.trace jobs.lines.items jobs.fences) }
+{
+    let mut splitter = Splitter::new(alloc, trace.format())?;
+    let all = trace.events();
+    for event in all {
+        splitter.take(event)?;
+    }
+    Ok(splitter.finish(trace))
 }
 
 #[cfg(test)]
 mod tests {
     use super::*;
-    use crate::{StepKind, last_state, run_fences, run_line};
-    use pmt_model::{Event, Op};
+    use crate::{StepKind, last_state, run_fences, run_line, take_trace};
+    use pmt_model::Op;
     use pmt_text::ListSource;
     use std::test::Fail;
 
@@ -185,6 +219,28 @@ mod tests {
         assert_eq!(rt; state.count(), 1);
         let rest = split(alloc, &mut source)?;
         assert_eq!(rt; rest.trace.len(), 1);
+        Ok(())
+    }
+
+    // Taken whole before it is taken apart.
+    #[test]
+    fn trace_of_a_source(rt: HostRuntime) -> Result<(), Fail> {
+        let alloc = rt.alloc();
+        let events = [
+            (0, Op::store(0x1000, &[1])?),
+            (0, Op::clwb(0x1000)?),
+            (0, Op::Sfence),
+            (0, Op::clwb(0x1040)?),
+        ];
+        let trace = trace_of(alloc, events.as_slice())?;
+        let mut source = ListSource::new(&trace);
+        let taken = take_trace(alloc, &mut source)?;
+        assert_eq!(rt; taken.len(), 4);
+        let jobs = split_trace(alloc, taken)?;
+        assert_eq!(rt; jobs.trace.len(), 4);
+        assert_eq!(rt; jobs.lines.len(), 2);
+        assert_eq!(rt; jobs.lines[0].steps().len(), 3);
+        assert_eq!(rt; jobs.fences.steps().len(), 3);
         Ok(())
     }
 

@@ -1,5 +1,5 @@
 use Rattle.std.proofs.Common.{◌≤◌, length}
-use Rattle.pmt_lines.specs.Splitting.{IsSplitting}
+use Rattle.pmt_lines.specs.Splitters.{HasTaken}
 use Rattle.pmt_lines.proofs.SourceRunLemmas.{SoFar, shown_by}
 use Rattle.pmt_lines.proofs.splitting.split_first.Given as goal
 
@@ -7,9 +7,7 @@ abbrev pub invariant-first : goal.invariant-first
 invariant-first g l =
     let source = g.S.EventSource in
     let shown = shown_by source.coming source.state source.known_format source.failures source.room in
-    SoFar (shown l.fn.source) (shown l.source) l.splitter.trace
-    × IsSplitting l.splitter.trace l.splitter.lines.keys l.splitter.jobs.items l.splitter.open_flushes l.splitter.fences
-    × (length l.splitter.trace.events ≤ l.most)
+    SoFar (shown l.fn.source) (shown l.source) l.trace × HasTaken l.trace l.splitter × (length l.trace.events ≤ l.most)
 
 abbrev pub decreases-first : goal.decreases-first
 decreases-first g l = g.S.EventSource.room l.source

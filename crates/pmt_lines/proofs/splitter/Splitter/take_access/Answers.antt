@@ -1,12 +1,19 @@
+use Rattle.std.proofs.Common.{arith}
+use Rattle.pmt_lines.proofs.GrowLemmas.{length-grown}
 use Rattle.pmt_lines.proofs.TakeLemmas.{end_before, access-taken}
 use Rattle.pmt_lines.proofs.splitter.Splitter.take_access.Goals as goal
 
 pub take_on_line-requires-clause-later : goal.take_on_line-requires-clause-later
 take_on_line-requires-clause-later c =
     let s = c.args.self.now in
-    end_before s.trace s.lines.keys s.jobs.items s.open_flushes s.fences c.args.step.number c.requires.number c.requires.so_far
+    let before = c.requires.taking.1 in
+    end_before c.requires.taking.0 s.lines.keys s.jobs.items s.open_flushes s.fences _ (omega (arith, before.taken)) before.so_far
 
-pub returns-clause-so_far : goal.returns-clause-so_far
-returns-clause-so_far c = λ e thread is.
+pub returns : goal.returns
+returns c = λ T e thread is before.
     let s = c.args.self.now in
-    access-taken s.trace e s.lines.keys s.jobs.items s.open_flushes s.fences c.requires.so_far c.args.line c.in_ok-place.place c.args.step c.take_on_line.new.lines.keys c.take_on_line.new.jobs.items c.in_ok-place.ensures c.requires.number thread is
+    record {
+      format = before.format;
+      taken = omega (arith, before.taken, length-grown T e);
+      so_far = access-taken T e s.lines.keys s.jobs.items s.open_flushes s.fences before.so_far c.args.line _ _ _ _ c.in_ok-place.ensures (omega (arith, before.taken)) thread is;
+    }

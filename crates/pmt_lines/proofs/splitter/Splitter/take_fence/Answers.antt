@@ -1,21 +1,28 @@
 use Rattle.std.proofs.Common.{◌<◌, arith}
+use Rattle.pmt_lines.proofs.GrowLemmas.{length-grown}
 use Rattle.pmt_lines.proofs.TakeLemmas.{end_before, fences_before, fence-taken}
 use Rattle.pmt_lines.proofs.splitter.Splitter.take_fence.Goals as goal
 
 pub end_intervals-requires-clause-later : goal.end_intervals-requires-clause-later
 end_intervals-requires-clause-later c =
     let s = c.args.self.now in
-    end_before s.trace s.lines.keys s.jobs.items s.open_flushes s.fences c.args.number c.requires.number c.requires.so_far
+    let before = c.requires.taking.1 in
+    end_before c.requires.taking.0 s.lines.keys s.jobs.items s.open_flushes s.fences _ (omega (arith, before.taken)) before.so_far
 
 pub push-requires-clause-later : goal.push-requires-clause-later
 push-requires-clause-later c =
     let s = c.args.self.now in
-    fences_before s.trace s.lines.keys s.jobs.items s.open_flushes s.fences c.args.number c.requires.number c.requires.so_far
+    let before = c.requires.taking.1 in
+    fences_before c.requires.taking.0 s.lines.keys s.jobs.items s.open_flushes s.fences _ (omega (arith, before.taken)) before.so_far
 
-pub returns-clause-so_far : goal.returns-clause-so_far
-returns-clause-so_far c = λ e thread is.
+pub returns : goal.returns
+returns c = λ T e thread is before.
     let s = c.args.self.now in
     let few : c.args.thread < 256 = omega arith in
     let ends = rw c.of.ensures at c.in_ok-end_intervals.ensures in
-    rw (c.clear.ensures, c.in_ok-push.ensures.ok)
-    (fence-taken s.trace e s.lines.keys s.jobs.items s.open_flushes s.fences c.requires.so_far c.args.thread c.args.number c.end_intervals.new.jobs.items ends c.requires.number few thread is)
+    record {
+      format = before.format;
+      taken = omega (arith, before.taken, length-grown T e);
+      so_far = rw (c.clear.ensures, c.in_ok-push.ensures.ok)
+          (fence-taken T e s.lines.keys s.jobs.items s.open_flushes s.fences before.so_far c.args.thread _ _ ends (omega (arith, before.taken)) few thread is);
+    }

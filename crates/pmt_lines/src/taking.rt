@@ -1,0 +1,60 @@
+//! Taking the events of a source.
+ghost use Rattle.std.specs.Prelude.{◌≡◌, ◌<◌, length, IfOk, IfErr, IfSome, OnOk};
+ghost use Rattle.pmt_model.specs.Pushing.{with_event};
+ghost use Rattle.pmt_model.specs.Traces.{event_limit, IsEventIn};
+ghost use Rattle.pmt_text.specs.Coming.{ComesWhole};
+ghost use Rattle.pmt_text.specs.Sources.{CountsReads};
+ghost use Rattle.pmt_lines.specs.Sourcing.{IsFaultOf, TakesFirst, TellsRefusal, TellsSplit, told_by};
+
+use crate::splitting::SplitError;
+use pmt_model::{Event, OutOfMemory, Trace};
+use pmt_text::EventSource;
+use std::alloc::{AllocError, Global};
+
+/// Takes all events of the source, as a trace, which `split_trace` takes apart.
+///
+/// # Errors
+/// `Source` with the fault that the source told, or with `Failed` where it had told a fault before. `OutOfMemory` where memory
+/// was refused to the trace; the source told nothing then. The source stands past the events that were taken.
+pub fn take_trace<S: EventSource>(alloc: Global, source: &mut S) -> Result<Trace, SplitError>
+    ensures whole { IfOk result (λ trace. ComesWhole (S.coming source.old) trace) }
+    ensures fault { IfErr (told_by result) (λ e. IfSome (S.coming source.old) (λ c. IsFaultOf c e)) }
+    ensures told { TellsSplit (S.state source.old) result (S.state source.new) }
+    ensures failures { CountsReads (S.failures source.old) (told_by result) (S.failures source.new) }
+{
+    let trace = take_first(alloc, source, u64::MAX)?;
+    let _is_trace = trace.len();
+    Ok(trace)
+}
+
+// The first events of the source alone, at most so many.
+fn take_first<S: EventSource>(alloc: Global, source: &mut S, most: u64) -> Result<Trace, SplitError>
+    ensures first { IfOk result (λ trace. TakesFirst most (S.coming source.old) (S.coming source.new) (S.state source.old) (S.state source.new) trace) }
+    ensures fault { IfErr (told_by result) (λ e. IfSome (S.coming source.old) (λ c. IsFaultOf c e)) }
+    ensures told { TellsRefusal (S.state source.old) result (S.state source.new) }
+    ensures failures { CountsReads (S.failures source.old) (told_by result) (S.failures source.new) }
+{
+    let format = source.format()?;
+    let mut trace = Trace::new_with(alloc, format);
+    'first: while (trace.len() as u64) < most {
+        match source.next()? {
+            Some(event) => add(&mut trace, event)?,
+            None => return Ok(trace),
+        }
+    }
+    Ok(trace)
+}
+
+// Adds an event that the trace has room for, and that is of its format: memory alone may be refused.
+#[inline(always)]
+pub(crate) fn add(trace: &mut Trace, event: Event) -> Result<(), OutOfMemory>
+    requires room { length trace.old.events < event_limit }
+    requires known { IsEventIn trace.old.format event }
+    ensures { OnOk result (trace.new ≡ with_event trace.old event) }
+{
+    let Event { thread, op } = event;
+    match trace.push(Event { thread, op }) {
+        Ok(()) => Ok(()),
+        Err(_) => Err(AllocError),
+    }
+}
