@@ -73,8 +73,11 @@ fn push_finding(found: &mut Vec<Finding>, finding: Finding) -> Result<(), OutOfM
     Ok(())
 }
 
-// Adds the finding, if it is one.
-fn push_if(found: &mut Vec<Finding>, is_one: bool, finding: Finding) -> Result<(), OutOfMemory>
+/// Adds the finding, if it is one.
+///
+/// # Errors
+/// Where memory was refused.
+pub fn push_if(found: &mut Vec<Finding>, is_one: bool, finding: Finding) -> Result<(), OutOfMemory>
     ensures { OnOk result (found.new.items ≡ found.old.items ++ found_if is_one finding) }
 {
     if is_one {
@@ -83,8 +86,11 @@ fn push_if(found: &mut Vec<Finding>, is_one: bool, finding: Finding) -> Result<(
     Ok(())
 }
 
-// Adds that the later store overwrites each of the earlier ones that come after the last flush.
-fn push_overwritten(
+/// Adds that the later store overwrites each of the earlier ones that come after the last flush: of these once each, by rising numbers.
+///
+/// # Errors
+/// Where memory was refused; some of the findings may be added then.
+pub fn push_overwritten(
     found: &mut Vec<Finding>,
     earlier: &[u32],
     flush: u32,

@@ -1,0 +1,9 @@
+pub mod RowLemmas
+pub mod FenceLemmas
+pub mod JoiningLemmas
+pub mod EndingLemmas
+pub mod KnownLemmas
+pub mod ChainLemmas
+pub mod OverwritingLemmas
+pub mod OpenLemmas
+pub mod SweepLemmas

@@ -1,0 +1,20 @@
+use Rattle.std.proofs.Common.{[], sym}
+use Rattle.std.proofs.lemmas.List.{append-nil}
+use Rattle.pmt_model.specs.Machine.{Asserts}
+use Rattle.pmt_model.specs.Traces.{history}
+use Rattle.pmt_sweep.specs.Sweeping.{taken}
+use Rattle.pmt_sweep.proofs.KnownLemmas.{known-assertion}
+use Rattle.pmt_sweep.proofs.OpenLemmas.{open-assertion}
+use Rattle.pmt_sweep.proofs.RowLemmas.{rows-assert}
+use Rattle.pmt_sweep.proofs.SweepLemmas.{next, no-store_told}
+use Rattle.pmt_sweep.proofs.sweeping.Progress.take_assertion.Goals as goal
+
+pub returns-clause-so_far : goal.returns-clause-so_far
+returns-clause-so_far c T is so_far =
+    let s = c.args.self.now in
+    let h = history T (taken s) in
+    next T s _ Asserts 0 0 so_far is c.in_ok-push.ensures.items c.in_ok-push-2.ensures.items (λ l place at. at)
+    (rows-assert h s.rows so_far.rows)
+    (open-assertion h s.rows s.open_flushes so_far.opens)
+    (no-store_told h s.rows Asserts 0 0 (λ l w e. cc))
+    ([], sym (append-nil s.found.items), known-assertion T _ is)

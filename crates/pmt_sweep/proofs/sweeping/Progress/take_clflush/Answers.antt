@@ -1,0 +1,34 @@
+use Rattle.std.proofs.Common.{◌≡◌, ◌+◌, ◌++◌, suc, length, ap, subst, ◌∙◌, arith}
+use Rattle.std.specs.Prelude.{nat_le}
+use Rattle.pmt_model.specs.declared.finding.Finding.TheVariants.{RedundantFlush}
+use Rattle.pmt_model.specs.Machine.{Clflushes}
+use Rattle.pmt_model.specs.Traces.{history}
+use Rattle.pmt_laws.proofs.Histories.{length-history}
+use Rattle.pmt_marks.specs.Lines.{Follows}
+use Rattle.pmt_lines.specs.Scans.{found_if}
+use Rattle.pmt_sweep.specs.Sweeping.{taken}
+use Rattle.pmt_sweep.proofs.KnownLemmas.{known-clflush}
+use Rattle.pmt_sweep.proofs.OpenLemmas.{open-clflush, stood-with, longer}
+use Rattle.pmt_sweep.proofs.SweepLemmas.{next, no-store_told}
+use Rattle.pmt_sweep.proofs.sweeping.Progress.take_clflush.Goals as goal
+
+pub returns-clause-so_far : goal.returns-clause-so_far
+returns-clause-so_far c T is so_far =
+    let s = c.args.self.now in
+    let n = taken s in
+    let h = history T n in
+    let l = c.args.line in
+    let new = c.clflush.new.self in
+    let counted : length h ≡ n = length-history T n so_far.within in
+    let reached = c.in_ok-place.ensures.rows h so_far.rows in
+    let row = c.at.ensures.row h reached.each in
+    let follows : Follows l h c.at.result.now.state = subst (λ k. Follows k h c.at.result.now.state) (c.at.ensures.line l c.in_ok-place.ensures.here) row.follows in
+    let rows = c.clflush.ensures.rows h (omega (arith, c.len.ensures, counted)) reached in
+    let event : c.len.result + 1 ≡ suc n = omega (arith, c.len.ensures) in
+    let found = c.in_ok-push_if.ensures ∙ ap (λ b. s.found.items ++ found_if b (RedundantFlush (c.len.result + 1))) c.is_clflush_covered-is_covered.ensures
+    ∙ ap (λ e. s.found.items ++ found_if (nat_le c.at.result.now.state.count c.at.result.now.state.front) (RedundantFlush e)) event in
+    next T s _ (Clflushes l) 0 0 so_far is c.in_ok-push.ensures.items c.in_ok-push-2.ensures.items
+    (λ k p at. c.clflush.ensures.kept k p (c.in_ok-place.ensures.kept k p at)) rows
+    (open-clflush h l s.rows new s.open_flushes (stood-with h l s.rows new so_far.rows.lines_in_order rows.lines_in_order) (longer h l s.rows new so_far.rows.lines_in_order rows.lines_in_order) so_far.opens)
+    (no-store_told h new (Clflushes l) 0 0 (λ k w e. cc))
+    (found_if (nat_le c.at.result.now.state.count c.at.result.now.state.front) (RedundantFlush (suc n)), found, known-clflush T l n c.at.result.now.state follows is)

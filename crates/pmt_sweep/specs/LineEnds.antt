@@ -1,0 +1,30 @@
+-- How the lines of a trace end, while its stores are gone over.
+use Rattle.std.specs.Prelude.{◌≡◌, ℕ, ◌-◌, Bool, true, false, List, length, Some, slice_get}
+use Rattle.pmt_model.specs.declared.event.Op.{Op}
+use Rattle.pmt_model.specs.declared.event.Op.TheVariants.{Store, Clwb, ClflushOpt, Clflush, Sfence, Mfence, IsPersist, IsOrderedBefore}
+use Rattle.pmt_model.specs.Traces.{Recording, history, count_at}
+use Rattle.pmt_model.specs.Fronts.{front_at}
+use Rattle.pmt_model.specs.Findings.{last_flush}
+use Rattle.pmt_sweep.specs.declared.rows.LineRow.{LineRow}
+use Rattle.pmt_sweep.specs.declared.ending.LineEnd.{LineEnd}
+use Rattle.pmt_sweep.specs.Rows.{IsPlaceOf}
+
+abbrev pub is_store : Op → Bool
+is_store (Store w) = true
+is_store (Clwb a) = false
+is_store (ClflushOpt a) = false
+is_store (Clflush a) = false
+is_store Sfence = false
+is_store Mfence = false
+is_store (IsPersist r) = false
+is_store (IsOrderedBefore r q) = false
+
+-- So line l ends, where the first n events were gone over.
+pub record IsEndOf (T : Recording) (n l : ℕ) (end : LineEnd) : Type 0 where
+  pub safe : end.safe ≡ front_at T l (length T.events) - count_at T l n
+  pub flush : end.flush ≡ last_flush l (history T (length T.events))
+
+-- So each line ends, in the order of the rows.
+pub record AreEnds (T : Recording) (n : ℕ) (rows : List LineRow) (ends : List LineEnd) : Type 0 where
+  pub size : length ends ≡ length rows
+  pub each : (l place : ℕ) (end : LineEnd) → IsPlaceOf l place rows → slice_get ends place ≡ Some end → IsEndOf T n l end

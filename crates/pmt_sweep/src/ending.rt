@@ -1,0 +1,89 @@
+//! The stores that are never persisted, once the trace has ended.
+ghost use Rattle.std.specs.Prelude.{◌≡◌, ◌-◌, ◌==◌, nat_lt, ◌++◌, length, IfOk, OnOk};
+ghost use Rattle.pmt_model.specs.declared.finding.Finding.TheVariants.{NeverPersisted};
+ghost use Rattle.pmt_model.specs.Traces.{Recording, history};
+ghost use Rattle.pmt_lines.specs.Scans.{found_if};
+ghost use Rattle.pmt_sweep.specs.Known.{AreKnownLate};
+ghost use Rattle.pmt_sweep.specs.Rows.{AreRows};
+ghost use Rattle.pmt_sweep.specs.Ending.{StandAt};
+ghost use Rattle.pmt_sweep.specs.LineEnds.{is_store, AreEnds};
+
+use crate::rows::Rows;
+use pmt_model::{Event, Finding, Op, OutOfMemory, Trace};
+use std::alloc::Global;
+
+// How many of the stores to a line that are still to be gone over are persisted for sure, and the number of the last flush or clflush of
+// the line.
+#[derive(Clone, Copy)]
+struct LineEnd {
+    safe: u32,
+    flush: u32,
+}
+
+// All stores of the trace that are never persisted, in report order.
+pub(crate) fn never_persisted(
+    alloc: Global,
+    trace: &Trace,
+    rows: &Rows,
+    places: &[u32],
+) -> Result<Vec<Finding>, OutOfMemory>
+    requires rows { AreRows (history trace.now (length trace.now.events)) rows.now }
+    requires all { length places.now ≡ length trace.now.events }
+    requires standing { StandAt trace.now rows.now places.now }
+    ensures { IfOk result (λ found. AreKnownLate trace.now found.items) }
+{
+    let mut ends = ends_of(alloc, rows)?;
+    let mut found = Vec::new(alloc);
+    let events = trace.events();
+    for index in 0..events.len() {
+        if is_store(&events[index]) {
+            let place = places[index] as usize;
+            let end = ends[place];
+            push_never_persisted(&mut found, end, index as u64 + 1)?;
+            ends[place] = LineEnd {
+                safe: end.safe.saturating_sub(1),
+                flush: end.flush,
+            };
+        }
+    }
+    Ok(found)
+}
+
+// Whether the event is a store.
+fn is_store(event: &Event) -> bool
+    ensures { result ≡ is_store event.now.op }
+{
+    matches!(event.op, Op::Store(_))
+}
+
+// How each line ends, where none of its stores was gone over yet.
+fn ends_of(alloc: Global, rows: &Rows) -> Result<Vec<LineEnd>, OutOfMemory>
+    ensures { IfOk result (λ ends. (T : Recording) → AreRows (history T (length T.events)) rows.now → AreEnds T 0 rows.now ends.items) }
+{
+    let mut ends = Vec::with_capacity(alloc, rows.len())?;
+    for place in 0..rows.len() {
+        let row = rows.at(place);
+        let safe = row.state.front() as u32;
+        let flush = row.flush;
+        ends.push(LineEnd { safe, flush })?;
+    }
+    Ok(ends)
+}
+
+// Adds that the next store to the line, by the event with this number, is never persisted, if so.
+fn push_never_persisted(
+    found: &mut Vec<Finding>,
+    end: LineEnd,
+    number: u64,
+) -> Result<(), OutOfMemory>
+    ensures { OnOk result (found.new.items ≡ found.old.items ++ found_if (end.safe == 0) (NeverPersisted number (nat_lt number end.flush))) }
+{
+    if end.safe == 0 {
+        let flushed = number < end.flush as u64;
+        found.push(Finding::NeverPersisted {
+            event: number,
+            flushed,
+        })?;
+    }
+    Ok(())
+}

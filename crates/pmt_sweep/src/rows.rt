@@ -1,0 +1,156 @@
+//! What is known of each line while the events of a trace go by.
+ghost use Rattle.std.specs.Prelude.{◌≡◌, ℕ, suc, ◌<◌, List, [], ◌∷◌, length, All, IfOk, OnOk};
+ghost use Rattle.pmt_model.specs.Machine.{Act, Stores, Flushes, Clflushes, Fences};
+ghost use Rattle.pmt_model.specs.Traces.{event_limit};
+ghost use Rattle.pmt_model.specs.Values.{Written};
+ghost use Rattle.pmt_sweep.specs.Rows.{AreRows, AreRowsWith, HasOpen, IsPlaceOf, IsRow, KeepsPlaces};
+
+use indexmap::IndexSet;
+use pmt_marks::LineState;
+use pmt_model::OutOfMemory;
+use std::alloc::Global;
+use std::marker::Model;
+
+/// A line, with its state, the number of the last flush or clflush of it, and that of the last store to it, or 0.
+#[derive(Drop)]
+pub(crate) struct LineRow {
+    pub(crate) line: u64,
+    pub(crate) state: LineState,
+    pub(crate) flush: u32,
+    pub(crate) store: u32,
+}
+
+/// The rows of the lines that were stored or flushed, in order of first appearance. A line is looked up where it is not that of the look-up
+/// before.
+#[derive(Drop)]
+pub(crate) struct Rows {
+    lines: IndexSet<u64>,
+    rows: Vec<LineRow>,
+    last: usize,
+}
+
+impl Model for Rows {
+    ghost use Rattle.std.specs.Prelude.{List};
+    ghost use Rattle.pmt_sweep.specs.declared.rows.LineRow.{LineRow};
+    ghost use Rattle.pmt_sweep.specs.Rows.{AreKeys};
+
+    ghost Value = { List LineRow };
+
+    ghost view = { λ r. r.rows.items };
+
+    ghost invariant = { λ r. AreKeys r.lines.keys r.rows.items };
+}
+
+impl Rows {
+    // No lines yet.
+    pub(crate) fn new(alloc: Global) -> Self
+        ensures { AreRows [] result }
+    {
+        Rows {
+            lines: IndexSet::new(alloc),
+            rows: Vec::new(alloc),
+            last: 0,
+        }
+    }
+
+    // How many lines there are.
+    pub(crate) fn len(&self) -> usize
+        ensures { result ≡ length self.now }
+    {
+        self.rows.len()
+    }
+
+    // The place of the line, which it gets if it has none yet.
+    #[inline(always)]
+    pub(crate) fn place_of(&mut self, line: u64) -> Result<usize, OutOfMemory>
+        ensures here { IfOk result (λ place. IsPlaceOf line place self.new) }
+        ensures kept { OnOk result (KeepsPlaces self.old self.new) }
+        ensures rows { OnOk result ((h : List Act) → AreRows h self.old → AreRowsWith line h self.new) }
+    {
+        if self.last < self.rows.len() && self.rows[self.last].line == line {
+            return Ok(self.last);
+        }
+        self.look_up(line)
+    }
+
+    // As `place_of`, by a look-up.
+    fn look_up(&mut self, line: u64) -> Result<usize, OutOfMemory>
+        ensures here { IfOk result (λ place. IsPlaceOf line place self.new) }
+        ensures kept { OnOk result (KeepsPlaces self.old self.new) }
+        ensures rows { OnOk result ((h : List Act) → AreRows h self.old → AreRowsWith line h self.new) }
+    {
+        self.rows.reserve(1)?;
+        let (place, is_new) = self.lines.insert_full(line)?;
+        if is_new {
+            let state = LineState::new(*self.rows.allocator());
+            self.rows.push_reserved(LineRow {
+                line,
+                state,
+                flush: 0,
+                store: 0,
+            });
+        }
+        self.last = place;
+        Ok(place)
+    }
+
+    // The row at a place.
+    pub(crate) fn at(&self, place: usize) -> &LineRow
+        requires { place < length self.now }
+        ensures line { (l : ℕ) → IsPlaceOf l place self.now → result.now.line ≡ l }
+        ensures row { (h : List Act) → All (IsRow h) self.now → IsRow h result.now }
+    {
+        &self.rows[place]
+    }
+
+    // A store to the line at this place, by the event with this number.
+    pub(crate) fn store(&mut self, line: u64, place: usize, number: u32)
+        requires place { IsPlaceOf line place self.old }
+        requires room { (h : List Act) × AreRowsWith line h self.old × (length h < event_limit) }
+        ensures kept { KeepsPlaces self.old self.new }
+        ensures rows { (h : List Act) (w : Written) → number ≡ suc (length h) → AreRowsWith line h self.old → AreRows (Stores line w ∷ h) self.new }
+    {
+        let row = &mut self.rows[place];
+        row.state.on_store();
+        row.store = number;
+    }
+
+    // A flush of the line at this place by the thread.
+    pub(crate) fn flush(
+        &mut self,
+        line: u64,
+        place: usize,
+        thread: u8,
+        number: u32,
+    ) -> Result<(), OutOfMemory>
+        requires place { IsPlaceOf line place self.old }
+        ensures kept { OnOk result (KeepsPlaces self.old self.new) }
+        ensures rows { OnOk result ((h : List Act) → number ≡ suc (length h) → AreRowsWith line h self.old → AreRows (Flushes thread line ∷ h) self.new) }
+    {
+        let row = &mut self.rows[place];
+        row.flush = number;
+        row.state.on_flush(thread)
+    }
+
+    // A clflush of the line at this place.
+    pub(crate) fn clflush(&mut self, line: u64, place: usize, number: u32)
+        requires place { IsPlaceOf line place self.old }
+        ensures kept { KeepsPlaces self.old self.new }
+        ensures rows { (h : List Act) → number ≡ suc (length h) → AreRowsWith line h self.old → AreRows (Clflushes line ∷ h) self.new }
+    {
+        let row = &mut self.rows[place];
+        row.flush = number;
+        let _ = row.state.on_clflush();
+    }
+
+    // A fence by the thread, of which the lines with an open flush stand at these places.
+    pub(crate) fn fence(&mut self, places: &[usize], thread: u8)
+        requires { All (λ place. place < length self.old) places.now }
+        ensures kept { KeepsPlaces self.old self.new }
+        ensures rows { (h : List Act) → HasOpen thread h places.now self.old → AreRows h self.old → AreRows (Fences thread ∷ h) self.new }
+    {
+        for place in places {
+            let _ = self.rows[*place].state.on_fence(thread);
+        }
+    }
+}

@@ -1,0 +1,295 @@
+//! The sweep over the events of a trace.
+ghost use Rattle.std.specs.Prelude.{◌≡◌, ℕ, suc, ◌<◌, length, nat_le, slice_get, Some, IfOk, OnOk};
+ghost use Rattle.pmt_model.specs.Analyses.{IsFindings};
+ghost use Rattle.pmt_model.specs.Machine.{Stores, Flushes, Clflushes, Fences, Asserts};
+ghost use Rattle.pmt_model.specs.Traces.{Recording, IsAct, event_limit, history, lines_of};
+ghost use Rattle.pmt_lines.specs.Scans.{is_flush_covered};
+ghost use Rattle.pmt_sweep.specs.Sweeping.{IsSweepOf, taken};
+
+use crate::chain::{LastOfLine, push_overwritten_by};
+use crate::ending::never_persisted;
+use crate::joining::joined;
+use crate::rows::Rows;
+use pmt_lines::{OpenFlushes, push_if};
+use pmt_marks::LineState;
+use pmt_model::{Event, Finding, Op, OutOfMemory, Trace, WordStore, line_of};
+use std::alloc::Global;
+
+/// What a sweep finds.
+#[derive(Debug, Drop)]
+pub struct Swept {
+    /// How many lines are stored or flushed.
+    pub lines: usize,
+    /// The findings in report order.
+    pub findings: Vec<Finding>,
+}
+
+/// What is known of a trace while its events go by.
+#[derive(Drop)]
+pub(crate) struct Progress {
+    pub(crate) rows: Rows,
+    pub(crate) open_flushes: OpenFlushes,
+    // Of each event that has come and is a store, the number of the store to its line before it, or 0.
+    pub(crate) before: Vec<u32>,
+    // Of each event that has come and is a store, the place of its line's row.
+    pub(crate) places: Vec<u32>,
+    // What is found, apart from stores that are never persisted.
+    pub(crate) found: Vec<Finding>,
+}
+
+/// The findings of the trace, and how many lines it stores or flushes: one pass forward over the events, and one over the stores for those
+/// that are never persisted. It takes one look-up of a line for each store and flush, some 80 bytes a line and 8 an event.
+///
+/// # Errors
+/// Where memory was refused.
+pub fn sweep(alloc: Global, trace: &Trace) -> Result<Swept, OutOfMemory>
+    ensures lines { IfOk result (λ s. s.lines ≡ length (lines_of (history trace.now (length trace.now.events)))) }
+    ensures findings { IfOk result (λ s. IsFindings trace.now s.findings.items) }
+{
+    let mut progress = Progress::new(alloc, trace)?;
+    for event in trace.events() {
+        progress.take(trace, event)?;
+    }
+    progress.finish(alloc, trace)
+}
+
+impl Progress {
+    // No events yet, and room for those of the trace.
+    fn new(alloc: Global, trace: &Trace) -> Result<Self, OutOfMemory>
+        ensures so_far { IfOk result (IsSweepOf trace.now) }
+        ensures none { IfOk result (λ s. taken s ≡ 0) }
+    {
+        let events = trace.len();
+        Ok(Progress {
+            rows: Rows::new(alloc),
+            open_flushes: OpenFlushes::new(alloc)?,
+            before: Vec::with_capacity(alloc, events)?,
+            places: Vec::with_capacity(alloc, events)?,
+            found: Vec::new(alloc),
+        })
+    }
+
+    // Takes the next event of the trace.
+    #[inline(always)]
+    fn take(&mut self, trace: &Trace, event: &Event) -> Result<(), OutOfMemory>
+        requires so_far { IsSweepOf trace.now self.old }
+        requires next { slice_get trace.now.events (taken self.old) ≡ Some event.now }
+        ensures so_far { OnOk result (IsSweepOf trace.now self.new) }
+        ensures one { OnOk result (taken self.new ≡ suc (taken self.old)) }
+    {
+        let thread = event.thread;
+        let format = trace.format();
+        match &event.op {
+            Op::Store(store) => self.take_store(trace, line_of(format, store.addr()), store),
+            Op::Clwb(addr) | Op::ClflushOpt(addr) => {
+                self.take_flush(line_of(format, *addr), thread)
+            }
+            Op::Clflush(addr) => self.take_clflush(line_of(format, *addr)),
+            Op::Sfence | Op::Mfence => self.take_fence(thread),
+            Op::IsPersist(_) | Op::IsOrderedBefore(_, _) => self.take_assertion(),
+        }
+    }
+
+    // A store to the line.
+    fn take_store(&mut self, trace: &Trace, line: u64, store: &WordStore) -> Result<(), OutOfMemory>
+        requires so_far { IsSweepOf trace.now self.old }
+        requires next { IsAct trace.now (suc (taken self.old)) (Stores line store.now) }
+        ensures so_far { OnOk result (IsSweepOf trace.now self.new) }
+        ensures one { OnOk result (taken self.new ≡ suc (taken self.old)) }
+    {
+        let _is_trace = trace.len();
+        let number = self.before.len() as u32 + 1;
+        let place = self.rows.place_of(line)?;
+        let row = self.rows.at(place);
+        let last = LastOfLine {
+            store: row.store,
+            flush: row.flush,
+        };
+        push_overwritten_by(
+            &mut self.found,
+            trace,
+            self.before.as_slice(),
+            line,
+            last,
+            store,
+        )?;
+        self.rows.store(line, place, number);
+        self.before.push(last.store)?;
+        self.places.push(place as u32)?;
+        Ok(())
+    }
+
+    // A flush of the line by the thread.
+    fn take_flush(&mut self, line: u64, thread: u8) -> Result<(), OutOfMemory>
+        requires room { taken self.old < event_limit }
+        requires so_far { (T : Recording) × IsSweepOf T self.old }
+        ensures so_far { (T : Recording) → IsAct T (suc (taken self.old)) (Flushes thread line) → IsSweepOf T self.old → OnOk result (IsSweepOf T self.new) }
+        ensures one { OnOk result (taken self.new ≡ suc (taken self.old)) }
+    {
+        let number = self.before.len() as u32 + 1;
+        let place = self.rows.place_of(line)?;
+        let is_covered = is_flush_covered(&self.rows.at(place).state, thread);
+        let event = number as u64;
+        push_if(
+            &mut self.found,
+            is_covered,
+            Finding::RedundantFlush { event },
+        )?;
+        self.rows.flush(line, place, thread, number)?;
+        self.open_flushes.add(thread, place)?;
+        self.before.push(0)?;
+        self.places.push(0)?;
+        Ok(())
+    }
+
+    // A clflush of the line.
+    fn take_clflush(&mut self, line: u64) -> Result<(), OutOfMemory>
+        requires room { taken self.old < event_limit }
+        requires so_far { (T : Recording) × IsSweepOf T self.old }
+        ensures so_far { (T : Recording) → IsAct T (suc (taken self.old)) (Clflushes line) → IsSweepOf T self.old → OnOk result (IsSweepOf T self.new) }
+        ensures one { OnOk result (taken self.new ≡ suc (taken self.old)) }
+    {
+        let number = self.before.len() as u32 + 1;
+        let place = self.rows.place_of(line)?;
+        let is_covered = is_clflush_covered(&self.rows.at(place).state);
+        let event = number as u64;
+        push_if(
+            &mut self.found,
+            is_covered,
+            Finding::RedundantFlush { event },
+        )?;
+        self.rows.clflush(line, place, number);
+        self.before.push(0)?;
+        self.places.push(0)?;
+        Ok(())
+    }
+
+    // A fence by the thread.
+    fn take_fence(&mut self, thread: u8) -> Result<(), OutOfMemory>
+        requires room { taken self.old < event_limit }
+        requires so_far { (T : Recording) × IsSweepOf T self.old }
+        ensures so_far { (T : Recording) → IsAct T (suc (taken self.old)) (Fences thread) → IsSweepOf T self.old → OnOk result (IsSweepOf T self.new) }
+        ensures one { OnOk result (taken self.new ≡ suc (taken self.old)) }
+    {
+        let event = self.before.len() as u64 + 1;
+        let places = self.open_flushes.of(thread);
+        push_if(
+            &mut self.found,
+            places.is_empty(),
+            Finding::FenceWithoutFlush { event },
+        )?;
+        self.rows.fence(places, thread);
+        self.open_flushes.clear(thread);
+        self.before.push(0)?;
+        self.places.push(0)?;
+        Ok(())
+    }
+
+    // An assertion.
+    fn take_assertion(&mut self) -> Result<(), OutOfMemory>
+        ensures so_far { (T : Recording) → IsAct T (suc (taken self.old)) Asserts → IsSweepOf T self.old → OnOk result (IsSweepOf T self.new) }
+        ensures one { OnOk result (taken self.new ≡ suc (taken self.old)) }
+    {
+        self.before.push(0)?;
+        self.places.push(0)?;
+        Ok(())
+    }
+
+    // All findings, when all events have come.
+    fn finish(self, alloc: Global, trace: &Trace) -> Result<Swept, OutOfMemory>
+        requires so_far { IsSweepOf trace.now self }
+        requires all { taken self ≡ length trace.now.events }
+        ensures lines { IfOk result (λ s. s.lines ≡ length (lines_of (history trace.now (length trace.now.events)))) }
+        ensures findings { IfOk result (λ s. IsFindings trace.now s.findings.items) }
+    {
+        let Progress {
+            rows,
+            open_flushes: _,
+            before: _,
+            places,
+            found,
+        } = self;
+        let lines = rows.len();
+        let late = never_persisted(alloc, trace, &rows, places.as_slice())?;
+        let findings = joined(alloc, found, late)?;
+        Ok(Swept { lines, findings })
+    }
+}
+
+// Whether the front or the mark of the thread counts all stores to the line already.
+fn is_flush_covered(state: &LineState, thread: u8) -> bool
+    ensures { result ≡ is_flush_covered state.now thread }
+{
+    let mark = state.mark(thread).unwrap_or(0);
+    state.count() <= state.front().max(mark)
+}
+
+// Whether the front counts all stores to the line already.
+fn is_clflush_covered(state: &LineState) -> bool
+    ensures { result ≡ nat_le state.now.count state.now.front }
+{
+    state.count() <= state.front()
+}
+
+#[cfg(test)]
+mod tests {
+    use super::*;
+    use std::test::Fail;
+
+    // The trace of these events.
+    fn trace_of(alloc: Global, events: &[(u8, Op)]) -> Result<Trace, Fail> {
+        let mut trace = Trace::new(alloc);
+        for event in events {
+            let (thread, op) = *event;
+            trace.push(Event { thread, op })?;
+        }
+        Ok(trace)
+    }
+
+    // Two bytes stored one by one, then both at once, and a flush that no fence follows.
+    #[test]
+    fn overwritten_and_never_persisted(rt: HostRuntime) -> Result<(), Fail> {
+        let events = [
+            (0, Op::store(0x1000, &[1])?),
+            (0, Op::store(0x1001, &[2])?),
+            (0, Op::store(0x1000, &[3, 4])?),
+            (0, Op::clwb(0x1000)?),
+        ];
+        let trace = trace_of(rt.alloc(), events.as_slice())?;
+        let never = |event| Finding::NeverPersisted {
+            event,
+            flushed: true,
+        };
+        let over = |earlier| Finding::Overwritten { earlier, later: 3 };
+        let swept = sweep(rt.alloc(), &trace)?;
+        assert_eq!(rt; swept.lines, 1);
+        assert_eq!(rt;
+            swept.findings.as_slice(),
+            [never(1), never(2), over(1), over(2), never(3)].as_slice()
+        );
+        Ok(())
+    }
+
+    // The second flush has no store that the first one has not marked, the third comes after the fence, and the last fence has no flush.
+    #[test]
+    fn redundant(rt: HostRuntime) -> Result<(), Fail> {
+        let events = [
+            (0, Op::store(0x1000, &[1])?),
+            (0, Op::clwb(0x1000)?),
+            (0, Op::clwb(0x1000)?),
+            (0, Op::Sfence),
+            (0, Op::clwb(0x1000)?),
+            (0, Op::Sfence),
+            (0, Op::Sfence),
+        ];
+        let trace = trace_of(rt.alloc(), events.as_slice())?;
+        let flush = |event| Finding::RedundantFlush { event };
+        let fence = Finding::FenceWithoutFlush { event: 7 };
+        let swept = sweep(rt.alloc(), &trace)?;
+        assert_eq!(rt;
+            swept.findings.as_slice(),
+            [flush(3), flush(5), fence].as_slice()
+        );
+        Ok(())
+    }
+}
