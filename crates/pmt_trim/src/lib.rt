@@ -26,5 +26,5 @@ pub use crate::pass::Pass;
 pub use crate::shortest::{all_events, shortest_selection};
 pub use crate::stream_error::StreamError;
 pub use crate::streaming::trim_stream;
-pub use crate::trimming::trim;
+pub use crate::trimming::{keep, trim};
 pub use crate::whole_text::{TrimError, trimmed_text};

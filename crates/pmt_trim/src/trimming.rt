@@ -1,6 +1,7 @@
 //! The trimmed trace, by one pass forward over the events.
 
 ghost use Rattle.std.specs.Prelude.{IfOk};
+ghost use Rattle.pmt_model.specs.Keeping.{IsKeep};
 ghost use Rattle.pmt_trim.specs.Headline.{IsTrimmed};
 ghost use Rattle.pmt_trim.specs.Passing.{AreFlags};
 
@@ -16,10 +17,21 @@ use std::alloc::Global;
 pub fn trim(alloc: Global, trace: &Trace) -> Result<(Trace, Selection), OutOfMemory>
     ensures { IfOk result (λ pair. IsTrimmed trace.now pair.1 pair.0) }
 {
-    let kept = kept_flags(alloc, trace)?;
-    let selection = marked_numbers(alloc, kept.as_slice())?;
+    let selection = keep(alloc, trace)?;
     let trimmed = trace.select(&selection)?;
     Ok((trimmed, selection))
+}
+
+/// The selection of all that is kept of the trace.
+///
+/// # Errors
+/// Where memory was refused.
+pub fn keep(alloc: Global, trace: &Trace) -> Result<Selection, OutOfMemory>
+    ensures { IfOk result (λ selection. IsKeep trace.now selection) }
+{
+    let kept = kept_flags(alloc, trace)?;
+    let selection = marked_numbers(alloc, kept.as_slice())?;
+    Ok(selection)
 }
 
 // Of each event, whether it is kept.
