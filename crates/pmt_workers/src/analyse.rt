@@ -12,12 +12,13 @@ ghost use Rattle.pmt_workers.specs.declared.analyse.AnalyseError.TheVariants.{Ou
 ghost use Rattle.pmt_workers.specs.Halving.{is_worker_count};
 
 use crate::halves::run_in_halves;
-use crate::judging::judged;
+use crate::judging::{has_assertion, judged};
 use crate::shard::{ShardAnswer, ShardGate};
+use crate::swept::swept;
 use pmt_analysis::Analysis;
 use pmt_findings::findings;
-use pmt_lines::{Jobs, SplitError, run_fences, split_source};
-use pmt_model::OutOfMemory;
+use pmt_lines::{Jobs, SplitError, run_fences, split_trace, take_trace};
+use pmt_model::{OutOfMemory, Trace};
 use pmt_text::{EventSource, SourceError};
 use pmt_trim::liveness;
 use std::alloc::{AllocError, Global};
@@ -83,8 +84,8 @@ pub fn analyse_with<R: Threads + Sync, S: EventSource, G: ShardGate + Sync>(
     if !are_allowed(workers) {
         return Err(AnalyseError::BadWorkers);
     }
-    let jobs = split_source(alloc, source)?;
-    let analysis = analysis_of(rt, alloc, gate, jobs, workers)?;
+    let trace = take_trace(alloc, source)?;
+    let analysis = analysis_of(rt, alloc, gate, trace, workers)?;
     Ok(analysis)
 }
 
@@ -95,8 +96,27 @@ pub fn are_allowed(workers: usize) -> bool
     matches!(workers, 1 | 2 | 4 | 8 | 16)
 }
 
-// The analysis of the trace that was taken apart into these jobs.
+// The analysis of the trace. One worker goes over a trace without assertions in passes, with no job for each line.
 fn analysis_of<R: Threads + Sync, G: ShardGate + Sync>(
+    rt: &R,
+    alloc: Global,
+    gate: &G,
+    trace: Trace,
+    workers: usize,
+) -> Result<Analysis, OutOfMemory>
+    requires { IsTrue (is_worker_count workers) }
+    ensures trace { IfOk result (λ a. a.trace ≡ trace) }
+    ensures right { IfOk result IsAnalysed }
+{
+    if workers == 1 && !has_assertion(trace.events()) {
+        return swept(alloc, trace);
+    }
+    let jobs = split_trace(alloc, trace)?;
+    analysis_of_jobs(rt, alloc, gate, jobs, workers)
+}
+
+// The analysis of the trace that was taken apart into these jobs.
+fn analysis_of_jobs<R: Threads + Sync, G: ShardGate + Sync>(
     rt: &R,
     alloc: Global,
     gate: &G,

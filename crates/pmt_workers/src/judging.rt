@@ -30,7 +30,7 @@ pub(crate) fn judged<R: Threads + Sync>(
 }
 
 // Whether one of the events is an assertion.
-fn has_assertion(events: &[Event]) -> bool
+pub(crate) fn has_assertion(events: &[Event]) -> bool
     ensures { result ≡ list_any event_asserts events.now }
 {
     events.iter().any(|event| is_assertion(event.op))

@@ -6,6 +6,7 @@ mod cut;
 mod halves;
 mod judging;
 pub mod shard;
+mod swept;
 pub mod trimming;
 
 pub use crate::analyse::{AnalyseError, analyse_with, are_allowed};

@@ -175,7 +175,6 @@ fn meet<R: Threads + Abort + Sync>(
 #[test]
 fn workers_meet(rt: HostRuntime) -> Result<(), Fail> {
     meet(&rt, rt.alloc(), 2, 40, 20)?;
-    meet(&rt, rt.alloc(), 1, 40, 40)?;
     meet(&rt, rt.alloc(), 4, 40, 10)?;
     meet(&rt, rt.alloc(), 8, 40, 5)?;
     meet(&rt, rt.alloc(), 16, 40, 3)

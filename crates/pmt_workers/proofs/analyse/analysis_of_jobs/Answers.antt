@@ -6,7 +6,7 @@ use Rattle.pmt_lines.specs.Splitting.{line_in, IsSplit}
 use Rattle.pmt_findings.specs.Merging.{job_in}
 use Rattle.pmt_trim.specs.Kept.{AreLinesKept, AreAllKept}
 use Rattle.pmt_workers.proofs.ResultLemmas.{jobs-same, lines-kept, results-of}
-use Rattle.pmt_workers.proofs.analyse.analysis_of.Goals as goal
+use Rattle.pmt_workers.proofs.analyse.analysis_of_jobs.Goals as goal
 
 pub liveness-requires : goal.liveness-requires
 liveness-requires g c =
