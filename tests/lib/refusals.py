@@ -143,7 +143,7 @@ def answers_of_many_lines(folder):
 
 
 def under_a_limit(program, trace, words):
-    """A million events, with too little memory for them: `trim` needs 105 MB of addresses, `check` 125."""
+    """A million events, with too little memory for them: 60 MB of addresses, which hold little more than the text or the trace."""
     limited = ["bash", "-c", 'ulimit -v 60000; exec "$@"', "limited", program, *words, trace]
     done = subprocess.run(limited, capture_output=True, timeout=120)
     answer = Answer(done.returncode, done.stdout, done.stderr)
