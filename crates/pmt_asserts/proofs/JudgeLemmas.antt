@@ -1,5 +1,5 @@
 -- The verdicts, from what the tables tell line by line.
-use Rattle.std.proofs.Common.{◌≡◌, ◌≢◌, ℕ, zero, suc, length, ◌≤◌, ◌⊎◌, ◌↔◌, inl, inr, Bool, true, false, List, ◌∷◌, Option, Some, None, IfSome, refl, sym, ap, subst, ◌∙◌, le_trans, arith}
+use Rattle.std.proofs.Common.{◌≡◌, ◌≢◌, ℕ, zero, suc, ◌≤◌, ◌⊎◌, ◌↔◌, inl, inr, Bool, true, false, List, ◌∷◌, Option, Some, None, IfSome, refl, sym, ap, subst, ◌∙◌, le_trans, arith}
 use Rattle.std.specs.Prelude.{if◌then◌else◌, ◌==◌}
 use Rattle.std.specs.Option.{option_map}
 use Rattle.std.proofs.lemmas.Bool.{cases_eq}
@@ -164,15 +164,15 @@ unwritten-line T i line A B none a k own b j same = subst (λ p. IfSome p (λ y.
 
 -- the place by which a line has to be persisted has come
 pub place-within :
-    (T : Recording) (i line : ℕ) (B : Span) (e : Earliest) (o : Option Earliest) → IsEarliest T i None B e → (line ≡ e.line → IsEarliestOf T i (Some e.line) B o) → i ≤ length T.events →
-    IfSome (place_for e o line) (λ n. n ≤ length T.events)
-place-within T i line B e o is apart within = go (eqb_tells line e.line) o apart
+    (T : Recording) (i line : ℕ) (B : Span) (e : Earliest) (o : Option Earliest) → IsEarliest T i None B e → (line ≡ e.line → IsEarliestOf T i (Some e.line) B o) →
+    IfSome (place_for e o line) (λ n. n ≤ i)
+place-within T i line B e o is apart = go (eqb_tells line e.line) o apart
   where
-    go : ((line == e.line) ≡ true × (line ≡ e.line)) ⊎ ((line == e.line) ≡ false × (line ≢ e.line)) → (c : Option Earliest) → (line ≡ e.line → IsEarliestOf T i (Some e.line) B c) → IfSome (place_for e c line) (λ n. n ≤ length T.events)
-    go (inl own) None none = subst (λ t. IfSome (if t then None else Some e.number) (λ n. n ≤ length T.events)) (sym own.0) tt
+    go : ((line == e.line) ≡ true × (line ≡ e.line)) ⊎ ((line == e.line) ≡ false × (line ≢ e.line)) → (c : Option Earliest) → (line ≡ e.line → IsEarliestOf T i (Some e.line) B c) → IfSome (place_for e c line) (λ n. n ≤ i)
+    go (inl own) None none = subst (λ t. IfSome (if t then None else Some e.number) (λ n. n ≤ i)) (sym own.0) tt
     go (inl own) (Some d) first =
-        subst (λ t. IfSome (if t then Some d.number else Some e.number) (λ n. n ≤ length T.events)) (sym own.0)
-        (let f : IsEarliest T i (Some e.line) B d = first own.1 in let r = f.reached in le_trans (r.4).by_now within)
+        subst (λ t. IfSome (if t then Some d.number else Some e.number) (λ n. n ≤ i)) (sym own.0)
+        (let f : IsEarliest T i (Some e.line) B d = first own.1 in let r = f.reached in (r.4).by_now)
     go (inr free) c first =
-        subst (λ t. IfSome (if t then option_map (λ d. d.number) c else Some e.number) (λ n. n ≤ length T.events)) (sym free.0)
-        (let r = is.reached in le_trans (r.4).by_now within)
+        subst (λ t. IfSome (if t then option_map (λ d. d.number) c else Some e.number) (λ n. n ≤ i)) (sym free.0)
+        (let r = is.reached in (r.4).by_now)

@@ -69,7 +69,7 @@ assertions-take T n ks are = record {
 }
 
 -- an event's number is within the trace
-number-within : (T : Recording) (n : ℕ) (e : Event) → event T n ≡ Some e → n ≤ length T.events
+pub number-within : (T : Recording) (n : ℕ) (e : Event) → event T n ≡ Some e → n ≤ length T.events
 number-within T zero e at = omega arith
 number-within T (suc n) e at = let h = slice_get_within T.events n e at in omega (arith, h)
 
@@ -93,7 +93,7 @@ same-verdict v w event_same kind pass =
     ap by_event event_same ∙ ap by_kind kind ∙ ap by_pass pass
 
 -- an event has one verdict
-verdict-unique : (T : Recording) (v w : Verdict) → v.event ≡ w.event → IsVerdictOf T v → IsVerdictOf T w → v ≡ w
+pub verdict-unique : (T : Recording) (v w : Verdict) → v.event ≡ w.event → IsVerdictOf T v → IsVerdictOf T w → v ≡ w
 verdict-unique T v w same (OfPersist e at r op kind pass) (OfPersist e' at' r' op' kind' pass') =
     let events : e ≡ e' = same_Some e e' (sym at ∙ ap (event T) same ∙ at') in
     let ranges : r ≡ r' = cc (events, op, op') in

@@ -84,6 +84,10 @@ asserts Mfence = false
 asserts (IsPersist r) = true
 asserts (IsOrderedBefore r q) = true
 
+-- The event is an assertion.
+abbrev pub event_asserts : Event → Bool
+event_asserts e = asserts e.op
+
 -- Rising numbers, among them those of all assertions of the first n events, and none above n.
 pub record AreAssertions (T : Recording) (n : ℕ) (numbers : List ℕ) : Type 0 where
   pub rising : IsRising 0 numbers

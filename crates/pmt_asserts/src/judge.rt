@@ -1,16 +1,17 @@
 //! The verdicts of the assertions of a trace.
 ghost use Rattle.std.specs.Prelude.{◌≡◌, ◌≢◌, ℕ, ◌+◌, ◌<◌, ◌≤◌, ◌^◌, ◌↔◌, IsTrue, IfOk, IfSome, length, Option, None, Some};
+ghost use Rattle.std.specs.List.{list_any};
 ghost use Rattle.pmt_model.specs.Values.{line_of};
 ghost use Rattle.pmt_model.specs.Traces.{IsTrace, history};
 ghost use Rattle.pmt_model.specs.Assertions.{InSpan, PersistPasses, OrderedPasses};
 ghost use Rattle.pmt_model.specs.Analyses.{IsVerdicts};
 ghost use Rattle.pmt_asserts.specs.Tables.{AreResultsOf};
-ghost use Rattle.pmt_asserts.specs.Judging.{AreAssertions, asserts, IsEarliestOf, IsVerdictAt, IsLineInOrder, IsLineOrdered, earlier_of, place_for};
+ghost use Rattle.pmt_asserts.specs.Judging.{AreAssertions, asserts, event_asserts, IsEarliestOf, IsVerdictAt, IsLineInOrder, IsLineOrdered, earlier_of, place_for};
 
+use crate::lines::LineAnswers;
 use crate::oldest::{Earliest, Oldest, Spot};
-use crate::part::{is_line_persisted, is_line_ranked, line_oldest};
 use crate::tables::Tables;
-use pmt_model::{Op, OutOfMemory, Range, Trace, Verdict};
+use pmt_model::{Event, Op, OutOfMemory, Range, Trace, Verdict};
 use rayon::prelude::*;
 use std::alloc::Global;
 use std::thread::Threads;
@@ -77,32 +78,49 @@ pub fn verdict(tables: &Tables, trace: &Trace, number: u64) -> Option<Verdict>
     requires { AreResultsOf trace.now tables.now }
     ensures { IsVerdictAt trace.now number result }
 {
+    if (trace.len() as u64) < number {
+        return None;
+    }
+    verdict_by(tables, trace, number)
+}
+
+/// Whether one of the events is an assertion.
+pub fn has_assertion(events: &[Event]) -> bool
+    ensures { result ≡ list_any event_asserts events.now }
+{
+    events.iter().any(|event| is_assertion(event.op))
+}
+
+/// The verdict of the event with this number, by what is known of the lines after it; none where it is no assertion.
+pub fn verdict_by<L: LineAnswers>(lines: &L, trace: &Trace, number: u64) -> Option<Verdict>
+    requires { L.is_of lines.now trace.now number }
+    ensures { IsVerdictAt trace.now number result }
+{
     let op = trace.get(number)?.op;
     match op {
         Op::IsPersist(range) => Some(Verdict {
             event: number,
             ordered: false,
-            pass: persists(tables, trace, number, range),
+            pass: persists(lines, trace, number, range),
         }),
         Op::IsOrderedBefore(first, second) => Some(Verdict {
             event: number,
             ordered: true,
-            pass: is_ordered(tables, trace, number, first, second),
+            pass: is_ordered(lines, trace, number, first, second),
         }),
         _ => None,
     }
 }
 
 // Whether isPersist passes after the event with this number.
-fn persists(tables: &Tables, trace: &Trace, number: u64, range: Range) -> bool
-    requires results { AreResultsOf trace.now tables.now }
-    requires within { number ≤ length trace.now.events }
+fn persists<L: LineAnswers>(lines: &L, trace: &Trace, number: u64, range: Range) -> bool
+    requires known { L.is_of lines.now trace.now number }
     ensures { IsTrue result ↔ PersistPasses (history trace.now number) range }
 {
     let (first, end) = lines_of(trace, range);
-    let shift = tables.shift(first);
+    let shift = lines.shift(first);
     for line in first..end {
-        if !is_line_persisted(tables, trace, range, Spot { line, shift }, number, number) {
+        if !lines.is_line_persisted(trace, range, Spot { line, shift }, number, number) {
             return false;
         }
     }
@@ -124,25 +142,25 @@ fn lines_of(trace: &Trace, range: Range) -> (u64, u64)
 
 // Of the last ones of the events up to this number that store to a byte of the range, the first, where those to one line may
 // be left out.
-fn earliest(
-    tables: &Tables,
+fn earliest<L: LineAnswers>(
+    lines: &L,
     trace: &Trace,
     number: u64,
     range: Range,
     skipped: Option<u64>,
 ) -> Option<Earliest>
-    requires { AreResultsOf trace.now tables.now }
+    requires { L.is_of lines.now trace.now number }
     ensures { IsEarliestOf trace.now number skipped range result }
 {
     let (first, end) = lines_of(trace, range);
-    let shift = tables.shift(first);
+    let shift = lines.shift(first);
     let mut earliest = None;
     for line in first..end {
         if skipped != Some(line) {
             earliest = earlier(
                 earliest,
                 line,
-                line_oldest(tables, trace, range, Spot { line, shift }, number),
+                lines.line_oldest(trace, range, Spot { line, shift }, number),
             );
         }
     }
@@ -167,8 +185,8 @@ fn earlier(earliest: Option<Earliest>, line: u64, oldest: Option<Oldest>) -> Opt
 
 // Of the last ones of the events up to this number that store to a byte of the range, the first to another line than that of the
 // earliest. It is looked for only where that line is one of the lines from `start` on, below `end`.
-fn next_earliest(
-    tables: &Tables,
+fn next_earliest<L: LineAnswers>(
+    lines: &L,
     trace: &Trace,
     number: u64,
     range: Range,
@@ -176,32 +194,37 @@ fn next_earliest(
     start: u64,
     end: u64,
 ) -> Option<Earliest>
-    requires { AreResultsOf trace.now tables.now }
+    requires { L.is_of lines.now trace.now number }
     ensures { start ≤ found.line → found.line < end → IsEarliestOf trace.now number (Some found.line) range result }
 {
     if start <= found.line && found.line < end {
-        earliest(tables, trace, number, range, Some(found.line))
+        earliest(lines, trace, number, range, Some(found.line))
     } else {
         None
     }
 }
 
 // Whether isOrderedBefore passes after the event with this number.
-fn is_ordered(tables: &Tables, trace: &Trace, number: u64, first: Range, second: Range) -> bool
-    requires results { AreResultsOf trace.now tables.now }
-    requires within { number ≤ length trace.now.events }
+fn is_ordered<L: LineAnswers>(
+    lines: &L,
+    trace: &Trace,
+    number: u64,
+    first: Range,
+    second: Range,
+) -> bool
+    requires known { L.is_of lines.now trace.now number }
     ensures { IsTrue result ↔ OrderedPasses (history trace.now number) first second }
 {
-    let Some(found) = earliest(tables, trace, number, second, None) else {
+    let Some(found) = earliest(lines, trace, number, second, None) else {
         return true;
     };
     let (start, end) = lines_of(trace, first);
-    let other = next_earliest(tables, trace, number, second, found, start, end);
-    let shift = tables.shift(start);
+    let other = next_earliest(lines, trace, number, second, found, start, end);
+    let shift = lines.shift(start);
     for line in start..end {
         let by = place_by(found, other, line);
         let spot = Spot { line, shift };
-        if !is_line_ordered(tables, trace, number, first, second, spot, by) {
+        if !is_line_ordered(lines, trace, number, first, second, spot, by) {
             return false;
         }
     }
@@ -223,8 +246,8 @@ fn place_by(found: Earliest, other: Option<Earliest>, line: u64) -> Option<u64>
 
 // Whether in this line the last stores to bytes of the first range come before those to bytes of the second, and are persisted
 // for sure by a place.
-fn is_line_ordered(
-    tables: &Tables,
+fn is_line_ordered<L: LineAnswers>(
+    lines: &L,
     trace: &Trace,
     number: u64,
     first: Range,
@@ -232,35 +255,35 @@ fn is_line_ordered(
     spot: Spot,
     by: Option<u64>,
 ) -> bool
-    requires results { AreResultsOf trace.now tables.now }
+    requires known { L.is_of lines.now trace.now number }
     requires line { spot.line < 2 ^ 48 }
-    requires by { IfSome by (λ place. place ≤ length trace.now.events) }
+    requires by { IfSome by (λ place. place ≤ number) }
     ensures { IsTrue result ↔ IsLineOrdered trace.now number first second spot.line by }
 {
-    if !is_line_in_order(tables, trace, number, first, second, spot) {
+    if !is_line_in_order(lines, trace, number, first, second, spot) {
         return false;
     }
     match by {
         None => true,
-        Some(place) => is_line_persisted(tables, trace, first, spot, number, place),
+        Some(place) => lines.is_line_persisted(trace, first, spot, number, place),
     }
 }
 
 // Whether in this line the last stores to bytes of the first range come before those to bytes of the second.
-fn is_line_in_order(
-    tables: &Tables,
+fn is_line_in_order<L: LineAnswers>(
+    lines: &L,
     trace: &Trace,
     number: u64,
     first: Range,
     second: Range,
     spot: Spot,
 ) -> bool
-    requires results { AreResultsOf trace.now tables.now }
+    requires known { L.is_of lines.now trace.now number }
     requires line { spot.line < 2 ^ 48 }
     ensures { IsTrue result ↔ IsLineInOrder trace.now number first second spot.line }
 {
-    match line_oldest(tables, trace, second, spot, number) {
+    match lines.line_oldest(trace, second, spot, number) {
         None => true,
-        Some(oldest) => is_line_ranked(tables, trace, first, spot, number, oldest.rank),
+        Some(oldest) => lines.is_line_ranked(trace, first, spot, number, oldest.rank),
     }
 }

@@ -1,11 +1,13 @@
-//! The verdicts of the assertions of a trace, from the results of its lines' jobs.
+//! The verdicts of the assertions of a trace, from what is known of its lines, as the results of their jobs.
 //!
 //! The definitions stand in `specs/`.
 #![tactic(auto)]
 
+mod answers;
 mod build;
 mod ends;
 mod judge;
+mod lines;
 mod oldest;
 mod part;
 mod put;
@@ -14,7 +16,10 @@ mod table;
 mod tables;
 mod writes;
 
-pub use crate::judge::{is_assertion, verdict, verdicts};
+pub use crate::judge::{has_assertion, is_assertion, verdict, verdict_by, verdicts};
+pub use crate::lines::LineAnswers;
+pub use crate::oldest::{Oldest, Part, Spot};
+pub use crate::part::part_of;
 pub use crate::tables::Tables;
 
 #[cfg(test)]

@@ -48,7 +48,7 @@ impl Tables {
 
     // How far the place of this line's table lies from the line, as those of the lines after it mostly do. Nothing is promised of
     // it: `find` looks whose table it is.
-    pub(crate) fn shift(&self, line: u64) -> u64 {
+    pub(crate) fn shift_of(&self, line: u64) -> u64 {
         match self.places.get(&line) {
             None => 0,
             Some(place) => (*place as u64).wrapping_sub(line),

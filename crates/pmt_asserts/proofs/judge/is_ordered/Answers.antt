@@ -1,18 +1,17 @@
-use Rattle.std.proofs.Common.{◌≤◌, length, IfSome, refl, sym, subst, arith}
+use Rattle.std.proofs.Common.{◌≤◌, IfSome, refl, sym, subst, arith}
 use Rattle.pmt_asserts.specs.Judging.{IsLineOrdered}
 use Rattle.pmt_asserts.proofs.JudgeLemmas.{ordered-from, lines-from, place-within}
 use Rattle.pmt_asserts.proofs.judge.is_ordered.Goals as goal
 
 pub is_line_ordered-requires-clause-by : goal.is_line_ordered-requires-clause-by
-is_line_ordered-requires-clause-by c =
+is_line_ordered-requires-clause-by g c =
     let T = c.args.trace.now in
-    subst (λ o. IfSome o (λ n. n ≤ length T.events)) (sym c.place_by-by.ensures)
+    subst (λ o. IfSome o (λ n. n ≤ c.args.number)) (sym c.place_by-by.ensures)
     (place-within T c.args.number c.loop-line.line c.args.second c.in-Some.found c.next_earliest-other.result (c.in-Some.ensures {u = tt})
-    (λ own. c.next_earliest-other.ensures (omega (arith, own, c.loop-line.auto.line)) (omega (arith, own, c.loop-line-test.true)))
-    c.requires.within)
+    (λ own. c.next_earliest-other.ensures (omega (arith, own, c.loop-line.auto.line)) (omega (arith, own, c.loop-line-test.true))))
 
 pub returns-then-not-is_line_ordered : goal.returns-then-not-is_line_ordered
-returns-then-not-is_line_ordered c =
+returns-then-not-is_line_ordered g c =
     let T = c.args.trace.now in
     let line = c.loop-line.line in (
       λ t. absurd cc,
@@ -24,7 +23,7 @@ returns-then-not-is_line_ordered c =
     )
 
 pub returns : goal.returns
-returns c =
+returns g c =
     let T = c.args.trace.now in
     let lines = c.lines_of-start.ensures.lines in (
       λ t. ordered-from T c.args.number c.args.first c.args.second c.in-Some.found c.next_earliest-other.result c.lines_of-start.ensures.trace (c.in-Some.ensures {u = tt})

@@ -5,4 +5,4 @@ use Rattle.pmt_asserts.specs.Tables.{PersistedBy}
 use Rattle.pmt_asserts.proofs.judge.persists.Given as goal
 
 abbrev pub invariant-loop-line : goal.invariant-loop-line
-invariant-loop-line l = (b : ℕ) → InSpan l.range b → line_of l.trace.format b < l.line → PersistedBy l.trace l.number l.number b
+invariant-loop-line g l = (b : ℕ) → InSpan l.range b → line_of l.trace.format b < l.line → PersistedBy l.trace l.number l.number b
