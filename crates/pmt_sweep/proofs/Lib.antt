@@ -7,3 +7,12 @@ pub mod ChainLemmas
 pub mod OverwritingLemmas
 pub mod OpenLemmas
 pub mod SweepLemmas
+pub mod WriterListLemmas
+pub mod LineWriterListLemmas
+pub mod WriterLemmas
+pub mod LineWriterLemmas
+pub mod SettlingLemmas
+pub mod VerdictsSoFar
+pub mod FindLemmas
+pub mod AnswerLemmas
+pub mod JudgingLemmas

@@ -5,3 +5,10 @@ pub mod Ending
 pub mod LineEnds
 pub mod Joining
 pub mod Sweeping
+pub mod Writers
+pub mod LineWriters
+pub mod Giving
+pub mod Settling
+pub mod VerdictsSoFar
+pub mod Judging
+pub mod Distances

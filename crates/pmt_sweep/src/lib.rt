@@ -3,10 +3,15 @@
 //! The definitions stand in `specs/` and in pmt_model.
 #![tactic(auto)]
 
+mod answers;
 mod chain;
 mod ending;
 mod joining;
+mod judging;
+mod line_writers;
 mod rows;
+mod settling;
 pub mod sweeping;
+mod writers;
 
 pub use crate::sweeping::{Swept, sweep};

@@ -1,11 +1,12 @@
 //! What is known of each line while the events of a trace go by.
-ghost use Rattle.std.specs.Prelude.{◌≡◌, ℕ, suc, ◌<◌, List, [], ◌∷◌, length, All, IfOk, OnOk};
+ghost use Rattle.std.specs.Prelude.{◌≡◌, ℕ, suc, ◌<◌, List, [], ◌∷◌, length, get_or, All, MatchOption, IfOk, OnOk};
 ghost use Rattle.pmt_model.specs.Machine.{Act, Stores, Flushes, Clflushes, Fences};
 ghost use Rattle.pmt_model.specs.Traces.{event_limit};
 ghost use Rattle.pmt_model.specs.Values.{Written};
 ghost use Rattle.pmt_sweep.specs.Rows.{AreRows, AreRowsWith, HasOpen, IsPlaceOf, IsRow, KeepsPlaces};
 
 use indexmap::IndexSet;
+use pmt_asserts::Spot;
 use pmt_marks::LineState;
 use pmt_model::OutOfMemory;
 use std::alloc::Global;
@@ -94,9 +95,40 @@ impl Rows {
         Ok(place)
     }
 
+    // How far the place of this line's row lies from the line, as that of the lines after it mostly does. Nothing is promised of it: `find`
+    // looks whose row it is.
+    pub(crate) fn shift(&self, line: u64) -> u64 {
+        let shift = self.last_shift();
+        match self.find(Spot { line, shift }) {
+            None => 0,
+            Some(place) => (place as u64).wrapping_sub(line),
+        }
+    }
+
+    // How far the place of the row that was looked up last lies from its line.
+    fn last_shift(&self) -> u64 {
+        if self.last < self.rows.len() {
+            (self.last as u64).wrapping_sub(self.rows[self.last].line)
+        } else {
+            0
+        }
+    }
+
+    // The place of the line's row, if it has one. It is looked up only where it isn't found as far from the line as it is thought to lie.
+    pub(crate) fn find(&self, spot: Spot) -> Option<usize>
+        ensures { MatchOption result ((place : ℕ) → IsPlaceOf spot.line place self.now → ⊥) (λ place. IsPlaceOf spot.line place self.now) }
+    {
+        let guess = spot.line.wrapping_add(spot.shift) as usize;
+        if guess < self.rows.len() && self.rows[guess].line == spot.line {
+            return Some(guess);
+        }
+        self.lines.get_index_of(&spot.line)
+    }
+
     // The row at a place.
     pub(crate) fn at(&self, place: usize) -> &LineRow
         requires { place < length self.now }
+        ensures value { result.now ≡ get_or self.now place result.now }
         ensures line { (l : ℕ) → IsPlaceOf l place self.now → result.now.line ≡ l }
         ensures row { (h : List Act) → All (IsRow h) self.now → IsRow h result.now }
     {

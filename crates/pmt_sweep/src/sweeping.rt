@@ -1,18 +1,23 @@
 //! The sweep over the events of a trace.
-ghost use Rattle.std.specs.Prelude.{◌≡◌, ℕ, suc, ◌<◌, length, nat_le, slice_get, Some, IfOk, OnOk};
-ghost use Rattle.pmt_model.specs.Analyses.{IsFindings};
+ghost use Rattle.std.specs.Prelude.{◌≡◌, ℕ, suc, ◌<◌, false, length, nat_le, slice_get, Some, IfOk, OnOk};
+ghost use Rattle.std.specs.List.{list_any};
+ghost use Rattle.pmt_model.specs.Analyses.{IsFindings, IsVerdicts};
 ghost use Rattle.pmt_model.specs.Machine.{Stores, Flushes, Clflushes, Fences, Asserts};
 ghost use Rattle.pmt_model.specs.Traces.{Recording, IsAct, event_limit, history, lines_of};
 ghost use Rattle.pmt_lines.specs.Scans.{is_flush_covered};
+ghost use Rattle.pmt_asserts.specs.Judging.{event_asserts};
+ghost use Rattle.pmt_sweep.specs.Rows.{IsPlaceOf};
 ghost use Rattle.pmt_sweep.specs.Sweeping.{IsSweepOf, taken};
 
 use crate::chain::{LastOfLine, push_overwritten_by};
 use crate::ending::never_persisted;
 use crate::joining::joined;
+use crate::judging::judged;
 use crate::rows::Rows;
+use pmt_asserts::has_assertion;
 use pmt_lines::{OpenFlushes, push_if};
 use pmt_marks::LineState;
-use pmt_model::{Event, Finding, Op, OutOfMemory, Trace, WordStore, line_of};
+use pmt_model::{Event, Finding, Op, OutOfMemory, Trace, Verdict, WordStore, line_of};
 use std::alloc::Global;
 
 /// What a sweep finds.
@@ -22,6 +27,8 @@ pub struct Swept {
     pub lines: usize,
     /// The findings in report order.
     pub findings: Vec<Finding>,
+    /// The verdicts of the assertions, in event order.
+    pub verdicts: Vec<Verdict>,
 }
 
 /// What is known of a trace while its events go by.
@@ -37,25 +44,45 @@ pub(crate) struct Progress {
     pub(crate) found: Vec<Finding>,
 }
 
-/// The findings of the trace, and how many lines it stores or flushes: one pass forward over the events, and one over the stores for those
-/// that are never persisted. It takes one look-up of a line for each store and flush, some 80 bytes a line and 8 an event.
+/// The findings and verdicts of the trace, and how many lines it stores or flushes: one pass forward over the events, and one over the
+/// stores for those that are never persisted. It takes one look-up of a line for each store and flush, some 80 bytes a line and 8 an
+/// event; where the trace has assertions, some 120 bytes more for each line that is stored.
 ///
 /// # Errors
 /// Where memory was refused.
 pub fn sweep(alloc: Global, trace: &Trace) -> Result<Swept, OutOfMemory>
     ensures lines { IfOk result (λ s. s.lines ≡ length (lines_of (history trace.now (length trace.now.events)))) }
     ensures findings { IfOk result (λ s. IsFindings trace.now s.findings.items) }
+    ensures verdicts { IfOk result (λ s. IsVerdicts trace.now s.verdicts.items) }
+{
+    if has_assertion(trace.events()) {
+        return judged(alloc, trace);
+    }
+    unjudged(alloc, trace)
+}
+
+// What is found in a trace without assertions.
+fn unjudged(alloc: Global, trace: &Trace) -> Result<Swept, OutOfMemory>
+    requires { list_any event_asserts trace.now.events ≡ false }
+    ensures lines { IfOk result (λ s. s.lines ≡ length (lines_of (history trace.now (length trace.now.events)))) }
+    ensures findings { IfOk result (λ s. IsFindings trace.now s.findings.items) }
+    ensures verdicts { IfOk result (λ s. IsVerdicts trace.now s.verdicts.items) }
 {
     let mut progress = Progress::new(alloc, trace)?;
     for event in trace.events() {
         progress.take(trace, event)?;
     }
-    progress.finish(alloc, trace)
+    let (lines, findings) = progress.finish(alloc, trace)?;
+    Ok(Swept {
+        lines,
+        findings,
+        verdicts: Vec::new(alloc),
+    })
 }
 
 impl Progress {
     // No events yet, and room for those of the trace.
-    fn new(alloc: Global, trace: &Trace) -> Result<Self, OutOfMemory>
+    pub(crate) fn new(alloc: Global, trace: &Trace) -> Result<Self, OutOfMemory>
         ensures so_far { IfOk result (IsSweepOf trace.now) }
         ensures none { IfOk result (λ s. taken s ≡ 0) }
     {
@@ -84,14 +111,22 @@ impl Progress {
             Op::Clwb(addr) | Op::ClflushOpt(addr) => {
                 self.take_flush(line_of(format, *addr), thread)
             }
-            Op::Clflush(addr) => self.take_clflush(line_of(format, *addr)),
+            Op::Clflush(addr) => {
+                self.take_clflush(line_of(format, *addr))?;
+                Ok(())
+            }
             Op::Sfence | Op::Mfence => self.take_fence(thread),
             Op::IsPersist(_) | Op::IsOrderedBefore(_, _) => self.take_assertion(),
         }
     }
 
     // A store to the line.
-    fn take_store(&mut self, trace: &Trace, line: u64, store: &WordStore) -> Result<(), OutOfMemory>
+    pub(crate) fn take_store(
+        &mut self,
+        trace: &Trace,
+        line: u64,
+        store: &WordStore,
+    ) -> Result<(), OutOfMemory>
         requires so_far { IsSweepOf trace.now self.old }
         requires next { IsAct trace.now (suc (taken self.old)) (Stores line store.now) }
         ensures so_far { OnOk result (IsSweepOf trace.now self.new) }
@@ -120,7 +155,7 @@ impl Progress {
     }
 
     // A flush of the line by the thread.
-    fn take_flush(&mut self, line: u64, thread: u8) -> Result<(), OutOfMemory>
+    pub(crate) fn take_flush(&mut self, line: u64, thread: u8) -> Result<(), OutOfMemory>
         requires room { taken self.old < event_limit }
         requires so_far { (T : Recording) × IsSweepOf T self.old }
         ensures so_far { (T : Recording) → IsAct T (suc (taken self.old)) (Flushes thread line) → IsSweepOf T self.old → OnOk result (IsSweepOf T self.new) }
@@ -142,11 +177,12 @@ impl Progress {
         Ok(())
     }
 
-    // A clflush of the line.
-    fn take_clflush(&mut self, line: u64) -> Result<(), OutOfMemory>
+    // A clflush of the line: the place of its row.
+    pub(crate) fn take_clflush(&mut self, line: u64) -> Result<usize, OutOfMemory>
         requires room { taken self.old < event_limit }
         requires so_far { (T : Recording) × IsSweepOf T self.old }
         ensures so_far { (T : Recording) → IsAct T (suc (taken self.old)) (Clflushes line) → IsSweepOf T self.old → OnOk result (IsSweepOf T self.new) }
+        ensures place { IfOk result (λ place. IsPlaceOf line place self.new.rows) }
         ensures one { OnOk result (taken self.new ≡ suc (taken self.old)) }
     {
         let number = self.before.len() as u32 + 1;
@@ -161,11 +197,11 @@ impl Progress {
         self.rows.clflush(line, place, number);
         self.before.push(0)?;
         self.places.push(0)?;
-        Ok(())
+        Ok(place)
     }
 
     // A fence by the thread.
-    fn take_fence(&mut self, thread: u8) -> Result<(), OutOfMemory>
+    pub(crate) fn take_fence(&mut self, thread: u8) -> Result<(), OutOfMemory>
         requires room { taken self.old < event_limit }
         requires so_far { (T : Recording) × IsSweepOf T self.old }
         ensures so_far { (T : Recording) → IsAct T (suc (taken self.old)) (Fences thread) → IsSweepOf T self.old → OnOk result (IsSweepOf T self.new) }
@@ -186,7 +222,7 @@ impl Progress {
     }
 
     // An assertion.
-    fn take_assertion(&mut self) -> Result<(), OutOfMemory>
+    pub(crate) fn take_assertion(&mut self) -> Result<(), OutOfMemory>
         ensures so_far { (T : Recording) → IsAct T (suc (taken self.old)) Asserts → IsSweepOf T self.old → OnOk result (IsSweepOf T self.new) }
         ensures one { OnOk result (taken self.new ≡ suc (taken self.old)) }
     {
@@ -195,12 +231,16 @@ impl Progress {
         Ok(())
     }
 
-    // All findings, when all events have come.
-    fn finish(self, alloc: Global, trace: &Trace) -> Result<Swept, OutOfMemory>
+    // How many lines there are, and all findings, when all events have come.
+    pub(crate) fn finish(
+        self,
+        alloc: Global,
+        trace: &Trace,
+    ) -> Result<(usize, Vec<Finding>), OutOfMemory>
         requires so_far { IsSweepOf trace.now self }
         requires all { taken self ≡ length trace.now.events }
-        ensures lines { IfOk result (λ s. s.lines ≡ length (lines_of (history trace.now (length trace.now.events)))) }
-        ensures findings { IfOk result (λ s. IsFindings trace.now s.findings.items) }
+        ensures lines { IfOk result (λ s. s.0 ≡ length (lines_of (history trace.now (length trace.now.events)))) }
+        ensures findings { IfOk result (λ s. IsFindings trace.now s.1.items) }
     {
         let Progress {
             rows,
@@ -212,7 +252,7 @@ impl Progress {
         let lines = rows.len();
         let late = never_persisted(alloc, trace, &rows, places.as_slice())?;
         let findings = joined(alloc, found, late)?;
-        Ok(Swept { lines, findings })
+        Ok((lines, findings))
     }
 }
 
@@ -234,6 +274,7 @@ fn is_clflush_covered(state: &LineState) -> bool
 #[cfg(test)]
 mod tests {
     use super::*;
+    use pmt_model::Range;
     use std::test::Fail;
 
     // The trace of these events.
@@ -290,6 +331,44 @@ mod tests {
             swept.findings.as_slice(),
             [flush(3), flush(5), fence].as_slice()
         );
+        Ok(())
+    }
+
+    // The verdict of the assertion with this number.
+    fn is_judged(swept: &Swept, event: u64, ordered: bool, pass: bool) -> bool {
+        let wanted = Verdict {
+            event,
+            ordered,
+            pass,
+        };
+        swept.verdicts.contains(&wanted)
+    }
+
+    // A store is not persisted before its fence, orders a store after it, and not one before it; stored once more, it orders none.
+    #[test]
+    fn judged_as_they_come(rt: HostRuntime) -> Result<(), Fail> {
+        let first = Range::new(0x1000, 1)?;
+        let second = Range::new(0x1040, 1)?;
+        let events = [
+            (0, Op::store(0x1000, &[1])?),
+            (1, Op::IsPersist(first)),
+            (0, Op::clwb(0x1000)?),
+            (0, Op::Sfence),
+            (1, Op::IsPersist(first)),
+            (0, Op::store(0x1040, &[1])?),
+            (1, Op::IsOrderedBefore(first, second)),
+            (1, Op::IsOrderedBefore(second, first)),
+            (0, Op::store(0x1000, &[2])?),
+            (1, Op::IsOrderedBefore(first, second)),
+        ];
+        let trace = trace_of(rt.alloc(), events.as_slice())?;
+        let swept = sweep(rt.alloc(), &trace)?;
+        assert_eq!(rt; swept.verdicts.len(), 5);
+        assert!(rt; is_judged(&swept, 2, false, false));
+        assert!(rt; is_judged(&swept, 5, false, true));
+        assert!(rt; is_judged(&swept, 7, true, true));
+        assert!(rt; is_judged(&swept, 8, true, false));
+        assert!(rt; is_judged(&swept, 10, true, false));
         Ok(())
     }
 }

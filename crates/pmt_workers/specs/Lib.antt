@@ -1,4 +1,3 @@
 pub mod Answering
 pub mod Halving
-pub mod Results
 pub mod Asking

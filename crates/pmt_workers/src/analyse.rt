@@ -12,7 +12,7 @@ ghost use Rattle.pmt_workers.specs.declared.analyse.AnalyseError.TheVariants.{Ou
 ghost use Rattle.pmt_workers.specs.Halving.{is_worker_count};
 
 use crate::halves::run_in_halves;
-use crate::judging::{has_assertion, judged};
+use crate::judging::judged;
 use crate::shard::{ShardAnswer, ShardGate};
 use crate::swept::swept;
 use pmt_analysis::Analysis;
@@ -59,7 +59,7 @@ impl From<AllocError> for AnalyseError {
 }
 
 /// The analysis of the trace whose events the source has still to give, by this many workers. It is the same for every number of
-/// workers and every gate.
+/// workers and every gate. One worker makes no jobs, and so no call of the gate.
 ///
 /// # Errors
 /// `BadWorkers` unless there are 1, 2, 4, 8 or 16 workers; the source is unchanged then. `Source` with the fault that the source
@@ -96,7 +96,7 @@ pub fn are_allowed(workers: usize) -> bool
     matches!(workers, 1 | 2 | 4 | 8 | 16)
 }
 
-// The analysis of the trace. One worker goes over a trace without assertions in passes, with no job for each line.
+// The analysis of the trace. One worker goes over it in passes, with no job for each line.
 fn analysis_of<R: Threads + Sync, G: ShardGate + Sync>(
     rt: &R,
     alloc: Global,
@@ -108,7 +108,7 @@ fn analysis_of<R: Threads + Sync, G: ShardGate + Sync>(
     ensures trace { IfOk result (λ a. a.trace ≡ trace) }
     ensures right { IfOk result IsAnalysed }
 {
-    if workers == 1 && !has_assertion(trace.events()) {
+    if workers == 1 {
         return swept(alloc, trace);
     }
     let jobs = split_trace(alloc, trace)?;

@@ -1,13 +1,11 @@
 //! The verdicts, where the trace has assertions.
-ghost use Rattle.std.specs.Prelude.{◌≡◌, IfOk};
-ghost use Rattle.std.specs.List.{list_any};
+ghost use Rattle.std.specs.Prelude.{IfOk};
 ghost use Rattle.pmt_model.specs.Analyses.{IsVerdicts};
 ghost use Rattle.pmt_asserts.specs.Tables.{AreResultsOf};
-ghost use Rattle.pmt_workers.specs.Results.{event_asserts};
 
-use pmt_asserts::{Tables, is_assertion, verdicts};
+use pmt_asserts::{Tables, has_assertion, verdicts};
 use pmt_lines::LineResult;
-use pmt_model::{Event, OutOfMemory, Trace, Verdict};
+use pmt_model::{OutOfMemory, Trace, Verdict};
 use std::alloc::Global;
 use std::thread::Threads;
 
@@ -27,11 +25,4 @@ pub(crate) fn judged<R: Threads + Sync>(
     let tables = Tables::merge(alloc, results)?;
     let all = verdicts(rt, alloc, &tables, trace)?;
     Ok(all)
-}
-
-// Whether one of the events is an assertion.
-pub(crate) fn has_assertion(events: &[Event]) -> bool
-    ensures { result ≡ list_any event_asserts events.now }
-{
-    events.iter().any(|event| is_assertion(event.op))
 }

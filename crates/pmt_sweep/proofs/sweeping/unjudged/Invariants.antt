@@ -1,6 +1,6 @@
 use Rattle.std.proofs.Common.{◌≡◌}
 use Rattle.pmt_sweep.specs.Sweeping.{IsSweepOf, taken}
-use Rattle.pmt_sweep.proofs.sweeping.sweep.Given as goal
+use Rattle.pmt_sweep.proofs.sweeping.unjudged.Given as goal
 
 abbrev pub invariant-loop-event : goal.invariant-loop-event
 invariant-loop-event l = record {

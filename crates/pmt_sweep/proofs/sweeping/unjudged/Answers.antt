@@ -1,8 +1,11 @@
-use Rattle.std.proofs.Common.{◌<◌, length, get_or, Some, ap, sym, ◌∙◌, arith}
+use Rattle.std.proofs.Common.{◌<◌, List, length, get_or, Some, ap, sym, subst, ◌∙◌, arith}
 use Rattle.std.specs.Prelude.{slice_get}
 use Rattle.std.proofs.lemmas.Option.{slice_get-get_or}
 use Rattle.pmt_model.specs.declared.event.Event.{Event}
-use Rattle.pmt_sweep.proofs.sweeping.sweep.Goals as goal
+use Rattle.pmt_model.specs.declared.finding.Verdict.{Verdict}
+use Rattle.pmt_model.specs.Analyses.{IsVerdicts}
+use Rattle.pmt_sweep.proofs.VerdictsSoFar.{verdicts-empty}
+use Rattle.pmt_sweep.proofs.sweeping.unjudged.Goals as goal
 
 pub loop-event-init : goal.loop-event-init
 loop-event-init c = record { so_far = c.in_ok-progress.ensures.so_far; at = c.in_ok-progress.ensures.none }
@@ -29,3 +32,6 @@ finish-requires-clause-so_far c = c.loop-event.invariant.so_far
 pub finish-requires-clause-all : goal.finish-requires-clause-all
 finish-requires-clause-all c =
     omega (arith, c.loop-event.invariant.at, c.loop-event-test.false, c.loop-event.auto.event-index-end, ap length c.events-event-items.ensures.value)
+
+pub returns-clause-verdicts : goal.returns-clause-verdicts
+returns-clause-verdicts c = subst (λ (vs : List Verdict). IsVerdicts c.args.trace.now vs) (sym c.new-2.ensures.items) (verdicts-empty c.args.trace.now c.requires)

@@ -1,0 +1,39 @@
+use Rattle.std.proofs.Common.{None, sym, subst}
+use Rattle.pmt_sweep.specs.Writers.{AreWriters}
+use Rattle.pmt_sweep.proofs.AnswerLemmas.{unplaced, distances-moved, first-told, none-met, apart-of_part, rows-known, known-within}
+use Rattle.pmt_sweep.proofs.answers.JudgingLineAnswers.line_oldest.Goals as goal
+
+pub returns-then-part : goal.returns-then-part
+returns-then-part c b in_range own =
+    let T = c.args.trace.now in
+    let l = c.args.spot.line in
+    let p = c.distances-part.result in
+    let part = distances-moved c.format.result T.format c.args.range l p c.format.ensures.value c.distances-part.ensures in
+    absurd (apart-of_part T c.args.range l b p c.format.ensures.is_trace part c.if-part.true in_range own)
+
+pub returns-in_default : goal.returns-in_default
+returns-in_default c b in_range own =
+    let T = c.args.trace.now in
+    let n = c.args._number in
+    let j = c.args.self.now in
+    unplaced T c.args.spot.line n b j.progress.rows c.format.ensures.is_trace (rows-known T n j c.requires.known) (c.in_default.ensures {u = tt}) own
+
+pub returns-in-None : goal.returns-in-None
+returns-in-None c =
+    let T = c.args.trace.now in
+    let l = c.args.spot.line in
+    let n = c.args._number in
+    let p = c.distances-part.result in
+    let part = distances-moved c.format.result T.format c.args.range l p c.format.ensures.value c.distances-part.ensures in
+    let are = c.requires.known.writers.each l c.in-Some.place (c.in-Some.ensures {u = tt}) in
+    first-told T l n c.args.range p _ c.format.ensures.is_trace part are None (known-within T n c.args.self.now c.requires.known) (λ w has m. none-met _ p.low p.high w (c.in-None.ensures {u = tt}) has m)
+
+pub returns-in-Some-at : goal.returns-in-Some-at
+returns-in-Some-at c =
+    let T = c.args.trace.now in
+    let l = c.args.spot.line in
+    let n = c.args._number in
+    let p = c.distances-part.result in
+    let part = distances-moved c.format.result T.format c.args.range l p c.format.ensures.value c.distances-part.ensures in
+    let are = c.requires.known.writers.each l c.in-Some.place (c.in-Some.ensures {u = tt}) in
+    first-told T l n c.args.range p c.in-Some-at.writers.now c.format.ensures.is_trace part (subst (AreWriters T l n) (sym (c.in-Some-at.ensures {u = tt})) are) c.oldest.result (known-within T n c.args.self.now c.requires.known) c.oldest.ensures

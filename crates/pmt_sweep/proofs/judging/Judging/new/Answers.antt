@@ -1,0 +1,14 @@
+use Rattle.std.proofs.Common.{List, sym, subst}
+use Rattle.pmt_model.specs.declared.finding.Verdict.{Verdict}
+use Rattle.pmt_sweep.specs.VerdictsSoFar.{AreVerdictsTo}
+use Rattle.pmt_sweep.proofs.JudgingLemmas.{known-start}
+use Rattle.pmt_sweep.proofs.VerdictsSoFar.{verdicts-start}
+use Rattle.pmt_sweep.proofs.judging.Judging.new.Goals as goal
+
+pub returns : goal.returns
+returns c =
+    let T = c.args.trace.now in
+    record {
+      known = known-start T _ c.in_ok-new.ensures.so_far c.in_ok-new.ensures.none c.new-2.ensures;
+      verdicts = subst (λ (vs : List Verdict). AreVerdictsTo T 0 vs) (sym c.new-3.ensures.items) (verdicts-start T);
+    }

@@ -1,0 +1,100 @@
+//! What a sweep tells of the lines after the events that it has taken.
+ghost use Rattle.std.specs.Prelude.{◌≡◌, ◌<◌, ◌^◌, ◌↔◌, IsTrue};
+ghost use Rattle.pmt_sweep.specs.Distances.{AreDistances};
+
+use crate::judging::Judging;
+use pmt_asserts::{LineAnswers, Oldest, Part, Spot, part_of};
+use pmt_marks::LineState;
+use pmt_model::{Format, Range, Trace};
+
+impl LineAnswers for Judging {
+    ghost use Rattle.std.specs.Prelude.{◌≤◌, length};
+    ghost use Rattle.std.proofs.Common.{subst};
+    ghost use Rattle.pmt_sweep.specs.Judging.{IsKnownTo};
+
+    ghost is_of = { λ j T n. IsKnownTo T n j };
+
+    ghost within = { λ j T n known. subst (λ k. k ≤ length T.events) known.here known.sweep.within };
+
+    fn shift(&self, line: u64) -> u64 {
+        self.progress.rows.shift(line)
+    }
+
+    fn is_line_persisted(
+        &self,
+        trace: &Trace,
+        range: Range,
+        spot: Spot,
+        number: u64,
+        by: u64,
+    ) -> bool {
+        let format = trace.format();
+        let Some(place) = self.progress.rows.find(spot) else {
+            return true;
+        };
+        if by == number && are_all_persisted(&self.progress.rows.at(place).state) {
+            return true;
+        }
+        let part = distances(format, range, spot.line);
+        match self.writers.at(place) {
+            None => true,
+            Some(writers) => writers.are_safe(part.low, part.high, by),
+        }
+    }
+
+    fn is_line_ranked(
+        &self,
+        trace: &Trace,
+        range: Range,
+        spot: Spot,
+        _number: u64,
+        rank: u64,
+    ) -> bool {
+        let format = trace.format();
+        let Some(place) = self.progress.rows.find(spot) else {
+            return true;
+        };
+        let part = distances(format, range, spot.line);
+        match self.writers.at(place) {
+            None => true,
+            Some(writers) => writers.are_ranked(part.low, part.high, rank),
+        }
+    }
+
+    fn line_oldest(&self, trace: &Trace, range: Range, spot: Spot, _number: u64) -> Option<Oldest> {
+        let part = distances(trace.format(), range, spot.line);
+        if part.high <= part.low {
+            return None;
+        }
+        let Some(place) = self.progress.rows.find(spot) else {
+            return None;
+        };
+        match self.writers.at(place) {
+            None => None,
+            Some(writers) => writers.oldest(part.low, part.high),
+        }
+    }
+}
+
+// Whether all stores to the line are persisted for sure.
+fn are_all_persisted(state: &LineState) -> bool
+    ensures { IsTrue result ↔ (state.now.count ≡ state.now.front) }
+{
+    state.count() == state.front()
+}
+
+// The bytes of the range that lie in the line, each by its distance from the line's first one.
+fn distances(format: Format, range: Range, line: u64) -> Part
+    requires { line < 2 ^ 48 }
+    ensures { AreDistances format range line result }
+{
+    let part = part_of(format, range, line);
+    if part.high <= part.low {
+        return Part { low: 0, high: 0 };
+    }
+    let start = line * format.line_size();
+    Part {
+        low: part.low - start,
+        high: part.high - start,
+    }
+}

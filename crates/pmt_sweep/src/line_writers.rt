@@ -1,0 +1,62 @@
+//! The writers of all lines, at the places of the lines' rows.
+ghost use Rattle.std.specs.Prelude.{◌≡◌, ◌<◌, ℕ, [], MatchOption, OnOk, ◌∷◌};
+ghost use Rattle.pmt_sweep.specs.LineWriters.{writers_at, SettlesAll, TakesOverAt};
+
+use crate::writers::{Writer, Writers};
+use pmt_model::OutOfMemory;
+use std::alloc::Global;
+use std::marker::Model;
+
+/// The writers of each line. A line that was never stored may have none.
+#[derive(Drop)]
+pub(crate) struct LineWriters {
+    lines: Vec<Writers>,
+}
+
+impl Model for LineWriters {
+    ghost use Rattle.std.specs.Prelude.{List};
+    ghost use Rattle.pmt_sweep.specs.declared.writers.Writer.{Writer};
+
+    ghost Value = { List (List Writer) };
+
+    ghost view = { λ w. w.lines.items };
+}
+
+impl LineWriters {
+    // No stores.
+    pub(crate) fn new(alloc: Global) -> Self
+        ensures { result ≡ [] }
+    {
+        LineWriters {
+            lines: Vec::new(alloc),
+        }
+    }
+
+    // The writers at a place, if there may be any.
+    pub(crate) fn at(&self, place: usize) -> Option<&Writers>
+        ensures { MatchOption result (writers_at self.now place ≡ []) (λ writers. writers.now ≡ writers_at self.now place) }
+    {
+        self.lines.get(place)
+    }
+
+    // A new store to the line at this place.
+    pub(crate) fn store(&mut self, place: usize, writer: Writer) -> Result<(), OutOfMemory>
+        requires { writer.low < writer.high }
+        ensures { OnOk result (TakesOverAt place writer self.old self.new) }
+    {
+        while self.lines.len() <= place {
+            let none = Writers::new(*self.lines.allocator());
+            self.lines.push(none)?;
+        }
+        self.lines[place].store(writer)
+    }
+
+    // The event with this number, after which the front of the line at this place has this value.
+    pub(crate) fn settle(&mut self, place: usize, front: u64, number: u32)
+        ensures { SettlesAll (λ _. front) (place ∷ []) number self.old self.new }
+    {
+        if let Some(writers) = self.lines.get_mut(place) {
+            writers.settle(front, number);
+        }
+    }
+}

@@ -1,0 +1,321 @@
+//! Of a line, which store wrote each byte last, and since when that store is persisted for sure.
+ghost use Rattle.std.specs.Prelude.{Contains, ◌≡◌, ℕ, suc, ◌<◌, ◌≤◌, ◌↔◌, List, [], ◌∷◌, ◌++◌, length, map, IfSome, IsTrue, OnOk};
+ghost use Rattle.pmt_sweep.specs.Giving.{part_of, GivesWay, IsSeat};
+ghost use Rattle.pmt_sweep.specs.Writers.{settled, AreAllSafe, AreRankedBy, AreSafeBy, IsFirst, IsFirstOf, IsWhole, Meets, TakesOver};
+
+use pmt_asserts::Oldest;
+use pmt_model::OutOfMemory;
+use smallvec::SmallVec;
+use std::alloc::Global;
+use std::marker::Model;
+
+// Most lines of a log hold so many, with no block of memory.
+const FEW: usize = 4;
+
+/// A store, as the last one that wrote some bytes of its line.
+#[derive(Clone, Copy, Debug, Default, PartialEq, Eq)]
+pub(crate) struct Writer {
+    /// The number of its event.
+    pub(crate) number: u32,
+    /// Its rank among the stores to the line, from 1.
+    pub(crate) rank: u32,
+    /// The number of the event by which it is persisted for sure, or 0 where it is not yet.
+    pub(crate) safe: u32,
+    /// The distance of its first such byte from the line's first one.
+    pub(crate) low: u16,
+    /// That of the byte after its last one.
+    pub(crate) high: u16,
+}
+
+/// The last stores to the bytes of a line, each with the bytes that no later one wrote.
+#[derive(Drop)]
+pub(crate) struct Writers {
+    held: SmallVec<Writer, FEW>,
+    // All of them are persisted for sure by the event with this number; 0 where that is not known.
+    safe: u32,
+    // What is known of all of them, where they are persisted for sure.
+    whole: Whole,
+}
+
+/// What is known of all stores that are held.
+#[derive(Clone, Copy)]
+struct Whole {
+    /// The first one of those that wrote a byte.
+    first: Option<Oldest>,
+    /// None of them wrote a byte from this distance on.
+    reach: u16,
+}
+
+impl Model for Writers {
+    ghost use Rattle.std.specs.Prelude.{List};
+    ghost use Rattle.pmt_sweep.specs.declared.writers.Writer.{Writer};
+    ghost use Rattle.pmt_sweep.specs.Writers.{AreSettled};
+
+    ghost Value = { List Writer };
+
+    ghost view = { λ w. w.held.items };
+
+    ghost invariant = { λ w. AreSettled w.safe w.whole w.held.items };
+}
+
+impl Writers {
+    // No stores.
+    pub(crate) fn new(alloc: Global) -> Self
+        ensures { result ≡ [] }
+    {
+        Writers {
+            held: SmallVec::new(alloc),
+            safe: 0,
+            whole: Whole {
+                first: None,
+                reach: 0,
+            },
+        }
+    }
+
+    // A new store: its bytes are no other one's any more.
+    pub(crate) fn store(&mut self, writer: Writer) -> Result<(), OutOfMemory>
+        requires { writer.low < writer.high }
+        ensures { OnOk result (TakesOver writer self.old self.new) }
+    {
+        self.safe = 0;
+        take_over(&mut self.held, writer)
+    }
+
+    // The event with this number, after which the line's front has this value.
+    pub(crate) fn settle(&mut self, front: u64, number: u32)
+        ensures { self.new ≡ map (settled front number) self.old }
+    {
+        if self.safe != 0 {
+            return;
+        }
+        let by = settle_each(self.held.as_mut_slice(), front, number);
+        if by != 0 {
+            self.whole = whole_of(self.held.as_slice());
+            self.safe = by;
+        }
+    }
+
+    // Whether each store that wrote a byte from `low` to `high` is persisted for sure by the event with this number.
+    pub(crate) fn are_safe(&self, low: u64, high: u64, by: u64) -> bool
+        ensures { IsTrue result ↔ AreSafeBy self.now low high by }
+    {
+        if self.safe != 0 && self.safe as u64 <= by {
+            return true;
+        }
+        for held in self.held.as_slice() {
+            if held.meets(low, high) && !held.is_safe(by) {
+                return false;
+            }
+        }
+        true
+    }
+
+    // Whether each store that wrote a byte from `low` to `high` has at most this rank.
+    pub(crate) fn are_ranked(&self, low: u64, high: u64, rank: u64) -> bool
+        ensures { IsTrue result ↔ AreRankedBy self.now low high rank }
+    {
+        for held in self.held.as_slice() {
+            if held.meets(low, high) && rank < held.rank as u64 {
+                return false;
+            }
+        }
+        true
+    }
+
+    // Of the stores that wrote a byte from `low` to `high`, the first.
+    pub(crate) fn oldest(&self, low: u64, high: u64) -> Option<Oldest>
+        ensures { IsFirst self.now low high result }
+    {
+        if self.safe != 0 && low == 0 && self.whole.reach as u64 <= high {
+            return self.whole.first;
+        }
+        oldest_of(self.held.as_slice(), low, high)
+    }
+}
+
+impl Writer {
+    // Whether it wrote a byte from `low` to `high`.
+    fn meets(&self, low: u64, high: u64) -> bool
+        ensures { IsTrue result ↔ Meets low high self.now }
+    {
+        low.max(self.low as u64) < high.min(self.high as u64)
+    }
+
+    // Whether what it wrote lies within what the other wrote.
+    fn is_within(&self, other: &Writer) -> bool
+        ensures { IsTrue result ↔ (other.now.low ≤ self.now.low) × (self.now.high ≤ other.now.high) }
+    {
+        other.low <= self.low && self.high <= other.high
+    }
+
+    // After the event with this number, where its line's front has this value then.
+    fn settled(&self, front: u64, number: u32) -> Writer
+        ensures { result ≡ settled front number self.now }
+    {
+        if self.safe == 0 && self.rank as u64 <= front {
+            Writer {
+                safe: number,
+                ..*self
+            }
+        } else {
+            *self
+        }
+    }
+
+    // Whether it is persisted for sure by the event with this number.
+    fn is_safe(&self, by: u64) -> bool
+        ensures { IsTrue result ↔ (1 ≤ self.now.safe) × (self.now.safe ≤ by) }
+    {
+        self.safe != 0 && self.safe as u64 <= by
+    }
+}
+
+// A new store comes to these: its bytes are no other one's any more.
+fn take_over(held: &mut SmallVec<Writer, FEW>, writer: Writer) -> Result<(), OutOfMemory>
+    ensures { OnOk result (TakesOver writer held.old.items held.new.items) }
+{
+    if let Some(seat) = seat_of(held.as_slice(), &writer) {
+        return take_seat(held, seat, writer);
+    }
+    for place in (0..held.len()).rev() {
+        give_way(held, place, &writer)?;
+    }
+    held.push(writer)?;
+    Ok(())
+}
+
+// Where the new store may stand, with the others as they are: at the place of the only one that shares a byte with it, if that one has no other bytes; at the end, if none does.
+fn seat_of(held: &[Writer], writer: &Writer) -> Option<usize>
+    ensures { IfSome result (IsSeat writer.now held.now) }
+{
+    let mut seat = held.len();
+    for (place, older) in held.iter().enumerate() {
+        if older.meets(writer.low as u64, writer.high as u64) {
+            if seat < held.len() || !older.is_within(writer) {
+                return None;
+            }
+            seat = place;
+        }
+    }
+    Some(seat)
+}
+
+// The new store takes this seat.
+fn take_seat(
+    held: &mut SmallVec<Writer, FEW>,
+    seat: usize,
+    writer: Writer,
+) -> Result<(), OutOfMemory>
+    requires { IsSeat writer held.old.items seat }
+    ensures { OnOk result (TakesOver writer held.old.items held.new.items) }
+{
+    if seat < held.len() {
+        held[seat] = writer;
+    } else {
+        held.push(writer)?;
+    }
+    Ok(())
+}
+
+// The store at this place gives way to the new one: it stays where they wrote no byte both, and else what it wrote on either side stays.
+fn give_way(
+    held: &mut SmallVec<Writer, FEW>,
+    place: usize,
+    writer: &Writer,
+) -> Result<(), OutOfMemory>
+    requires { place < length held.old.items }
+    ensures { (first : List Writer) → GivesWay writer.now (suc place) first held.old.items → OnOk result (GivesWay writer.now place first held.new.items) }
+{
+    if !held[place].meets(writer.low as u64, writer.high as u64) {
+        return Ok(());
+    }
+    let older = held.swap_remove(place);
+    push_part(held, &older, older.low, older.high.min(writer.low))?;
+    push_part(held, &older, older.low.max(writer.high), older.high)
+}
+
+// What an older store wrote from `low` to `high`, where that is anything.
+fn push_part(
+    held: &mut SmallVec<Writer, FEW>,
+    older: &Writer,
+    low: u16,
+    high: u16,
+) -> Result<(), OutOfMemory>
+    ensures { OnOk result (held.new.items ≡ held.old.items ++ part_of older.now low high) }
+{
+    if low < high {
+        held.push(Writer {
+            low,
+            high,
+            ..*older
+        })?;
+    }
+    Ok(())
+}
+
+// The event with this number, after which the front of these stores' line has this value. The result: an event by which they are all persisted for sure, or 0.
+fn settle_each(held: &mut [Writer], front: u64, number: u32) -> u32
+    ensures each { held.new ≡ map (settled front number) held.old }
+    ensures all { AreAllSafe result held.new }
+{
+    let mut latest = 0;
+    let mut all = true;
+    for writer in held.iter_mut() {
+        let settled = writer.settled(front, number);
+        latest = latest.max(settled.safe);
+        if settled.safe == 0 {
+            all = false;
+        }
+        *writer = settled;
+    }
+    if all { latest } else { 0 }
+}
+
+// The first of some stores, if there are any, or this one, if it came before.
+fn older_of(oldest: Option<Oldest>, held: &Writer) -> Oldest
+    ensures { (ws : List Writer) (low high : ℕ) → IsFirst ws low high oldest → Meets low high held.now → IsFirstOf (ws ++ held.now ∷ []) low high result }
+{
+    let rank = held.rank as u64;
+    match oldest {
+        Some(first) if first.rank <= rank => first,
+        _ => Oldest {
+            rank,
+            number: held.number as u64,
+        },
+    }
+}
+
+// What is known of all these stores.
+fn whole_of(held: &[Writer]) -> Whole
+    ensures { IsWhole held.now result }
+{
+    Whole {
+        first: oldest_of(held, 0, 1 << 16),
+        reach: reach_of(held),
+    }
+}
+
+// Of the stores that wrote a byte from `low` to `high`, the first.
+fn oldest_of(held: &[Writer], low: u64, high: u64) -> Option<Oldest>
+    ensures { IsFirst held.now low high result }
+{
+    let mut oldest = None;
+    for writer in held {
+        if writer.meets(low, high) {
+            oldest = Some(older_of(oldest, writer));
+        }
+    }
+    oldest
+}
+
+// A distance from which on none of the stores wrote a byte.
+fn reach_of(held: &[Writer]) -> u16
+    ensures { (w : Writer) → Contains held.now w → w.high ≤ result }
+{
+    let mut reach = 0;
+    for writer in held {
+        reach = writer.high.max(reach);
+    }
+    reach
+}
