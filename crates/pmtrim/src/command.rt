@@ -6,7 +6,7 @@ use std::alloc::{AllocError, Global};
 const WORKERS: &[&str] = &["1", "2", "4", "8", "16"];
 
 const SHARED: &str =
-    "How many threads share lines and verdicts; one is mostly faster than more, and takes a shorter way where there are no assertions";
+    "How many threads share lines and verdicts; one takes a shorter way, and is mostly faster than more";
 
 const UNUSED: &str =
     "Accepted as check has it, and changes nothing: trim is one pass in one thread";
