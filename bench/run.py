@@ -20,7 +20,6 @@ OUT = BENCH / "out"
 TEXT_BENCH = BENCH.parent / "crates" / "text_bench" / "out" / "text_bench"
 WORKER_BENCH = BENCH.parent / "crates" / "worker_bench" / "out" / "worker_bench"
 WANTED_BYTES = {"log_appends": 400, "many_lines": 700}
-SHARED_KINDS = ("tree_inserts", "many_lines", "long_intervals")
 COMMANDS = (["check"], ["check", "--workers", "4"], ["trim"], ["trim", "--stream"])
 GROWTH = (125_000, 250_000, 500_000, 1_000_000)
 
@@ -133,22 +132,21 @@ def compare_reading(plain, trace):
 
 
 def compare_workers(traces):
-    """The part that workers share, by 1 and by 4 of them, and what stays serial around it, the best of three runs each."""
+    """The analysis by one worker, which goes over the events, and by 4, which share the lines, the best of three runs each."""
     if not WORKER_BENCH.exists():
         print("workers: crates/worker_bench is not built (bench/run.sh builds it)")
         return
-    print(f"\nThe lines of a trace by 1 and by 4 workers, on {os.cpu_count()} cores (wanted with 4 cores: at most 0.40 of the time of 1).")
+    print(f"\nThe analysis of a trace by 1 worker, which makes no jobs, and by 4, on {os.cpu_count()} cores; reading and writing the texts stand beside it.")
     if os.getloadavg()[0] > 2:
         print(f"The load is {os.getloadavg()[0]:.1f}: where other programs keep the cores busy, the times of 4 workers say nothing.")
-    print("A worker's time is that of the one that takes longest. Splitting, joining, findings and verdicts stand around it; reading and")
-    print("writing the texts, in the table above, are serial too.")
-    print(f"{'trace':18} {'1 worker':>10} {'4 workers':>10} {'ratio':>7} {'around, 1':>10} {'around, 4':>10}")
-    shared = {kind: trace for kind, trace in traces.items() if kind in SHARED_KINDS}
-    for kind, trace in (shared or traces).items():
-        runs = [shared_and_around(trace) for _ in range(3)]
-        one, four = min(run[1][0] for run in runs), min(run[4][0] for run in runs)
-        around = [min(run[workers][1] for run in runs) for workers in (1, 4)]
-        print(f"{kind:18} {one:10.3f} {four:10.3f} {four / one:7.2f} {around[0]:10.3f} {around[1]:10.3f}", flush=True)
+    print("Lines: what workers share, run by 1 thread alone, and by 4, of which the one counts that takes longest (wanted with 4 cores: at")
+    print("most 0.40 of the time of 1).")
+    print(f"{'trace':18} {'1 worker':>10} {'4 workers':>10} {'ratio':>7} {'lines, 1':>10} {'lines, 4':>10} {'ratio':>7}")
+    for kind, trace in traces.items():
+        runs = [shared_and_all(trace) for _ in range(3)]
+        lines = [min(run[workers][0] for run in runs) for workers in (1, 4)]
+        all_of = [min(run[workers][1] for run in runs) for workers in (1, 4)]
+        print(f"{kind:18} {all_of[0]:10.3f} {all_of[1]:10.3f} {all_of[1] / all_of[0]:7.2f} {lines[0]:10.3f} {lines[1]:10.3f} {lines[1] / lines[0]:7.2f}", flush=True)
 
 
 def show_growth(kind, program):
@@ -164,13 +162,13 @@ def show_growth(kind, program):
         print(f"{events:10} " + " ".join(cells), flush=True)
 
 
-def shared_and_around(trace):
-    """For 1 and for 4 workers the seconds of the slowest worker, and those of the rest of the analysis."""
+def shared_and_all(trace):
+    """For 1 and for 4 workers the seconds of running the lines, by the slowest worker, and those of all the analysis."""
     status, _, _, answer = timed([WORKER_BENCH, "time"], trace)
     lines = [line.split() for line in answer.read_text().splitlines()]
     if status != 0 or [line[1] for line in lines] != ["1", "4"]:
         sys.exit(f"{WORKER_BENCH} does not analyse {trace}")
-    return {int(line[1]): (int(line[3]) / 1e9, (int(line[5]) - int(line[3])) / 1e9) for line in lines}
+    return {int(line[1]): (int(line[3]) / 1e9, int(line[5]) / 1e9) for line in lines}
 
 
 def main():

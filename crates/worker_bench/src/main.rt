@@ -1,8 +1,9 @@
 //! Analyses the trace whose text comes in, by 1 and by 4 workers, for bench/: prints the number of its lines, or, with the word
-//! `time`, nanoseconds for each number of workers: of the worker that took longest, and of all the analysis.
+//! `time`, nanoseconds for each number of workers: of running the lines' jobs, by the worker that took longest, and of all the analysis.
+//! One worker makes no jobs; so its are run besides.
 #![tactic(auto)]
 
-use pmt_lines::LineJob;
+use pmt_lines::{LineJob, split_trace, take_trace};
 use pmt_model::{OutOfMemory, Trace};
 use pmt_text::{ListSource, read_trace};
 use pmt_workers::{ShardAnswer, ShardGate, analyse_with, run_shard};
@@ -56,6 +57,16 @@ fn timed<R: Clock + Threads + Sync>(
     Ok((gate.longest.load(Ordering::SeqCst), all, analysis.lines()))
 }
 
+// The nanoseconds that one thread takes to run the lines' jobs.
+fn lines_alone<R: Clock>(rt: &R, alloc: Global, trace: &Trace) -> anyhow::Result<u64> {
+    let copy = take_trace(alloc, &mut ListSource::new(trace))?;
+    let jobs = split_trace(alloc, copy)?;
+    let start = Instant::now(rt)?;
+    let _answer = run_shard(alloc, jobs.lines)?;
+    let nanos = start.elapsed(rt)?.as_nanos();
+    Ok(u64::try_from(nanos).unwrap_or(u64::MAX))
+}
+
 fn main(rt: HostRuntime) -> anyhow::Result<()> {
     let alloc = rt.alloc();
     let mut text = Vec::new(alloc);
@@ -65,6 +76,11 @@ fn main(rt: HostRuntime) -> anyhow::Result<()> {
     for workers in [1, 4] {
         let (longest, all, lines) = timed(&rt, alloc, &trace, workers)?;
         if asked {
+            let longest = if workers == 1 {
+                lines_alone(&rt, alloc, &trace)?
+            } else {
+                longest
+            };
             println!(rt; "workers {workers} longest {longest} all {all}")?;
         } else {
             println!(rt; "workers {workers} lines {lines}")?;
