@@ -57,8 +57,11 @@ fn count_of(marked: &[bool]) -> usize {
     marked.iter().filter(|is_marked| **is_marked).count()
 }
 
-// The numbers that are marked.
-pub(crate) fn marked_numbers(alloc: Global, marked: &[bool]) -> Result<Selection, OutOfMemory>
+/// The selection of the events that are marked, where the trace's events have a mark each: the first one has the number 1.
+///
+/// # Errors
+/// Where memory was refused.
+pub fn marked_numbers(alloc: Global, marked: &[bool]) -> Result<Selection, OutOfMemory>
     ensures rising { IfOk result (IsRising 0) }
     ensures just { IfOk result (λ numbers. (n : ℕ) → Has numbers n ↔ (is_kept_at marked.now n ≡ true)) }
 {

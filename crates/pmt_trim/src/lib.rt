@@ -20,7 +20,7 @@ mod tests;
 pub mod trimming;
 pub mod whole_text;
 
-pub use crate::join::liveness;
+pub use crate::join::{liveness, marked_numbers};
 pub use crate::kept::add_line_kept;
 pub use crate::pass::Pass;
 pub use crate::shortest::{all_events, shortest_selection};
