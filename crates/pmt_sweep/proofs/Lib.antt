@@ -6,6 +6,9 @@ pub mod KnownLemmas
 pub mod ChainLemmas
 pub mod OverwritingLemmas
 pub mod OpenLemmas
+pub mod NumberedLemmas
+pub mod FlagLemmas
+pub mod DecidingLemmas
 pub mod SweepLemmas
 pub mod WriterListLemmas
 pub mod LineWriterListLemmas

@@ -12,3 +12,5 @@ pub mod Settling
 pub mod VerdictsSoFar
 pub mod Judging
 pub mod Distances
+pub mod OpenFlushes
+pub mod Flags

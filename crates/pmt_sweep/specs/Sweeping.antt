@@ -10,6 +10,8 @@ use Rattle.pmt_sweep.specs.Known.{AreKnownTo}
 use Rattle.pmt_sweep.specs.Rows.{AreRows, HasOpen}
 use Rattle.pmt_sweep.specs.Chains.{AreChained}
 use Rattle.pmt_sweep.specs.Ending.{StandAt}
+use Rattle.pmt_sweep.specs.OpenFlushes.{AreNumbered}
+use Rattle.pmt_sweep.specs.Flags.{AreFlagsTo}
 
 abbrev pub has_some : List ℕ → Bool
 has_some [] = false
@@ -39,3 +41,5 @@ pub record IsSweepOf (T : Recording) (s : Progress) : Type 0 where
   pub all : length s.places.items ≡ taken s
   pub standing : StandAt T s.rows s.places.items
   pub known : AreKnownTo T (taken s) s.found.items
+  pub numbered : AreNumbered (history T (taken s)) s.rows s.open_flushes s.open_numbers
+  pub flags : AreFlagsTo T (taken s) s.kept.items

@@ -1,6 +1,7 @@
 //! A sweep that judges the assertions as they come.
 ghost use Rattle.std.specs.Prelude.{◌≡◌, suc, length, slice_get, Some, IfOk, OnOk, ◌<◌};
 ghost use Rattle.pmt_model.specs.Analyses.{IsFindings, IsVerdicts};
+ghost use Rattle.pmt_model.specs.Keeping.{IsKeep};
 ghost use Rattle.pmt_model.specs.Machine.{Stores, Flushes, Clflushes, Fences, Asserts};
 ghost use Rattle.pmt_model.specs.Traces.{IsAct, history, lines_of};
 ghost use Rattle.pmt_sweep.specs.Judging.{IsJudgingOf};
@@ -142,6 +143,7 @@ pub(crate) fn judged(alloc: Global, trace: &Trace) -> Result<Swept, OutOfMemory>
     ensures lines { IfOk result (λ s. s.lines ≡ length (lines_of (history trace.now (length trace.now.events)))) }
     ensures findings { IfOk result (λ s. IsFindings trace.now s.findings.items) }
     ensures verdicts { IfOk result (λ s. IsVerdicts trace.now s.verdicts.items) }
+    ensures kept { IfOk result (λ s. IsKeep trace.now s.selection) }
 {
     let mut judging = Judging::new(alloc, trace)?;
     for event in trace.events() {
@@ -152,10 +154,5 @@ pub(crate) fn judged(alloc: Global, trace: &Trace) -> Result<Swept, OutOfMemory>
         writers: _,
         verdicts,
     } = judging;
-    let (lines, findings) = progress.finish(alloc, trace)?;
-    Ok(Swept {
-        lines,
-        findings,
-        verdicts,
-    })
+    progress.finish(alloc, trace, verdicts)
 }

@@ -1,4 +1,4 @@
-//! The findings of a trace by one pass forward over its events, with no job for each line.
+//! The findings and verdicts of a trace, and what is kept of it, by one pass forward over its events, with no job for each line.
 //!
 //! The definitions stand in `specs/` and in pmt_model.
 #![tactic(auto)]
@@ -9,6 +9,7 @@ mod ending;
 mod joining;
 mod judging;
 mod line_writers;
+mod open_numbers;
 mod rows;
 mod settling;
 pub mod sweeping;

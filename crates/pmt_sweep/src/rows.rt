@@ -1,9 +1,10 @@
 //! What is known of each line while the events of a trace go by.
-ghost use Rattle.std.specs.Prelude.{◌≡◌, ℕ, suc, ◌<◌, List, [], ◌∷◌, length, get_or, All, MatchOption, IfOk, OnOk};
+ghost use Rattle.std.specs.Prelude.{◌≡◌, ℕ, suc, ◌<◌, ◌≤◌, List, [], ◌∷◌, length, get_or, All, MatchOption, IfOk, OnOk};
 ghost use Rattle.pmt_model.specs.Machine.{Act, Stores, Flushes, Clflushes, Fences};
-ghost use Rattle.pmt_model.specs.Traces.{event_limit};
+ghost use Rattle.pmt_model.specs.Traces.{Recording, event_limit};
 ghost use Rattle.pmt_model.specs.Values.{Written};
 ghost use Rattle.pmt_sweep.specs.Rows.{AreRows, AreRowsWith, HasOpen, IsPlaceOf, IsRow, KeepsPlaces};
+ghost use Rattle.pmt_sweep.specs.Flags.{IsAtFence, IsPastFence};
 
 use indexmap::IndexSet;
 use pmt_asserts::Spot;
@@ -175,14 +176,28 @@ impl Rows {
         let _ = row.state.on_clflush();
     }
 
-    // A fence by the thread, of which the lines with an open flush stand at these places.
-    pub(crate) fn fence(&mut self, places: &[usize], thread: u8)
-        requires { All (λ place. place < length self.old) places.now }
+    // A fence by the thread, whose open flushes stand at these places and have these numbers: whether it is kept. It is noted which of the
+    // flushes are.
+    pub(crate) fn fence(
+        &mut self,
+        thread: u8,
+        places: &[usize],
+        numbers: &[u32],
+        kept: &mut [bool],
+    ) -> bool
+        requires placed { All (λ place. place < length self.old) places.now }
+        requires paired { length numbers.now ≡ length places.now }
+        requires numbered { All (λ number. (1 ≤ number) × (number ≤ length kept.old)) numbers.now }
         ensures kept { KeepsPlaces self.old self.new }
         ensures rows { (h : List Act) → HasOpen thread h places.now self.old → AreRows h self.old → AreRows (Fences thread ∷ h) self.new }
+        ensures decides { (T : Recording) (n : ℕ) → IsAtFence T n thread self.old places.now numbers.now kept.old → IsPastFence T n kept.new result }
     {
-        for place in places {
-            let _ = self.rows[*place].state.on_fence(thread);
+        let mut rises = false;
+        for index in (0..places.len()).rev() {
+            let rose = self.rows[places[index]].state.on_fence(thread);
+            kept[numbers[index] as usize - 1] = rose;
+            rises = rises || rose;
         }
+        rises
     }
 }

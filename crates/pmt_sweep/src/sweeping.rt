@@ -3,6 +3,7 @@ ghost use Rattle.std.specs.Prelude.{◌≡◌, ℕ, suc, ◌<◌, false, length,
 ghost use Rattle.std.specs.List.{list_any};
 ghost use Rattle.pmt_model.specs.Analyses.{IsFindings, IsVerdicts};
 ghost use Rattle.pmt_model.specs.Machine.{Stores, Flushes, Clflushes, Fences, Asserts};
+ghost use Rattle.pmt_model.specs.Keeping.{IsKeep};
 ghost use Rattle.pmt_model.specs.Traces.{Recording, IsAct, event_limit, history, lines_of};
 ghost use Rattle.pmt_lines.specs.Scans.{is_flush_covered};
 ghost use Rattle.pmt_asserts.specs.Judging.{event_asserts};
@@ -13,15 +14,17 @@ use crate::chain::{LastOfLine, push_overwritten_by};
 use crate::ending::never_persisted;
 use crate::joining::joined;
 use crate::judging::judged;
+use crate::open_numbers::OpenNumbers;
 use crate::rows::Rows;
 use pmt_asserts::has_assertion;
 use pmt_lines::{OpenFlushes, push_if};
 use pmt_marks::LineState;
-use pmt_model::{Event, Finding, Op, OutOfMemory, Trace, Verdict, WordStore, line_of};
+use pmt_model::{Event, Finding, Op, OutOfMemory, Selection, Trace, Verdict, WordStore, line_of};
+use pmt_trim::marked_numbers;
 use std::alloc::Global;
 
 /// What a sweep finds.
-#[derive(Debug, Drop)]
+#[derive(Drop)]
 pub struct Swept {
     /// How many lines are stored or flushed.
     pub lines: usize,
@@ -29,19 +32,25 @@ pub struct Swept {
     pub findings: Vec<Finding>,
     /// The verdicts of the assertions, in event order.
     pub verdicts: Vec<Verdict>,
+    /// All that is kept of the trace.
+    pub selection: Selection,
 }
 
 /// What is known of a trace while its events go by.
 #[derive(Drop)]
 pub(crate) struct Progress {
     pub(crate) rows: Rows,
+    // Of each thread, where the lines stand that its open flushes flush, and the numbers of these flushes.
     pub(crate) open_flushes: OpenFlushes,
+    pub(crate) open_numbers: OpenNumbers,
     // Of each event that has come and is a store, the number of the store to its line before it, or 0.
     pub(crate) before: Vec<u32>,
     // Of each event that has come and is a store, the place of its line's row.
     pub(crate) places: Vec<u32>,
     // What is found, apart from stores that are never persisted.
     pub(crate) found: Vec<Finding>,
+    // Of each event that has come, whether it is kept, as far as that is decided: an open flush is not yet.
+    pub(crate) kept: Vec<bool>,
 }
 
 /// The findings and verdicts of the trace, and how many lines it stores or flushes: one pass forward over the events, and one over the
@@ -54,6 +63,7 @@ pub fn sweep(alloc: Global, trace: &Trace) -> Result<Swept, OutOfMemory>
     ensures lines { IfOk result (λ s. s.lines ≡ length (lines_of (history trace.now (length trace.now.events)))) }
     ensures findings { IfOk result (λ s. IsFindings trace.now s.findings.items) }
     ensures verdicts { IfOk result (λ s. IsVerdicts trace.now s.verdicts.items) }
+    ensures kept { IfOk result (λ s. IsKeep trace.now s.selection) }
 {
     if has_assertion(trace.events()) {
         return judged(alloc, trace);
@@ -67,17 +77,13 @@ fn unjudged(alloc: Global, trace: &Trace) -> Result<Swept, OutOfMemory>
     ensures lines { IfOk result (λ s. s.lines ≡ length (lines_of (history trace.now (length trace.now.events)))) }
     ensures findings { IfOk result (λ s. IsFindings trace.now s.findings.items) }
     ensures verdicts { IfOk result (λ s. IsVerdicts trace.now s.verdicts.items) }
+    ensures kept { IfOk result (λ s. IsKeep trace.now s.selection) }
 {
     let mut progress = Progress::new(alloc, trace)?;
     for event in trace.events() {
         progress.take(trace, event)?;
     }
-    let (lines, findings) = progress.finish(alloc, trace)?;
-    Ok(Swept {
-        lines,
-        findings,
-        verdicts: Vec::new(alloc),
-    })
+    progress.finish(alloc, trace, Vec::new(alloc))
 }
 
 impl Progress {
@@ -90,9 +96,11 @@ impl Progress {
         Ok(Progress {
             rows: Rows::new(alloc),
             open_flushes: OpenFlushes::new(alloc)?,
+            open_numbers: OpenNumbers::new(alloc)?,
             before: Vec::with_capacity(alloc, events)?,
             places: Vec::with_capacity(alloc, events)?,
             found: Vec::new(alloc),
+            kept: Vec::with_capacity(alloc, events)?,
         })
     }
 
@@ -151,6 +159,7 @@ impl Progress {
         self.rows.store(line, place, number);
         self.before.push(last.store)?;
         self.places.push(place as u32)?;
+        self.kept.push(true)?;
         Ok(())
     }
 
@@ -172,8 +181,10 @@ impl Progress {
         )?;
         self.rows.flush(line, place, thread, number)?;
         self.open_flushes.add(thread, place)?;
+        self.open_numbers.add(thread, number)?;
         self.before.push(0)?;
         self.places.push(0)?;
+        self.kept.push(false)?;
         Ok(())
     }
 
@@ -197,6 +208,7 @@ impl Progress {
         self.rows.clflush(line, place, number);
         self.before.push(0)?;
         self.places.push(0)?;
+        self.kept.push(!is_covered)?;
         Ok(place)
     }
 
@@ -214,10 +226,15 @@ impl Progress {
             places.is_empty(),
             Finding::FenceWithoutFlush { event },
         )?;
-        self.rows.fence(places, thread);
+        let numbers = self.open_numbers.of(thread);
+        let is_kept = self
+            .rows
+            .fence(thread, places, numbers, self.kept.as_mut_slice());
         self.open_flushes.clear(thread);
+        self.open_numbers.clear(thread);
         self.before.push(0)?;
         self.places.push(0)?;
+        self.kept.push(is_kept)?;
         Ok(())
     }
 
@@ -228,31 +245,43 @@ impl Progress {
     {
         self.before.push(0)?;
         self.places.push(0)?;
+        self.kept.push(true)?;
         Ok(())
     }
 
-    // How many lines there are, and all findings, when all events have come.
+    // What is found when all events have come, with these verdicts.
     pub(crate) fn finish(
         self,
         alloc: Global,
         trace: &Trace,
-    ) -> Result<(usize, Vec<Finding>), OutOfMemory>
+        verdicts: Vec<Verdict>,
+    ) -> Result<Swept, OutOfMemory>
         requires so_far { IsSweepOf trace.now self }
         requires all { taken self ≡ length trace.now.events }
-        ensures lines { IfOk result (λ s. s.0 ≡ length (lines_of (history trace.now (length trace.now.events)))) }
-        ensures findings { IfOk result (λ s. IsFindings trace.now s.1.items) }
+        ensures lines { IfOk result (λ s. s.lines ≡ length (lines_of (history trace.now (length trace.now.events)))) }
+        ensures findings { IfOk result (λ s. IsFindings trace.now s.findings.items) }
+        ensures verdicts { IfOk result (λ s. s.verdicts ≡ verdicts) }
+        ensures kept { IfOk result (λ s. IsKeep trace.now s.selection) }
     {
         let Progress {
             rows,
             open_flushes: _,
+            open_numbers: _,
             before: _,
             places,
             found,
+            kept,
         } = self;
         let lines = rows.len();
         let late = never_persisted(alloc, trace, &rows, places.as_slice())?;
         let findings = joined(alloc, found, late)?;
-        Ok((lines, findings))
+        let selection = marked_numbers(alloc, kept.as_slice())?;
+        Ok(Swept {
+            lines,
+            findings,
+            verdicts,
+            selection,
+        })
     }
 }
 
@@ -312,6 +341,7 @@ mod tests {
     }
 
     // The second flush has no store that the first one has not marked, the third comes after the fence, and the last fence has no flush.
+    // Of the first two the fence keeps the newest.
     #[test]
     fn redundant(rt: HostRuntime) -> Result<(), Fail> {
         let events = [
@@ -331,6 +361,7 @@ mod tests {
             swept.findings.as_slice(),
             [flush(3), flush(5), fence].as_slice()
         );
+        assert_eq!(rt; swept.selection.numbers(), [1, 3, 4].as_slice());
         Ok(())
     }
 

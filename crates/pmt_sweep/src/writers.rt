@@ -185,7 +185,8 @@ fn take_over(held: &mut SmallVec<Writer, FEW>, writer: Writer) -> Result<(), Out
     Ok(())
 }
 
-// Where the new store may stand, with the others as they are: at the place of the only one that shares a byte with it, if that one has no other bytes; at the end, if none does.
+// Where the new store may stand, with the others as they are: at the place of the only one that shares a byte with it, if that one has no
+// other bytes; at the end, if none does.
 fn seat_of(held: &[Writer], writer: &Writer) -> Option<usize>
     ensures { IfSome result (IsSeat writer.now held.now) }
 {
@@ -254,7 +255,8 @@ fn push_part(
     Ok(())
 }
 
-// The event with this number, after which the front of these stores' line has this value. The result: an event by which they are all persisted for sure, or 0.
+// The event with this number, after which the front of these stores' line has this value. The result: an event by which they are all
+// persisted for sure, or 0.
 fn settle_each(held: &mut [Writer], front: u64, number: u32) -> u32
     ensures each { held.new ≡ map (settled front number) held.old }
     ensures all { AreAllSafe result held.new }

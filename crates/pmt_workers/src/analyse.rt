@@ -96,7 +96,7 @@ pub fn are_allowed(workers: usize) -> bool
     matches!(workers, 1 | 2 | 4 | 8 | 16)
 }
 
-// The analysis of the trace. One worker goes over it in passes, with no job for each line.
+// The analysis of the trace. One worker goes over its events, with no job for each line.
 fn analysis_of<R: Threads + Sync, G: ShardGate + Sync>(
     rt: &R,
     alloc: Global,

@@ -1,14 +1,13 @@
-//! The analysis of a trace by passes forward over its events.
+//! The analysis of a trace by a pass forward over its events.
 ghost use Rattle.std.specs.Prelude.{◌≡◌, IfOk};
 ghost use Rattle.pmt_analysis.specs.Analysing.{IsAnalysed};
 
 use pmt_analysis::Analysis;
 use pmt_model::{OutOfMemory, Trace};
 use pmt_sweep::{Swept, sweep};
-use pmt_trim::keep;
 use std::alloc::Global;
 
-// The analysis of the trace: one pass finds what is wrong and judges, and one finds what is kept.
+// The analysis of the trace: one pass finds what is wrong, judges, and finds what is kept.
 pub(crate) fn swept(alloc: Global, trace: Trace) -> Result<Analysis, OutOfMemory>
     ensures trace { IfOk result (λ a. a.trace ≡ trace) }
     ensures right { IfOk result IsAnalysed }
@@ -17,7 +16,7 @@ pub(crate) fn swept(alloc: Global, trace: Trace) -> Result<Analysis, OutOfMemory
         lines,
         findings,
         verdicts,
+        selection,
     } = sweep(alloc, &trace)?;
-    let selection = keep(alloc, &trace)?;
     Ok(Analysis::new(trace, lines, findings, verdicts, selection))
 }

@@ -1,7 +1,10 @@
-use Rattle.std.proofs.Common.{◌≡◌, suc, ◌<◌, ◌+◌, length, get_or, Some, sym, ap, subst, ◌∙◌, arith}
+use Rattle.std.proofs.Common.{◌≡◌, suc, ◌<◌, ◌+◌, List, length, get_or, Some, sym, ap, subst, ◌∙◌, arith}
 use Rattle.std.specs.Prelude.{slice_get}
 use Rattle.std.proofs.lemmas.Option.{slice_get-get_or}
+use Rattle.std.proofs.lemmas.Result.{IfOk-weaker}
 use Rattle.pmt_model.specs.declared.event.Event.{Event}
+use Rattle.pmt_model.specs.declared.finding.Verdict.{Verdict}
+use Rattle.pmt_model.specs.Analyses.{IsVerdicts}
 use Rattle.pmt_sweep.specs.Judging.{IsJudgingOf}
 use Rattle.pmt_sweep.specs.Sweeping.{taken}
 use Rattle.pmt_sweep.specs.VerdictsSoFar.{AreVerdictsTo}
@@ -40,4 +43,5 @@ returns-clause-verdicts c =
     let T = c.args.trace.now in
     let vs = c.loop-event.judging.verdicts.items in
     let all : c.loop-event.event-index ≡ length T.events = omega (arith, c.loop-event-test.false, c.loop-event.auto.event-index-end, ap length c.events-event-items.ensures.value) in
-    verdicts-end T vs (subst (λ n. AreVerdictsTo T n vs) all c.loop-event.invariant.so_far.verdicts)
+    let end : IsVerdicts T vs = verdicts-end T vs (subst (λ n. AreVerdictsTo T n vs) all c.loop-event.invariant.so_far.verdicts) in
+    IfOk-weaker c.finish.result (λ s. s.verdicts ≡ c.loop-event.judging.verdicts) (λ s. IsVerdicts T s.verdicts.items) (λ s e. subst (λ (ws : List Verdict). IsVerdicts T ws) (sym (ap (λ v. v.items) e)) end) c.finish.ensures.verdicts

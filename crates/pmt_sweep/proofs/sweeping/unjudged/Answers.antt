@@ -1,6 +1,7 @@
-use Rattle.std.proofs.Common.{◌<◌, List, length, get_or, Some, ap, sym, subst, ◌∙◌, arith}
+use Rattle.std.proofs.Common.{◌≡◌, ◌<◌, List, length, get_or, Some, ap, sym, subst, ◌∙◌, arith}
 use Rattle.std.specs.Prelude.{slice_get}
 use Rattle.std.proofs.lemmas.Option.{slice_get-get_or}
+use Rattle.std.proofs.lemmas.Result.{IfOk-weaker}
 use Rattle.pmt_model.specs.declared.event.Event.{Event}
 use Rattle.pmt_model.specs.declared.finding.Verdict.{Verdict}
 use Rattle.pmt_model.specs.Analyses.{IsVerdicts}
@@ -34,4 +35,7 @@ finish-requires-clause-all c =
     omega (arith, c.loop-event.invariant.at, c.loop-event-test.false, c.loop-event.auto.event-index-end, ap length c.events-event-items.ensures.value)
 
 pub returns-clause-verdicts : goal.returns-clause-verdicts
-returns-clause-verdicts c = subst (λ (vs : List Verdict). IsVerdicts c.args.trace.now vs) (sym c.new-2.ensures.items) (verdicts-empty c.args.trace.now c.requires)
+returns-clause-verdicts c =
+    let T = c.args.trace.now in
+    let none : IsVerdicts T c.new-2.result.items = subst (λ (vs : List Verdict). IsVerdicts T vs) (sym c.new-2.ensures.items) (verdicts-empty T c.requires) in
+    IfOk-weaker c.finish.result (λ s. s.verdicts ≡ c.new-2.result) (λ s. IsVerdicts T s.verdicts.items) (λ s e. subst (λ (vs : List Verdict). IsVerdicts T vs) (sym (ap (λ v. v.items) e)) none) c.finish.ensures.verdicts

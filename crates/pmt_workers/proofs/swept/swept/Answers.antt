@@ -5,5 +5,5 @@ new-requires c = record {
   touched = c.in_ok-lines.ensures.lines;
   found = c.in_ok-lines.ensures.findings;
   judged = c.in_ok-lines.ensures.verdicts;
-  kept = c.in_ok-selection.ensures;
+  kept = c.in_ok-lines.ensures.kept;
 }

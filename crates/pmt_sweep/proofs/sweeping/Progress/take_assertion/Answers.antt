@@ -1,9 +1,12 @@
-use Rattle.std.proofs.Common.{[], sym}
+use Rattle.std.proofs.Common.{suc, [], refl, subst, sym}
 use Rattle.std.proofs.lemmas.List.{append-nil}
 use Rattle.pmt_model.specs.Machine.{Asserts}
 use Rattle.pmt_model.specs.Traces.{history}
 use Rattle.pmt_sweep.specs.Sweeping.{taken}
+use Rattle.pmt_sweep.specs.Flags.{AreFlagsTo}
+use Rattle.pmt_sweep.proofs.FlagLemmas.{flags-stays}
 use Rattle.pmt_sweep.proofs.KnownLemmas.{known-assertion}
+use Rattle.pmt_sweep.proofs.NumberedLemmas.{numbered-assertion}
 use Rattle.pmt_sweep.proofs.OpenLemmas.{open-assertion}
 use Rattle.pmt_sweep.proofs.RowLemmas.{rows-assert}
 use Rattle.pmt_sweep.proofs.SweepLemmas.{next, no-store_told}
@@ -18,3 +21,5 @@ returns-clause-so_far c T is so_far =
     (open-assertion h s.rows s.open_flushes so_far.opens)
     (no-store_told h s.rows Asserts 0 0 (λ l w e. cc))
     ([], sym (append-nil s.found.items), known-assertion T _ is)
+    (numbered-assertion h s.rows s.open_flushes s.open_numbers so_far.numbered)
+    (subst (AreFlagsTo T (suc (taken s))) (sym c.in_ok-push-3.ensures.items) (flags-stays T (taken s) s.kept.items Asserts is refl so_far.flags))

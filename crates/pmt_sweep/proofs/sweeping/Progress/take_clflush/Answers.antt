@@ -1,4 +1,4 @@
-use Rattle.std.proofs.Common.{◌≡◌, ◌+◌, ◌++◌, suc, length, ap, subst, ◌∙◌, arith}
+use Rattle.std.proofs.Common.{◌≡◌, ◌+◌, [], ◌∷◌, ◌++◌, suc, not, length, ap, subst, sym, ◌∙◌, arith}
 use Rattle.std.specs.Prelude.{nat_le}
 use Rattle.pmt_model.specs.declared.finding.Finding.TheVariants.{RedundantFlush}
 use Rattle.pmt_model.specs.Machine.{Clflushes}
@@ -6,8 +6,12 @@ use Rattle.pmt_model.specs.Traces.{history}
 use Rattle.pmt_laws.proofs.Histories.{length-history}
 use Rattle.pmt_marks.specs.Lines.{Follows}
 use Rattle.pmt_lines.specs.Scans.{found_if}
+use Rattle.pmt_sweep.specs.Rows.{KeepsPlaces}
 use Rattle.pmt_sweep.specs.Sweeping.{taken}
+use Rattle.pmt_sweep.specs.Flags.{AreFlagsTo}
+use Rattle.pmt_sweep.proofs.FlagLemmas.{flags-clflush}
 use Rattle.pmt_sweep.proofs.KnownLemmas.{known-clflush}
+use Rattle.pmt_sweep.proofs.NumberedLemmas.{numbered-clflush}
 use Rattle.pmt_sweep.proofs.OpenLemmas.{open-clflush, stood-with, longer}
 use Rattle.pmt_sweep.proofs.SweepLemmas.{next, no-store_told}
 use Rattle.pmt_sweep.proofs.sweeping.Progress.take_clflush.Goals as goal
@@ -27,8 +31,12 @@ returns-clause-so_far c T is so_far =
     let event : c.len.result + 1 ≡ suc n = omega (arith, c.len.ensures) in
     let found = c.in_ok-push_if.ensures ∙ ap (λ b. s.found.items ++ found_if b (RedundantFlush (c.len.result + 1))) c.is_clflush_covered-is_covered.ensures
     ∙ ap (λ e. s.found.items ++ found_if (nat_le c.at.result.now.state.count c.at.result.now.state.front) (RedundantFlush e)) event in
+    let kept : KeepsPlaces s.rows new = λ k p at. c.clflush.ensures.kept k p (c.in_ok-place.ensures.kept k p at) in
+    let flags = c.in_ok-push-3.ensures.items ∙ ap (λ b. s.kept.items ++ not b ∷ []) c.is_clflush_covered-is_covered.ensures in
     next T s _ (Clflushes l) 0 0 so_far is c.in_ok-push.ensures.items c.in_ok-push-2.ensures.items
-    (λ k p at. c.clflush.ensures.kept k p (c.in_ok-place.ensures.kept k p at)) rows
+    kept rows
     (open-clflush h l s.rows new s.open_flushes (stood-with h l s.rows new so_far.rows.lines_in_order rows.lines_in_order) (longer h l s.rows new so_far.rows.lines_in_order rows.lines_in_order) so_far.opens)
     (no-store_told h new (Clflushes l) 0 0 (λ k w e. cc))
     (found_if (nat_le c.at.result.now.state.count c.at.result.now.state.front) (RedundantFlush (suc n)), found, known-clflush T l n c.at.result.now.state follows is)
+    (numbered-clflush h l s.rows new s.open_flushes s.open_numbers kept so_far.numbered)
+    (subst (AreFlagsTo T (suc n)) (sym flags) (flags-clflush T n l s.kept.items c.at.result.now.state follows is so_far.flags))

@@ -1,4 +1,4 @@
-use Rattle.std.proofs.Common.{◌≡◌, ◌+◌, ◌++◌, suc, ◌∷◌, length, ap, subst, sym, ◌∙◌, arith}
+use Rattle.std.proofs.Common.{◌≡◌, ◌<◌, ◌+◌, ◌++◌, suc, ◌∷◌, length, ap, subst, sym, ◌∙◌, arith}
 use Rattle.pmt_model.specs.declared.finding.Finding.TheVariants.{RedundantFlush}
 use Rattle.pmt_model.specs.Machine.{Flushes}
 use Rattle.pmt_model.specs.Traces.{history}
@@ -6,9 +6,12 @@ use Rattle.pmt_laws.proofs.Histories.{length-history}
 use Rattle.pmt_marks.specs.Lines.{Follows}
 use Rattle.pmt_lines.specs.Scans.{found_if, is_flush_covered}
 use Rattle.pmt_sweep.specs.Sweeping.{taken}
-use Rattle.pmt_sweep.specs.Rows.{IsPlaceOf}
+use Rattle.pmt_sweep.specs.Rows.{IsPlaceOf, KeepsPlaces}
 use Rattle.pmt_sweep.specs.Sweeping.{AreOpen}
+use Rattle.pmt_sweep.specs.Flags.{AreFlagsTo}
+use Rattle.pmt_sweep.proofs.FlagLemmas.{flags-flush}
 use Rattle.pmt_sweep.proofs.KnownLemmas.{known-flush}
+use Rattle.pmt_sweep.proofs.NumberedLemmas.{numbered-flush}
 use Rattle.pmt_sweep.proofs.OpenLemmas.{IsUnique, unique-lines, open-flush, stood-with, longer}
 use Rattle.pmt_sweep.proofs.RowLemmas.{place-within}
 use Rattle.pmt_sweep.proofs.SweepLemmas.{next, no-store_told}
@@ -36,9 +39,14 @@ returns-clause-so_far c T is so_far =
     ∙ ap (λ e. s.found.items ++ found_if (is_flush_covered state t) (RedundantFlush e)) event in
     let stood = stood-with h l s.rows new so_far.rows.lines_in_order rows.lines_in_order in
     let more = longer h l s.rows new so_far.rows.lines_in_order rows.lines_in_order in
-    let opens = open-flush h t l p s.rows new s.open_flushes (omega (arith, c.ranges.thread.fits)) stood more here once (place-within l p new here) so_far.opens in
+    let kept : KeepsPlaces s.rows new = λ k q at. c.in_ok-flush.ensures.kept k q (c.in_ok-place.ensures.kept k q at) in
+    let thread : t < 256 = omega (arith, c.ranges.thread.fits) in
+    let opens = open-flush h t l p s.rows new s.open_flushes thread stood more here once (place-within l p new here) so_far.opens in
+    let numbered = numbered-flush h t l p (c.len.result + 1) s.rows new s.open_flushes s.open_numbers thread so_far.opens.threads c.in_ok-add-2.ensures.threads (omega (arith, c.len.ensures, counted)) kept here so_far.numbered in
     next T s _ (Flushes t l) 0 0 so_far is c.in_ok-push.ensures.items c.in_ok-push-2.ensures.items
-    (λ k q at. c.in_ok-flush.ensures.kept k q (c.in_ok-place.ensures.kept k q at)) rows
+    kept rows
     (subst (AreOpen (Flushes t l ∷ h) new) (sym c.in_ok-add.ensures) opens)
     (no-store_told h new (Flushes t l) 0 0 (λ k w e. cc))
     (found_if (is_flush_covered state t) (RedundantFlush (suc n)), found, known-flush T l n t state follows is)
+    (rw (c.in_ok-add.ensures, c.in_ok-add-2.ensures.more) numbered)
+    (subst (AreFlagsTo T (suc n)) (sym c.in_ok-push-3.ensures.items) (flags-flush T n t l s.kept.items is so_far.flags))

@@ -1,4 +1,4 @@
-use Rattle.std.proofs.Common.{◌≡◌, suc, length, ap, subst, sym, ◌∙◌, arith}
+use Rattle.std.proofs.Common.{◌≡◌, suc, length, refl, ap, subst, sym, ◌∙◌, arith}
 use Rattle.pmt_model.specs.Machine.{Stores}
 use Rattle.pmt_model.specs.Traces.{history}
 use Rattle.pmt_laws.proofs.Histories.{length-history}
@@ -6,7 +6,10 @@ use Rattle.pmt_sweep.specs.Sweeping.{taken}
 use Rattle.pmt_laws.proofs.Histories.{act-within}
 use Rattle.pmt_sweep.specs.Chains.{AreChained}
 use Rattle.pmt_sweep.specs.Known.{AddsKnown}
-use Rattle.pmt_sweep.specs.Rows.{last_line_store, IsPlaceOf}
+use Rattle.pmt_sweep.specs.Rows.{last_line_store, IsPlaceOf, KeepsPlaces}
+use Rattle.pmt_sweep.specs.Flags.{AreFlagsTo}
+use Rattle.pmt_sweep.proofs.FlagLemmas.{flags-stays}
+use Rattle.pmt_sweep.proofs.NumberedLemmas.{numbered-store}
 use Rattle.pmt_sweep.proofs.OpenLemmas.{open-store, stood-with, longer, few-rows}
 use Rattle.pmt_sweep.proofs.RowLemmas.{place-within}
 use Rattle.pmt_sweep.proofs.SweepLemmas.{next, store-told}
@@ -52,8 +55,11 @@ returns-clause-so_far c =
     let here : IsPlaceOf l p new = c.store.ensures.kept l p c.in_ok-place.ensures.here in
     let stood = stood-with h l s.rows new so_far.rows.lines_in_order rows.lines_in_order in
     let more = longer h l s.rows new so_far.rows.lines_in_order rows.lines_in_order in
+    let kept : KeepsPlaces s.rows new = λ k q at. c.store.ensures.kept k q (c.in_ok-place.ensures.kept k q at) in
     next T s _ (Stores l w) c.at-row.result.now.store p so_far c.requires.next c.in_ok-push.ensures.items c.in_ok-push-2.ensures.items
-    (λ k q at. c.store.ensures.kept k q (c.in_ok-place.ensures.kept k q at)) rows
+    kept rows
     (open-store h l w s.rows new s.open_flushes stood more so_far.opens)
     (λ k v e. store-told h new l k w v c.at-row.result.now.store p e last here)
     (subst (λ xs. AddsKnown T (suc (length xs)) s.found.items c.push_overwritten_by.new.found.items) c.as_slice.ensures.value c.in_ok-push_overwritten_by.ensures)
+    (numbered-store h l w s.rows new s.open_flushes s.open_numbers kept so_far.numbered)
+    (subst (AreFlagsTo T (suc n)) (sym c.in_ok-push-3.ensures.items) (flags-stays T n s.kept.items (Stores l w) c.requires.next refl so_far.flags))
