@@ -267,14 +267,17 @@ impl Progress {
             rows,
             open_flushes: _,
             open_numbers: _,
-            before: _,
+            before,
             places,
             found,
             kept,
         } = self;
+        drop(before);
         let lines = rows.len();
         let late = never_persisted(alloc, trace, &rows, places.as_slice())?;
-        let findings = joined(alloc, found, late)?;
+        drop(rows);
+        drop(places);
+        let findings = joined(found, late)?;
         let selection = marked_numbers(alloc, kept.as_slice())?;
         Ok(Swept {
             lines,
