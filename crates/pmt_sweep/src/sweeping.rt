@@ -53,9 +53,9 @@ pub(crate) struct Progress {
     pub(crate) kept: Vec<bool>,
 }
 
-/// The findings and verdicts of the trace, and how many lines it stores or flushes: one pass forward over the events, and one over the
-/// stores for those that are never persisted. It takes one look-up of a line for each store and flush, some 80 bytes a line and 8 an
-/// event; where the trace has assertions, some 120 bytes more for each line that is stored.
+/// The findings and verdicts of the trace, all that is kept of it, and how many lines it stores or flushes: one pass forward over the
+/// events, and one over the stores for those that are never persisted. It takes one look-up of a line for each store and flush, some 80
+/// bytes a line and 9 an event; where the trace has assertions, some 120 bytes more for each line that is stored.
 ///
 /// # Errors
 /// Where memory was refused.
