@@ -2,23 +2,26 @@
 _pmtrim() {
   local word=${COMP_WORDS[COMP_CWORD]} before=${COMP_WORDS[COMP_CWORD-1]} command=${COMP_WORDS[1]-}
   if [ "$COMP_CWORD" -eq 1 ]; then
-    COMPREPLY=($(compgen -W 'check explain trim fronts record draw help --help --version' -- "$word"))
+    mapfile -t COMPREPLY < <(compgen -W 'check explain trim fronts record draw image help --help --version' -- "$word")
   elif [ "$before" = --workers ]; then
-    COMPREPLY=($(compgen -W '1 2 4 8 16' -- "$word"))
-  elif [[ $before == --ignore || $before == --limit || $before == --around || $before == --from || $before == --to || $before == --line ]]; then
+    mapfile -t COMPREPLY < <(compgen -W '1 2 4 8 16' -- "$word")
+  elif [ "$before" = --only ]; then
+    mapfile -t COMPREPLY < <(compgen -W 'failure never_persisted dropped overwritten unwritten' -- "$word")
+  elif [[ $before =~ ^--(ignore|limit|thread|range|label|failure|around|from|to|line|at|origin)$ ]]; then
     COMPREPLY=()
   elif [ "$command" = help ]; then
-    COMPREPLY=($(compgen -W 'check explain trim fronts record draw' -- "$word"))
+    mapfile -t COMPREPLY < <(compgen -W 'check explain trim fronts record draw image' -- "$word")
   elif [[ $word == -* ]]; then
     case $command in
-      check) COMPREPLY=($(compgen -W '--workers --help' -- "$word")) ;;
-      explain) COMPREPLY=($(compgen -W '--ignore --limit --labels --json --help' -- "$word")) ;;
-      trim) COMPREPLY=($(compgen -W '--workers --stream --help' -- "$word")) ;;
-      draw) COMPREPLY=($(compgen -W '--around --from --to --line --labels --help' -- "$word")) ;;
-      *) COMPREPLY=($(compgen -W '--help' -- "$word")) ;;
+      check) mapfile -t COMPREPLY < <(compgen -W '--workers --help' -- "$word") ;;
+      explain) mapfile -t COMPREPLY < <(compgen -W '--ignore --ignore-file --limit --only --thread --range --from --to --label --failure --labels --json --help' -- "$word") ;;
+      trim) mapfile -t COMPREPLY < <(compgen -W '--workers --stream --help' -- "$word") ;;
+      draw) mapfile -t COMPREPLY < <(compgen -W '--failure --around --from --to --line --labels --help' -- "$word") ;;
+      image) mapfile -t COMPREPLY < <(compgen -W '--failure --at --all --line --pool --origin --out --help' -- "$word") ;;
+      *) mapfile -t COMPREPLY < <(compgen -W '--help' -- "$word") ;;
     esac
   else
-    COMPREPLY=($(compgen -f -- "$word"))
+    mapfile -t COMPREPLY < <(compgen -f -- "$word")
   fi
 }
 complete -o filenames -F _pmtrim pmtrim

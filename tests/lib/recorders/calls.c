@@ -23,7 +23,10 @@ int main(int argc, char **argv) {
     CHECK(argc == 2);
     pmtrace_store(pool[0], 7); /* before a trace is open */
     CHECK(pmtrace_open(argv[1], pool, 20000, 64) == 0);
-    CHECK(pmtrace_open(argv[1], pool, 20000, 64) == -1);
+    CHECK(pmtrace_open(argv[1], pool, 20000, 64) == 0); /* a pool that it has */
+    CHECK(pmtrace_open("other.trace", pool, 20000, 64) == -1);
+    CHECK(pmtrace_open(argv[1], pool, 20000, 128) == -1);
+    CHECK(pmtrace_records(pool, 20000) && !pmtrace_records(pool - 1, 2) && !pmtrace_records(pool, 20001));
     errno = EDOM;
     CHECK(pmtrace_memcpy(pool + 5, "abcdefghijklmnopqrst", 20) == pool + 5);
     CHECK(pmtrace_memmove(pool + 6, pool + 5, 3) == pool + 6);
@@ -47,7 +50,7 @@ int main(int argc, char **argv) {
     pmtrace_persist(pool + 64, 8);
     pmtrace_is_persist(pool, 9000);
     pmtrace_is_ordered_before(pool, 4097, pool + 10000, 4096);
-    CHECK(pmtrace_close() == 0 && errno == EDOM);
+    CHECK(pmtrace_close() == -1 && errno == EDOM); /* since a call was refused */
     CHECK(pmtrace_close() == -1);
     pmtrace_store(pool[0], 9); /* after it was closed */
     return pool[0] == 9 ? 0 : 1;

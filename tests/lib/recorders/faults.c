@@ -2,6 +2,7 @@
 #include "pmtrace.h"
 
 #include <pthread.h>
+#include <semaphore.h>
 #include <signal.h>
 #include <stdio.h>
 #include <stdlib.h>
@@ -18,9 +19,13 @@ static void save_a_word(void) {
     pmtrace_persist(pool, 8);
 }
 
-static void *save_a_word_in_a_thread(void *none) {
+static pthread_barrier_t all_saved;
+
+static void *save_a_word_and_wait(void *turn) {
     save_a_word();
-    return none;
+    sem_post((sem_t *)turn);
+    pthread_barrier_wait(&all_saved);
+    return NULL;
 }
 
 static void *write_for_ever(void *page) {
@@ -62,14 +67,19 @@ static int handle_a_signal(void) {
     return 1;
 }
 
-/* More threads than a trace has. */
+/* More threads at one time than a trace has, which save a word one after another. */
 static int count_threads(void) {
-    pthread_t thread;
+    static sem_t turn;
+    pthread_t threads[257];
+    sem_init(&turn, 0, 0);
+    pthread_barrier_init(&all_saved, NULL, 257);
     for (int number = 0; number < 257; number++) {
-        if (pthread_create(&thread, NULL, save_a_word_in_a_thread, NULL) != 0)
+        if (pthread_create(&threads[number], NULL, save_a_word_and_wait, &turn) != 0)
             return 1;
-        pthread_join(thread, NULL);
+        sem_wait(&turn);
     }
+    for (int number = 0; number < 257; number++)
+        pthread_join(threads[number], NULL);
     return close_and_tell();
 }
 
@@ -138,7 +148,8 @@ static int run(const char *trace, const char *name) {
     } else if (strcmp(name, "again") == 0) {
         return open_again(trace);
     } else if (strcmp(name, "events") == 0) {
-        pmtrace_memset(pool, 1, POOL);
+        for (int at = 0; at < POOL; at += 8000)
+            pmtrace_memset(pool + at, 1, 8000);
         return close_and_tell();
     }
     return 2;

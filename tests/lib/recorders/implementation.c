@@ -1,3 +1,3 @@
 /* The one file of a program that has the recorder itself. */
 #define PMTRACE_IMPLEMENTATION
-#include "pmtrace_libpmem.h"
+#include "pmtrace.h"

@@ -16,6 +16,7 @@ static bool in_turns, forgets;
 static unsigned turn;
 static pthread_mutex_t turns = PTHREAD_MUTEX_INITIALIZER;
 static pthread_cond_t next = PTHREAD_COND_INITIALIZER;
+static pthread_barrier_t all_written, all_counted;
 
 static void take_turn(unsigned thread) {
     if (in_turns) {
@@ -63,12 +64,14 @@ static void write_slice(unsigned thread, unsigned number) {
     IN_TURN(thread, pmtrace_memset(slice + 7000, 1, 20));
     IN_TURN(thread, pmtrace_persist(slice + 7000, 20));
     IN_TURN(thread, pmtrace_is_ordered_before(slice + from, length, slice + 7000, 20));
-    IN_TURN(thread, pmtrace_fetch_add(pool, 1));
+    IN_TURN(thread, pmtrace_fetch_add((uint64_t *)(void *)pool, 1));
 }
 
 static void *write_slices(void *number) {
     for (unsigned slice = 0; slice < SLICES; slice++)
         write_slice((unsigned)(uintptr_t)number, slice);
+    pthread_barrier_wait(&all_written);
+    pthread_barrier_wait(&all_counted); /* till then the thread has its number */
     return NULL;
 }
 
@@ -88,13 +91,17 @@ int main(int argc, char **argv) {
     snprintf(name, sizeof name, "%s.trace", argv[1]);
     if (pool == MAP_FAILED || pmtrace_open(name, pool, POOL, 64) != 0)
         return 1;
+    pthread_barrier_init(&all_written, NULL, THREADS + 1);
+    pthread_barrier_init(&all_counted, NULL, THREADS + 1);
     for (uintptr_t number = 0; number < THREADS; number++) {
         if (pthread_create(&threads[number], NULL, write_slices, (void *)number) != 0)
             return 1;
     }
+    pthread_barrier_wait(&all_written);
+    pmtrace_persist(pool, 8);
+    pthread_barrier_wait(&all_counted);
     for (int number = 0; number < THREADS; number++)
         pthread_join(threads[number], NULL);
-    pmtrace_persist(pool, 8);
     if (pmtrace_close() != 0)
         return 1;
     snprintf(name, sizeof name, "%s.memory", argv[1]);
