@@ -1,0 +1,34 @@
+/* The core's headers that the tool needs, and functions that its tool headers leave out: as pub_core_libcfile.h and
+ * pub_core_syscall.h of Valgrind 3.19 declare them. */
+#ifndef CORE_H
+#define CORE_H
+
+#include "pub_tool_basics.h"
+#include "pub_tool_vki.h"
+#include "pub_tool_vkiscnums.h"
+#include "pub_tool_tooliface.h"
+#include "pub_tool_aspacemgr.h"
+#include "pub_tool_clientstate.h"
+#include "pub_tool_clreq.h"
+#include "pub_tool_debuginfo.h"
+#include "pub_tool_libcassert.h"
+#include "pub_tool_libcbase.h"
+#include "pub_tool_libcfile.h"
+#include "pub_tool_libcprint.h"
+#include "pub_tool_libcproc.h"
+#include "pub_tool_machine.h"
+#include "pub_tool_mallocfree.h"
+#include "pub_tool_options.h"
+#include "pub_tool_stacktrace.h"
+#include "pub_tool_threadstate.h"
+#include "pub_tool_xarray.h"
+#include "libvex_guest_amd64.h"
+
+/* safe_fd: a descriptor like this one, out of the program's reach; this one is closed. */
+extern const HChar *VG_(strerror)(UWord error);
+extern Int VG_(safe_fd)(Int descriptor);
+extern SysRes VG_(pread)(Int descriptor, void *buffer, Int count, OffT offset);
+extern Int VG_(fcntl)(Int descriptor, Int command, Addr argument);
+extern SysRes VG_(do_syscall)(UWord number, RegWord, RegWord, RegWord, RegWord, RegWord, RegWord, RegWord, RegWord);
+
+#endif

@@ -1,0 +1,97 @@
+#include "frames.h"
+
+/* Whether a source file belongs to the compiler, as the header that has _mm_clwb, and those of C++. */
+static Bool is_compilers(const HChar *path) {
+    return VG_(strstr)(path, "/lib/gcc/") != NULL || VG_(strstr)(path, "/lib/clang/") != NULL ||
+           VG_(strstr)(path, "/lib/llvm") != NULL || VG_(strstr)(path, "/include/c++/") != NULL;
+}
+
+Bool is_in_object(Addr address) {
+    const HChar *path;
+    return VG_(get_objname)(VG_(current_DiEpoch)(), address, &path);
+}
+
+Bool is_in_c_library(Addr address) {
+    static const HChar *const names[] = {"libc.so", "libc-", "libpthread", "ld-linux", "libm.so", "vgpreload"};
+    const HChar *path, *slash;
+    SizeT at;
+    if (!VG_(get_objname)(VG_(current_DiEpoch)(), address, &path))
+        return False;
+    slash = VG_(strrchr)(path, '/');
+    for (at = 0; at < sizeof names / sizeof *names; at++)
+        if (VG_(strncmp)(slash == NULL ? path : slash + 1, names[at], VG_(strlen)(names[at])) == 0)
+            return True;
+    return False;
+}
+
+static void copy(HChar *to, const HChar *from, SizeT room, SizeT length) {
+    if (length > room - 1)
+        length = room - 1;
+    VG_(memcpy)(to, from, length);
+    to[length] = '\0';
+}
+
+/* The length of a function's name without its parameters: up to a parenthesis that is not part of `(anonymous namespace)` or
+ * `operator()`. */
+static SizeT name_length(const HChar *name, SizeT length) {
+    SizeT at;
+    for (at = 1; at < length; at++) {
+        Bool is_operator = at >= 8 && VG_(strncmp)(name + at - 8, "operator", 8) == 0;
+        if (name[at] == '(' && VG_(strncmp)(name + at, "(anonymous", 10) != 0 && !is_operator)
+            return at;
+    }
+    return length;
+}
+
+/* Takes `0x1234: function (path:line)` apart, as the core describes an address. */
+static Bool read_frame(const HChar *described, Frame *frame) {
+    const HChar *function = VG_(strstr)(described, ": ");
+    const HChar *open = VG_(strrchr)(described, '(');
+    const HChar *slash, *file;
+    if (function == NULL || open == NULL || open < function + 3)
+        return False;
+    function += 2;
+    file = open + 1;
+    SizeT length = VG_(strlen)(file);
+    if (length < 2 || file[length - 1] != ')' || VG_(strrchr)(file, ':') == NULL || is_compilers(file))
+        return False;
+    slash = VG_(strrchr)(file, '/');
+    if (slash != NULL) {
+        length -= (SizeT)(slash + 1 - file);
+        file = slash + 1;
+    }
+    copy(frame->place, file, PLACE_BYTES, length - 1);
+    copy(frame->function, function, FUNCTION_BYTES, name_length(function, (SizeT)(open - 1 - function)));
+    return True;
+}
+
+Int frames_at(Addr address, Frame frames[MOST_INLINED]) {
+    DiEpoch epoch = VG_(current_DiEpoch)();
+    InlIPCursor *cursor;
+    Int count = 0;
+    if (is_in_c_library(address))
+        return 0;
+    cursor = VG_(new_IIPC)(epoch, address);
+    do {
+        if (read_frame(VG_(describe_IP)(epoch, address, cursor), &frames[count]))
+            count++;
+    } while (VG_(next_IIPC)(cursor) && count < MOST_INLINED);
+    VG_(delete_IIPC)(cursor);
+    return count;
+}
+
+const HChar *symbol_at(Addr address) {
+    static HChar text[FUNCTION_BYTES + PLACE_BYTES];
+    DiEpoch epoch = VG_(current_DiEpoch)();
+    const HChar *name;
+    if (VG_(get_fnname)(epoch, address, &name))
+        copy(text, name, FUNCTION_BYTES, name_length(name, VG_(strlen)(name)));
+    else if (VG_(get_objname)(epoch, address, &name)) {
+        const HChar *slash = VG_(strrchr)(name, '/');
+        NSegment const *segment = VG_(am_find_nsegment)(address);
+        ULong offset = segment == NULL ? 0 : (ULong)segment->offset + (address - segment->start);
+        VG_(snprintf)(text, sizeof text, "%s+0x%llx", slash == NULL ? name : slash + 1, offset);
+    } else
+        VG_(snprintf)(text, sizeof text, "0x%lx", address);
+    return text;
+}

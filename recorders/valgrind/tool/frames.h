@@ -1,0 +1,27 @@
+/* The functions and source lines of an address of code, inlined ones too. */
+#ifndef FRAMES_H
+#define FRAMES_H
+
+#include "core.h"
+
+enum { MOST_INLINED = 12, FUNCTION_BYTES = 64, PLACE_BYTES = 96 };
+
+/* `list.c:20` and `flush_range`. */
+typedef struct {
+    HChar place[PLACE_BYTES], function[FUNCTION_BYTES];
+} Frame;
+
+/* The frames of an address that have source lines and are neither of the compiler's own headers nor of the C library, the
+ * innermost first; how many. */
+Int frames_at(Addr address, Frame frames[MOST_INLINED]);
+
+/* The function of an address without lines, `memmove_avx` or `libpmem.so.1+0x1234`. */
+const HChar *symbol_at(Addr address);
+
+/* Whether an address is in the program or in a library at all. */
+Bool is_in_object(Addr address);
+
+/* Whether an address is in the C library or the loader, whose lines are there where their debug symbols are installed. */
+Bool is_in_c_library(Addr address);
+
+#endif

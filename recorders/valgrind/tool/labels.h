@@ -1,0 +1,17 @@
+/* Labels: the source line of an event, and its callers inside the program. */
+#ifndef LABELS_H
+#define LABELS_H
+
+#include "core.h"
+
+/* The label of an event by this thread's instruction, as `list.c:20 flush_range < persist list.c:31 < insert list.c:57`: the place
+ * comes first, then its function, then callers with the place of the call. NULL without labels. It stays as it is. */
+const HChar *label_at(ThreadId thread, Addr instruction);
+
+/* At the first instruction of a function: the label of its call. */
+const HChar *label_of_caller(ThreadId thread);
+
+/* The place alone of an instruction. */
+const HChar *place_of(Addr instruction);
+
+#endif

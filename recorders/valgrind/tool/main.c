@@ -1,0 +1,54 @@
+/* pmtrim-record, a Valgrind tool: records what an unmodified program does to persistent memory, as a trace for pmtrim. */
+#include "bases.h"
+#include "calls.h"
+#include "children.h"
+#include "core.h"
+#include "events.h"
+#include "instrument.h"
+#include "options.h"
+#include "output.h"
+#include "requests.h"
+#include "summary.h"
+#include "syscalls.h"
+#include "threads.h"
+#include "turns.h"
+
+static void no_debug_options(void) {
+}
+
+static void begin(void) {
+    begin_threads();
+    begin_calls();
+    if (options.start_after != NULL)
+        recording = BEFORE_WINDOW;
+    open_trace(path_for_process());
+    begin_bases();
+}
+
+static void finish(Int status) {
+    if (recording != OFF)
+        print_summary();
+    else
+        print_unrecorded();
+}
+
+static void before_options(void) {
+    VG_(details_name)("pmtrim-record");
+    VG_(details_version)(NULL);
+    VG_(details_description)("records what a program does to persistent memory");
+    VG_(details_copyright_author)("Copyright: its authors. Licence: GPL-2.0-or-later.");
+    VG_(details_bug_reports_to)("the authors of pmtrim");
+    VG_(details_avg_translation_sizeB)(400);
+    VG_(basic_tool_funcs)(begin, instrument, finish);
+    VG_(needs_command_line_options)(take_option, print_options, no_debug_options);
+    VG_(needs_client_requests)(take_request);
+    VG_(needs_syscall_wrapper)(before_call, after_call);
+    VG_(track_post_mem_write)(written_by_system);
+    VG_(track_pre_thread_ll_create)(thread_created);
+    VG_(track_pre_thread_first_insn)(thread_begins);
+    VG_(track_pre_thread_ll_exit)(thread_ends);
+    VG_(track_start_client_code)(turn_starts);
+    VG_(atfork)(NULL, in_parent, in_child);
+}
+
+VG_DETERMINE_INTERFACE_VERSION(before_options)

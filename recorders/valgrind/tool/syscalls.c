@@ -1,0 +1,114 @@
+#include "syscalls.h"
+#include "bases.h"
+#include "children.h"
+#include "dirty.h"
+#include "events.h"
+#include "file_writes.h"
+#include "output.h"
+#include "pools.h"
+#include "turns.h"
+
+enum { KEEPS_OLD_MAPPING = 4, PAGE_BITS = 12, SYNCHRONOUS = 4 };
+
+SystemCounts system_counts;
+
+/* The call that each thread is in. */
+static UInt *current;
+
+void before_call(ThreadId thread, UInt call, UWord *arguments, UInt count) {
+    if (current == NULL)
+        current = VG_(calloc)("syscalls.current", VG_N_THREADS, sizeof *current);
+    current[thread] = call;
+    settle_events();
+    write_trace();
+    before_file_call(thread, call, arguments);
+    if (call == __NR_execve || call == __NR_execveat)
+        before_execution();
+    enters_system(thread, call);
+}
+
+void written_by_system(CorePart part, ThreadId thread, Addr start, SizeT length) {
+    /* Valgrind says of each futex call that it writes the word; those that do are noted after the call */
+    if ((part != Vg_CoreSysCall && part != Vg_CoreSignal) || current == NULL || current[thread] == __NR_futex)
+        return;
+    if (start - pools_begin < pools_span)
+        note_system_store(thread, start, length);
+}
+
+static void after_mapping(UInt call, const UWord *arguments, Addr result) {
+    if (call == __NR_mmap) {
+        mapped(result, arguments[1], (Int)arguments[3], (Int)arguments[4], arguments[5]);
+        keep_bases();
+    } else if (call == __NR_munmap)
+        unmapped(arguments[0], arguments[1]);
+    else if (call == __NR_mremap) {
+        moved(arguments[0], arguments[1], result, arguments[2], (arguments[3] & KEEPS_OLD_MAPPING) != 0);
+        keep_bases();
+    } else if (call == __NR_remap_file_pages) {
+        ULong address;
+        SizeT room;
+        if (find_in_pools(arguments[0], &address, &room))
+            system_counts.cut_files++;
+        unmapped(arguments[0], arguments[1]);
+    }
+}
+
+static void synchronized_range(ThreadId thread, Addr start, SizeT length) {
+    ULong address;
+    SizeT room, piece;
+    length = VG_PGROUNDUP(length);
+    for (; length > 0; start += piece, length -= piece) {
+        piece = 1 << PAGE_BITS;
+        if (find_in_pools(start, &address, &room)) {
+            piece = room < length ? room : length;
+            note_synchronized(thread, address, address + piece);
+        }
+    }
+}
+
+static void synchronized_file(ThreadId thread, const Pool *pool) {
+    if (pool != NULL)
+        note_synchronized(thread, pool_address(pool, 0), pool_address(pool, POOL_SPAN));
+}
+
+static void after_synchronizing(ThreadId thread, UInt call, const UWord *arguments) {
+    Int number;
+    if (call == __NR_msync && (arguments[2] & SYNCHRONOUS))
+        synchronized_range(thread, arguments[0], arguments[1]);
+    else if (call == __NR_fsync || call == __NR_fdatasync)
+        synchronized_file(thread, pool_of((Int)arguments[0]));
+    else if (call == __NR_sync || call == __NR_syncfs)
+        for (number = 0; pool_numbered(number) != NULL; number++)
+            synchronized_file(thread, pool_numbered(number));
+}
+
+/* The calls on futexes by which the system writes a word: locks that inherit priority, and a wake with an operation. */
+static void after_futex(ThreadId thread, const UWord *arguments) {
+    enum { WAKE_OP = 5, LOCK_PI = 6, UNLOCK_PI = 7, TRYLOCK_PI = 8, WAIT_REQUEUE_PI = 11, CMP_REQUEUE_PI = 12, LOCK_PI2 = 13, COMMAND = 127 };
+    UWord command = arguments[1] & COMMAND;
+    if (command == LOCK_PI || command == UNLOCK_PI || command == TRYLOCK_PI || command == LOCK_PI2)
+        note_system_store(thread, arguments[0], sizeof(UInt));
+    else if (command == WAKE_OP || command == WAIT_REQUEUE_PI || command == CMP_REQUEUE_PI)
+        note_system_store(thread, arguments[4], sizeof(UInt));
+}
+
+static void count_unseen(UInt call, const UWord *arguments) {
+    if (!had_pools())
+        return;
+    if (call == __NR_io_submit || call == 426 /* io_uring_enter */ || call == __NR_process_vm_writev)
+        system_counts.unseen_writes++;
+    else if (call == __NR_madvise && arguments[2] == 9 /* MADV_REMOVE */ && arguments[0] - pools_begin < pools_span)
+        system_counts.cut_files++;
+}
+
+void after_call(ThreadId thread, UInt call, UWord *arguments, UInt count, SysRes result) {
+    leaves_system(thread);
+    if (sr_isError(result))
+        return;
+    after_mapping(call, arguments, (Addr)sr_Res(result));
+    after_file_call(thread, call, arguments, (ULong)sr_Res(result));
+    after_synchronizing(thread, call, arguments);
+    if (call == __NR_futex)
+        after_futex(thread, arguments);
+    count_unseen(call, arguments);
+}

@@ -1,0 +1,479 @@
+#!/usr/bin/env python3
+"""Runs programs under pmtrim-record: valgrind.py PROGRAM. The last line is 'N passed, M failed'.
+
+Every trace must be accepted by PROGRAM. What else must stand in it is written out here, follows from what the programs of
+tests/lib/valgrind do, is the file's last bytes, or is what pmtrace.h wrote of the same program.
+"""
+import functools
+import pathlib
+import re
+import resource
+import shutil
+import signal
+import subprocess
+import sys
+import tempfile
+import time
+
+from examples import Counts
+
+TOP = pathlib.Path(__file__).resolve().parents[2]
+HERE = TOP / "tests/lib/valgrind"
+FOLDER = TOP / "recorders/valgrind"
+RECORD = FOLDER / "pmtrim-record"
+SECOND_POOL = 1 << 40
+COMPILER = ["gcc", "-O1", "-g", "-mclwb", "-Wall", "-Wextra", "-Werror", "-pthread", "-I", FOLDER]
+SAVED = "store 0 {:#x} {}\nclwb 0 {:#x}\nsfence 0\n"
+
+FLUSHES = """\
+clwb 80, clflushopt c0, clflush 100, clwb 140, clwb 180, clflushopt 1c0, clflush 200, clwb 240, clwb 280, clwb 2c0, clwb 300,
+clflushopt 340, clflush 380, clwb 3c0, clwb 400, clwb 440, clwb 480, clflush 4c0, clwb 500, clwb 540, sfence, mfence, clwb 580,
+clflushopt 5c0, mfence"""
+LOCKED_FLUSHES = FLUSHES.replace("clwb 580,", "clwb 580, mfence,")
+
+# The file was written before it was a pool; ftruncate to 12000 bytes empties that, and what was appended.
+SYSTEM = """\
+store 0 0x0 0100000000000000
+store 0 0x88 0200000000000000
+store 0 0x12c0 0300000000000000
+store 0 0x90 0500000000000000
+clwb 0 0x0
+clwb 0 0x80
+sfence 0
+store 0 0x1004 31323334
+store 0 0x1008 35363738616263
+clwb 0 0x1000
+clwb 0 0x12c0
+sfence 0
+store 0 0x40 7468726f756768
+clwb 0 0x40
+sfence 0
+store 0 0x8 0400000000000000
+clwb 0 0x0
+sfence 0
+store 0 0x80 666c6167
+clwb 0 0x80
+sfence 0
+store 0 0x3000 6174207468652065
+store 0 0x3008 6e64
+store 0 0x1004 00000000
+store 0 0x1008 00
+store 0 0x2ee0 0000000000000000
+store 0 0x2ee8 000000000000
+store 0 0x3000 0000000000000000
+store 0 0x3008 0000
+"""
+CLAIMED = """\
+store 0 0x40 03
+clwb 0 0x40
+sfence 0
+clwb 0 0x80
+clwb 0 0xc0
+sfence 0
+isPersist 0 0x40 4096
+isPersist 0 0x1040 904
+isOrderedBefore 0 0x40 8 0x100 4096
+isOrderedBefore 0 0x40 8 0x1100 1
+store 0 0x41 04
+clwb 0 0x40
+sfence 0
+"""
+FORMATTED, FINISHED = "store 0 0x0 01\n", "store 0 0x1 02\n"
+# With --persist each return of the function claims its range; the call that is left by longjmp does not return.
+WATCHED = """\
+store 0 0x0 01
+store 0 0x40 03
+clwb 0 0x40
+sfence 0
+isPersist 0 0x40 8
+clwb 0 0x80
+clwb 0 0xc0
+sfence 0
+isPersist 0 0x80 70
+isPersist 0 0x80 70
+isPersist 0 0x40 4096
+isPersist 0 0x1040 904
+isOrderedBefore 0 0x40 8 0x100 4096
+isOrderedBefore 0 0x40 8 0x1100 1
+store 0 0x41 04
+clwb 0 0x40
+sfence 0
+isPersist 0 0x40 8
+isPersist 0 0x40 8
+store 0 0x1 02
+"""
+LABELS = [
+    ("stores", "insert < main {calls insert}"),
+    ("flushes", "flush_range < persist {calls flush_range} < insert {calls persist} < main {calls insert}"),
+    ("fences", "persist < insert {calls persist} < main {calls insert}"),
+    ("fills", "insert < main {calls insert}"),
+    ("writes", "main"),
+]
+
+
+def run(words, **options):
+    """The status, standard output and standard error."""
+    options.setdefault("timeout", 300)
+    done = subprocess.run([str(word) for word in words], stdin=subprocess.DEVNULL, capture_output=True, **options)
+    return done.returncode, done.stdout.decode(errors="replace"), done.stderr.decode(errors="replace")
+
+
+def text_of(path):
+    return path.read_text() if path.exists() else ""
+
+
+def events_of(path):
+    """The events of a trace, each with its fields."""
+    return [line.split(" ") for line in text_of(path).splitlines()[1:]]
+
+
+def stores_of(path):
+    """The address and the bytes of each store."""
+    return [(int(fields[2], 16), bytes.fromhex(fields[3])) for fields in events_of(path) if fields[0] == "store"]
+
+
+def rebuilt(path, memory, start=0):
+    """The bytes of a file with the stores of a trace written in order, those from the address `start` on."""
+    memory = bytearray(memory)
+    for address, data in stores_of(path):
+        at = address - start
+        if 0 <= at < len(memory):
+            memory[at : at + len(data)] = data
+    return bytes(memory)
+
+
+def saved(words):
+    """What ends.c does to save words."""
+    return "pmtrace 2 64\n" + "".join(saved_value(word, word + 1) for word in words)
+
+
+def saved_value(word, value):
+    return SAVED.format(8 * word, value.to_bytes(8, "little").hex(), 8 * word & ~63)
+
+
+class Tests:
+    """The tests, what they count, and where their files lie."""
+
+    def __init__(self, program, folder):
+        self.program = program
+        self.folder = folder
+        self.counts = Counts()
+        self.expect = self.counts.expect
+
+    def build(self, name, *flags, source=None):
+        built = self.folder / name
+        status, _, told = run([*COMPILER, *flags, source or HERE / f"{name}.c", "-o", built])
+        self.expect(f"{name} is built", status == 0, told)
+        return built
+
+    def record(self, name, words, *options, accepted=True, **more):
+        """Runs a program under the recorder: the trace, the status, and what was written."""
+        trace = self.folder / f"{name}.trace"
+        status, told, faults = run([RECORD, *options, "--trace", trace, *words], **more)
+        if accepted:
+            self.accept(trace, faults)
+        return trace, status, told, faults
+
+    def accept(self, trace, told=""):
+        """The report of a trace, which must be accepted."""
+        status, report, faults = run([self.program, "check", trace])
+        self.expect(f"{trace.name} is accepted", status in (0, 1), faults + told)
+        return status, report
+
+    def is_text(self, name, trace, wanted):
+        self.expect(name, text_of(trace) == "pmtrace 2 64\n" + wanted, f"\n{text_of(trace)}")
+
+    # Stores
+
+    def stores(self):
+        """Every kind of store: the replayed trace is the file, byte for byte."""
+        program, pool = self.build("stores", "-mavx2"), self.folder / "stores.pool"
+        for threads in (1, 4):
+            trace, status, told, faults = self.record(f"stores{threads}", [program, pool, threads], "--pool", pool)
+            self.expect(f"stores of {threads}", status == 0 and "not recorded" not in faults, faults)
+            kinds, size, head = map(int, re.findall(r"\d+", told) or (0, 1, 0))
+            self.each_kind(f"stores of {threads}", trace, pool.read_bytes(), kinds * threads, size, head)
+            self.steps(f"stores of {threads}", trace, head + 5 * size)
+            numbers = {fields[1] for fields in events_of(trace)}
+            self.expect(f"threads of {threads}", numbers == {str(number) for number in range(threads)}, numbers)
+        self.seeds(program, pool)
+
+    def each_kind(self, name, trace, last, slots, size, head):
+        again = rebuilt(trace, bytes(len(last)))
+        self.expect(f"{name}: the file's head", slots > 0 and again[:head] == last[:head], "differs")
+        written = set()
+        for address, data in stores_of(trace):
+            written.update(range(address, address + len(data)))
+        for slot in range(slots):
+            start, end = head + slot * size, head + (slot + 1) * size
+            kept = {place for place in range(start, end) if last[place]}
+            self.expect(f"{name}: slot {slot}", len(kept) > 0 and again[start:end] == last[start:end], "differs")
+            # masked stores, and a swap that finds something else, store nothing besides
+            if slot % 22 in (14, 17):
+                stored = {place for place in written if start <= place < end}
+                self.expect(f"{name}: slot {slot} alone", stored == kept, sorted(stored ^ kept))
+
+    def steps(self, name, trace, slot):
+        """String instructions make events by words: 21 bytes from 3 on, and 19 bytes down from 290."""
+        found = [(address - slot, len(data)) for address, data in stores_of(trace) if slot <= address < slot + 1024]
+        self.expect(f"{name}: steps upwards", found[:3] == [(3, 5), (8, 8), (16, 8)], found[:8])
+        down = [(288, 3), (280, 8), (272, 8)]
+        at = found.index((288, 3)) if (288, 3) in found else 0
+        self.expect(f"{name}: steps downwards", found[at : at + 3] == down, found[at : at + 8])
+        # the slot before: a swap that finds something else stores nothing
+        found = [address - slot + 1024 for address, _ in stores_of(trace) if slot - 1024 <= address < slot]
+        self.expect(f"{name}: no store by a failed swap", found == [0, 0, 0], found)
+
+    def seeds(self, program, pool):
+        """A seed reproduces the run, another seed gives another one, and threads take turns."""
+        texts = []
+        for number, seed in enumerate((5, 5, 5, 6)):
+            trace = self.record(f"seed{number}", [program, pool, 4], "--seed", seed, "--pool", pool)[0]
+            texts.append(text_of(trace))
+        self.expect("one seed, one trace", texts[0] == texts[1] == texts[2] and len(texts[0]) > 100000, "they differ")
+        self.expect("another seed, another trace", texts[3] != texts[0], "they are the same")
+        numbers = [fields[1] for fields in events_of(trace)]
+        turns = sum(one != other for one, other in zip(numbers, numbers[1:]))
+        self.expect("threads take turns", turns > 60, turns)
+        status, _, told = run([RECORD, "--seeds", 2, "--before", f"rm -f {pool}", "--trace", self.folder / "some", program, pool, 2])
+        both = [text_of(self.folder / f"some.{seed}") for seed in (1, 2)]
+        self.expect("two seeds", status == 0 and both[0] != both[1] and min(map(len, both)) > 50000, told)
+
+    # Flushes, mappings and the system
+
+    def flushes(self):
+        program, pool = self.build("flushes"), self.folder / "flushes.pool"
+        for name, words, wanted in (("flushes", [], FLUSHES), ("locked", ["--locked-fences"], LOCKED_FLUSHES)):
+            trace, status, told, faults = self.record(name, [program, pool], *words)
+            wanted = [event.split() for event in wanted.replace("\n", " ").split(",")]
+            wanted = "".join(" ".join([event[0], "0", *(f"0x{address}" for address in event[1:])]) + "\n" for event in wanted)
+            self.is_text(f"each {name}", trace, wanted)
+            self.expect(f"{name}: the processor has them", (status, told) == (0, "clflushopt 1 clwb 1\n"), told)
+            outside = "; not recorded: flushes of memory that is in no pool: 3, the first at flushes.c:" in faults
+            self.expect(f"{name}: the others are counted", outside, faults)
+            self.expect(f"{name}: locked ones are counted", ("locked instructions" in faults) == (name == "flushes"), faults)
+
+    def mappings(self):
+        program, pools = self.build("mappings"), self.folder / "pools"
+        pools.mkdir()
+        trace, status, _, faults = self.record("mappings", [program, pools], "--pool", f"{pools}/one", "--pool", f"{pools}/two.")
+        self.expect("mappings", status == 0 and "not recorded" not in faults, faults)
+        for name, start in (("one", 0), ("two", SECOND_POOL)):
+            last = (pools / f"{name}.pool").read_bytes()
+            self.expect(f"mappings: {name}", any(last) and rebuilt(trace, bytes(len(last)), start) == last, "differs")
+        total = len(b"".join(data for _, data in stores_of(trace)))
+        self.expect("mappings: only pools", all(address % SECOND_POOL < 1 << 16 for address, _ in stores_of(trace)) and total < 400, total)
+
+    def system(self):
+        program, pool = self.build("system"), self.folder / "system.pool"
+        trace, status, _, faults = self.record("system", [program, pool])
+        self.is_text("by the system", trace, SYSTEM)
+        self.expect("by the system: told", status == 0 and "not recorded" not in faults, faults)
+
+    # Claims and windows
+
+    def claims(self):
+        program, pool = self.build("claims"), self.folder / "claims.pool"
+        self.expect("claims outside Valgrind", run([program, pool])[0] == 0, "it fails")
+        trace, _, _, faults = self.record("claims", [program, pool])
+        self.is_text("claims", trace, FORMATTED + CLAIMED + FINISHED)
+        self.expect("claims outside the pool", "claims on memory that is in no pool: 1" in faults, faults)
+        trace, _, _, faults = self.record("window", [program, "window", pool])
+        self.is_text("a window by claims", trace, CLAIMED)
+        told = "events before the window: 1; events after the window: 1" in faults
+        self.expect("a window by claims: told", told, faults)
+        trace, _, _, faults = self.record("functions", [program, pool], "--start-after", "formatted", "--stop-at", "finish")
+        self.is_text("a window by functions", trace, CLAIMED)
+        self.expect("a window by functions: told", told, faults)
+        words = ["--persist", "save", "--persist=save_by_length:2,1", "--persist", "save_or_leave:1,2"]
+        trace, _, _, faults = self.record("persist", [program, pool], *words)
+        self.is_text("--persist", trace, WATCHED)
+        self.expect("--persist: told", "calls of a named function that did not return: 1" in faults, faults)
+        faults = self.record("uncalled", [program, pool], "--persist", "no_such")[3]
+        self.expect("a function that is not called", "the function no_such was never called by that name" in faults, faults)
+
+    def pmdk(self):
+        program, pool = self.build("pmdk"), self.folder / "pmdk.pool"
+        ignore = self.folder / "pmdk.trace.ignore"
+        _, _, told, _ = self.record("pmdk", [program, pool])
+        self.expect("without --pmdk", (told, ignore.exists()) == ("0 0 0\n", False), told)
+        trace, _, told, faults = self.record("pmdk", [program, pool], "--pmdk")
+        self.expect("--pmdk answers", told == "1 2 1\n", told)
+        self.expect("--pmdk", text_of(ignore) == "0x40:24\n0x100:8\n", text_of(ignore))
+        words = [f"--ignore {line}" for line in text_of(ignore).splitlines()]
+        status, told, _ = run([self.program, "explain", *" ".join(words).split(), trace])
+        self.expect("what is ignored", status == 1 and "never persisted" in told, told[:300])
+        lost = re.search(r"lose: (\d+) of (\d+)", told)
+        self.expect("what is not ignored", lost is not None and lost.groups() == ("1", "4"), told[:300])
+
+    # Ends
+
+    def ends(self):
+        program, pool = self.build("ends"), self.folder / "ends.pool"
+        for case, wanted in (("saves", 3), ("exit", 4), ("abort", -signal.SIGABRT), ("segfault", -signal.SIGSEGV), ("avx512", -signal.SIGILL)):
+            trace, status, _, faults = self.record(case, [program, case, pool])
+            self.expect(case, (text_of(trace), status) == (saved([0]), wanted), f"{status} {faults}")
+            next_words = f"next: pmtrim explain --labels {trace}.labels {trace}"
+            self.expect(f"{case}: the next command", f"pmtrim-record: 3 events of 1 thread in {trace}; {next_words}\n" in faults, faults)
+            unknown = re.search(r"an AVX-512 instruction that Valgrind does not know \(bytes 62 f1 7c 48 11 07\) at ends.c:\d+: .*-march=", faults)
+            self.expect(f"{case}: unknown instructions", (unknown is not None) == (case == "avx512"), faults)
+        self.killed(program, pool)
+        self.children(program, pool)
+        self.limits(program, pool)
+
+    def killed(self, program, pool):
+        """At any moment: the trace is a true beginning, and has all that came before the last fence."""
+        for death in (signal.SIGTERM, signal.SIGINT, signal.SIGKILL, signal.SIGKILL, signal.SIGKILL):
+            pool.unlink(missing_ok=True)
+            trace = self.folder / "killed.trace"
+            words = [RECORD, "--trace", trace, program, "waits", pool]
+            # what runs in the background may have been told to ignore signals
+            unignore = functools.partial(signal.signal, signal.SIGINT, signal.SIG_DFL)
+            with subprocess.Popen(words, preexec_fn=unignore, stdout=subprocess.PIPE, stderr=subprocess.DEVNULL) as running:
+                running.stdout.readline()
+                while not any(pool.read_bytes()[8 * 1000 : 8 * 1008]):
+                    time.sleep(0.01)
+                running.send_signal(death)
+                try:
+                    status = running.wait(timeout=60)
+                except subprocess.TimeoutExpired:
+                    running.kill()
+                    status = "it does not end"
+            self.accept(trace)
+            text, numbers = text_of(trace), range(1, len(events_of(trace)) // 3 + 1)
+            whole = saved([0]) + "".join(saved_value(number % 4000 + 1, number) for number in numbers)
+            self.expect(f"killed by {death.name}", status == -death and whole.startswith(text) and len(text) > 40000, f"{status} {len(text)}")
+            last = bytearray(pool.read_bytes())
+            missing = sum(one != other for one, other in zip(rebuilt(trace, bytes(len(last))), last))
+            self.expect(f"killed by {death.name}: nothing is missing", missing <= (8 if death == signal.SIGKILL else 0), missing)
+
+    def children(self, program, pool):
+        for case, own, others in (("fork", [0, 16], [[8]]), ("exec", [0, 16], [[8], [0]]), ("becomes", [0], [[0]])):
+            folder = self.folder / f"children.{case}"
+            folder.mkdir()
+            trace, status, _, faults = self.record(f"children.{case}/run", [program, case, pool], "--trace-children", "yes")
+            found = sorted(text_of(path) for path in folder.iterdir() if path.name.startswith("run.trace.") and "labels" not in path.name)
+            self.expect(f"{case}: its own trace", text_of(trace) == saved(own), text_of(trace))
+            self.expect(f"{case}: its children's", found == sorted(saved(words) for words in others), f"{found} {faults}")
+            trace, _, _, faults = self.record(f"alone.{case}", [program, case, pool])
+            self.expect(f"{case}: alone", text_of(trace) == saved(own), text_of(trace))
+            told = "becomes another one, which is not recorded" if case == "becomes" else "child processes (--trace-children yes records them): 1"
+            self.expect(f"{case}: told", told in faults, faults)
+            unseen = "3 events of a child process are not recorded" in faults
+            self.expect(f"{case}: what the child does is told", unseen == (case != "becomes"), faults)
+
+    def limits(self, program, pool):
+        trace, status, _, faults = self.record("threads", [program, "threads", pool])
+        numbers = [int(fields[1]) for fields in events_of(trace)]
+        self.expect("the 257th thread", status == 0 and numbers == [number // 3 for number in range(768)], numbers[-5:])
+        told = f"{trace}: the trace ends after event 768: a trace has at most 256 threads, and here is the 257th\n" in faults
+        self.expect("the 257th thread: told", told and "events after the end of the trace: 132" in faults, faults)
+        trace, status, _, faults = self.record("events", [program, "events", pool], "--labels", "no")
+        self.expect("a million events", status == 0 and text_of(trace).count("\n") == 1000001, text_of(trace).count("\n"))
+        told = f"{trace}: the trace ends after event 1000000: a trace has at most 1000000 events\n" in faults
+        self.expect("a million events: told", told and "events after the end of the trace: 24003" in faults, faults)
+        limit = lambda: resource.setrlimit(resource.RLIMIT_FSIZE, (100000, 100000))
+        trace, status, _, faults = self.record("disk", [program, "events", pool], preexec_fn=limit, restore_signals=False)
+        ended = re.search(r"the trace ends after event (\d+): File too large", faults)
+        whole = "pmtrace 2 64\nstore 0 0x0 0100000000000000\nclwb 0 0x0\nsfence 0\n"
+        right = ended and int(ended[1]) == text_of(trace).count("\n") - 1 and text_of(trace).startswith(whole)
+        self.expect("a full disk", right and len(text_of(trace)) > 99000, faults)
+        for place, reason in (("/dev/full", "No space left on device"), (self.folder / "none/trace", "No such file or directory")):
+            _, _, faults = run([RECORD, "--trace", place, "--labels", "no", program, "saves", pool])
+            self.expect(f"a trace at {place}", reason in faults, faults)
+
+    # Labels
+
+    def labels(self):
+        program, pool = self.build("lines"), self.folder / "lines.pool"
+        source = (HERE / "lines.c").read_text().splitlines()
+        line = lambda what: next(f"lines.c:{number}" for number, text in enumerate(source, 1) if f"/* {what} */" in text)
+        trace = self.record("lines", [program, pool])[0]
+        found = list(dict.fromkeys(text.split(" ", 1)[1] for text in text_of(trace.with_name("lines.trace.labels")).splitlines()))
+        wanted = [f"{line(what)} " + re.sub(r"\{(.*?)\}", lambda call: line(call[1]), chain) for what, chain in LABELS]
+        self.expect("labels", found == wanted, found)
+        self.record("callers", [program, pool], "--callers", 0)
+        found = {text.split(" ", 1)[1] for text in text_of(self.folder / "callers.trace.labels").splitlines()}
+        self.expect("labels without callers", found == {" ".join(label.split(" ")[:2]) for label in wanted}, found)
+        self.record("unlabelled", [program, pool], "--labels", "no")
+        self.expect("no labels", not (self.folder / "unlabelled.trace.labels").exists(), "there are some")
+        for name, flags, wanted in (("functions", ["-g0"], "insert"), ("stripped", ["-g0", "-s"], "nolines.stripped+0x")):
+            program = self.build(f"nolines.{name}", *flags, source=HERE / "lines.c")
+            same = self.record(f"nolines.{name}", [program, pool])[0]
+            self.expect(f"{name}: the same trace", text_of(same) == text_of(trace), text_of(same))
+            labels = text_of(same.with_name(f"{same.name}.labels")).splitlines()
+            right = len(labels) == len(events_of(same)) and labels[0].startswith(f"1 {wanted}")
+            self.expect(f"{name}: labels", right, labels[:2])
+
+    # Examples
+
+    def examples(self):
+        """The recorders' examples, unmodified, with a header whose calls are instructions: the verdicts, and pmtrace.h's trace."""
+        for name in ("list", "log"):
+            source = TOP / f"recorders/examples/{name}.c"
+            for wrong in (False, True):
+                what = f"{name}{'.wrong' if wrong else ''}"
+                built = self.build(what, "-I", HERE / "real", *["-DWRONG"] * wrong, source=source)
+                trace = self.record(what, [built], cwd=self.folder)[0]
+                status, report = self.accept(trace)
+                failed = re.findall(r"^ordered \d+ fail$", report, re.M)
+                self.expect(f"{what}: its claims", status == wrong and bool(failed) == wrong and "ordered " in report, report[-200:])
+        built = self.build("list.pmtrace", "-I", TOP / "recorders/c", source=TOP / "recorders/examples/list.c")
+        self.expect("list with pmtrace.h", run([built], cwd=self.folder)[0] == 0, "it fails")
+        (self.folder / "list.trace").rename(self.folder / "pmtrace.trace")
+        trace = self.record("list.again", [self.folder / "list"], cwd=self.folder)[0]
+        same = text_of(trace) == text_of(self.folder / "pmtrace.trace")
+        self.expect("pmtrace.h writes the same of list", same and len(events_of(trace)) > 10000, "it differs")
+
+    # Words
+
+    def words(self):
+        program, pool = self.folder / "ends", self.folder / "words.pool"
+        for words, wanted in (
+            (["--frob", "1", program], "there is no option --frob"),
+            ([], "no program is given"),
+            (["--seeds", "none", program], "--seeds takes a number"),
+            (["--pool"], "--pool takes a word"),
+        ):
+            status, _, told = run([RECORD, *words])
+            self.expect(f"words {words[:1]}", status == 2 and wanted in told, f"{status} {told}")
+        status, _, told = run([RECORD, "--persist", "save:0,1", program, "saves", pool], cwd=self.folder)
+        self.expect("--persist of no argument", status == 2 and "numbers of arguments from 1 to 6" in told, told)
+        told = run([RECORD, "--help"])[1]
+        self.expect("help", "--locked-fences" in told and "Intel SDM" in told, told)
+        _, _, told = run([RECORD, "--trace", self.folder / "none.trace", "--pool", self.folder / "other", program, "saves", pool])
+        self.expect("no pool", "no file was mapped that counts as a pool: see --pool" in told, told)
+
+
+def installed(tests):
+    """Below another folder it finds its tool, and needs neither root nor this one."""
+    prefix = tests.folder / "prefix"
+    words = {"bin": ["pmtrim-record"], "libexec/pmtrim-record": ["out/pmtrim_record-amd64-linux", "out/vgpreload_core-amd64-linux.so"]}
+    for place, names in words.items():
+        (prefix / place).mkdir(parents=True)
+        for name in names:
+            shutil.copy(FOLDER / name, prefix / place, follow_symlinks=False)
+    trace, program = tests.folder / "installed.trace", tests.folder / "ends"
+    status, _, told = run([prefix / "bin/pmtrim-record", "--trace", trace, program, "saves", tests.folder / "installed.pool"])
+    tests.expect("installed elsewhere", (status, text_of(trace)) == (3, saved([0])), told)
+
+
+def page(tests):
+    """The commands that recorders/valgrind/README.md shows."""
+    status, told, _ = run([sys.executable, TOP / "tests/lib/documents.py", tests.program, "recorders/valgrind/README.md"])
+    tests.expect("recorders/valgrind/README.md", status == 0, told)
+
+
+def main():
+    with tempfile.TemporaryDirectory() as name:
+        tests = Tests(sys.argv[1], pathlib.Path(name).resolve())
+        for part in (tests.stores, tests.flushes, tests.mappings, tests.system, tests.claims, tests.pmdk, tests.ends, tests.labels, tests.examples, tests.words):
+            part()
+        installed(tests)
+        page(tests)
+    print(f"{tests.counts.passed} passed, {tests.counts.failed} failed")
+    return 1 if tests.counts.failed else 0
+
+
+if __name__ == "__main__":
+    sys.exit(main())
