@@ -1,0 +1,193 @@
+#!/usr/bin/env python3
+"""Records random programs and judges their traces: run.py PROGRAM [COUNT [FIRST]]. The last line is 'N passed, M failed'.
+
+PROGRAM is pmtrim, which must accept each trace. COUNT programs (1000) are made of the seeds from FIRST (1) on, and for the recorders for
+Rust and Python a tenth as many. A failed program's script, trace and log stay in the folders that are named.
+"""
+import collections
+import concurrent.futures
+import itertools
+import os
+import pathlib
+import re
+import shutil
+import subprocess
+import sys
+import tempfile
+
+from effects import NEVER, Refused
+from interpreters import build_in_c, build_in_rust, in_python
+from judge import Judge
+from labels import check_labels
+from mutations import MUTATIONS, Mutations
+from programs import DATA
+from records import read_logs, read_memory, read_text
+
+BATCH = 12
+MUTATED = 10  # of each so many programs one gives false records
+DEATHS = {"abort": -6, "fault": -11, "return": 0, "thread_exit": 0, "close": 0}
+MUST_SUCCEED = ("open", "close", "watch", "stop", "start", "store", "copy", "move", "within", "fill", "stream", "spawn", "join", "fork")
+
+
+def status_of(program):
+    word, *numbers = program.ending
+    if word in ("exit", "quick_exit", "_exit"):
+        return numbers[0]
+    return -numbers[0] if word == "signal" else DEATHS[word]
+
+
+def is_told_rightly(program, told):
+    """Nothing is told where all is in the trace. At exit other threads may go on storing, or ending."""
+    told = re.sub("==[0-9]+==Running thread [0-9]+ was not suspended. False leaks are possible.\n", "", told)
+    if program.ending[0] in ("exit", "quick_exit") and len(program.threads) > 1:
+        told = re.sub("pmtrace: .*: what comes after the end of the program is not in the trace\n", "", told, count=1)
+    if program.tells:
+        return told != "" and all(line.startswith("pmtrace: ") for line in told.splitlines())
+    return told == ""
+
+
+def check_answers(program, logs):
+    for done in itertools.chain(*logs):
+        wanted = (1 << 64) - 1 if done.word == "close" and program.tells else 0
+        if done.word in MUST_SUCCEED and done.ended != NEVER and done.answer != wanted:
+            raise Refused(f"{done} failed")
+
+
+class Runner:
+    """Runs programs by one interpreter, and judges what they leave in the folder."""
+
+    def __init__(self, pmtrim, interpreter, folder, data):
+        self.pmtrim = pmtrim
+        self.interpreter = interpreter
+        self.folder = folder
+        self.data = data
+
+    def run(self, seeds):
+        """How many programs passed, the names of the changes that were refused, and a line for each fault."""
+        programs = [self.interpreter.make(seed) for seed in seeds]
+        status, told = self.execute(programs)
+        faults, refused, passed = [], [], 0
+        if status != status_of(programs[-1]) or not is_told_rightly(programs[-1], told):
+            faults.append(f"seeds {seeds}: status {status}, not {status_of(programs[-1])}: {told[-2000:]}")
+        for program in programs:
+            try:
+                refused += self.judge(program)
+                passed += 1
+                self.remove(program)
+            except (Refused, OSError) as fault:
+                faults.append(f"seed {program.seed}: {fault}")
+        return passed, refused, faults
+
+    def execute(self, programs):
+        script = self.folder / f"{programs[0].seed}.script"
+        script.write_text("".join(program.script(self.folder) for program in programs))
+        try:
+            done = subprocess.run([*self.interpreter.command, self.data, script], capture_output=True, timeout=120)
+        except subprocess.TimeoutExpired:
+            return "it hangs", ""
+        return done.returncode, done.stderr.decode(errors="replace")
+
+    def judge(self, program):
+        """The names of the changes that make false records of it, which were all refused."""
+        name = self.folder / str(program.seed)
+        text, logs = read_text(program, name), read_logs(program, name)
+        kept = program.goes_on() or not self.interpreter.is_safe()
+        record = (program, logs, text, read_memory(program, name) if kept else None)
+        check_answers(program, logs)
+        judge = Judge(*record)
+        judge.judge()
+        if program.goes_on() and not self.interpreter.is_safe():
+            check_labels(judge, pathlib.Path(f"{name}.trace.labels").read_text())
+        done = subprocess.run([self.pmtrim, "check"], input=text.encode(), capture_output=True)
+        if done.returncode not in (0, 1):
+            raise Refused(f"pmtrim refuses the trace: {done.stderr}")
+        if program.seed % MUTATED or program.closes_early or not program.goes_on():
+            return []
+        names, accepted = Mutations(*record).accepted()
+        if accepted:
+            raise Refused(f"the judge takes false records: {' '.join(accepted)}")
+        return names
+
+    def remove(self, program):
+        for path in self.folder.glob(f"{program.seed}.*"):
+            if path.suffix != ".script":
+                path.unlink()
+
+
+def shared_out(interpreters, seeds):
+    """An interpreter and the seeds that one process of it does: all but the last let it live, and say nothing.
+
+    A program that closes its trace early has races of its own from there on, which a sanitizer would tell of.
+    """
+    every, plain = itertools.cycle(interpreters), itertools.cycle(one for one in interpreters if not one.sanitized)
+    waiting = []
+    for seed in seeds:
+        waiting.append(seed)
+        program = interpreters[0].make(seed)
+        if program.closes_early or not program.goes_on():
+            yield next(plain), waiting[-3:]
+            del waiting[-3:]
+        elif len(waiting) == BATCH:
+            yield next(every), waiting
+            waiting = []
+    if waiting:
+        yield next(plain), waiting
+
+
+def run_job(words):
+    interpreter, seeds, pmtrim, folder, data = words
+    folder = folder / interpreter.name
+    folder.mkdir(exist_ok=True)
+    return Runner(pmtrim, interpreter, folder, data).run(seeds)
+
+
+def make_folders():
+    """On a disk, and in memory."""
+    folders = [pathlib.Path(tempfile.mkdtemp(prefix="truth."))]
+    if os.access("/dev/shm", os.W_OK):
+        folders.append(pathlib.Path(tempfile.mkdtemp(prefix="truth.", dir="/dev/shm")))
+    return folders
+
+
+def run_all(jobs):
+    """How many programs passed, how many faults there are, and how often each change was refused."""
+    passed, failed, refused = 0, 0, collections.Counter()
+    with concurrent.futures.ProcessPoolExecutor(min(2, len(os.sched_getaffinity(0)))) as workers:
+        for (interpreter, *_), (right, names, faults) in zip(jobs, workers.map(run_job, jobs)):
+            for fault in faults:
+                print(f"{interpreter.name}: {fault}")
+            passed += right
+            failed += len(faults)
+            refused.update(names)
+    return passed, failed, refused
+
+
+def main():
+    pmtrim = sys.argv[1]
+    count = int(sys.argv[2]) if len(sys.argv) > 2 else 1000
+    first = int(sys.argv[3]) if len(sys.argv) > 3 else 1
+    folders = make_folders()
+    built, data = folders[0] / "built", folders[0] / "data"
+    built.mkdir()
+    data.write_bytes(DATA)
+    jobs = list(shared_out(build_in_c(built), range(first, first + count)))
+    for interpreter in (build_in_rust(built), in_python()):
+        jobs += shared_out([interpreter], range(first, first + count // 10))
+    places = zip(jobs, itertools.cycle(folders))
+    passed, failed, refused = run_all([(*job, pmtrim, folder, data) for job, folder in places])
+    never = [change.__name__ for change in MUTATIONS if refused[change.__name__] == 0]
+    if never and count >= 1000:
+        print(f"no record was made false by {' '.join(never)}")
+        failed += len(never)
+    if failed:
+        print("what they left is in", *folders)
+    else:
+        for folder in folders:
+            shutil.rmtree(folder)
+    print(f"{passed} programs recorded truly, {refused.total()} false records refused")
+    print(f"{passed + refused.total()} passed, {failed} failed")
+    return 1 if failed else 0
+
+
+if __name__ == "__main__":
+    sys.exit(main())
