@@ -118,10 +118,71 @@ def long_intervals(count):
         value += 1
 
 
-KINDS = {
-    kind.__name__: kind
-    for kind in (log_appends, tree_inserts, redundant_flushes, many_assertions, one_line, one_line_stores, many_lines, threads_256, long_intervals)
-}
+def byte_store(thread, addr):
+    return f"store {thread} {addr:#x} 5a\n"
+
+
+def pending_writers(count):
+    """A page stored byte by byte from its end, and never flushed; then it is asked again and again whether all of it comes later."""
+    for byte in range(4095, -1, -1):
+        yield byte_store(0, BASE + byte)
+    while True:
+        yield f"isOrderedBefore 0 {BASE + 4096:#x} 1 {BASE:#x} 4096\n"
+
+
+def pending_writers_32(count):
+    """As pending_writers, in lines of 32 bytes."""
+    return pending_writers(count)
+
+
+def shuffled_lines(count):
+    """A page is persisted and another one is not, line by line in no order; then it is asked whether the one comes first."""
+    lines = list(range(128))
+    random.Random(3).shuffle(lines)
+    for line in lines:
+        yield byte_store(0, BASE + 32 * line)
+        yield f"clwb 0 {BASE + 32 * line:#x}\n"
+    yield "sfence 0\n"
+    for line in lines:
+        yield byte_store(0, BASE + 8192 + 32 * line)
+    while True:
+        yield f"isOrderedBefore 0 {BASE:#x} 4096 {BASE + 8192:#x} 4096\n"
+
+
+def line_by_bytes(count):
+    """One line is overwritten byte by byte, round and round."""
+    value = 0
+    while True:
+        yield byte_store(0, BASE + value % 256)
+        value += 1
+
+
+def judged_line_by_bytes(count):
+    """As line_by_bytes, and after each store it is asked whether the line comes after another one."""
+    value = 0
+    while True:
+        yield byte_store(0, BASE + value % 256)
+        yield f"isOrderedBefore 0 {BASE + 4096:#x} 1 {BASE:#x} 256\n"
+        value += 1
+
+
+def threads_one_line(count):
+    """256 threads flush one line after each store to it, and then fence."""
+    while True:
+        yield byte_store(0, BASE)
+        for thread in range(256):
+            yield f"clwb {thread} {BASE:#x}\n"
+        for thread in range(256):
+            yield f"sfence {thread}\n"
+
+
+# Kinds like the traces of programs, and kinds in which an event costs as much as one may.
+COMMON = (log_appends, tree_inserts, redundant_flushes, many_assertions, one_line, one_line_stores, many_lines, threads_256, long_intervals)
+HOSTILE = (pending_writers, pending_writers_32, shuffled_lines, line_by_bytes, judged_line_by_bytes, threads_one_line)
+KINDS = {kind.__name__: kind for kind in COMMON + HOSTILE}
+
+# The bytes of a line, where they aren't 64.
+LINE_SIZES = {"pending_writers": 256, "pending_writers_32": 32, "shuffled_lines": 32, "line_by_bytes": 256, "judged_line_by_bytes": 256}
 
 
 def main():
@@ -131,7 +192,8 @@ def main():
         return 0 if len(sys.argv) < 2 else 2
     count = int(sys.argv[2]) if len(sys.argv) > 2 else 1_000_000
     write = sys.stdout.write
-    write("pmtrace 1\n")
+    size = LINE_SIZES.get(sys.argv[1])
+    write(f"pmtrace 2 {size}\n" if size else "pmtrace 1\n")
     lines = KINDS[sys.argv[1]](count)
     pending = []
     for _ in range(count):

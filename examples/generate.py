@@ -81,9 +81,9 @@ def append_log(folder):
     story = Story(
         "append_log",
         """
-Thread 0 appends records to a log. A record is a word with its number and one to seven words of payload. The writer stores the
-record, flushes its lines and fences; then it stores the new end of the log into the commit word, flushes that and fences. So
-nothing is lost and every assertion passes. Three habits cost flushes and fences without effect.
+Thread 0 appends records to a log. A record is a word with its number and one to seven words of payload. The writer
+stores the record, flushes its lines and fences; then it stores the new end of the log into the commit word, flushes
+that and fences. So nothing is lost and every assertion passes. Three habits cost flushes and fences without effect.
 """,
     )
     commit, log = 0x7F2A00000000, 0x7F2A00001000
@@ -129,12 +129,12 @@ def linked_list(folder):
     story = Story(
         "linked_list",
         """
-Thread 0 inserts nodes of one line each into a linked list: value at offset 0, next at offset 8. A right insert stores the new node,
-flushes it and fences, and only then stores the pointer to it, flushes that and fences. Each fourth node goes behind the one before
-it, the others to the front. Inserts 5, 11, 12 and 19 forget to flush the node: after a crash the list can lead to a node that was
-never saved. Nodes 12 and 20 go behind nodes 11 and 19, and the flush of that pointer saves those two late; nodes 5 and 12 stay
-unsaved. Inserts 8 and 16 flush node and pointer together, after the pointer was stored: all is safe in the end, but a crash between
-can save the pointer alone.
+Thread 0 inserts nodes of one line each into a linked list: value at offset 0, next at offset 8. A right insert stores
+the new node, flushes it and fences, and only then stores the pointer to it, flushes that and fences. Each fourth node
+goes behind the one before it, the others to the front. Inserts 5, 11, 12 and 19 forget to flush the node: after a
+crash the list can lead to a node that was never saved. Nodes 12 and 20 go behind nodes 11 and 19, and the flush of
+that pointer saves those two late; nodes 5 and 12 stay unsaved. Inserts 8 and 16 flush node and pointer together,
+after the pointer was stored: all is safe in the end, but a crash between can save the pointer alone.
 """,
     )
     base = 0x7F3B00000000
@@ -192,11 +192,12 @@ def ring_buffer(folder):
     story = Story(
         "ring_buffer",
         """
-Two threads use a ring of 8 slots of one line each. Thread 0 produces: it stores three words into the slot, and later the tail index.
-It flushes nothing itself. Thread 1 consumes: it flushes the slot that thread 0 stored, fences, flushes the tail and fences, and then
-stores, flushes and fences its head index. A flush by thread 1 saves thread 0's stores, and only a fence by thread 1 completes it.
-In rounds 3 and 17 thread 0 fences in its place. In rounds 5 and 14 both flush the slot. In round 9 the tail is stored before the slot
-is safe. In round 12 a word is corrected before it was flushed. The last round ends before thread 1 has fenced.
+Two threads use a ring of 8 slots of one line each. Thread 0 produces: it stores three words into the slot, and later
+the tail index. It flushes nothing itself. Thread 1 consumes: it flushes the slot that thread 0 stored, fences,
+flushes the tail and fences, and then stores, flushes and fences its head index. A flush by thread 1 saves thread 0's
+stores, and only a fence by thread 1 completes it. In rounds 3 and 17 thread 0 fences in its place. In rounds 5 and 14
+both flush the slot. In round 9 the tail is stored before the slot is safe. In round 12 a word is corrected before it
+was flushed. The last round ends before thread 1 has fenced.
 """,
     )
     tail, head, ring = 0x7F4C00000000, 0x7F4C00000040, 0x7F4C00001000

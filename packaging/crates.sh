@@ -1,3 +1,4 @@
+#!/usr/bin/env bash
 # For ./pmtrim and packaging/prove.sh: the crates of this project, and how they speak.
 top=$(cd "$(dirname "${BASH_SOURCE[0]}")/.." && pwd) || exit 1
 

@@ -4,6 +4,7 @@
 # Two runs of rt wait for each other where both stand on one crate. So each works in a tree of its own, over links to what is proved;
 # what it has proved goes to its place when it is whole.
 set -uo pipefail
+# shellcheck source=packaging/crates.sh
 . "$(dirname "${BASH_SOURCE[0]}")/crates.sh" || exit 1
 answered=$1
 
@@ -33,12 +34,13 @@ link_crate() {
 
 # Proves a crate over those that it stands on, in a tree of these crates alone, with so many jobs.
 prove_crate() {
-  local crate=$1 jobs=$2 niceness=0 tree=$trees/$1 other needed
+  local crate=$1 jobs=$2 niceness=0 tree=$trees/$1 other needed below
   [ -e "$answered" ] || niceness=9
   needed=$(closure "$crate")
+  mapfile -t below < <(grep -vx "$crate" <<< "$needed")
   mkdir -p "$tree/crates" && cp "$top/HANDLES" "$tree" || return
   awk 'NR == FNR { needed[$1] = 1; next } { name = $1; sub(/:$/, "", name) } name in needed' - "$top/crates.txt" <<< "$needed" > "$tree/crates.txt" || return
-  for other in $(grep -vx "$crate" <<< "$needed"); do
+  for other in "${below[@]}"; do
     (link_crate "$other") || return
   done
   cp -al "$top/crates/$crate" "$tree/crates" || return
@@ -52,9 +54,10 @@ prove_crate() {
 
 # The crates of the program, first those for which the longest chain of crates waits, by their lines of code.
 by_chain() {
-  local crate
+  local crate below
   for crate in $(closure pmtrim | tac); do
-    echo "$crate $(find "$top/crates/$crate" -name out -prune -o -name '*.rt' -print0 | xargs -0 cat | wc -l)" $(closure "$crate")
+    mapfile -t below < <(closure "$crate")
+    echo "$crate $(find "$top/crates/$crate" -name out -prune -o -name '*.rt' -print0 | xargs -0 cat | wc -l) ${below[*]}"
   done | awk '
     { chain = $2 + longest[$1]; print chain, $1
       for (k = 3; k <= NF; k++) if ($k != $1 && longest[$k] < chain) longest[$k] = chain }' | sort -rn | cut -d ' ' -f 2

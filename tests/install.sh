@@ -25,22 +25,36 @@ holds 'a bad word is refused' eval '! ./install --frob'
 # The man page says what the program's help says: every option, command and status.
 page=$prefix/share/man/man1/pmtrim.1
 sed 's/\\fB\|\\fI\|\\fR//g; s/\\-/-/g' "$page" > "$folder/page"
-for command in '' check explain trim fronts record draw; do
+for command in '' check explain trim fronts record draw image; do
   "$program" ${command:+"$command"} --help
 done > "$folder/help"
-grep -oE '(^|[ [])--[a-z]+' "$folder/help" | grep -oE -- '--[a-z]+' | sort -u > "$folder/options"
+grep -oE '(^|[ [])--[a-z-]+' "$folder/help" | grep -oE -- '--[a-z-]+' | sort -u > "$folder/options"
 holds 'help has options' grep -q -- --workers "$folder/options"
 while read -r option; do
   holds "the man page has $option" grep -qF -- "$option" "$folder/page"
 done < "$folder/options"
-for line in $(grep -oE 'Statuses: .*' "$folder/help" | grep -oE '[0-6] ' | sort -u); do
-  holds "the man page has status $line" grep -qx "$line" "$folder/page"
-done
-for command in check explain trim fronts record draw; do
+while read -r status; do
+  holds "the man page has status $status" grep -qx "$status" "$folder/page"
+done < <(grep -oE 'Statuses: .*' "$folder/help" | grep -oE '[0-6] ' | sort -u)
+for command in check explain trim fronts record draw image; do
   holds "the man page has $command" grep -qx ".B $command" "$folder/page"
   about=$("$program" "$command" --help | head -n 1)
   holds "the man page says what $command does" grep -qF "${about%%[.,]*}" "$folder/page"
 done
+
+# The same of pmtrim-replay, which finds its modules and the program beside it.
+replay=$prefix/bin/pmtrim-replay
+sed 's/\\fB\|\\fI\|\\fR//g; s/\\-/-/g' "$prefix/share/man/man1/pmtrim-replay.1" > "$folder/page"
+# the help of pmtrim-replay, into a file
+write_help() { "$replay" --help > "$folder/help"; }
+holds 'pmtrim-replay says what it does' write_help
+grep -oE '^ *--[a-z]+|, --[a-z]+' "$folder/help" | grep -oE -- '--[a-z]+' | sort -u > "$folder/options"
+holds 'the help of pmtrim-replay has options' grep -qx -- --seconds "$folder/options"
+while read -r option; do
+  holds "the man page of pmtrim-replay has $option" grep -qF -- "$option" "$folder/page"
+done < "$folder/options"
+cp examples/undo_log.trace* "$folder"
+holds 'pmtrim-replay runs' env -i PATH=/usr/bin:/bin "$replay" "$folder/undo_log.trace" -- test -s '{}'
 
 # What bash offers for some words.
 offered() {
@@ -50,8 +64,10 @@ offered() {
 holds 'a command is offered' [ "$(offered pmtrim ch)" = check ]
 holds 'numbers of workers are offered' [ "$(offered pmtrim check --workers 1)" = '1 16' ]
 holds 'an option is offered' [ "$(offered pmtrim trim --s)" = --stream ]
-holds 'options of explain are offered' [ "$(offered pmtrim explain --l)" = '--limit --labels' ]
+holds 'options of explain are offered' [ "$(offered pmtrim explain --l)" = '--limit --label --labels' ]
+holds 'kinds are offered' [ "$(offered pmtrim explain --only d)" = dropped ]
 holds 'an option of draw is offered' [ "$(offered pmtrim draw --la)" = --labels ]
+holds 'an option of image is offered' [ "$(offered pmtrim image --po)" = --pool ]
 holds 'a file is offered' [ "$(offered pmtrim check examples/one_persist.tra)" = examples/one_persist.trace ]
 for shell in zsh fish; do
   if command -v "$shell" > /dev/null; then

@@ -3,4 +3,4 @@
 set -u
 cd "$(dirname "$0")/.." || exit 1
 . tests/lib/program.sh
-exec python3 tests/lib/documents.py "$program" README.md docs/MODEL.md docs/FORMAT.md docs/EXPLAIN.md
+exec python3 tests/lib/documents.py "$program" README.md docs/MODEL.md docs/FORMAT.md docs/EXPLAIN.md docs/REPLAY.md

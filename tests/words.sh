@@ -23,7 +23,7 @@ judge() {
   fi
 }
 
-for command in '' check explain trim fronts record draw; do
+for command in '' check explain trim fronts record draw image; do
   expect 0 'Statuses: ' ${command:+"$command"} --help
   expect 0 'Example: pmtrim' ${command:+"$command"} --help
 done
@@ -44,7 +44,7 @@ expect 2 "'+1'" fronts examples/one_persist.trace +1
 expect 2 'PLACE' fronts examples/one_persist.trace
 expect 2 "'b'" trim a b
 expect 2 'SCRIPT' record
-expect 2 '' record $(printf 'x%s ' {1..257})
+expect 2 '' record x{1..257}
 
 # Usage comes before files, files before what stands in them.
 expect 2 "'3'" trim --workers 3 "$folder/none"

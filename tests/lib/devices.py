@@ -191,10 +191,20 @@ def long_inputs(command):
     yield f"head -c {BOUND + 1} /dev/zero | tr '\\0' a", too_long
 
 
-def differences_over_long_inputs(program, command):
+def long_streams():
+    """The same for the stream: it has given out what came before the text got too long, but nothing from an open flush on."""
+    stores = TRACE[0] + b"store 0 0x0 01\n" * 100
+    head = "echo pmtrace 1; yes store 0 0x0 01 | head -n 100"
+    letters = "tr '\\0' a < /dev/zero"
+    too_long = Answer(3, stores, b"trace too long\n")
+    yield f"{head}; {letters}", too_long
+    yield f"{head}; echo clwb 0 0x0; echo store 0 0x8 02; {letters}", too_long
+
+
+def differences_over_long_inputs(program, command, inputs):
     """What is wrong with the answers to them."""
     complaints = []
-    for shell, right in long_inputs(command):
+    for shell, right in inputs:
         writer = subprocess.Popen(["bash", "-c", shell], stdout=subprocess.PIPE, stderr=subprocess.DEVNULL)
         with writer, writer.stdout as text:
             done = subprocess.run([program, *command.words], stdin=text, capture_output=True, timeout=60)
@@ -242,8 +252,9 @@ def main():
         judgements = [partial(finds_what_is_wrong, run), partial(examples_in_pieces, run), partial(explain_over_devices, run)]
         stream = Command(STREAM, TRACE, [Answer(0, b"".join(TRACE))])
         judgements.append(partial(differences, run, stream, stream_over_devices(stream)))
+        judgements.append(partial(differences_over_long_inputs, program, stream, long_streams()))
         for command in commands():
-            judgements.append(partial(differences_over_long_inputs, program, command))
+            judgements.append(partial(differences_over_long_inputs, program, command, long_inputs(command)))
             tables = [every_cut, every_read, every_write, every_write_of_a_fault, hostile_bytes]
             if not command.reads_script():
                 tables.append(refused_in_pieces)

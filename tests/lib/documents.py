@@ -2,8 +2,9 @@
 """Runs what documents show, and compares: documents.py PROGRAM FILE.md ..  The last line is 'N passed, M failed'.
 
 A block fenced as `console` holds commands, each after `$ `, and under each what it writes to both streams. It runs in a folder with
-`pmtrim`, `examples`, `crates` and `recorders`. A block fenced with two words, as `c recorder.c`, is written to a file of that name in that folder first.
+`pmtrim`, `examples`, `crates`, `recorders` and `replay`. A block fenced with two words, as `c recorder.c`, is written to a file of that name in that folder first.
 """
+import os
 import pathlib
 import re
 import subprocess
@@ -51,8 +52,9 @@ def main():
     for name in sys.argv[2:]:
         with tempfile.TemporaryDirectory() as folder:
             pathlib.Path(folder, "pmtrim").symlink_to(pathlib.Path(sys.argv[1]).resolve())
-            for shown in ("examples", "crates", "recorders"):
+            for shown in ("examples", "crates", "recorders", "replay"):
                 pathlib.Path(folder, shown).symlink_to(TOP / shown)
+            os.environ["PMTRIM"] = str(pathlib.Path(sys.argv[1]).resolve())
             counts = run_document(TOP / name, folder)
         if counts == (0, 0):
             print(f"{name}: shows no command")

@@ -4,6 +4,7 @@
 The JSON of small random traces is compared with explained.py. The texts of examples/explain and the faults below are written by hand.
 """
 import json
+import os
 import pathlib
 import random
 import subprocess
@@ -11,8 +12,9 @@ import sys
 import tempfile
 
 from examples import Counts
-from explained import Explained, judged
+from explained import KINDS, Explained, judged
 from explain_faults import faults
+from explained_text import wrong_screen, wrong_text
 from machine import FENCES, FLUSHES, Trace, spelled, text_of
 
 TOP = pathlib.Path(__file__).resolve().parents[2]
@@ -49,9 +51,24 @@ def random_words(choose, trace):
     return ignored, labels, choose.choice((0, 1, 2, 10, 10))
 
 
-def names_failures(explained, told):
-    """The text names each assertion that fails."""
-    return all(spelled(explained.trace.event(entry["event"]["event"])) in told.decode() for entry in explained.failures())
+def random_choice(choose, trace, labels):
+    """Which findings are asked for, and the words for that."""
+    asked = {}
+    if choose.random() < 0.3:
+        asked["only"] = choose.choice(KINDS)
+    if choose.random() < 0.3:
+        asked["thread"] = choose.randrange(3)
+    if choose.random() < 0.2:
+        asked["range"] = {"address": 0x1000 + choose.choice((-1, 0, 1, trace.size - 1, trace.size)), "length": choose.choice((1, 2, trace.size))}
+    if choose.random() < 0.2:
+        asked["from"] = choose.randrange(1, len(trace.events) + 2)
+    if choose.random() < 0.2:
+        asked["to"] = choose.randrange(asked.get("from", 1), len(trace.events) + 3)
+    if labels and choose.random() < 0.2:
+        asked["label"] = choose.choice(("1", "c:2", "call", "file.c:3"))
+    spelled_range = {"range": "{address:#x}:{length}".format(**asked["range"])} if "range" in asked else {}
+    words = [word for name, value in {**asked, **spelled_range}.items() for word in (f"--{name}", str(value))]
+    return asked, words
 
 
 def compare(program, folder, choose):
@@ -61,21 +78,30 @@ def compare(program, folder, choose):
     file, names = folder / "trace", folder / "labels"
     file.write_bytes(text_of([head, *map(spelled, trace.events)]))
     names.write_bytes(text_of(f"{number} {label}" for number, label in labels.items()))
-    explained = Explained(trace, ignored, labels)
+    asked, chosen = random_choice(choose, trace, labels) if choose.random() < 0.5 else ({}, [])
+    explained = Explained(trace, ignored, labels, asked)
     words = [word for start, length in ignored for word in ("--ignore", f"{start:#x}:{length}")]
-    words += ["--limit", str(limit)] * (limit != 10) + ["--labels", names] * bool(labels)
+    words += ["--limit", str(limit)] * (limit != 10) + ["--labels", names] * bool(labels) + chosen
     done = subprocess.run([program, "explain", *words, "--json", file], capture_output=True, timeout=120)
-    status = int(bool(explained.failures()) or any(not explained.is_ignored(store) for store in explained.lost_stores()))
+    status = int(bool(explained.failing()) or any(not explained.is_ignored(store) for store in explained.lost_stores()))
     wrong = None
     if (done.returncode, done.stderr) != (status, b""):
         wrong = f"status {done.returncode}, wanted {status}: {done.stderr.decode()}"
     wrong = wrong or judged(explained, done.stdout, limit)
-    text = subprocess.run([program, "explain", *words, file], capture_output=True, timeout=120)
-    if not wrong and (text.returncode, text.stderr) != (status, b""):
-        wrong = f"the text: status {text.returncode}: {text.stderr.decode()}"
-    if not wrong and limit == 10 and not names_failures(explained, text.stdout):
-        wrong = f"the text does not name a failure:\n{text.stdout.decode()}"
-    return wrong, f"{' '.join(map(str, words))}\n{file.read_text()}"
+    return wrong or compare_texts(program, explained, words, file, status), f"{' '.join(map(str, words))}\n{file.read_text()}"
+
+
+def compare_texts(program, explained, words, file, status):
+    """What is wrong with the text, if anything: all of it, and as much as a screen has."""
+    unlimited = [word for at, word in enumerate(words) if word != "--limit" and words[at - 1 : at] != ["--limit"]]
+    for more, judge in ((["--limit", "all"], wrong_text), ([], wrong_screen)):
+        done = subprocess.run([program, "explain", *unlimited, *more, file], capture_output=True, timeout=120)
+        if (done.returncode, done.stderr) != (status, b""):
+            return f"the text: status {done.returncode}: {done.stderr.decode()}"
+        wrong = judge(explained, done.stdout)
+        if wrong:
+            return f"the text: {wrong}"
+    return None
 
 
 def random_traces(program, folder, counts):
@@ -91,7 +117,7 @@ def examples(program, counts):
         first, _, rest = path.read_text().partition("\n")
         words, wanted = (first[2:].split(" "), rest) if first.startswith("$ ") else ([], f"{first}\n{rest}")
         trace = next(folder / f"{path.stem}.trace" for folder in PLACES if (folder / f"{path.stem}.trace").exists())
-        done = subprocess.run([program, "explain", *words, trace], capture_output=True, timeout=120, cwd=path.parent)
+        done = subprocess.run([program, "explain", *words, os.path.relpath(trace, path.parent)], capture_output=True, timeout=120, cwd=path.parent)
         told = done.stdout.decode() + done.stderr.decode()
         counts.expect(f"the text of {path.stem}", told == wanted and done.returncode in (0, 1), f"it wrote\n{told}")
 

@@ -70,12 +70,32 @@ BAD_LABELS = [
     (b"1 \xff\n", "l:1: the text of the label has bytes that can not be shown\n    1 \\xff\na text is UTF-8 without control characters\n"),
 ]
 
+RANGE = "a line is 'A:N', as a recorder writes it: the address of the first byte and how many bytes, as 0x1000:8\n"
+
+# The text of a file r of ranges, and what is told of it.
+BAD_RANGES = [
+    (b"0x1000:8\n0x1000\n", f"r:2: this is no range of bytes\n    0x1000\n{RANGE}"),
+    (b"\n", f"r:1: this is no range of bytes\n{RANGE}"),
+    (b"0x1000:8\n0x1000:0\n", f"r:2: this is no range of bytes\n    0x1000:0\n{RANGE}"),
+    (b"0x1000:8", "r:1: the line does not end\n    0x1000:8\neach line ends with LF, the last one too; the file may have been cut off here\n"),
+]
+
 # Words that are wrong, and a part of what is told.
 BAD_WORDS = [
     (["--ignore", "0x1000"], "0x1000:8"),
     (["--ignore", "1000:8"], "'1000:8'"),
     (["--ignore", "0x1000:0"], "'0x1000:0'"),
     (["--ignore", "0xffffffffffff:2"], "0xffffffffffff"),
+    (["--ignore-file"], "--ignore-file"),
+    (["--only", "failures"], "never_persisted"),
+    (["--thread", "256"], "from 0 to 255"),
+    (["--range", "0x1000"], "0x1000:8"),
+    (["--from", "0"], "'0'"),
+    (["--from", "3", "--to", "2"], "comes before"),
+    (["--label", "a"], "'--labels'"),
+    (["--labels", "l", "--label", ""], "a text that stands in labels"),
+    (["--failure", "1", "--only", "dropped"], "'--failure' stands without"),
+    (["--failure", "1", "t"], "event 1 is no assertion that a crash can violate"),
     (["--limit", "ten"], "a decimal number"),
     (["--limit", "01"], "'01'"),
     (["--limit", "1", "--limit", "2"], "--limit"),
@@ -107,6 +127,10 @@ def faults(program, folder, counts):
     for text, fault in BAD_LABELS:
         labels.write_bytes(text)
         expect(f"the labels {text[:40]}", told(["--labels", "l", "t"]), 3, fault)
+    for text, fault in BAD_RANGES:
+        (folder / "r").write_bytes(text)
+        expect(f"the ranges {text[:40]}", told(["--ignore-file", "r", "t"]), 3, fault)
+    labels.write_text("1 a\n")
     for words, part in BAD_WORDS:
         status, out, fault = told(words)
         counts.expect(f"the words {words}", (status, out) == (2, b"") and part in fault, f"{status} {fault}")
@@ -114,6 +138,7 @@ def faults(program, folder, counts):
     missing = "No such file or directory\n"
     expect("no trace", told(["none"]), 4, f"cannot open none: {missing}")
     expect("no labels", told(["--labels", "none", "t"]), 4, f"cannot open none: {missing}")
+    expect("no ranges", told(["--ignore-file", "none", "t"]), 4, f"cannot open none: {missing}")
     expect("labels before the trace", told(["--labels", "none.labels", "none"]), 4, f"cannot open none.labels: {missing}")
     expect("a folder", told(["d"]), 4, "cannot read d: Is a directory\n")
     with open("/dev/full", "wb") as full:

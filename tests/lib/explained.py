@@ -12,13 +12,17 @@ KINDS = ("failure", "never_persisted", "dropped", "overwritten", "unwritten")
 ANY_FLUSH = ("clflush", *FLUSHES)
 
 
-class Explained:
-    """The entries that a trace must have, with these ignored ranges and labels."""
+NOTHING = {"from": None, "label": None, "only": None, "range": None, "thread": None, "to": None}
 
-    def __init__(self, trace, ignored, labels):
+
+class Explained:
+    """The entries that a trace must have, with these ignored ranges, labels, and findings that are asked for."""
+
+    def __init__(self, trace, ignored, labels, asked=None):
         self.trace = trace
         self.ignored = ignored
         self.labels = labels
+        self.asked = {**NOTHING, **(asked or {})}
         self.end = len(trace.events)
         self.entries = list(itertools.chain.from_iterable(entries_at(trace, number) for number in trace.numbers))
 
@@ -38,11 +42,37 @@ class Explained:
         _, _, start, data = self.trace.event(store)
         return all(any(low <= byte < low + length for low, length in self.ignored) for byte in range(start, start + len(data)))
 
+    # What is asked for
+
+    def bytes_of(self, number):
+        """The bytes that an event stores or asserts, or those of the line that it flushes."""
+        word, _, *fields = self.trace.event(number)
+        if word == "store":
+            return set(range(fields[0], fields[0] + len(fields[1])))
+        if word in ANY_FLUSH:
+            start = self.trace.line(number) * self.trace.size
+            return set(range(start, start + self.trace.size))
+        spans = [(fields[at], fields[at + 1]) for at in range(0, len(fields), 2)]
+        return {byte for start, length in spans for byte in range(start, start + length)}
+
+    def is_asked(self, kind, number):
+        """Whether the finding of this kind at the event is asked for."""
+        asked, wanted = self.asked, self.asked["range"]
+        return (
+            asked["only"] in (None, kind)
+            and asked["thread"] in (None, self.trace.event(number)[1])
+            and (asked["from"] or 0) <= number <= (asked["to"] or self.end)
+            and (asked["label"] is None or asked["label"] in self.labels.get(number, ""))
+            and (wanted is None or any(wanted["address"] <= byte < wanted["address"] + wanted["length"] for byte in self.bytes_of(number)))
+        )
+
     # Failures
 
+    def failing(self):
+        return [int(entry.split(" ")[1]) for entry in self.entries if entry.endswith(" fail")]
+
     def failures(self):
-        failed = [int(entry.split(" ")[1]) for entry in self.entries if entry.endswith(" fail")]
-        return [self.failure(number) for number in failed]
+        return [self.failure(number) for number in self.failing() if self.is_asked("failure", number)]
 
     def byte_stores(self, span, place):
         """The last store to each byte of the range, the first by number and then by byte first."""
@@ -78,6 +108,7 @@ class Explained:
             {"cache_line": self.address(line), "persisted": counts.get(line, 0), "stores": len(self.trace.stores(line, place))}
             for line in self.trace.lines(place)
         ]
+        losing = [line for line in lines if line["persisted"] < line["stores"]]
         return {
             "kind": "failure",
             "event": self.event(number),
@@ -85,7 +116,8 @@ class Explained:
             "kept": kept and {"byte": hex(kept[1]), "store": self.event(kept[0])},
             "lost": {"byte": hex(lost[1]), "store": self.event(lost[0])},
             "cause": self.cause(lost[0], place),
-            "lines": lines,
+            "lines": losing,
+            "whole_lines": len(lines) - len(losing),
             "ranges": [self.memory(span, place, state) for span in spans],
         }
 
@@ -97,11 +129,12 @@ class Explained:
             if word == "store" and self.trace.is_persisted(state, number):
                 held.update({rest[0] + offset: (number, value) for offset, value in enumerate(rest[1])})
         nothing = (None, None)
-        cells = [(byte, *held.get(byte, nothing)) for byte in range(span[0], span[0] + span[1])]
+        cells = [held.get(byte, nothing) for byte in range(span[0], span[0] + span[1])]
         return {
             "address": hex(span[0]),
             "length": span[1],
-            "bytes": [{"byte": hex(byte), "store": store, "value": value} for byte, store, value in cells],
+            "stores": [store for store, _ in cells],
+            "values": [value for _, value in cells],
         }
 
     def cause(self, store, place):
@@ -123,7 +156,7 @@ class Explained:
     def never_persisted(self):
         groups = {}
         for store in self.lost_stores():
-            if not self.is_ignored(store):
+            if not self.is_ignored(store) and self.is_asked("never_persisted", store):
                 line, cause = self.trace.line(store), self.cause(store, self.end)
                 groups.setdefault((line, json.dumps(cause)), (line, cause, []))[2].append(store)
         return [
@@ -151,7 +184,7 @@ class Explained:
     def overwritten(self):
         groups = {}
         for earlier, later in self.pairs():
-            if not self.is_ignored(earlier):
+            if not self.is_ignored(earlier) and any(self.is_asked("overwritten", store) for store in (earlier, later)):
                 groups.setdefault(self.trace.line(earlier), []).append((earlier, later))
         return [
             {
@@ -167,8 +200,11 @@ class Explained:
 
     # What is dropped
 
+    def all_dropped(self):
+        return [number for number in self.trace.numbers if not is_kept(self.trace, number)]
+
     def dropped(self):
-        numbers = [number for number in self.trace.numbers if not is_kept(self.trace, number)]
+        numbers = [number for number in self.all_dropped() if self.is_asked("dropped", number)]
         return [{"kind": "dropped", "event": self.event(number), "reason": self.reason(number)} for number in numbers]
 
     def reason(self, number):
@@ -200,7 +236,7 @@ class Explained:
         found = []
         for number in self.trace.numbers:
             word, _, *fields = self.trace.event(number)
-            if word.startswith("is"):
+            if word.startswith("is") and self.is_asked("unwritten", number):
                 spans = [(fields[at], fields[at + 1]) for at in range(0, len(fields), 2)]
                 empty = [{"address": hex(start), "length": length} for start, length in spans if not self.trace.last_stores(start, length, number)]
                 if empty:
@@ -218,16 +254,18 @@ class Explained:
         lost, pairs = self.lost_stores(), self.pairs()
         counts = {kind: (sum(word in words_of for word in words)) for kind, words_of in (("flushes", ANY_FLUSH), ("fences", FENCES))}
         for kind, words_of in (("flushes", ANY_FLUSH), ("fences", FENCES)):
-            dropped = sum(entry["event"]["words"].split(" ")[0] in words_of for entry in entries["dropped"])
+            dropped = sum(trace.event(number)[0] in words_of for number in self.all_dropped())
             counts[f"{kind}_dropped"] = dropped
             counts[f"{kind}_dropped_percent"] = 100 * dropped // counts[kind] if counts[kind] else 0
         return {
             "kind": "summary",
+            "schema": 2,
+            "asked": self.asked_words(),
             "events": self.end,
             "threads": len({event[1] for event in trace.events}),
             "cache_lines": len(trace.lines(self.end)),
             "assertions": sum(word.startswith("is") for word in words),
-            "failing": len(entries["failure"]),
+            "failing": len(self.failing()),
             "stores": words.count("store"),
             "never_persisted": sum(not self.is_ignored(store) for store in lost),
             "ignored_never_persisted": sum(self.is_ignored(store) for store in lost),
@@ -236,6 +274,10 @@ class Explained:
             "more": {kind: max(0, len(found) - limit) for kind, found in entries.items()},
             **counts,
         }
+
+    def asked_words(self):
+        wanted = self.asked["range"]
+        return {**self.asked, "range": wanted and {**wanted, "address": hex(wanted["address"])}}
 
     def lines(self, limit):
         """What the JSON must have, but for what mends."""
@@ -249,14 +291,25 @@ def with_events(trace, after, events):
     return Trace(trace.size, [*trace.events[:after], *events, *trace.events[after:]])
 
 
+def without(trace, number):
+    """The trace without this event."""
+    return Trace(trace.size, [*trace.events[: number - 1], *trace.events[number:]])
+
+
+def put_in(explained, mend):
+    """The events that the mend wants put in."""
+    if mend["mend"] == "fence":
+        return [("sfence", mend["thread"])]
+    if mend["mend"] == "flush_and_fence":
+        return [("clwb", 0, int(mend["cache_line"], 16)), ("sfence", 0)]
+    store = mend["store"]
+    flushed = [] if mend["same_line"] else [("clwb", 0, explained.trace.line(store) * explained.trace.size), ("sfence", 0)]
+    return [explained.trace.event(store), *flushed]
+
+
 def is_mended(explained, mend, stores, place):
     """Whether what is told, put in as early and as late as it says, makes the stores safe by the place."""
-    trace = explained.trace
-    if mend["mend"] == "store_first":
-        return None
-    new = [("sfence", mend.get("thread", 0))]
-    if mend["mend"] == "flush_and_fence":
-        new = [("clwb", 0, int(mend["cache_line"], 16)), ("sfence", 0)]
+    trace, new = explained.trace, put_in(explained, mend)
     latest = len(trace.events) if mend["before"] is None else mend["before"] - 1
     if not mend["after"] <= latest or latest != place:
         return False
@@ -264,12 +317,33 @@ def is_mended(explained, mend, stores, place):
     return all(with_new.is_safe(store, place + len(new)) for with_new in mended for store in stores)
 
 
+def keeps_alone(trace, kept, lost, end):
+    """Whether a crash after at most so many events keeps the one store and loses the other."""
+    states = itertools.chain.from_iterable(trace.reached[kept : end + 1])
+    return any(trace.is_persisted(done, kept) and not trace.is_persisted(done, lost) for done in states)
+
+
+def is_stored_first(explained, entry, mend):
+    """Whether the store, made as early and as late as is told, is in no crash up to the assertion lost without the kept one."""
+    trace, lost, kept = explained.trace, entry["lost"]["store"]["event"], entry["kept"]["store"]["event"]
+    wanted = {"mend": "store_first", "store": lost, "before": kept, "same_line": trace.line(lost) == trace.line(kept)}
+    if mend != wanted or not entry["place"] == kept < lost:
+        return False
+    store, *flushed = put_in(explained, mend)
+    for at in (0, kept - 1):
+        early = with_events(without(trace, lost), at, [store])
+        for behind in (at + 1, kept):
+            mended = with_events(early, behind, flushed)
+            number = kept + 1 + len(flushed)
+            if mended.event(number) != trace.event(kept) or keeps_alone(mended, number, at + 1, entry["event"]["event"] + len(flushed)):
+                return False
+    return True
+
+
 def failure_is_mended(explained, entry, mend):
-    lost, kept = entry["lost"]["store"]["event"], entry["kept"]
     if mend["mend"] == "store_first":
-        same = explained.trace.line(lost) == explained.trace.line(kept["store"]["event"])
-        return mend == {"mend": "store_first", "store": lost, "before": entry["place"], "same_line": same} and lost > entry["place"]
-    return is_mended(explained, mend, [lost], entry["place"] - 1)
+        return is_stored_first(explained, entry, mend)
+    return is_mended(explained, mend, [entry["lost"]["store"]["event"]], entry["place"] - 1)
 
 
 def group_is_mended(explained, entry, mend):
@@ -278,10 +352,11 @@ def group_is_mended(explained, entry, mend):
         store
         for store in explained.lost_stores()
         if not explained.is_ignored(store)
+        and explained.is_asked("never_persisted", store)
         and explained.address(explained.trace.line(store)) == entry["cache_line"]
         and explained.cause(store, end) == entry["cause"]
     ]
-    return mend["before"] is None and is_mended(explained, mend, stores, end)
+    return mend["mend"] != "store_first" and mend["before"] is None and is_mended(explained, mend, stores, end)
 
 
 MENDED = {"failure": failure_is_mended, "never_persisted": group_is_mended}

@@ -1,3 +1,4 @@
+#!/usr/bin/env bash
 # For the tests that run the program: $program is the built one, which is built first where that is needed. PMTRIM names another.
 program=${PMTRIM:-}
 if [ -z "$program" ]; then

@@ -148,6 +148,22 @@ lines-from T i A B e o trace is passes line apart = (ranks, go (eqb_tells line e
 pub ordered-unwritten : (T : Recording) (i : ℕ) (A B : Span) → EachApart T None B (IsUnwritten T i) → OrderedPasses (history T i) A B
 ordered-unwritten T i A B none = (ordered-by T i A B).0 (λ b j a k. unwritten-before T i a b (none b j tt))
 
+abbrev no_store : Option Placed
+no_store = None
+
+-- an unwritten byte comes no later than any other
+before-unwritten : (T : Recording) (i a b : ℕ) → IsUnwritten T i a → IsNoLater T i a b
+before-unwritten T i a b none =
+    subst (λ o. IfSome (last_store b (history T i)) (λ y. IfSome o (λ x. NoLater (up_to_last b (history T i)) x y))) (sym none) (go (last_store b (history T i)))
+  where
+    go : (o : Option Placed) → IfSome o (λ y. IfSome no_store (λ x. NoLater (up_to_last b (history T i)) x y))
+    go None = tt
+    go (Some y) = tt
+
+-- where no byte of the first range is written, isOrderedBefore passes
+pub unwritten-ordered : (T : Recording) (i : ℕ) (A B : Span) → ((b : ℕ) → InSpan A b → IsUnwritten T i b) → OrderedPasses (history T i) A B
+unwritten-ordered T i A B none = (ordered-by T i A B).0 (λ b j a k. before-unwritten T i a b (none a k))
+
 -- a line is in order exactly if the last stores of the first range are ranked by the first one of the second
 pub ranked-line : (T : Recording) (i line : ℕ) (A B : Span) (o : Oldest) → IsOldestIn T i line B o → EachIn T line A (RankedBy T i o.rank) ↔ IsLineInOrder T i A B line
 ranked-line T i line A B o is = (there, back)

@@ -1,11 +1,11 @@
 //! The verdicts of the assertions of a trace.
-ghost use Rattle.std.specs.Prelude.{◌≡◌, ◌≢◌, ℕ, ◌+◌, ◌<◌, ◌≤◌, ◌^◌, ◌↔◌, IsTrue, IfOk, IfSome, length, Option, None, Some};
+ghost use Rattle.std.specs.Prelude.{◌≡◌, ◌≢◌, ℕ, ◌+◌, ◌<◌, ◌≤◌, ◌^◌, ◌↔◌, IsTrue, false, IfOk, IfSome, length, Option, None, Some};
 ghost use Rattle.std.specs.List.{list_any};
 ghost use Rattle.pmt_model.specs.Values.{line_of};
 ghost use Rattle.pmt_model.specs.Traces.{IsTrace, history};
 ghost use Rattle.pmt_model.specs.Assertions.{InSpan, PersistPasses, OrderedPasses};
 ghost use Rattle.pmt_model.specs.Analyses.{IsVerdicts};
-ghost use Rattle.pmt_asserts.specs.Tables.{AreResultsOf};
+ghost use Rattle.pmt_asserts.specs.Tables.{AreResultsOf, IsUnwritten};
 ghost use Rattle.pmt_asserts.specs.Judging.{AreAssertions, asserts, event_asserts, IsEarliestOf, IsVerdictAt, IsLineInOrder, IsLineOrdered, earlier_of, place_for};
 
 use crate::lines::LineAnswers;
@@ -60,8 +60,8 @@ fn assertions(alloc: Global, trace: &Trace) -> Result<Vec<u64>, OutOfMemory>
     Ok(numbers)
 }
 
-/// Whether the op is an assertion.
-pub fn is_assertion(op: Op) -> bool
+// Whether the op is an assertion.
+fn is_assertion(op: Op) -> bool
     ensures { result ≡ asserts op }
 {
     match op {
@@ -215,6 +215,9 @@ fn is_ordered<L: LineAnswers>(
     requires known { L.is_of lines.now trace.now number }
     ensures { IsTrue result ↔ OrderedPasses (history trace.now number) first second }
 {
+    if !is_written(lines, trace, number, first) {
+        return true;
+    }
     let Some(found) = earliest(lines, trace, number, second, None) else {
         return true;
     };
@@ -229,6 +232,22 @@ fn is_ordered<L: LineAnswers>(
         }
     }
     true
+}
+
+// Whether one of the events up to this number stores to a byte of the range.
+fn is_written<L: LineAnswers>(lines: &L, trace: &Trace, number: u64, range: Range) -> bool
+    requires { L.is_of lines.now trace.now number }
+    ensures { result ≡ false → (b : ℕ) → InSpan range b → IsUnwritten trace.now number b }
+{
+    let (first, end) = lines_of(trace, range);
+    let shift = lines.shift(first);
+    for line in first..end {
+        let spot = Spot { line, shift };
+        if lines.line_oldest(trace, range, spot, number).is_some() {
+            return true;
+        }
+    }
+    false
 }
 
 // The place by which the stores to a line have to be persisted: that of the earliest store to another line.

@@ -16,11 +16,8 @@ mod table;
 mod tables;
 mod writes;
 
-pub use crate::judge::{has_assertion, is_assertion, verdict, verdict_by, verdicts};
+pub use crate::judge::{has_assertion, verdict, verdict_by, verdicts};
 pub use crate::lines::LineAnswers;
 pub use crate::oldest::{Oldest, Part, Spot};
 pub use crate::part::part_of;
 pub use crate::tables::Tables;
-
-#[cfg(test)]
-mod tests;

@@ -13,6 +13,3 @@ mod touching;
 
 pub use crate::book::Book;
 pub use crate::fault::BookError;
-
-#[cfg(test)]
-mod tests;

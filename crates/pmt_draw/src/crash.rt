@@ -1,62 +1,154 @@
 //! The crashes that are drawn.
-use pmt_explain::{cause, failure};
-use pmt_model::{OutOfMemory, Trace, Verdict};
-use pmt_reasons::{Cause, Failure};
+use crate::known::Known;
+use crate::spans::line_of_op;
+use pmt_explain::{LostGroup, cause, crash_bytes, failure};
+use pmt_model::{Op, OutOfMemory, Range, Trace, WordStore};
+use pmt_reasons::{ByteStore, Cause, Failure};
 use std::alloc::Global;
 
-/// The crash that violates an assertion.
+/// An assertion.
 #[derive(Clone, Copy)]
-pub struct Crash {
-    /// The assertion's number.
-    pub assertion: u64,
+pub struct Assertion {
+    /// Its number.
+    pub number: u64,
     /// Whether it is an isOrderedBefore.
     pub ordered: bool,
-    /// Where the crash comes, and what it keeps and loses.
-    pub failure: Failure,
-    /// Why the lost store is not safe there.
-    pub cause: Option<Cause>,
 }
 
-/// The crash that violates the assertion of the verdict. None where it passes.
+/// A crash that violates an assertion, or one at the trace's end that loses stores for good.
+#[derive(Drop)]
+pub struct Crash {
+    /// The assertion; none of a crash at the end.
+    pub assertion: Option<Assertion>,
+    /// Where the crash comes, and what it keeps and loses first.
+    pub failure: Failure,
+    /// Why that lost store is not safe there.
+    pub cause: Option<Cause>,
+    /// The stores that it loses: of a failure the last ones to bytes of the range, or of the first one; at the end those to the line. By
+    /// rising number, each once.
+    pub lost: Vec<u64>,
+}
+
+impl Crash {
+    /// Whether it violates the assertion with this number.
+    pub fn is_of(&self, number: u64) -> bool {
+        match self.assertion {
+            Some(assertion) => assertion.number == number,
+            None => false,
+        }
+    }
+}
+
+/// The crash that violates the assertion with this number. None where it passes, or the event is no assertion.
 ///
 /// # Errors
 /// Where memory was refused.
-pub fn crash_of(
-    alloc: Global,
-    trace: &Trace,
-    verdict: Verdict,
-) -> Result<Option<Crash>, OutOfMemory> {
-    if verdict.pass {
-        return Ok(None);
-    }
-    let Some(failure) = failure(alloc, trace, verdict.event)? else {
+pub fn crash_of(alloc: Global, trace: &Trace, number: u64) -> Result<Option<Crash>, OutOfMemory> {
+    let Some(failure) = failure(alloc, trace, number)? else {
         return Ok(None);
     };
+    let Some(event) = trace.get(number) else {
+        return Ok(None);
+    };
+    let op = event.op;
+    let (ordered, range) = match op {
+        Op::IsPersist(range) => (false, range),
+        Op::IsOrderedBefore(first, _) => (true, first),
+        Op::Store(_) | Op::Clwb(_) | Op::ClflushOpt(_) | Op::Clflush(_) | Op::Sfence | Op::Mfence =>
+            return Ok(None),
+    };
     Ok(Some(Crash {
-        assertion: verdict.event,
-        ordered: verdict.ordered,
+        assertion: Some(Assertion { number, ordered }),
         failure,
         cause: cause(trace, failure.lost.store, failure.place),
+        lost: lost_of(alloc, trace, &failure, range, number)?,
     }))
 }
 
-/// The events that the crash's story needs, rising and each once.
+/// The crash at the trace's end that loses the stores of the group.
 ///
 /// # Errors
 /// Where memory was refused.
-pub fn needed_of(alloc: Global, crash: Crash) -> Result<Vec<u64>, OutOfMemory> {
-    let failure = crash.failure;
-    let mut numbers = vec![in alloc; failure.lost.store, crash.assertion]?;
-    if let Some(kept) = failure.kept {
-        numbers.push(kept.store)?;
-    }
-    if let Some(Cause::Unfenced { flush, other, .. }) = crash.cause {
-        numbers.push(flush)?;
-        if let Some(fence) = other {
-            numbers.push(fence)?;
+pub fn crash_at_end(
+    alloc: Global,
+    known: Known<'_>,
+    group: LostGroup,
+) -> Result<Crash, OutOfMemory> {
+    let format = known.trace.format();
+    let mut lost = Vec::new(alloc);
+    for number in known.never {
+        if let Some(event) = known.trace.get(*number) {
+            if line_of_op(format, event.op) == Some(group.line) {
+                lost.push(*number)?;
+            }
         }
     }
-    numbers.sort_unstable();
-    numbers.dedup();
-    Ok(numbers)
+    Ok(Crash {
+        assertion: None,
+        failure: Failure {
+            place: known.trace.len() as u64,
+            kept: None,
+            lost: ByteStore {
+                store: group.first,
+                byte: address_of_store(known.trace, group.first),
+            },
+        },
+        cause: Some(group.cause),
+        lost,
+    })
+}
+
+// The first byte of the store with this number; 0 where the event is none.
+fn address_of_store(trace: &Trace, number: u64) -> u64 {
+    let Some(event) = trace.get(number) else {
+        return 0;
+    };
+    let op = event.op;
+    match op {
+        Op::Store(written) => written.addr().get(),
+        _ => 0,
+    }
+}
+
+// The last stores to bytes of the range by event `at` that the crash does not keep, rising and each once.
+fn lost_of(
+    alloc: Global,
+    trace: &Trace,
+    failure: &Failure,
+    range: Range,
+    at: u64,
+) -> Result<Vec<u64>, OutOfMemory> {
+    let first = range.addr().get();
+    let left = crash_bytes(alloc, trace, failure, range)?;
+    let mut last = vec![in alloc; 0; left.len()]?;
+    for (index, event) in trace.events().iter().enumerate().take(at as usize) {
+        let op = event.op;
+        if let Op::Store(written) = op {
+            let number = (index as u64).saturating_add(1);
+            note_store(last.as_mut_slice(), first, &written, number);
+        }
+    }
+    let mut lost = Vec::new(alloc);
+    for (byte, store) in left.iter().zip(&last) {
+        let is_kept = byte.last.map(|stored| stored.store) == Some(*store);
+        if *store > 0 && !is_kept {
+            lost.push(*store)?;
+        }
+    }
+    lost.sort_unstable();
+    lost.dedup();
+    Ok(lost)
+}
+
+// Notes the store at each of its bytes among those from `first` on.
+fn note_store(last: &mut [u64], first: u64, written: &WordStore, number: u64) {
+    let start = written.addr().get();
+    for at in 0..written.bytes().len() as u64 {
+        let byte = start.saturating_add(at);
+        if first <= byte {
+            if let Some(place) = last.get_mut(byte.saturating_sub(first) as usize) {
+                *place = number;
+            }
+        }
+    }
 }

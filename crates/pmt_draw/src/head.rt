@@ -1,9 +1,12 @@
-//! What stands over the drawing: what fails, and what is left out.
+//! What stands over the drawing: what it is about, and what is left out.
 use crate::crash::Crash;
 use crate::layout::{EDGE, LINE, Layout};
 use crate::pen::Pen;
-use crate::picture::Picture;
-use crate::words::{push_assertion, push_cause, push_claim, push_shown};
+use crate::picture::{MOST_CRASHES, Picture};
+use crate::spans::address_of;
+use crate::subject::Subject;
+use crate::view::Span;
+use crate::words::{push_assertion, push_cause, push_claim, push_event, push_reason, push_shown};
 
 // The width of a letter of the told lines, in tenths of a pixel.
 const LETTER: u64 = 79;
@@ -20,19 +23,48 @@ pub fn push_head(pen: &mut Pen, picture: &Picture, layout: &Layout) -> u64 {
     push_headline(pen, picture);
     pen.put("</text>\n");
     let letters = layout.width.saturating_sub(2 * EDGE).saturating_mul(10) / LETTER;
-    let end = match picture.focus {
+    let end = match picture.focus() {
         Some(crash) => push_focus(pen, picture, crash, letters, top + 6),
-        None => top + 6,
+        None => push_about(pen, picture, letters, top + 6),
     };
-    push_left(pen, picture, letters, end).saturating_add(20)
+    push_left(pen, picture, letters, end).saturating_add(24)
 }
 
 // Adds the words of the first line, which is the page's title too.
 fn push_headline(pen: &mut Pen, picture: &Picture) {
-    if let Some(crash) = picture.focus {
-        push_assertion(pen, crash);
-        return;
+    match picture.subject {
+        Subject::Failure(_) => push_failure_headline(pen, picture),
+        Subject::Lost(group) => {
+            let line = address_of(picture.format, group.line);
+            pen.fill("Never persisted: #", &[group.count]);
+            pen.put(if group.count == 1 {
+                " store"
+            } else {
+                " stores"
+            });
+            pen.fill(" to line @", &[line]);
+        }
+        Subject::Dropped(event) => {
+            pen.fill("Event # has no effect", &[event.event]);
+        }
+        Subject::Overwritten(pair) => pen.fill(
+            "Store # is written over by store # before any flush",
+            &[pair.earlier, pair.later],
+        ),
+        Subject::Events => push_events_headline(pen, picture),
     }
+}
+
+// Adds which assertion fails.
+fn push_failure_headline(pen: &mut Pen, picture: &Picture) {
+    if let Some(crash) = picture.focus() {
+        push_assertion(pen, crash);
+        pen.put(".");
+    }
+}
+
+// Adds which events are drawn.
+fn push_events_headline(pen: &mut Pen, picture: &Picture) {
     match (picture.columns.first(), picture.columns.last()) {
         (Some(first), Some(last)) => pen.fill("Events # to #", &[first.number, last.number]),
         _ => pen.put("No events"),
@@ -40,11 +72,11 @@ fn push_headline(pen: &mut Pen, picture: &Picture) {
 }
 
 // Adds what the crash's assertion claims, where it is drawn, what the crash shows and why, and answers where that ends.
-fn push_focus(pen: &mut Pen, picture: &Picture, crash: Crash, letters: u64, top: u64) -> u64 {
+fn push_focus(pen: &mut Pen, picture: &Picture, crash: &Crash, letters: u64, top: u64) -> u64 {
     let mut claim = Pen::new(pen.alloc());
-    for column in picture.columns.iter() {
-        if column.number == crash.assertion {
-            push_claim(&mut claim, column, crash.ordered);
+    if let Some(assertion) = crash.assertion {
+        if let Some(column) = picture.column(assertion.number) {
+            push_claim(&mut claim, column, assertion.ordered);
         }
     }
     let y = push_told(pen, "told", &claim, letters, top);
@@ -56,14 +88,34 @@ fn push_focus(pen: &mut Pen, picture: &Picture, crash: Crash, letters: u64, top:
     push_told(pen, "told", &why, letters, y)
 }
 
+// Adds what is told of what the picture is about, where that is no crash, and answers where that ends.
+fn push_about(pen: &mut Pen, picture: &Picture, letters: u64, top: u64) -> u64 {
+    let mut words = Pen::new(pen.alloc());
+    if let Subject::Dropped(event) = picture.subject {
+        if let Some(column) = picture.column(event.event) {
+            push_event(&mut words, column);
+            words.put(": ");
+        }
+        push_reason(&mut words, event.reason);
+        words.put(".");
+    }
+    push_told(pen, "told", &words, letters, top)
+}
+
 // Adds what is drawn and what is left out, and answers where that ends.
 fn push_left(pen: &mut Pen, picture: &Picture, letters: u64, top: u64) -> u64 {
     let columns = picture.columns.len() as u64;
     let rows = picture.rows.len() as u64;
     let mut words = Pen::new(pen.alloc());
     words.fill(
-        "Drawn: # of # events, # of # lines.",
-        &[columns, picture.events, rows, picture.lines],
+        "Drawn: # of # events, # of # cache lines of # bytes.",
+        &[
+            columns,
+            picture.events,
+            rows,
+            picture.lines,
+            picture.format.line_size(),
+        ],
     );
     let left = picture.events.saturating_sub(columns);
     if left > 0 {
@@ -74,8 +126,27 @@ fn push_left(pen: &mut Pen, picture: &Picture, letters: u64, top: u64) -> u64 {
             "."
         });
     }
+    push_cut(&mut words, picture);
     push_unshown(&mut words, picture);
     push_told(pen, "told soft", &words, letters, top)
+}
+
+// Adds what of the events that were asked for is not drawn.
+fn push_cut(words: &mut Pen, picture: &Picture) {
+    if let Span::Between { first, last } = picture.span {
+        if picture.cut > 0 {
+            words.fill(
+                " Of the events # to # that were asked for, # have no room.",
+                &[first, last, picture.cut],
+            );
+        }
+        if last > picture.events {
+            words.fill(
+                " Event # was asked for, and the trace ends at event #.",
+                &[last, picture.events],
+            );
+        }
+    }
 }
 
 // Adds what of the drawn events has no room.
@@ -86,10 +157,17 @@ fn push_unshown(words: &mut Pen, picture: &Picture) {
             &[picture.hidden],
         );
     }
+    let mut crowded: u64 = 0;
+    for row in &picture.rows {
+        crowded = crowded.saturating_add(row.crowded);
+    }
+    if crowded > 0 {
+        words.fill(" Bars that have no room in their rows: #.", &[crowded]);
+    }
     if picture.untold > 0 {
         words.fill(
-            " Failed assertions whose crash has no room: #.",
-            &[picture.untold],
+            " Failed assertions whose crash has no room: # (# are drawn).",
+            &[picture.untold, MOST_CRASHES as u64],
         );
     }
 }

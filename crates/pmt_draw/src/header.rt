@@ -1,32 +1,32 @@
 //! The columns: each event's words, and its mark in the row of its thread.
-use crate::labels::{Label, label_of};
-use crate::layout::{Layout, Slot};
+use crate::labels::{Label, label_of, push_cut, room_of};
+use crate::layout::Layout;
+use crate::marks::push_mark;
+use crate::page::Page;
 use crate::pen::Pen;
 use crate::picture::{Column, Picture};
 use crate::spans::{address_of, line_of_op};
-use crate::svg::Page;
-use crate::words::{push_escaped, push_event_words, push_reason, word_of};
-use pmt_model::Op;
+use crate::words::{push_event_words, push_reason, word_of};
 
-// The most letters of a label over a column.
-const LABEL_LETTERS: usize = 24;
+// The most letters of a label that stands upright.
+const LABEL_LETTERS: u64 = 28;
+
+// The room between the label of a column and that of the next one.
+const APART: u64 = 14;
 
 // The width of a letter over a column, in tenths of a pixel.
 const LETTER: u64 = 67;
 
-/// The height of what stands over the threads' rows: the names of the crashes, and the words of the columns.
-pub fn header_height(picture: &Picture, layout: &Layout, labels: &[Label]) -> u64 {
-    let crashes = 16u64.saturating_mul(picture.crashes.len() as u64);
-    let words = if layout.is_flat() {
-        54
-    } else {
-        let mut letters: u64 = 0;
-        for column in &picture.columns {
-            letters = letters.max(letters_of(column, labels));
-        }
-        letters.saturating_mul(LETTER) / 10 + 20
-    };
-    crashes.saturating_add(words)
+/// The height of the words of the columns.
+pub fn words_height(picture: &Picture, layout: &Layout, labels: &[Label]) -> u64 {
+    if layout.is_flat() {
+        return 54;
+    }
+    let mut letters: u64 = 0;
+    for column in &picture.columns {
+        letters = letters.max(letters_of(column, labels));
+    }
+    letters.saturating_mul(LETTER) / 10 + 20
 }
 
 // How many letters stand upright over the column.
@@ -34,23 +34,25 @@ fn letters_of(column: &Column, labels: &[Label]) -> u64 {
     let word = word_of(column.event.op).len() as u64;
     let digits = column.number.checked_ilog10().unwrap_or(0) as u64;
     let label = match label_of(labels, column.number) {
-        Some(label) => label.len().min(LABEL_LETTERS).saturating_add(1),
+        Some(label) => room_of(label).min(LABEL_LETTERS).saturating_add(1),
         None => 0,
     };
     word.saturating_add(digits)
-        .saturating_add(label as u64)
+        .saturating_add(label)
         .saturating_add(2)
 }
 
 /// Adds the columns, from left to right, and the dots where events are left out.
 pub fn push_columns(pen: &mut Pen, page: Page<'_>) {
-    for (column, slot) in page.picture.columns.iter().zip(&page.layout.slots) {
+    for slot in &page.band.slots {
         if let Some(x) = slot.gap {
             push_gap(pen, page, x);
         }
-        push_column(pen, page, column, slot);
+        if let Some(column) = page.picture.column(slot.number) {
+            push_column(pen, page, column);
+        }
     }
-    if let Some(x) = page.layout.gap {
+    if let Some(x) = page.band.gap {
         push_gap(pen, page, x);
     }
 }
@@ -59,15 +61,15 @@ pub fn push_columns(pen: &mut Pen, page: Page<'_>) {
 fn push_gap(pen: &mut Pen, page: Page<'_>, x: u64) {
     let top = page.threads;
     pen.fill(
-        "<g class='gap'><title>events are left out here</title><line class='cut' x1='#' y1='#' x2='#' y2='#'/><text class='soft mid' x='#' y='#'>...</text></g>\n",
+        "<g class='gap'><title>events are left out here</title><line class='cut' x1='#' y1='#' x2='#' y2='#'/><text class='soft mid' x='#' y='#'>…</text></g>\n",
         &[x, top, x, page.end, x, top.saturating_sub(6)],
     );
 }
 
 // Adds an event: its words over the column, and its mark in its thread's row.
-fn push_column(pen: &mut Pen, page: Page<'_>, column: &Column, slot: &Slot) {
+fn push_column(pen: &mut Pen, page: Page<'_>, column: &Column) {
     let thread = column.event.thread;
-    let x = slot.left.saturating_add(page.layout.column / 2);
+    let x = page.band.middle(column.number);
     pen.fill(
         "<g class='event' data-event='#' data-thread='#' data-x='#'",
         &[column.number, thread as u64, x],
@@ -75,12 +77,15 @@ fn push_column(pen: &mut Pen, page: Page<'_>, column: &Column, slot: &Slot) {
     if let Some(line) = line_of_op(page.picture.format, column.event.op) {
         pen.fill(" data-line='@'", &[address_of(page.picture.format, line)]);
     }
+    if let Some(fence) = column.fence {
+        pen.fill(" data-fence='#'", &[fence]);
+    }
     pen.put("><title>");
     push_event_words(pen, column, page.labels);
     push_judgement(pen, column);
     pen.put("</title>");
     push_words(pen, page, column, x);
-    let y = page.layout.thread_middle(thread, page.threads);
+    let y = page.band.thread_middle(thread, page.threads);
     push_mark(pen, column, x, y);
     pen.put("</g>\n");
 }
@@ -93,6 +98,7 @@ fn push_judgement(pen: &mut Pen, column: &Column) {
         None => {}
     }
     if let Some(reason) = column.dropped {
+        pen.put(": no effect, since ");
         push_reason(pen, reason);
     }
 }
@@ -119,7 +125,7 @@ fn push_upright(pen: &mut Pen, page: Page<'_>, column: &Column, label: &str, x: 
         ],
     );
     pen.put(word_of(column.event.op));
-    pen.put(" <tspan class='soft'>");
+    pen.put(" <tspan class='soft label'>");
     push_cut(pen, label, LABEL_LETTERS);
     pen.put("</tspan></text>");
 }
@@ -144,97 +150,11 @@ fn push_flat(pen: &mut Pen, page: Page<'_>, column: &Column, x: u64) {
 fn push_label(pen: &mut Pen, page: Page<'_>, label: &str, x: u64) {
     if !label.is_empty() {
         pen.fill(
-            "<text class='mid soft' x='#' y='#'>",
+            "<text class='mid soft label' x='#' y='#'>",
             &[x, page.threads.saturating_sub(10)],
         );
-        let most = page.layout.column.saturating_mul(10) / LETTER;
-        push_cut(pen, label, most as usize);
+        let most = page.layout.column.saturating_sub(APART).saturating_mul(10) / LETTER;
+        push_cut(pen, label, most);
         pen.put("</text>");
-    }
-}
-
-// Adds the label; where it has more bytes than there is room for letters, the first of its letters, and dots.
-fn push_cut(pen: &mut Pen, label: &str, most: usize) {
-    if label.len() <= most {
-        push_escaped(pen, label);
-        return;
-    }
-    let room = most.saturating_sub(1);
-    let mut end = 0;
-    for (index, letter) in label.char_indices() {
-        if index < room {
-            end = index.saturating_add(letter.len_utf8());
-        }
-    }
-    push_escaped(pen, label.get(..end).unwrap_or(""));
-    pen.letter('…');
-}
-
-// Adds the mark of the event, around this point.
-fn push_mark(pen: &mut Pen, column: &Column, x: u64, y: u64) {
-    let class = if column.dropped.is_some() {
-        "mark dropped"
-    } else {
-        "mark"
-    };
-    match column.event.op {
-        Op::Store(_) => push_box(pen, "dot", x, y, 4, 4),
-        Op::Clwb(_) | Op::ClflushOpt(_) => push_triangle(pen, class, x, y),
-        Op::Clflush(_) => {
-            push_triangle(pen, class, x, y);
-            let (left, right) = (x.saturating_sub(7), x.saturating_add(7));
-            pen.fill(
-                "<path class='mark' d='M# #H#'/>",
-                &[left, y.saturating_add(9), right],
-            );
-        }
-        Op::Sfence | Op::Mfence => push_box(pen, class, x, y, 3, 9),
-        Op::IsPersist(_) | Op::IsOrderedBefore(_, _) => {
-            push_verdict(pen, column.pass == Some(true), x, y)
-        }
-    }
-}
-
-// Adds a box around this point, with half its width and height.
-fn push_box(pen: &mut Pen, class: &str, x: u64, y: u64, wide: u64, high: u64) {
-    pen.shape(
-        "rect",
-        class,
-        "x='#' y='#' width='#' height='#'/>",
-        &[
-            x.saturating_sub(wide),
-            y.saturating_sub(high),
-            wide.saturating_mul(2),
-            high.saturating_mul(2),
-        ],
-    );
-}
-
-// Adds a triangle that points down.
-fn push_triangle(pen: &mut Pen, class: &str, x: u64, y: u64) {
-    let (left, right) = (x.saturating_sub(7), x.saturating_add(7));
-    let (top, low) = (y.saturating_sub(6), y.saturating_add(6));
-    pen.shape(
-        "path",
-        class,
-        "d='M# #H#L# #Z'/>",
-        &[left, top, right, x, low],
-    );
-}
-
-// Adds the mark of an assertion: a tick where it passes, a cross where it fails.
-fn push_verdict(pen: &mut Pen, pass: bool, x: u64, y: u64) {
-    let (left, right) = (x.saturating_sub(4), x.saturating_add(4));
-    let (top, low) = (y.saturating_sub(4), y.saturating_add(4));
-    if pass {
-        pen.fill(
-            "<circle class='pass' cx='#' cy='#' r='8'/><path class='tick' d='M# #L# #L# #'/>",
-            &[x, y, left, y, x, low, right, top],
-        );
-    } else {
-        pen.fill(
-            "<circle class='fail' cx='#' cy='#' r='8'/><path class='cross' d='M# #L# #M# #L# #'/>",
-            &[x, y, left, top, right, low, right, top, left, low],
-        );
     }
 }

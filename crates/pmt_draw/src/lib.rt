@@ -4,30 +4,42 @@
 //! page is tested.
 #![tactic(auto)]
 
+mod asserted;
+mod band;
 pub mod bars;
 pub mod crash;
 mod head;
 mod header;
+pub mod known;
 mod labels;
 mod layout;
 mod legend;
+mod marks;
 mod numbered;
+mod page;
 mod pen;
 pub mod picture;
 mod related;
 mod rows;
+mod segments;
 mod spans;
+mod story;
 mod style;
+pub mod subject;
 mod svg;
 mod threads;
 mod veil;
 pub mod view;
+mod waiting;
 mod window;
 mod words;
 
+pub use crate::asserted::{Asserted, Role};
 pub use crate::bars::{Bar, Flush, Row};
 pub use crate::crash::Crash;
+pub use crate::known::Known;
 pub use crate::labels::Label;
-pub use crate::picture::{Column, Known, Picture, picture_of};
+pub use crate::picture::{Column, Picture, picture_of};
+pub use crate::subject::{Refusal, Subject, refusal_of};
 pub use crate::svg::svg_text;
 pub use crate::view::{Span, View};

@@ -63,6 +63,15 @@ impl Pen {
         }
     }
 
+    /// Adds the bytes, each as two hexadecimal digits.
+    pub fn bytes(&mut self, bytes: &[u8]) {
+        for byte in bytes {
+            if !self.refused {
+                self.refused = write!(self.text, "{byte:02x}").is_err();
+            }
+        }
+    }
+
     /// Adds the form, with the next of the numbers in place of each '#', and the next as an address in place of each '@'.
     pub fn fill(&mut self, form: &str, numbers: &[u64]) {
         let mut left = numbers.iter();

@@ -1,33 +1,22 @@
 //! The picture as values: which events and lines are drawn, and what is told of each.
-use crate::bars::{Row, row_of};
-use crate::crash::{Crash, crash_of, needed_of};
-use crate::numbered::{count_before, is_listed};
-use crate::related::related;
-use crate::spans::{line_of_op, lines_of_addresses, lines_of_assertion};
-use crate::view::{MOST_COLUMNS, MOST_ROWS, Span, View};
-use crate::window::window;
-use pmt_explain::Dropped;
+use crate::asserted::{Asserted, asserted_of};
+use crate::bars::{Drawn, Row, row_of};
+use crate::crash::{Crash, crash_at_end, crash_of};
+use crate::known::Known;
+use crate::numbered::{is_listed, push_once};
+use crate::spans::{line_of_op, lines_of_addresses};
+use crate::story::{Story, lines_in_focus, story_of};
+use crate::subject::{Subject, subject_of};
+use crate::view::{MOST_ROWS, Span, View};
+use crate::waiting::{is_fence, waits_for_fence};
 use pmt_lines::{Jobs, run_line, split};
-use pmt_model::{Event, Format, Op, OutOfMemory, Trace, Verdict};
+use pmt_model::{Event, Format, OutOfMemory, Trace};
 use pmt_reasons::Reason;
 use pmt_text::ListSource;
 use std::alloc::{AllocError, Global};
 
 /// The most crashes that a picture shows.
-pub const MOST_CRASHES: usize = 6;
-
-/// What is known of a trace.
-#[derive(Clone, Copy)]
-pub struct Known<'a> {
-    /// The trace.
-    pub trace: &'a Trace,
-    /// How many lines are stored or flushed in it.
-    pub lines: u64,
-    /// The verdicts of its assertions, in event order.
-    pub verdicts: &'a [Verdict],
-    /// The events that are dropped, by rising number, each with its reason.
-    pub dropped: &'a [Dropped],
-}
+pub const MOST_CRASHES: usize = 12;
 
 /// An event that is drawn.
 #[derive(Clone, Copy)]
@@ -53,18 +42,58 @@ pub struct Picture {
     pub events: u64,
     /// How many lines are stored or flushed in the trace.
     pub lines: u64,
+    /// Which events were asked for.
+    pub span: Span,
+    /// How many of them have no room.
+    pub cut: u64,
+    /// What the picture is about.
+    pub subject: Subject,
     /// The events that are drawn, by rising number.
     pub columns: Vec<Column>,
     /// The lines that are drawn, by rising address.
     pub rows: Vec<Row>,
     /// How many lines that the events touch are left out.
     pub hidden: u64,
-    /// The failure that the picture is about.
-    pub focus: Option<Crash>,
-    /// The crashes of the failed assertions that are drawn, at most `MOST_CRASHES`.
+    /// The bytes of the failed assertion that the picture is about.
+    pub asserted: Vec<Asserted>,
+    /// The crashes that are drawn, at most `MOST_CRASHES`, by their places.
     pub crashes: Vec<Crash>,
     /// How many other failed assertions are drawn.
     pub untold: u64,
+}
+
+impl Picture {
+    /// The crash that the picture is about, if it is about one.
+    pub fn focus(&self) -> Option<&Crash> {
+        self.crashes
+            .iter()
+            .find(|crash| is_crash_of(crash, self.subject))
+    }
+
+    /// Whether the stores that the crash tells of are framed: it is what the picture is about, or the only one.
+    pub fn frames(&self, crash: &Crash) -> bool {
+        self.crashes.len() == 1 || is_crash_of(crash, self.subject)
+    }
+
+    /// The column of the event with this number, if it is drawn.
+    pub fn column(&self, number: u64) -> Option<&Column> {
+        match self
+            .columns
+            .binary_search_by_key(&number, |column| column.number)
+        {
+            Ok(index) => self.columns.get(index),
+            Err(_) => None,
+        }
+    }
+}
+
+// Whether the picture of the subject is about the crash.
+fn is_crash_of(crash: &Crash, subject: Subject) -> bool {
+    match subject {
+        Subject::Failure(number) => crash.is_of(number),
+        Subject::Lost(_) => crash.assertion.is_none(),
+        Subject::Dropped(_) | Subject::Overwritten(_) | Subject::Events => false,
+    }
 }
 
 /// The picture of the view of the trace of which this is known.
@@ -75,115 +104,64 @@ pub fn picture_of(alloc: Global, known: Known<'_>, view: &View) -> Result<Pictur
     let trace = known.trace;
     let format = trace.format();
     let kept = lines_of_addresses(alloc, format, view.kept.as_slice())?;
-    let focus = focus_of(alloc, known, view.span, kept.as_slice())?;
-    let numbers = numbers_of(alloc, trace, view.span, kept.as_slice(), focus)?;
+    let kept = kept.as_slice();
+    let subject = subject_of(alloc, known, view.span, kept)?;
+    let focus = focus_of(alloc, known, subject)?;
+    let Story { numbers, cut } = story_of(alloc, known, view.span, kept, subject, focus.as_ref())?;
     let numbers = numbers.as_slice();
     let columns = columns_of(alloc, known, numbers)?;
-    let crashes = crashes_of(alloc, known, numbers, focus)?;
-    let untold = failing_of(columns.as_slice()).saturating_sub(crashes.len() as u64);
-    let touched = touched_lines(alloc, format, columns.as_slice(), kept.as_slice(), focus)?;
+    let touched = touched_lines(alloc, trace, columns.as_slice(), kept, focus.as_ref())?;
     let chosen = chosen_lines(alloc, touched.as_slice())?;
-    let rows = rows_of(alloc, trace, chosen.as_slice(), numbers)?;
+    let asserted = asserted_in(alloc, trace, focus.as_ref())?;
+    let crashes = crashes_of(alloc, known, numbers, focus)?;
+    let untold = failing_of(columns.as_slice()).saturating_sub(failures_in(crashes.as_slice()));
+    let rows = rows_of(alloc, trace, chosen.as_slice(), numbers, crashes.as_slice())?;
     Ok(Picture {
         format,
         events: trace.len() as u64,
         lines: known.lines,
+        span: view.span,
+        cut,
+        subject,
         columns,
         rows,
         hidden: touched.len().saturating_sub(chosen.len()) as u64,
-        focus,
+        asserted,
         crashes,
         untold,
     })
 }
 
-// The first failure of an assertion about the kept lines, where the view asks for it.
+// The crash of the subject, if it has one.
 fn focus_of(
     alloc: Global,
     known: Known<'_>,
-    span: Span,
-    kept: &[u64],
+    subject: Subject,
 ) -> Result<Option<Crash>, OutOfMemory> {
-    if span != Span::Failure {
-        return Ok(None);
-    }
-    let trace = known.trace;
-    for verdict in known.verdicts {
-        if !verdict.pass && speaks_of(alloc, trace, *verdict, kept)? {
-            return crash_of(alloc, trace, *verdict);
+    match subject {
+        Subject::Failure(number) => crash_of(alloc, known.trace, number),
+        Subject::Lost(group) => {
+            let crash = crash_at_end(alloc, known, group)?;
+            Ok(Some(crash))
         }
+        Subject::Dropped(_) | Subject::Overwritten(_) | Subject::Events => Ok(None),
     }
-    Ok(None)
 }
 
-// Whether the assertion reaches into one of the kept lines, all being kept where none is named.
-fn speaks_of(
+// The bytes of the assertion that the crash violates.
+fn asserted_in(
     alloc: Global,
     trace: &Trace,
-    verdict: Verdict,
-    kept: &[u64],
-) -> Result<bool, OutOfMemory> {
-    if kept.is_empty() {
-        return Ok(true);
-    }
-    let Some(event) = trace.get(verdict.event) else {
-        return Ok(false);
-    };
-    let lines = lines_of_assertion(alloc, trace.format(), event.op, kept)?;
-    Ok(!lines.is_empty())
-}
-
-// The numbers of the events that are drawn.
-fn numbers_of(
-    alloc: Global,
-    trace: &Trace,
-    span: Span,
-    kept: &[u64],
-    focus: Option<Crash>,
-) -> Result<Vec<u64>, OutOfMemory> {
+    focus: Option<&Crash>,
+) -> Result<Vec<Asserted>, OutOfMemory> {
     if let Some(crash) = focus {
-        let needed = needed_of(alloc, crash)?;
-        let candidates = story_of(alloc, trace, kept, crash)?;
-        return window(alloc, span, candidates.as_slice(), needed.as_slice());
-    }
-    let all = related(alloc, trace, kept)?;
-    let mut needed = Vec::new(alloc);
-    if let Span::Around(number) = span {
-        if trace.get(number).is_some() {
-            needed.push(number)?;
+        if let Some(assertion) = crash.assertion {
+            if let Some(event) = trace.get(assertion.number) {
+                return asserted_of(alloc, event.op);
+            }
         }
     }
-    window(alloc, span, all.as_slice(), needed.as_slice())
-}
-
-// The events that matter to the lines of the failed assertion; where they are too many for a picture, those that matter to the lines
-// of the lost and the kept store.
-fn story_of(
-    alloc: Global,
-    trace: &Trace,
-    kept: &[u64],
-    crash: Crash,
-) -> Result<Vec<u64>, OutOfMemory> {
-    let format = trace.format();
-    if let Some(event) = trace.get(crash.assertion) {
-        let lines = lines_of_assertion(alloc, format, event.op, kept)?;
-        let all = related(alloc, trace, lines.as_slice())?;
-        if count_before(all.as_slice(), crash.assertion) < MOST_COLUMNS {
-            return Ok(all);
-        }
-    }
-    let mut lines = Vec::new(alloc);
-    push_crash_lines(&mut lines, format, crash)?;
-    related(alloc, trace, lines.as_slice())
-}
-
-// Adds the lines of the lost and the kept store.
-fn push_crash_lines(lines: &mut Vec<u64>, format: Format, crash: Crash) -> Result<(), OutOfMemory> {
-    push_once(lines, crash.failure.lost.byte / format.line_size())?;
-    if let Some(byte) = crash.failure.kept {
-        push_once(lines, byte.byte / format.line_size())?;
-    }
-    Ok(())
+    Ok(Vec::new(alloc))
 }
 
 // The events with these numbers.
@@ -197,43 +175,42 @@ fn columns_of(
         let Some(Event { thread, op }) = known.trace.get(*number) else {
             continue;
         };
-        if matches!(op, Op::Sfence | Op::Mfence) {
-            note_fence(columns.as_mut_slice(), thread, *number);
-        }
         columns.push(Column {
             number: *number,
             event: Event { thread, op },
-            dropped: reason_of(known.dropped, *number),
-            pass: verdict_of(known.verdicts, *number),
+            dropped: known.reason(*number),
+            pass: known.pass(*number),
             fence: None,
         })?;
     }
+    note_fences(columns.as_mut_slice(), known.trace, numbers);
     Ok(columns)
 }
 
-// Notes the fence at the flushes of its thread that no fence follows yet.
-fn note_fence(columns: &mut [Column], thread: u8, number: u64) {
-    for column in columns {
-        let is_flush = matches!(column.event.op, Op::Clwb(_) | Op::ClflushOpt(_));
-        if is_flush && column.event.thread == thread && column.fence.is_none() {
-            column.fence = Some(number);
+// Notes at each flush that is drawn the next fence of its thread.
+fn note_fences(columns: &mut [Column], trace: &Trace, numbers: &[u64]) {
+    let last = numbers.last().copied().unwrap_or(0);
+    let mut waits = [false; 256];
+    for (index, event) in trace.events().iter().enumerate().take(last as usize) {
+        let number = (index as u64).saturating_add(1);
+        let op = event.op;
+        if waits_for_fence(&op) && is_listed(numbers, number) {
+            waits[event.thread as usize] = true;
+        }
+        if is_fence(&op) && waits[event.thread as usize] {
+            waits[event.thread as usize] = false;
+            note_fence(columns, event.thread, number);
         }
     }
 }
 
-// Why the event with this number is dropped, if it is.
-fn reason_of(dropped: &[Dropped], number: u64) -> Option<Reason> {
-    match dropped.binary_search_by_key(&number, |other| other.event) {
-        Ok(index) => dropped.get(index).map(|other| other.reason),
-        Err(_) => None,
-    }
-}
-
-// Whether the assertion with this number passes.
-fn verdict_of(verdicts: &[Verdict], number: u64) -> Option<bool> {
-    match verdicts.binary_search_by_key(&number, |verdict| verdict.event) {
-        Ok(index) => verdicts.get(index).map(|verdict| verdict.pass),
-        Err(_) => None,
+// Notes the fence at the flushes of its thread before it that no fence follows yet.
+fn note_fence(columns: &mut [Column], thread: u8, number: u64) {
+    for column in columns {
+        let waits = waits_for_fence(&column.event.op) && column.number < number;
+        if waits && column.event.thread == thread && column.fence.is_none() {
+            column.fence = Some(number);
+        }
     }
 }
 
@@ -247,8 +224,10 @@ fn crashes_of(
     let mut crashes = Vec::new(alloc);
     let mut told = 0;
     if let Some(crash) = focus {
+        if let Some(assertion) = crash.assertion {
+            told = assertion.number;
+        }
         crashes.push(crash)?;
-        told = crash.assertion;
     }
     for verdict in known.verdicts {
         if crashes.len() < MOST_CRASHES
@@ -256,7 +235,7 @@ fn crashes_of(
             && !verdict.pass
             && is_listed(numbers, verdict.event)
         {
-            if let Some(crash) = crash_of(alloc, known.trace, *verdict)? {
+            if let Some(crash) = crash_of(alloc, known.trace, verdict.event)? {
                 crashes.push(crash)?;
             }
         }
@@ -276,38 +255,41 @@ fn failing_of(columns: &[Column]) -> u64 {
     failing
 }
 
-// The lines that may be drawn, each once, those first that matter most: of the failure, then those that are kept by name, then the others that the
-// events touch, the last first.
+// How many of these crashes violate an assertion.
+fn failures_in(crashes: &[Crash]) -> u64 {
+    let mut failures: u64 = 0;
+    for crash in crashes {
+        if crash.assertion.is_some() {
+            failures = failures.saturating_add(1);
+        }
+    }
+    failures
+}
+
+// The lines that may be drawn, each once, those first that matter most: of the crash, then those that are kept by name, then the others that
+// the events touch, the last first.
 fn touched_lines(
     alloc: Global,
-    format: Format,
+    trace: &Trace,
     columns: &[Column],
     kept: &[u64],
-    focus: Option<Crash>,
+    focus: Option<&Crash>,
 ) -> Result<Vec<u64>, OutOfMemory> {
-    let mut lines = Vec::new(alloc);
-    if let Some(crash) = focus {
-        push_crash_lines(&mut lines, format, crash)?;
-    }
+    let mut lines = match focus {
+        Some(crash) => lines_in_focus(alloc, trace, crash)?,
+        None => Vec::new(alloc),
+    };
     for line in kept {
         push_once(&mut lines, *line)?;
     }
     if kept.is_empty() {
         for column in columns.iter().rev() {
-            if let Some(line) = line_of_op(format, column.event.op) {
+            if let Some(line) = line_of_op(trace.format(), column.event.op) {
                 push_once(&mut lines, line)?;
             }
         }
     }
     Ok(lines)
-}
-
-// Adds the line unless it is there.
-fn push_once(lines: &mut Vec<u64>, line: u64) -> Result<(), OutOfMemory> {
-    if !lines.as_slice().contains(&line) {
-        lines.push(line)?;
-    }
-    Ok(())
 }
 
 // The first of these lines, by rising number.
@@ -335,15 +317,32 @@ fn first_events(alloc: Global, trace: &Trace, numbers: &[u64]) -> Result<Trace, 
     Ok(first)
 }
 
+// The places of these crashes, rising and each once.
+fn places_of(alloc: Global, crashes: &[Crash]) -> Result<Vec<u64>, OutOfMemory> {
+    let mut places = Vec::with_capacity(alloc, crashes.len())?;
+    for crash in crashes {
+        places.push(crash.failure.place)?;
+    }
+    places.sort_unstable();
+    places.dedup();
+    Ok(places)
+}
+
 // The rows of these lines, up to the last of these events.
 fn rows_of(
     alloc: Global,
     trace: &Trace,
     lines: &[u64],
     numbers: &[u64],
+    crashes: &[Crash],
 ) -> Result<Vec<Row>, OutOfMemory> {
-    let drawn = first_events(alloc, trace, numbers)?;
-    let mut source = ListSource::new(&drawn);
+    let first = first_events(alloc, trace, numbers)?;
+    let places = places_of(alloc, crashes)?;
+    let drawn = Drawn {
+        columns: numbers,
+        places: places.as_slice(),
+    };
+    let mut source = ListSource::new(&first);
     let Ok(
         Jobs {
             trace: _,
@@ -358,9 +357,20 @@ fn rows_of(
     for job in jobs {
         if is_listed(lines, job.line()) {
             let found = run_line(alloc, job)?;
-            rows.push(row_of(alloc, &found, numbers)?)?;
+            rows.push(row_of(alloc, &found, drawn)?)?;
         }
     }
+    push_empty_rows(alloc, &mut rows, lines)?;
     rows.sort_by_key(|row| row.line)?;
     Ok(rows)
+}
+
+// Adds a row with no bar for each of the lines that has none.
+fn push_empty_rows(alloc: Global, rows: &mut Vec<Row>, lines: &[u64]) -> Result<(), OutOfMemory> {
+    for line in lines {
+        if !rows.iter().any(|row| row.line == *line) {
+            rows.push(Row::new(alloc, *line))?;
+        }
+    }
+    Ok(())
 }

@@ -1,5 +1,6 @@
 //! The events that matter to some lines.
 use crate::spans::{is_among, lines_of};
+use crate::waiting::is_fence;
 use pmt_model::{Addr, Event, Format, Op, OutOfMemory, Range, Trace};
 use std::alloc::Global;
 
@@ -49,4 +50,17 @@ fn touches(format: Format, lines: &[u64], addr: Addr, mark: &mut bool) -> bool {
 fn meets(format: Format, lines: &[u64], range: Range) -> bool {
     let (first, last) = lines_of(format, range);
     lines.iter().any(|line| first <= *line && *line <= last)
+}
+
+/// Whether an event stores to the line, flushes it or asserts anything of it.
+pub fn touches_any(trace: &Trace, line: u64) -> bool {
+    let format = trace.format();
+    let mut touched = [false; 256];
+    for event in trace.events() {
+        let op = event.op;
+        if !is_fence(&op) && matters(format, &[line], event, &mut touched) {
+            return true;
+        }
+    }
+    false
 }

@@ -1,6 +1,7 @@
 //! The lines that an event speaks of.
 ghost use Rattle.std.specs.Prelude.{◌≤◌};
 
+use crate::numbered::push_once;
 use pmt_model::{Addr, Format, Op, OutOfMemory, Range, line_of};
 use std::alloc::Global;
 
@@ -51,7 +52,8 @@ pub fn lines_of_assertion(
             push_range(&mut lines, format, first, kept)?;
             push_range(&mut lines, format, second, kept)?;
         }
-        _ => {}
+        Op::Store(_) | Op::Clwb(_) | Op::ClflushOpt(_) | Op::Clflush(_) | Op::Sfence | Op::Mfence =>
+            {}
     }
     lines.sort_unstable();
     lines.dedup();
@@ -72,6 +74,26 @@ fn push_range(
         }
     }
     Ok(())
+}
+
+/// Adds the first and the last line of each of the assertion's ranges, those that are not there.
+pub fn push_ends(lines: &mut Vec<u64>, format: Format, op: Op) -> Result<(), OutOfMemory> {
+    match op {
+        Op::IsPersist(range) => push_both(lines, format, range),
+        Op::IsOrderedBefore(first, second) => {
+            push_both(lines, format, first)?;
+            push_both(lines, format, second)
+        }
+        Op::Store(_) | Op::Clwb(_) | Op::ClflushOpt(_) | Op::Clflush(_) | Op::Sfence | Op::Mfence =>
+            Ok(()),
+    }
+}
+
+// Adds the first and the last line of the range, those that are not there.
+fn push_both(lines: &mut Vec<u64>, format: Format, range: Range) -> Result<(), OutOfMemory> {
+    let (first, last) = lines_of(format, range);
+    push_once(lines, first)?;
+    push_once(lines, last)
 }
 
 /// The first address of the line.

@@ -2,7 +2,7 @@
 
 /// The rules of the picture.
 pub const STYLE: &str = "
-svg { color-scheme: light dark; --paper: #ffffff; --ink: #1b1f24; --soft: #5d6670; --line: #d6dbe0; --band: #f3f5f7; --pending: #f6b99a; --pending-ink: #a33b00; --flushed: #fbe6a2; --flushed-ink: #8a6500; --safe: #b9dcf2; --safe-ink: #00588f; --crash: #b00020; font-family: 'DejaVu Sans Mono', 'Liberation Mono', Menlo, Consolas, monospace; font-size: 11px; }
+svg { color-scheme: light dark; --paper: #ffffff; --ink: #1b1f24; --soft: #5d6670; --line: #d6dbe0; --band: #f3f5f7; --pending: #f6b99a; --pending-ink: #a33b00; --flushed: #fbe6a2; --flushed-ink: #8a6500; --safe: #b9dcf2; --safe-ink: #00588f; --crash: #b00020; font-family: 'DejaVu Sans Mono', 'Liberation Mono', Menlo, Consolas, monospace, 'Noto Sans Mono CJK SC', 'Noto Sans CJK SC', 'Noto Sans', sans-serif; font-size: 11px; }
 @media (prefers-color-scheme: dark) { svg { --paper: #14181d; --ink: #e8ecf0; --soft: #9da7b2; --line: #38414b; --band: #1c2229; --pending: #6b3018; --pending-ink: #ffb08a; --flushed: #5a4a10; --flushed-ink: #ffe08a; --safe: #0f4668; --safe-ink: #9fd6ff; --crash: #ff6b7d; } }
 @page { size: landscape; margin: 10mm; }
 @media print { svg { width: 100%; height: auto; max-height: 100vh; --paper: #ffffff; --ink: #000000; --soft: #444444; --line: #bbbbbb; --band: #ffffff; --pending: #f6b99a; --pending-ink: #a33b00; --flushed: #fbe6a2; --flushed-ink: #8a6500; --safe: #b9dcf2; --safe-ink: #00588f; --crash: #b00020; } * { print-color-adjust: exact; -webkit-print-color-adjust: exact; } }
@@ -36,12 +36,19 @@ text { fill: var(--ink); }
 .cross { fill: none; stroke: var(--paper); stroke-width: 2; }
 .crash { stroke: var(--crash); stroke-width: 2.2; stroke-dasharray: 7 3; }
 .crash-word { fill: var(--crash); font-weight: bold; }
+.unfenced { fill: var(--crash); stroke: var(--crash); stroke-width: 1.6; stroke-linejoin: round; }
+.shout { fill: none; stroke: var(--paper); stroke-width: 2; }
+.stored { fill: none; stroke: var(--ink); stroke-width: 1; }
+.lost-store { fill: none; stroke: var(--crash); stroke-width: 2; }
+.asserted { fill: var(--crash); }
+.asserted-side { fill: var(--crash); }
 .lost { fill: none; stroke: var(--crash); stroke-width: 2.4; }
 .kept { fill: none; stroke: var(--safe-ink); stroke-width: 2.4; }
 .tag-lost { fill: var(--crash); }
 .tag-kept { fill: var(--safe-ink); }
 .tag-word { fill: var(--paper); font-weight: bold; }
 .small { font-size: 9px; }
+.tiny { font-size: 10px; }
 ";
 
 /// The hatchings.

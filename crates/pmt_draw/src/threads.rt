@@ -1,19 +1,19 @@
 //! The rows of the threads, and how long each flush waits for a fence of its thread.
 use crate::layout::{LEFT, THREAD};
+use crate::page::Page;
 use crate::pen::Pen;
 use crate::picture::Column;
-use crate::svg::Page;
-use pmt_model::Op;
+use crate::waiting::waits_for_fence;
 
 /// Adds the rows of the threads, without the marks of their events.
 pub fn push_threads(pen: &mut Pen, page: Page<'_>) {
     let mut top = page.threads;
-    for thread in &page.layout.threads {
+    for thread in &page.band.threads {
         push_name(pen, page, top);
         pen.fill("thread #</text>\n", &[*thread as u64]);
         top = top.saturating_add(THREAD);
     }
-    if page.layout.others {
+    if page.band.others {
         push_name(pen, page, top);
         pen.put("other threads</text>\n");
     }
@@ -28,31 +28,30 @@ fn push_name(pen: &mut Pen, page: Page<'_>, top: u64) {
     let low = top.saturating_add(THREAD / 2 + 4);
     pen.fill(
         "<line class='rule' x1='#' y1='#' x2='#' y2='#'/>",
-        &[LEFT, middle, page.layout.right, middle],
+        &[LEFT, middle, page.band.right, middle],
     );
     pen.fill("<text class='end' x='#' y='#'>", &[LEFT - 14, low]);
 }
 
-// Adds the line from a flush to the next fence of its thread, or to the end. Threads that share a row have none, since there it would not
-// say whose it is.
+// Adds the line from a flush to the next fence of its thread, or to the end, as far as this band has it. Threads that share a row have none,
+// since there it would not say whose it is.
 fn push_wait(pen: &mut Pen, page: Page<'_>, column: &Column) {
-    if !matches!(column.event.op, Op::Clwb(_) | Op::ClflushOpt(_)) {
-        return;
-    }
     let thread = column.event.thread;
-    if !page.layout.threads.as_slice().contains(&thread) {
+    if !waits_for_fence(&column.event.op) || !page.band.threads.as_slice().contains(&thread) {
         return;
     }
-    let y = page.layout.thread_middle(thread, page.threads);
-    let from = page.layout.middle(column.number);
+    let y = page.band.thread_middle(thread, page.threads);
+    let from = page.band.middle(column.number);
     let (class, to) = match column.fence {
-        Some(fence) => ("wait", page.layout.middle(fence)),
-        None => ("wait never", page.layout.right),
+        Some(fence) => ("wait", page.band.middle(fence)),
+        None => ("wait never", page.band.right),
     };
-    pen.shape(
-        "line",
-        class,
-        "x1='#' y1='#' x2='#' y2='#'/>\n",
-        &[from, y, to, y],
-    );
+    if from < to {
+        pen.shape(
+            "line",
+            class,
+            "x1='#' y1='#' x2='#' y2='#'/>\n",
+            &[from, y, to, y],
+        );
+    }
 }

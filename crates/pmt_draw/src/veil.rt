@@ -1,41 +1,83 @@
-//! The crashes: a line through the picture, with the store that is lost and the one that is kept.
+//! The crashes: a line through the band, with the stores that are lost and the one that is kept.
+use crate::band::{Side, lane_top};
+use crate::bars::Bar;
 use crate::crash::Crash;
-use crate::layout::{BAR, lane_top, row_height};
+use crate::layout::BAR;
+use crate::page::Page;
 use crate::pen::Pen;
-use crate::svg::Page;
-use crate::words::{assertion_word, push_assertion, push_cause, push_shown};
+use crate::spans::line_of_op;
+use crate::words::{push_assertion, push_cause, push_shown};
 
-// The width of a letter of a crash's name, in tenths of a pixel.
-const LETTER: u64 = 67;
+/// The height of a crash's name.
+pub const NAME_LINE: u64 = 16;
 
-/// Adds the crashes, each with its name over the columns.
+/// Adds the crashes of the band, each with its name over the columns: a crash further to the right has its name further down, so that
+/// no line crosses a name.
 pub fn push_crashes(pen: &mut Pen, page: Page<'_>) {
     let mut y = page.crashes;
-    for (crash, x) in page.picture.crashes.iter().zip(&page.layout.crashes) {
-        push_crash(pen, page, *crash, *x, y);
-        y = y.saturating_add(16);
+    for side in &page.band.sides {
+        if let Some(crash) = page.picture.crashes.get(side.crash) {
+            push_crash(pen, page, crash, *side, y);
+        }
+        y = y.saturating_add(NAME_LINE);
+    }
+    for (index, crash) in page.picture.crashes.iter().enumerate() {
+        if !page.band.sides.iter().any(|side| side.crash == index) {
+            push_losses(pen, page, crash);
+        }
     }
 }
 
-// Adds a crash, whose line stands at this side and whose name at this height.
-fn push_crash(pen: &mut Pen, page: Page<'_>, crash: Crash, x: u64, y: u64) {
+// Marks the stores of the band that a crash of another band loses.
+fn push_losses(pen: &mut Pen, page: Page<'_>, crash: &Crash) {
+    let mut top = page.rows;
+    for row in &page.picture.rows {
+        for bar in &row.bars {
+            if page.band.has_bar(bar) {
+                let lane = lane_top(top, bar.lane);
+                for store in &crash.lost {
+                    if has_store(page, bar, row.line, *store) {
+                        push_lost_store(pen, page, *store, lane);
+                    }
+                }
+            }
+        }
+        top = top.saturating_add(page.row_height(row));
+    }
+}
+
+// Adds a crash, whose name stands at this height.
+fn push_crash(pen: &mut Pen, page: Page<'_>, crash: &Crash, side: Side, y: u64) {
     push_group(pen, crash);
     push_title(pen, crash);
-    push_line(pen, page, crash, x, y);
-    let place = crash.failure.place;
-    push_told(pen, page, crash.failure.lost.store, place, x, "lost");
-    if let Some(kept) = crash.failure.kept {
-        push_told(pen, page, kept.store, place, x, "kept");
+    push_line(pen, page, crash, side.x, y);
+    let mut top = page.rows;
+    for row in &page.picture.rows {
+        for bar in &row.bars {
+            if page.band.has_bar(bar) {
+                let told = Told {
+                    line: row.line,
+                    top: lane_top(top, bar.lane),
+                    x: side.x,
+                };
+                push_bar_marks(pen, page, crash, bar, told);
+            }
+        }
+        top = top.saturating_add(page.row_height(row));
     }
     pen.put("</g>\n");
 }
 
 // Opens the crash's group, which names the assertion, the place and the stores.
-fn push_group(pen: &mut Pen, crash: Crash) {
+fn push_group(pen: &mut Pen, crash: &Crash) {
     let failure = crash.failure;
+    pen.put("<g class='crash-line'");
+    if let Some(assertion) = crash.assertion {
+        pen.fill(" data-event='#'", &[assertion.number]);
+    }
     pen.fill(
-        "<g class='crash-line' data-event='#' data-place='#' data-lost='#'",
-        &[crash.assertion, failure.place, failure.lost.store],
+        " data-place='#' data-lost='#' data-losses='#'",
+        &[failure.place, failure.lost.store, crash.lost.len() as u64],
     );
     if let Some(kept) = failure.kept {
         pen.fill(" data-kept='#'", &[kept.store]);
@@ -44,10 +86,10 @@ fn push_group(pen: &mut Pen, crash: Crash) {
 }
 
 // Adds what is told of the crash.
-fn push_title(pen: &mut Pen, crash: Crash) {
+fn push_title(pen: &mut Pen, crash: &Crash) {
     pen.put("<title>");
     push_assertion(pen, crash);
-    pen.put(" ");
+    pen.put(". ");
     push_shown(pen, crash);
     pen.put(" ");
     push_cause(pen, crash);
@@ -55,72 +97,105 @@ fn push_title(pen: &mut Pen, crash: Crash) {
 }
 
 // Adds the crash's line, with its name at this height.
-fn push_line(pen: &mut Pen, page: Page<'_>, crash: Crash, x: u64, y: u64) {
+fn push_line(pen: &mut Pen, page: Page<'_>, crash: &Crash, x: u64, y: u64) {
     pen.fill(
-        "<line class='crash' x1='#' y1='#' x2='#' y2='#'/>",
-        &[x, y, x, page.end],
+        "<line class='crash' x1='#' y1='#' x2='#' y2='#'/><text class='crash-word' x='#' y='#'>crash: ",
+        &[x, y.saturating_sub(10), x, page.end, x.saturating_add(6), y],
     );
-    let mut words = Pen::new(pen.alloc());
-    words.fill("crash after event #: ", &[crash.failure.place]);
-    words.put(assertion_word(crash));
-    words.fill(" # fails", &[crash.assertion]);
-    push_name(pen, page, &words, x, y);
-}
-
-// Adds the name of a crash, on the side of its line where there is room.
-fn push_name(pen: &mut Pen, page: Page<'_>, words: &Pen, x: u64, y: u64) {
-    let wide = words.len().saturating_mul(LETTER) / 10;
-    let has_room = x.saturating_add(wide).saturating_add(12) <= page.layout.width;
-    let (class, at) = if has_room {
-        ("crash-word halo", x.saturating_add(6))
-    } else {
-        ("crash-word halo end", x.saturating_sub(6))
-    };
-    pen.shape("text", class, "x='#' y='#'>", &[at, y.saturating_add(4)]);
-    pen.share(words);
-    pen.put(words.as_str());
+    push_assertion(pen, crash);
     pen.put("</text>");
 }
 
-// Marks the store's bar where the crash right after event `place`, whose line stands at this side, crosses it.
-fn push_told(pen: &mut Pen, page: Page<'_>, store: u64, place: u64, x: u64, class: &str) {
-    let mut top = page.rows;
-    for row in &page.picture.rows {
-        for bar in &row.bars {
-            if bar.store == store {
-                let from = if store <= place {
-                    page.layout.middle(store)
-                } else {
-                    x
-                };
-                push_tag(pen, from, x, lane_top(top, bar.lane), class);
-                return;
-            }
+// Where a bar stands that a crash tells of.
+#[derive(Clone, Copy)]
+struct Told {
+    // The number of its line.
+    line: u64,
+    // The top of its lane.
+    top: u64,
+    // Where the crash's line stands.
+    x: u64,
+}
+
+// Marks the bar's stores that the crash loses or keeps, where its line crosses the bar.
+fn push_bar_marks(pen: &mut Pen, page: Page<'_>, crash: &Crash, bar: &Bar, told: Told) {
+    let mut lost: u64 = 0;
+    for store in &crash.lost {
+        if has_store(page, bar, told.line, *store) {
+            lost = lost.saturating_add(1);
+            push_lost_store(pen, page, *store, told.top);
         }
-        top = top.saturating_add(row_height(row));
+    }
+    if lost > 0 {
+        let is_later = crash.failure.place < bar.store;
+        push_frame(pen, page, crash, bar, told, "lost");
+        push_tag(pen, told, "lost", if is_later { "later" } else { "lost" });
+    }
+    if let Some(kept) = crash.failure.kept {
+        if has_store(page, bar, told.line, kept.store) {
+            push_frame(pen, page, crash, bar, told, "kept");
+            push_tag(pen, told, "kept", "kept");
+        }
     }
 }
 
-// Adds the frame of a bar that begins at `from`, up to the crash at `x`, and the word beside it.
-fn push_tag(pen: &mut Pen, from: u64, x: u64, top: u64, class: &str) {
-    let (y, high) = (top.saturating_sub(2), BAR + 4);
-    pen.shape(
-        "rect",
-        class,
-        "x='#' y='#' width='#' height='#'/><rect class='tag-",
-        &[from.min(x), y, x.saturating_sub(from), high],
-    );
+// Whether the store with this number is drawn in the bar of the line.
+fn has_store(page: Page<'_>, bar: &Bar, line: u64, store: u64) -> bool {
+    match page.picture.column(store) {
+        Some(column) => {
+            let at = line_of_op(page.picture.format, column.event.op);
+            bar.drawn > 0 && bar.has(store) && at == Some(line)
+        }
+        None => false,
+    }
+}
+
+// Marks a lost store where it begins, if the band has it.
+fn push_lost_store(pen: &mut Pen, page: Page<'_>, store: u64, lane: u64) {
+    if page.band.has_event(store) {
+        let x = page.band.middle(store);
+        let (left, right) = (x.saturating_sub(3), x.saturating_add(3));
+        let (top, low) = (lane.saturating_sub(6), lane);
+        pen.fill(
+            "<path class='lost-store' data-store='#' d='M# #L# #M# #L# #'/>",
+            &[store, left, top, right, low, right, top, left, low],
+        );
+    }
+}
+
+// Adds the frame of a bar from its first store to the crash, where the picture frames what the crash tells of.
+fn push_frame(pen: &mut Pen, page: Page<'_>, crash: &Crash, bar: &Bar, told: Told, class: &str) {
+    let from = page.band.middle(bar.store).min(told.x);
+    if page.picture.frames(crash) && from < told.x {
+        pen.shape(
+            "rect",
+            class,
+            "x='#' y='#' width='#' height='#'/>",
+            &[
+                from,
+                told.top.saturating_sub(2),
+                told.x.saturating_sub(from),
+                BAR + 4,
+            ],
+        );
+    }
+}
+
+// Adds the word right of the crash's line, in the bar's lane.
+fn push_tag(pen: &mut Pen, told: Told, class: &str, word: &str) {
+    let y = told.top.saturating_sub(2);
+    pen.put("<rect class='tag-");
     pen.put(class);
     pen.fill(
         "' x='#' y='#' width='40' height='#' rx='3'/><text class='tag-word' x='#' y='#'>",
         &[
-            x.saturating_add(4),
+            told.x.saturating_add(4),
             y,
-            high,
-            x.saturating_add(8),
-            top.saturating_add(11),
+            BAR + 4,
+            told.x.saturating_add(8),
+            told.top.saturating_add(11),
         ],
     );
-    pen.put(if from < x { class } else { "later" });
+    pen.put(word);
     pen.put("</text>");
 }

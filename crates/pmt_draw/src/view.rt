@@ -9,8 +9,10 @@ pub const MOST_ROWS: usize = 30;
 /// Which events are asked for. Events go by their numbers, from 1.
 #[derive(Clone, Copy, Debug, PartialEq, Eq)]
 pub enum Span {
-    /// What led to the first assertion that fails; where none does, the first events.
-    Failure,
+    /// What is told of the trace first.
+    First,
+    /// What led to the failure of the assertion with this number.
+    Failure(u64),
     /// The events around this one.
     Around(u64),
     /// The events from `first` to `last`.

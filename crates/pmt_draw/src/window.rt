@@ -1,14 +1,30 @@
 //! Which events are drawn.
 use crate::numbered::count_before;
-use crate::view::{MOST_COLUMNS, Span};
+use crate::view::MOST_COLUMNS;
 use pmt_model::OutOfMemory;
 use std::alloc::Global;
 
-/// The events that are drawn, by rising number: at most `MOST_COLUMNS` of the candidates, those that the span asks for, with the needed
-/// ones. Both lists rise.
+/// Which of the candidates matter most.
+#[derive(Clone, Copy)]
+pub enum Aim {
+    /// The last ones up to this event.
+    UpTo(u64),
+    /// Those around this event.
+    Around(u64),
+    /// Those from this event on, with some before it.
+    From(u64),
+    /// Those from `first` to `last`, the first ones first.
+    Between { first: u64, last: u64 },
+}
+
+// How many candidates come before the event from which on they matter.
+const BEFORE: usize = 20;
+
+/// The events that are drawn, by rising number: at most `MOST_COLUMNS` of the candidates, those that matter most, with the needed ones.
+/// Both lists rise.
 pub fn window(
     alloc: Global,
-    span: Span,
+    aim: Aim,
     candidates: &[u64],
     needed: &[u64],
 ) -> Result<Vec<u64>, OutOfMemory> {
@@ -17,7 +33,7 @@ pub fn window(
     for number in needed.iter().take(MOST_COLUMNS) {
         numbers.push(*number)?;
     }
-    let (from, to) = bounds(span, candidates, needed, room);
+    let (from, to) = bounds(aim, candidates, room);
     let mut left = room;
     for number in candidates.iter().skip(from).take(to.saturating_sub(from)) {
         if left > 0 && !needed.contains(number) {
@@ -29,24 +45,34 @@ pub fn window(
     Ok(numbers)
 }
 
-// Which of the candidates are asked for: the index of the first, and the one past the last.
-fn bounds(span: Span, candidates: &[u64], needed: &[u64], room: usize) -> (usize, usize) {
-    match span {
-        Span::Failure => match needed.last() {
-            Some(last) => {
-                let end = count_before(candidates, last.saturating_add(1));
-                (end.saturating_sub(room), end)
-            }
-            None => (0, candidates.len()),
-        },
-        Span::Around(number) => {
-            let at = count_before(candidates, number);
-            let end = at.saturating_add(room / 2 + 1).min(candidates.len());
-            (end.saturating_sub(room), candidates.len())
+// Which of the candidates are drawn while there is room: the index of the first, and the one past the last.
+fn bounds(aim: Aim, candidates: &[u64], room: usize) -> (usize, usize) {
+    let all = candidates.len();
+    match aim {
+        Aim::UpTo(number) => {
+            let end = count_before(candidates, number.saturating_add(1));
+            (end.saturating_sub(room), end)
         }
-        Span::Between { first, last } => (
+        Aim::Around(number) => {
+            let at = count_before(candidates, number);
+            let end = at.saturating_add(room / 2 + 1).min(all);
+            (end.saturating_sub(room), all)
+        }
+        Aim::From(number) => {
+            let at = count_before(candidates, number).saturating_sub(BEFORE);
+            (at.min(all.saturating_sub(room)), all)
+        }
+        Aim::Between { first, last } => (
             count_before(candidates, first),
             count_before(candidates, last.saturating_add(1)),
         ),
     }
+}
+
+/// How many of the candidates from `first` to `last` are not drawn.
+pub fn cut_of(candidates: &[u64], numbers: &[u64], first: u64, last: u64) -> u64 {
+    let end = last.saturating_add(1);
+    let asked = count_before(candidates, end).saturating_sub(count_before(candidates, first));
+    let drawn = count_before(numbers, end).saturating_sub(count_before(numbers, first));
+    asked.saturating_sub(drawn) as u64
 }

@@ -1,5 +1,5 @@
 //! The words of the picture.
-use crate::crash::Crash;
+use crate::crash::{Assertion, Crash};
 use crate::labels::{Label, label_of};
 use crate::pen::Pen;
 use crate::picture::Column;
@@ -21,23 +21,32 @@ pub fn word_of(op: Op) -> &'static str {
     }
 }
 
-/// Adds the text, so that it stands for itself inside an element or an attribute. Characters that XML has not are shown as '?'.
+/// Adds the text, so that it stands for itself inside an element or an attribute.
 pub fn push_escaped(pen: &mut Pen, words: &str) {
     for letter in words.chars() {
-        match letter {
-            '&' => pen.put("&amp;"),
-            '<' => pen.put("&lt;"),
-            '>' => pen.put("&gt;"),
-            '\'' => pen.put("&#39;"),
-            '"' => pen.put("&quot;"),
-            '\u{0}'..='\u{1f}' | '\u{fffe}' | '\u{ffff}' => pen.letter('?'),
-            _ => pen.letter(letter),
-        }
+        push_letter(pen, letter);
     }
 }
 
-// Adds the event as a trace spells it.
-fn push_event(pen: &mut Pen, column: &Column) {
+/// Adds the letter, so that it stands for itself. Characters that XML has not, and those that turn the direction of the letters after
+/// them, are shown as '?'.
+pub fn push_letter(pen: &mut Pen, letter: char) {
+    match letter {
+        '&' => pen.put("&amp;"),
+        '<' => pen.put("&lt;"),
+        '>' => pen.put("&gt;"),
+        '\'' => pen.put("&#39;"),
+        '"' => pen.put("&quot;"),
+        '\u{0}'..='\u{1f}' | '\u{7f}'..='\u{9f}' | '\u{fffe}' | '\u{ffff}' => pen.letter('?'),
+        '\u{200e}' | '\u{200f}' | '\u{202a}'..='\u{202e}' | '\u{2066}'..='\u{2069}' => pen.letter(
+            '?',
+        ),
+        _ => pen.letter(letter),
+    }
+}
+
+/// Adds the event as a trace spells it.
+pub fn push_event(pen: &mut Pen, column: &Column) {
     let Event { thread, op } = column.event;
     let Ok(mut line) = write_event(pen.alloc(), Event { thread, op }) else {
         pen.refuse();
@@ -60,8 +69,8 @@ pub fn push_event_words(pen: &mut Pen, column: &Column, labels: &[Label]) {
     }
 }
 
-/// Adds why the lost store is not safe, as a sentence; nothing where no cause is known.
-pub fn push_cause(pen: &mut Pen, crash: Crash) {
+/// Adds why the store that the crash loses first is not safe, as a sentence; nothing where no cause is known.
+pub fn push_cause(pen: &mut Pen, crash: &Crash) {
     let lost = crash.failure.lost.store;
     match crash.cause {
         None => {}
@@ -98,35 +107,44 @@ fn push_other_fence(pen: &mut Pen, other: Option<u64>) {
     }
 }
 
-/// Adds what the crash shows, as a sentence.
-pub fn push_shown(pen: &mut Pen, crash: Crash) {
+/// Adds what the crash shows, as a sentence, and how many stores it loses where they are several.
+pub fn push_shown(pen: &mut Pen, crash: &Crash) {
     let lost = crash.failure.lost;
-    pen.fill("A crash right after event # may ", &[crash.failure.place]);
-    if let Some(kept) = crash.failure.kept {
+    if crash.assertion.is_none() {
+        pen.fill("A crash at the end may lose store #", &[lost.store]);
+    } else {
+        pen.fill("A crash right after event # may ", &[crash.failure.place]);
+        if let Some(kept) = crash.failure.kept {
+            pen.fill(
+                "keep store #, the last one to byte @, and ",
+                &[kept.store, kept.byte],
+            );
+        }
         pen.fill(
-            "keep store #, the last one to byte @, and ",
-            &[kept.store, kept.byte],
+            "lose store #, the last one to byte @",
+            &[lost.store, lost.byte],
         );
     }
-    pen.fill(
-        "lose store #, the last one to byte @.",
-        &[lost.store, lost.byte],
-    );
-}
-
-/// The word of the crash's assertion.
-pub fn assertion_word(crash: Crash) -> &'static str {
-    if crash.ordered {
-        "isOrderedBefore"
-    } else {
-        "isPersist"
+    let all = crash.lost.len() as u64;
+    if all > 1 {
+        pen.fill(", and with it # stores in all", &[all]);
     }
+    pen.put(".");
 }
 
-/// Adds that the crash's assertion fails, as a sentence.
-pub fn push_assertion(pen: &mut Pen, crash: Crash) {
-    pen.put(assertion_word(crash));
-    pen.fill(" # fails.", &[crash.assertion]);
+/// Adds what the crash violates, or what it loses.
+pub fn push_assertion(pen: &mut Pen, crash: &Crash) {
+    match crash.assertion {
+        Some(Assertion { number, ordered }) => {
+            pen.put(if ordered {
+                "isOrderedBefore"
+            } else {
+                "isPersist"
+            });
+            pen.fill(" # fails", &[number]);
+        }
+        None => pen.fill("# lost for good", &[crash.lost.len() as u64]),
+    }
 }
 
 /// Adds what the assertion in this column claims, as a sentence.
@@ -140,12 +158,11 @@ pub fn push_claim(pen: &mut Pen, column: &Column, ordered: bool) {
     });
 }
 
-/// Adds why an event is dropped.
+/// Adds why an event is dropped, as a clause.
 pub fn push_reason(pen: &mut Pen, reason: Reason) {
-    pen.put(": dropped, since ");
     match reason {
         Reason::Safe => pen.put("all stores to its line are safe already"),
-        Reason::Unfenced => pen.put("its thread makes no fence after it"),
+        Reason::Unfenced => pen.put("its thread makes no fence after it: that fence is missing"),
         Reason::Repeated { by } => {
             pen.fill("event # flushes the line again before the fence", &[by])
         }

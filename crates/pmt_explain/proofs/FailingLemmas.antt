@@ -11,14 +11,9 @@ use Rattle.pmt_reasons.specs.declared.failure.ByteStore.{ByteStore}
 use Rattle.pmt_reasons.specs.declared.failure.Failure.{Failure}
 use Rattle.pmt_reasons.specs.Failures.{IsLost, IsLastIn, IsFirstLost, IsKeptWithout, IsPersistFailure, IsOrderedFailure}
 use Rattle.pmt_reasons.proofs.FailureLaws.{persist-passes, ordered-passes}
-use Rattle.pmt_explain.specs.LastStores.{AreLastStores}
+use Rattle.pmt_explain.specs.LastStores.{AreLastIn}
 use Rattle.pmt_explain.specs.Losing.{IsFirstWith, IsFirstOption, IsFirstOf}
 use Rattle.pmt_explain.specs.Keeping.{KeepsWithout, IsCrashAfter, IsFirstCrash}
-
--- the list has the last stores to the bytes of A
-pub record AreOf (T : Recording) (i : ℕ) (A : Span) (last : List ℕ) : Type 0 where
-  pub size : length last ≡ A.len
-  pub each : AreLastStores T A.addr i last
 
 -- where a last store to a byte of A stands in the list
 record IsIndexed (A : Span) (last : List ℕ) (z : ByteStore) : Type 0 where
@@ -27,7 +22,7 @@ record IsIndexed (A : Span) (last : List ℕ) (z : ByteStore) : Type 0 where
   byte : z.byte ≡ A.addr + index
   store : get_or last index 0 ≡ z.store
 
-indexed : (T : Recording) (i : ℕ) (A : Span) (last : List ℕ) (z : ByteStore) → AreOf T i A last → IsLastIn T i A z → IsIndexed A last z
+indexed : (T : Recording) (i : ℕ) (A : Span) (last : List ℕ) (z : ByteStore) → AreLastIn T i A last → IsLastIn T i A z → IsIndexed A last z
 indexed T i A last z all x =
     let j = z.byte - A.addr in
     let byte : A.addr + j ≡ z.byte = omega (arith, x.inside.0) in
@@ -44,7 +39,7 @@ told : (o : Option ℕ) (x : ℕ) → unwrap_or o 0 ≡ x → 1 ≤ x → o ≡ 
 told None x e some = absurd (omega arith)
 told (Some y) x e some = ap Some e
 
-from-index : (T : Recording) (i : ℕ) (A : Span) (last : List ℕ) (j : ℕ) (z : ByteStore) → AreOf T i A last → j < length last → get_or last j 0 ≡ z.store → z.byte ≡ A.addr + j → 1 ≤ z.store → IsLastIn T i A z
+from-index : (T : Recording) (i : ℕ) (A : Span) (last : List ℕ) (j : ℕ) (z : ByteStore) → AreLastIn T i A last → j < length last → get_or last j 0 ≡ z.store → z.byte ≡ A.addr + j → 1 ≤ z.store → IsLastIn T i A z
 from-index T i A last j z all below store byte some = record {
   inside = (omega arith, omega (arith, all.size));
   last = ap (λ (b : ℕ). last_store_number b (history T i)) byte ∙ told (last_store_number (A.addr + j) (history T i)) z.store (sym (all.each j below) ∙ store) some;
@@ -55,7 +50,7 @@ lost-some : (T : Recording) (n x : ℕ) (full : Option ℕ) → IsLost T n full 
 lost-some T n x full lost = (act-within T x (Stores lost.line lost.what) lost.is_store).0
 
 -- the first one of the list is the first one of A
-pub first-lost : (T : Recording) (i : ℕ) (A : Span) (n : ℕ) (full : Option ℕ) (last : List ℕ) (x : ByteStore) → AreOf T i A last → IsFirstWith (IsLost T n full) A.addr last (length last) x → IsFirstLost T i A n full x
+pub first-lost : (T : Recording) (i : ℕ) (A : Span) (n : ℕ) (full : Option ℕ) (last : List ℕ) (x : ByteStore) → AreLastIn T i A last → IsFirstWith (IsLost T n full) A.addr last (length last) x → IsFirstLost T i A n full x
 first-lost T i A n full last x all f = record {
   is_last = from-index T i A last f.index x all f.below f.store f.byte (lost-some T n x.store full f.has);
   is_lost = f.has;
@@ -68,31 +63,31 @@ first-lost T i A n full last x all f = record {
 }
 
 -- none of A, where there is none in the list
-none-lost : (T : Recording) (i : ℕ) (A : Span) (n : ℕ) (full : Option ℕ) (last : List ℕ) → AreOf T i A last → IsFirstOf T A.addr last n full (length last) None → (z : ByteStore) → IsLastIn T i A z → IsLost T n full z.store → ⊥
+none-lost : (T : Recording) (i : ℕ) (A : Span) (n : ℕ) (full : Option ℕ) (last : List ℕ) → AreLastIn T i A last → IsFirstOf T A.addr last n full (length last) None → (z : ByteStore) → IsLastIn T i A z → IsLost T n full z.store → ⊥
 none-lost T i A n full last all none z is lost = let at = indexed T i A last z all is in none at.index at.below (subst (IsLost T n full) (sym at.store) lost)
 
 -- isPersist
-pub persist-none : (T : Recording) (i : ℕ) (A : Span) (last : List ℕ) → AreOf T i A last → IsFirstOf T A.addr last i None (length last) None → PersistPasses (history T i) A
+pub persist-none : (T : Recording) (i : ℕ) (A : Span) (last : List ℕ) → AreLastIn T i A last → IsFirstOf T A.addr last i None (length last) None → PersistPasses (history T i) A
 persist-none T i A last all none = persist-passes T i A (none-lost T i A i None last all none)
 
-pub persist-some : (T : Recording) (i : ℕ) (A : Span) (last : List ℕ) (x : ByteStore) → AreOf T i A last → IsFirstOf T A.addr last i None (length last) (Some x) →
+pub persist-some : (T : Recording) (i : ℕ) (A : Span) (last : List ℕ) (x : ByteStore) → AreLastIn T i A last → IsFirstOf T A.addr last i None (length last) (Some x) →
     IsPersistFailure T i A (record { place = i; kept = None; lost = x })
 persist-some T i A last x all f = record { place = refl; kept = refl; lost = first-lost T i A i None last x all f }
 
 -- what is kept without another one by number is so by index
-keeps-index : (T : Recording) (i : ℕ) (A B : Span) (last : List ℕ) (y x : ByteStore) → AreOf T i A last → IsLastIn T i A x → IsKeptWithout T i B y x.store → KeepsWithout T last y.store
+keeps-index : (T : Recording) (i : ℕ) (A B : Span) (last : List ℕ) (y x : ByteStore) → AreLastIn T i A last → IsLastIn T i A x → IsKeptWithout T i B y x.store → KeepsWithout T last y.store
 keeps-index T i A B last y x all is k =
     let at = indexed T i A last x all is in
     record { line = k.line; what = k.what; is_store = k.is_store; index = at.index; below = at.below; is_lost = subst (IsLost T y.store (Some k.line)) (sym at.store) k.is_lost }
 
 -- isOrderedBefore
-pub ordered-none : (T : Recording) (i : ℕ) (A B : Span) (last kept : List ℕ) → AreOf T i A last → AreOf T i B kept → IsFirstOption (KeepsWithout T last) B.addr kept (length kept) None →
+pub ordered-none : (T : Recording) (i : ℕ) (A B : Span) (last kept : List ℕ) → AreLastIn T i A last → AreLastIn T i B kept → IsFirstOption (KeepsWithout T last) B.addr kept (length kept) None →
     OrderedPasses (history T i) A B
 ordered-none T i A B last kept all others none = ordered-passes T i A B (λ y x is k.
     let at = indexed T i B kept y others k.is_last in
     none at.index at.below (subst (KeepsWithout T last) (sym at.store) (keeps-index T i A B last y x all is k)))
 
-pub ordered-some : (T : Recording) (i : ℕ) (A B : Span) (last kept : List ℕ) (y : ByteStore) (f : Failure) → AreOf T i A last → AreOf T i B kept →
+pub ordered-some : (T : Recording) (i : ℕ) (A B : Span) (last kept : List ℕ) (y : ByteStore) (f : Failure) → AreLastIn T i A last → AreLastIn T i B kept →
     IsFirstOption (KeepsWithout T last) B.addr kept (length kept) (Some y) → IsCrashAfter T A.addr last y f → IsOrderedFailure T i A B f
 ordered-some T i A B last kept y f all others first crash = record {
   kept = y;
@@ -127,7 +122,7 @@ pub keeps-no_store : (T : Recording) (last : List ℕ) (y : ℕ) → ((l : ℕ) 
 keeps-no_store T last y none k = none k.line k.what k.is_store
 
 -- what is found of the lists that code has at hand
-pub persist-found : (T : Recording) (i low : ℕ) (A : Span) (last slice : List ℕ) (o : Option ByteStore) → low ≡ A.addr → slice ≡ last → AreOf T i A last → IsFirstOf T low slice i None (length slice) o →
+pub persist-found : (T : Recording) (i low : ℕ) (A : Span) (last slice : List ℕ) (o : Option ByteStore) → low ≡ A.addr → slice ≡ last → AreLastIn T i A last → IsFirstOf T low slice i None (length slice) o →
     MatchOption o (PersistPasses (history T i) A) (λ x. IsPersistFailure T i A (record { place = i; kept = None; lost = x }))
 persist-found T i low A last slice o start same all found =
     go o (subst (λ xs. IsFirstOf T A.addr xs i None (length xs) o) same (subst (λ b. IsFirstOf T b slice i None (length slice) o) start found))
@@ -137,7 +132,7 @@ persist-found T i low A last slice o start same all found =
     go (Some x) f = persist-some T i A last x all f
 
 pub ordered-found : (T : Recording) (i start low : ℕ) (A B : Span) (last kept lasts kepts : List ℕ) (o : Option Failure) → start ≡ A.addr → low ≡ B.addr → lasts ≡ last → kepts ≡ kept →
-    AreOf T i A last → AreOf T i B kept → IsFirstCrash T start lasts low kepts o → MatchOption o (OrderedPasses (history T i) A B) (IsOrderedFailure T i A B)
+    AreLastIn T i A last → AreLastIn T i B kept → IsFirstCrash T start lasts low kepts o → MatchOption o (OrderedPasses (history T i) A B) (IsOrderedFailure T i A B)
 ordered-found T i start low A B last kept lasts kepts o first_start second_start same others_same all others found =
     go o (subst (λ xs. IsFirstCrash T A.addr xs B.addr kept o) same
     (subst (λ ys. IsFirstCrash T A.addr lasts B.addr ys o) others_same

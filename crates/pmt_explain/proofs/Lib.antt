@@ -9,6 +9,7 @@ pub mod OverwrittenGroupLemmas
 pub mod FirstLemmas
 pub mod FollowingLemmas
 pub mod ReachLemmas
+pub mod SavingLemmas
 pub mod KnownLemmas
 pub mod DroppingLemmas
 pub mod CompletedLemmas

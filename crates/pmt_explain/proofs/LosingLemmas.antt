@@ -20,17 +20,6 @@ front-le-persisted T n l None = omega arith
 front-le-persisted T n l (Some k) =
     cond_both (l == k) (count_at T l n) (front_at T l n) (λ v. front_at T l n ≤ v) (λ same. front-le-count l (history T n)) (λ other. omega arith)
 
--- a store is lost exactly where it comes after the persisted ones of its line
-pub lost-by : (T : Recording) (n : ℕ) (full : Option ℕ) (c : Crash) (x l : ℕ) (w : Written) → IsCrashAt T n full c → IsAct T x (Stores l w) → (persisted_to c l < x) ↔ IsLost T n full x
-lost-by T n full c x l w crash is = (
-  λ before. record { line = l; what = w; is_store = is; missing = omega (arith, crash.persisted l, rank-above T l (persisted_to c l) x w is before) },
-  λ lost.
-      let same = act-unique T x (Stores lost.line lost.what) (Stores l w) lost.is_store is in
-      let line : lost.line ≡ l = cc in
-      let missing : persisted_at T n full l < count_at T l x = subst (λ k. persisted_at T n full k < count_at T k x) line lost.missing in
-      elim (cases_lt (persisted_to c l) x) [ inl before ↦ before | inr upto ↦ absurd (omega (arith, missing, crash.persisted l, count-mono T l x (persisted_to c l) upto)) ],
-)
-
 -- the first one so far, with one more that is judged
 pub first-more : (P : ℕ → Type 0) (low : ℕ) (last : List ℕ) (k : ℕ) (first result : Option ByteStore) (found : ByteStore) → found.store ≡ get_or last k 0 → found.byte ≡ low + k →
     Picks (P found.store) first found result → IsFirstOption P low last k first → IsFirstOption P low last (k + 1) result

@@ -9,6 +9,7 @@ pub mod OverwrittenGroups
 pub mod Numbers
 pub mod Dropping
 pub mod Following
+pub mod Saving
 pub mod Known
 pub mod Completed
 pub mod Crashes

@@ -6,12 +6,14 @@ ghost use Rattle.pmt_model.specs.Traces.{IsAct, history};
 ghost use Rattle.pmt_model.specs.Values.{Written};
 ghost use Rattle.pmt_model.specs.Assertions.{PersistPasses, OrderedPasses};
 ghost use Rattle.pmt_reasons.specs.Failures.{IsFailureAt, IsPersistFailure, IsOrderedFailure};
+ghost use Rattle.pmt_explain.specs.LastStores.{AreLastIn};
 ghost use Rattle.pmt_explain.specs.Losing.{IsFirstOption, IsFirstWith, Picks};
 ghost use Rattle.pmt_explain.specs.Keeping.{IsStoreOff, KeepsWithout, IsCrashAfter, IsFirstCrash};
+ghost use Rattle.pmt_explain.specs.Saving.{AreSafePlaces};
 
-use crate::crash::Crash;
 use crate::last_stores::last_stores;
 use crate::lost::{comes_first, first_lost, line_of_store};
+use crate::saving::safe_places;
 use pmt_model::{Op, OutOfMemory, Range, Trace};
 use pmt_reasons::{ByteStore, Failure};
 use std::alloc::Global;
@@ -21,7 +23,7 @@ use std::alloc::Global;
 /// Stores go by their numbers, and then the lowest byte is told. None where the assertion passes, and where the event is no
 /// assertion or there is none.
 ///
-/// It takes at most four looks at each event up to the assertion.
+/// It takes at most four looks at each event.
 ///
 /// # Errors
 /// Where memory was refused.
@@ -33,15 +35,17 @@ pub fn failure(alloc: Global, trace: &Trace, number: u64) -> Result<Option<Failu
     };
     let op = event.op;
     match op {
-        Op::IsPersist(range) => persist_failure(alloc, trace, number, range),
-        Op::IsOrderedBefore(first, second) => ordered_failure(alloc, trace, number, first, second),
+        Op::IsPersist(range) => failure_of_persist(alloc, trace, number, range),
+        Op::IsOrderedBefore(first, second) => {
+            failure_of_ordered(alloc, trace, number, first, second)
+        }
         Op::Store(_) | Op::Clwb(_) | Op::ClflushOpt(_) | Op::Clflush(_) | Op::Sfence | Op::Mfence =>
             Ok(None),
     }
 }
 
 // The crash that violates the isPersist of the range at the event with this number.
-fn persist_failure(
+fn failure_of_persist(
     alloc: Global,
     trace: &Trace,
     number: u64,
@@ -50,21 +54,13 @@ fn persist_failure(
     requires { number ≤ length trace.now.events }
     ensures { IfOk result (λ o. MatchOption o (PersistPasses (history trace.now number) range) (IsPersistFailure trace.now number range)) }
 {
+    let safe = safe_places(alloc, trace)?;
     let last = last_stores(alloc, trace, range, number)?;
-    let crash = Crash::new(alloc, trace, number, None)?;
-    let _len = range.len();
-    match first_lost(trace, range.addr().get(), last.as_slice(), &crash) {
-        None => Ok(None),
-        Some(lost) => Ok(Some(Failure {
-            place: number,
-            kept: None,
-            lost,
-        })),
-    }
+    Ok(persist_failure(trace, safe.as_slice(), number, range, last.as_slice()))
 }
 
 // The crash that violates the isOrderedBefore of the two ranges at the event with this number.
-fn ordered_failure(
+fn failure_of_ordered(
     alloc: Global,
     trace: &Trace,
     number: u64,
@@ -74,16 +70,70 @@ fn ordered_failure(
     requires { number ≤ length trace.now.events }
     ensures { IfOk result (λ o. MatchOption o (OrderedPasses (history trace.now number) first second) (IsOrderedFailure trace.now number first second)) }
 {
-    let _lens = (first.len(), second.len());
+    let safe = safe_places(alloc, trace)?;
     let last = last_stores(alloc, trace, first, number)?;
     let kept = last_stores(alloc, trace, second, number)?;
-    first_kept(
-        alloc,
+    Ok(ordered_failure(
         trace,
-        first.addr().get(),
+        safe.as_slice(),
+        number,
+        first,
+        second,
         last.as_slice(),
-        second.addr().get(),
         kept.as_slice(),
+    ))
+}
+
+/// The crash that violates the isPersist of the range at the event with this number, if it fails. Here `safe` has the places that
+/// `safe_places` gives, and `last`, of each byte of the range, the number of the last store to it by then, or 0.
+pub fn persist_failure(
+    trace: &Trace,
+    safe: &[u64],
+    number: u64,
+    range: Range,
+    last: &[u64],
+) -> Option<Failure>
+    requires number { number ≤ length trace.now.events }
+    requires safe { AreSafePlaces trace.now safe.now }
+    requires last { AreLastIn trace.now number range last.now }
+    ensures { MatchOption result (PersistPasses (history trace.now number) range) (IsPersistFailure trace.now number range) }
+{
+    let _len = range.len();
+    match first_lost(trace, safe, number, None, range.addr().get(), last) {
+        None => None,
+        Some(lost) => Some(Failure {
+            place: number,
+            kept: None,
+            lost,
+        }),
+    }
+}
+
+/// The crash that violates the isOrderedBefore of the two ranges at the event with this number, if it fails. Here `safe` has the
+/// places that `safe_places` gives, and `last` and `kept`, of each byte of the first and of the second range, the number of the
+/// last store to it by then, or 0.
+pub fn ordered_failure(
+    trace: &Trace,
+    safe: &[u64],
+    number: u64,
+    first: Range,
+    second: Range,
+    last: &[u64],
+    kept: &[u64],
+) -> Option<Failure>
+    requires safe { AreSafePlaces trace.now safe.now }
+    requires last { AreLastIn trace.now number first last.now }
+    requires kept { AreLastIn trace.now number second kept.now }
+    ensures { MatchOption result (OrderedPasses (history trace.now number) first second) (IsOrderedFailure trace.now number first second) }
+{
+    let _lens = (first.len(), second.len());
+    first_kept(
+        trace,
+        safe,
+        first.addr().get(),
+        last,
+        second.addr().get(),
+        kept,
     )
 }
 
@@ -91,45 +141,47 @@ fn ordered_failure(
 // what is lost after them is lost after the line's first one; nor do any after the first one of a second line, since what is lost
 // after them is lost after one of these two.
 fn first_kept(
-    alloc: Global,
     trace: &Trace,
+    safe: &[u64],
     low: u64,
     last: &[u64],
     kept_low: u64,
     kept: &[u64],
-) -> Result<Option<Failure>, OutOfMemory>
+) -> Option<Failure>
+    requires safe { AreSafePlaces trace.now safe.now }
     requires last { low + length last.now ≤ 2 ^ 48 }
     requires kept { kept_low + length kept.now ≤ 2 ^ 48 }
-    ensures { IfOk result (IsFirstCrash trace.now low last.now kept_low kept.now) }
+    ensures { IsFirstCrash trace.now low last.now kept_low kept.now result }
 {
     match first_off(trace, kept_low, kept, None) {
-        None => Ok(None),
-        Some(first) => match crash_after(alloc, trace, low, last, first)? {
-            Some(failure) => Ok(Some(failure)),
-            None => second_kept(alloc, trace, low, last, kept_low, kept, first),
+        None => None,
+        Some(first) => match crash_after(trace, safe, low, last, first) {
+            Some(failure) => Some(failure),
+            None => second_kept(trace, safe, low, last, kept_low, kept, first),
         },
     }
 }
 
 // The same, where the first store can not be kept without another.
 fn second_kept(
-    alloc: Global,
     trace: &Trace,
+    safe: &[u64],
     low: u64,
     last: &[u64],
     kept_low: u64,
     kept: &[u64],
     first: ByteStore,
-) -> Result<Option<Failure>, OutOfMemory>
+) -> Option<Failure>
+    requires safe { AreSafePlaces trace.now safe.now }
     requires last { low + length last.now ≤ 2 ^ 48 }
     requires kept { kept_low + length kept.now ≤ 2 ^ 48 }
     requires first { IsFirstWith (IsStoreOff trace.now None) kept_low kept.now (length kept.now) first }
     requires none { ¬ KeepsWithout trace.now last.now first.store }
-    ensures { IfOk result (IsFirstCrash trace.now low last.now kept_low kept.now) }
+    ensures { IsFirstCrash trace.now low last.now kept_low kept.now result }
 {
     match first_off(trace, kept_low, kept, line_of_store(trace, first.store)) {
-        None => Ok(None),
-        Some(second) => crash_after(alloc, trace, low, last, second),
+        None => None,
+        Some(second) => crash_after(trace, safe, low, last, second),
     }
 }
 
@@ -176,41 +228,42 @@ fn first_off(trace: &Trace, low: u64, stores: &[u64], line: Option<u64>) -> Opti
 
 // The crash right after the kept store, all stores to its line being persisted.
 fn crash_after(
-    alloc: Global,
     trace: &Trace,
+    safe: &[u64],
     low: u64,
     last: &[u64],
     kept: ByteStore,
-) -> Result<Option<Failure>, OutOfMemory>
-    requires { low + length last.now ≤ 2 ^ 48 }
-    ensures { IfOk result (λ o. MatchOption o (KeepsWithout trace.now last.now kept.store → ⊥) (IsCrashAfter trace.now low last.now kept)) }
+) -> Option<Failure>
+    requires safe { AreSafePlaces trace.now safe.now }
+    requires low { low + length last.now ≤ 2 ^ 48 }
+    ensures { MatchOption result (KeepsWithout trace.now last.now kept.store → ⊥) (IsCrashAfter trace.now low last.now kept) }
 {
     match line_of_store(trace, kept.store) {
-        None => Ok(None),
-        Some(line) => crash_keeping(alloc, trace, low, last, kept, line),
+        None => None,
+        Some(line) => crash_keeping(trace, safe, low, last, kept, line),
     }
 }
 
 // The same, where this is the line of the kept store.
 fn crash_keeping(
-    alloc: Global,
     trace: &Trace,
+    safe: &[u64],
     low: u64,
     last: &[u64],
     kept: ByteStore,
     line: u64,
-) -> Result<Option<Failure>, OutOfMemory>
-    requires last { low + length last.now ≤ 2 ^ 48 }
+) -> Option<Failure>
+    requires safe { AreSafePlaces trace.now safe.now }
+    requires low { low + length last.now ≤ 2 ^ 48 }
     requires store { (w : Written) × IsAct trace.now kept.store (Stores line w) }
-    ensures { IfOk result (λ o. MatchOption o (KeepsWithout trace.now last.now kept.store → ⊥) (IsCrashAfter trace.now low last.now kept)) }
+    ensures { MatchOption result (KeepsWithout trace.now last.now kept.store → ⊥) (IsCrashAfter trace.now low last.now kept) }
 {
-    let crash = Crash::new(alloc, trace, kept.store, Some(line))?;
-    match first_lost(trace, low, last, &crash) {
-        None => Ok(None),
-        Some(lost) => Ok(Some(Failure {
+    match first_lost(trace, safe, kept.store, Some(line), low, last) {
+        None => None,
+        Some(lost) => Some(Failure {
             place: kept.store,
             kept: Some(kept),
             lost,
-        })),
+        }),
     }
 }

@@ -4,6 +4,7 @@ ghost use Rattle.std.specs.Prelude.{◌≡◌, ℕ, ◌+◌, suc, length, IfOk, 
 ghost use Rattle.pmt_model.specs.Machine.{Flushes, Clflushes, Fences};
 ghost use Rattle.pmt_model.specs.Traces.{Recording, IsAct, act_of};
 ghost use Rattle.pmt_explain.specs.Following.{past_of, pair_of as pair_in, TellsFollowing, AreFollowing, IsAhead};
+ghost use Rattle.pmt_explain.specs.Saving.{safe_in};
 
 use crate::numbers::{Numbers, number_of, put};
 use pmt_model::{Format, Op, OutOfMemory, Trace, line_of};
@@ -67,7 +68,7 @@ fn pair_of(thread: u8, line: u64) -> u128
 
 impl Ahead {
     // Before any event is read.
-    fn new(alloc: Global, past: u64) -> Self
+    pub(crate) fn new(alloc: Global, past: u64) -> Self
         ensures { (T : Recording) → past ≡ past_of T → IsAhead T (length T.events) result }
     {
         Ahead {
@@ -78,8 +79,26 @@ impl Ahead {
         }
     }
 
+    // The first place at which the op is safe, if it is a store and comes right before the place.
+    pub(crate) fn safe_place(&self, format: Format, op: Op) -> u64
+        ensures { (t : ℕ) → result ≡ safe_in self.now (act_of format t op) }
+    {
+        match op {
+            Op::Store(store) => {
+                number_of(&self.completed, line_of(format, store.addr()), self.past)
+            }
+            Op::Clwb(_)
+            | Op::ClflushOpt(_)
+            | Op::Clflush(_)
+            | Op::Sfence
+            | Op::Mfence
+            | Op::IsPersist(_)
+            | Op::IsOrderedBefore(_, _) => self.past,
+        }
+    }
+
     // Goes back over the event with this number: what comes after it, if it is a flush.
-    fn go_back(
+    pub(crate) fn go_back(
         &mut self,
         format: Format,
         thread: u8,

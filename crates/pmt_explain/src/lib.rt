@@ -19,20 +19,15 @@ mod lost;
 pub mod lost_grouping;
 mod numbers;
 pub mod overwritten_grouping;
+pub mod saving;
 
 pub use crate::at_end::causes_at_end;
 pub use crate::bytes::{CrashByte, StoredByte, crash_bytes};
 pub use crate::causing::cause;
 pub use crate::dropped_event::Dropped;
 pub use crate::dropping::dropped;
-pub use crate::failing::failure;
+pub use crate::failing::{failure, ordered_failure, persist_failure};
 pub use crate::lines::{LineCount, crash_lines};
 pub use crate::lost_grouping::{LostGroup, lost_groups};
 pub use crate::overwritten_grouping::{Overwriting, OverwrittenGroup, overwritten_groups};
-
-#[cfg(test)]
-mod dropping_tests;
-#[cfg(test)]
-mod group_tests;
-#[cfg(test)]
-mod tests;
+pub use crate::saving::safe_places;

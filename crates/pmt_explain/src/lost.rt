@@ -1,14 +1,13 @@
 //! Which last stores a crash loses.
 
-ghost use Rattle.std.specs.Prelude.{◌≡◌, ◌+◌, ◌^◌, ◌≤◌, ◌↔◌, ℕ, length, IsTrue, MatchOption, Option};
+ghost use Rattle.std.specs.Prelude.{◌≡◌, ◌+◌, ◌-◌, ◌^◌, ◌≤◌, ◌↔◌, ℕ, length, slice_index, IsTrue, MatchOption};
 ghost use Rattle.pmt_model.specs.Values.{Written};
 ghost use Rattle.pmt_model.specs.Machine.{Stores};
 ghost use Rattle.pmt_model.specs.Traces.{IsAct};
 ghost use Rattle.pmt_reasons.specs.Failures.{IsLost};
-ghost use Rattle.pmt_explain.specs.Keepers.{IsCrashAt};
 ghost use Rattle.pmt_explain.specs.Losing.{comes_before, IsFirstOf, Picks};
+ghost use Rattle.pmt_explain.specs.Saving.{AreSafePlaces, loses as loses_at};
 
-use crate::crash::Crash;
 use pmt_model::{Op, Trace, line_of};
 use pmt_reasons::ByteStore;
 
@@ -23,13 +22,27 @@ pub(crate) fn line_of_store(trace: &Trace, store: u64) -> Option<u64>
     }
 }
 
-// Whether the crash loses the store.
-fn is_lost(trace: &Trace, crash: &Crash, store: u64) -> bool
-    ensures { (n : ℕ) (full : Option ℕ) → IsCrashAt trace.now n full crash.now → IsTrue result ↔ IsLost trace.now n full store }
+// Whether the crash at the place, with all stores to the full line, loses this store to the line.
+fn loses(safe: &[u64], place: u64, full: Option<u64>, line: u64, store: u64) -> bool
+    requires first { 1 ≤ store }
+    requires within { store ≤ length safe.now }
+    ensures { result ≡ loses_at place full line store (slice_index safe.now (store - 1)) }
+{
+    if full == Some(line) {
+        return place < store;
+    }
+    place < safe[store as usize - 1]
+}
+
+// Whether that crash loses the store.
+fn is_lost(trace: &Trace, safe: &[u64], place: u64, full: Option<u64>, store: u64) -> bool
+    requires safe { AreSafePlaces trace.now safe.now }
+    requires place { place ≤ length trace.now.events }
+    ensures { IsTrue result ↔ IsLost trace.now place full store }
 {
     match line_of_store(trace, store) {
         None => false,
-        Some(line) => crash.persisted_to(line) < store,
+        Some(line) => loses(safe, place, full, line, store),
     }
 }
 
@@ -46,22 +59,36 @@ pub(crate) fn comes_first(store: u64, first: Option<ByteStore>) -> bool
 // The first lost store so far, with one more to be judged.
 fn earlier_lost(
     trace: &Trace,
-    crash: &Crash,
+    safe: &[u64],
+    place: u64,
+    full: Option<u64>,
     first: Option<ByteStore>,
     found: ByteStore,
 ) -> Option<ByteStore>
-    ensures { (n : ℕ) (full : Option ℕ) → IsCrashAt trace.now n full crash.now → Picks (IsLost trace.now n full found.store) first found result }
+    requires safe { AreSafePlaces trace.now safe.now }
+    requires place { place ≤ length trace.now.events }
+    ensures { Picks (IsLost trace.now place full found.store) first found result }
 {
-    if comes_first(found.store, first) && is_lost(trace, crash, found.store) {
+    if comes_first(found.store, first) && is_lost(trace, safe, place, full, found.store) {
         return Some(found);
     }
     first
 }
 
-// Of the stores at the bytes from `low` on, the first that the crash loses, with its first byte.
-pub(crate) fn first_lost(trace: &Trace, low: u64, last: &[u64], crash: &Crash) -> Option<ByteStore>
-    requires { low + length last.now ≤ 2 ^ 48 }
-    ensures { (n : ℕ) (full : Option ℕ) → IsCrashAt trace.now n full crash.now → IsFirstOf trace.now low last.now n full (length last.now) result }
+// Of the stores at the bytes from `low` on, the first that the crash at the place loses, with its first byte. The crash leaves all
+// stores to the full line.
+pub(crate) fn first_lost(
+    trace: &Trace,
+    safe: &[u64],
+    place: u64,
+    full: Option<u64>,
+    low: u64,
+    last: &[u64],
+) -> Option<ByteStore>
+    requires safe { AreSafePlaces trace.now safe.now }
+    requires place { place ≤ length trace.now.events }
+    requires low { low + length last.now ≤ 2 ^ 48 }
+    ensures { IsFirstOf trace.now low last.now place full (length last.now) result }
 {
     let mut first = None;
     for (index, store) in last.iter().enumerate() {
@@ -69,7 +96,7 @@ pub(crate) fn first_lost(trace: &Trace, low: u64, last: &[u64], crash: &Crash) -
             store: *store,
             byte: low + index as u64,
         };
-        first = earlier_lost(trace, crash, first, found);
+        first = earlier_lost(trace, safe, place, full, first, found);
     }
     first
 }

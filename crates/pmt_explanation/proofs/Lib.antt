@@ -1,6 +1,7 @@
 pub mod CountingLemmas
 pub mod IgnoringLemmas
 pub mod LabellingLemmas
+pub mod MendingLemmas
 pub mod NoFloats
 pub mod Pushing
 pub mod ShowingLemmas

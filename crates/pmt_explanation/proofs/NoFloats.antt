@@ -1,5 +1,7 @@
 -- The entries of an explanation have no floats.
 use Rattle.std.proofs.Common.{◌≡◌, ℕ, ◌||◌, Bool, true, false, List, [], ◌∷◌, ◌++◌, map, Option, None, Some, refl}
+use Rattle.std.specs.Global.{Global}
+use Rattle.std.specs.Prelude.{String, string_bytes}
 use Rattle.serde_json.specs.Data.{Data, string}
 use Rattle.serde_json.specs.View.{items_of}
 use Rattle.serde_json.specs.Written.{has_float, items_have_float}
@@ -18,15 +20,19 @@ use Rattle.pmt_explanation.specs.declared.explaining.Explanation.{Explanation}
 use Rattle.pmt_explanation.specs.declared.failures.RangeAfter.{RangeAfter}
 use Rattle.pmt_explanation.specs.declared.failures.ShownFailure.{ShownFailure}
 use Rattle.pmt_explanation.specs.declared.labels.Labels.{Labels}
-use Rattle.pmt_explanation.specs.declared.mending.Mend.{Mend}
-use Rattle.pmt_explanation.specs.declared.mending.Mend.TheVariants as mends
+use Rattle.pmt_reasons.specs.declared.mend.Mend.{Mend}
+use Rattle.pmt_reasons.specs.declared.mend.Mend.TheVariants as mends
 use Rattle.pmt_explanation.specs.declared.summary.Summary.{Summary}
 use Rattle.pmt_explanation.specs.declared.unwritten.Unwritten.{Unwritten}
 use Rattle.pmt_explanation.specs.Labelling.{label_of}
-use Rattle.pmt_explanation.specs.Mending.{mend_of}
+use Rattle.pmt_reasons.specs.Mends.{mend_of}
 use Rattle.pmt_explanation.specs.Parts.{or_null, count_data, address_data, address_of, known_event_data, event_data, byte_store_data, range_data, cause_data, by_of, reason_data, mend_data}
-use Rattle.pmt_explanation.specs.Entries.{line_count_data, byte_data, range_after_data, failure_data, lost_data, dropped_data, overwritten_data, ranges_of, unwritten_data}
-use Rattle.pmt_explanation.specs.Summing.{summary_data, more_data}
+use Rattle.pmt_explanation.specs.Entries.{line_count_data, byte_store, byte_value, range_after_data, failure_data, lost_data, dropped_data, overwritten_data, ranges_of, unwritten_data}
+use Rattle.pmt_explanation.specs.declared.choosing.Choice.{Choice}
+use Rattle.pmt_explanation.specs.declared.choosing.Kind.{Kind}
+use Rattle.pmt_explanation.specs.declared.ignoring.ByteRange.{ByteRange}
+use Rattle.pmt_explanation.specs.Summing.{summary_data, more_data, asked_data, byte_range_data}
+use Rattle.pmt_explanation.specs.Choosing.{kind_name}
 
 both : (a b : Bool) → a ≡ false → b ≡ false → (a || b) ≡ false
 both true b p q = p
@@ -81,15 +87,16 @@ mend-float T (mends.Fence thread after before) = both (has_float (or_null count_
 mend-float T (mends.FlushAndFence line after before) = both (has_float (or_null count_data before)) false (count-float before) refl
 mend-float T (mends.StoreFirst store before same_line) = both (has_float (or_null count_data before)) false (count-float before) refl
 
-byte-float : (b : CrashByte) → has_float (byte_data b) ≡ false
-byte-float b =
-    let store : StoredByte → Data = λ (s : StoredByte). count_data s.store in
-    let value : StoredByte → Data = λ (s : StoredByte). count_data s.value in
-    both (has_float (or_null store b.last)) (has_float (or_null value b.last) || false) (or_null-float store (λ s. refl) b.last)
-    (both (has_float (or_null value b.last)) false (or_null-float value (λ s. refl) b.last) refl)
+byte_store_number-float : (b : CrashByte) → has_float (byte_store b) ≡ false
+byte_store_number-float b = or_null-float (λ (s : StoredByte). count_data s.store) (λ s. refl) b.last
+
+byte_value-float : (b : CrashByte) → has_float (byte_value b) ≡ false
+byte_value-float b = or_null-float (λ (s : StoredByte). count_data s.value) (λ s. refl) b.last
 
 range_after-float : (r : RangeAfter) → has_float (range_after_data r) ≡ false
-range_after-float r = both (items_have_float (items_of (map byte_data r.bytes.items))) false (array-float byte_data byte-float r.bytes.items) refl
+range_after-float r =
+    both (items_have_float (items_of (map byte_store r.bytes.items))) _ (array-float byte_store byte_store_number-float r.bytes.items)
+    (both (items_have_float (items_of (map byte_value r.bytes.items))) false (array-float byte_value byte_value-float r.bytes.items) refl)
 
 pub failure-float : (T : Recording) (labels : Labels) (f : ShownFailure) → has_float (failure_data T labels f) ≡ false
 failure-float T labels f =
@@ -125,8 +132,26 @@ unwritten-float T labels u =
     (both (items_have_float (items_of (map range_data (ranges_of u.first ++ ranges_of u.second)))) false
     (array-float range_data (λ r. refl) (ranges_of u.first ++ ranges_of u.second)) refl)
 
-pub summary-float : (s : Summary) (limit : ℕ) (more : Data) → has_float more ≡ false → has_float (summary_data s limit more) ≡ false
-summary-float s limit more none = both (has_float more) false none refl
+label_text-float : (o : Option (String Global)) → has_float (or_null (λ s. string (string_bytes s)) o) ≡ false
+label_text-float o = or_null-float (λ s. string (string_bytes s)) (λ s. refl) o
+
+kind-float : (o : Option Kind) → has_float (or_null (λ k. string (kind_name k)) o) ≡ false
+kind-float o = or_null-float (λ k. string (kind_name k)) (λ k. refl) o
+
+range-float : (o : Option ByteRange) → has_float (or_null byte_range_data o) ≡ false
+range-float o = or_null-float byte_range_data (λ r. refl) o
+
+asked-float : (c : Choice) → has_float (asked_data c) ≡ false
+asked-float c =
+    both (has_float (or_null count_data c.from)) _ (count-float c.from)
+    (both (has_float (or_null (λ s. string (string_bytes s)) c.label)) _ (label_text-float c.label)
+    (both (has_float (or_null (λ k. string (kind_name k)) c.only)) _ (kind-float c.only)
+    (both (has_float (or_null byte_range_data c.range)) _ (range-float c.range)
+    (both (has_float (or_null count_data c.thread)) _ (count-float c.thread)
+    (both (has_float (or_null count_data c.to)) false (count-float c.to) refl)))))
+
+pub summary-float : (s : Summary) (limit : ℕ) (c : Choice) (more : Data) → has_float more ≡ false → has_float (summary_data s limit c more) ≡ false
+summary-float s limit c more none = both (has_float (asked_data c)) _ (asked-float c) (both (has_float more) false none refl)
 
 pub more-float : (x : Explanation) → has_float (more_data x) ≡ false
 more-float x = refl

@@ -1,9 +1,9 @@
 -- The failures that are shown are those of the events, in order.
-use Rattle.std.proofs.Common.{◌≡◌, ℕ, zero, suc, inl, inr, ◌<◌, ◌≤◌, ◌==◌, Bool, true, false, List, [], ◌∷◌, ◌++◌, take, map, Option, None, Some, refl, sym, ap, subst, ◌∙◌, arith, true≢false}
-use Rattle.std.specs.Prelude.{MatchOption}
+use Rattle.std.proofs.Common.{◌≡◌, ℕ, zero, suc, inl, inr, ◌<◌, ◌≤◌, ◌==◌, Bool, true, false, List, [], ◌∷◌, ◌++◌, take, map, if◌then◌else◌, Option, None, Some, refl, sym, ap, subst, ◌∙◌, arith, true≢false}
+use Rattle.std.specs.Prelude.{MatchOption, filter}
 use Rattle.std.specs.List.{All, AllByRecursion}
 use Rattle.std.proofs.lemmas.List.{map-append}
-use Rattle.std.proofs.lemmas.List.Elements.{All-push, All-nil}
+use Rattle.std.proofs.lemmas.List.Elements.{All-push}
 use Rattle.std.proofs.lemmas.Bool.{cond_both}
 use Rattle.pmt_model.specs.declared.event.Event.{Event}
 use Rattle.pmt_model.specs.declared.event.Op.{Op}
@@ -16,35 +16,61 @@ use Rattle.pmt_laws.proofs.Histories.{front-le-count}
 use Rattle.pmt_reasons.specs.declared.failure.Failure.{Failure}
 use Rattle.pmt_reasons.specs.Failures.{persisted_at, IsLost, IsFailureOf, IsFailureAt}
 use Rattle.pmt_reasons.proofs.CauseLemmas.{pending_by_fronts}
+use Rattle.pmt_reasons.proofs.FailureLaws.{persist_failure_fails, ordered_failure_fails}
 use Rattle.pmt_explain.specs.CauseOf.{IsCauseOf}
+use Rattle.pmt_explain.specs.Grouping.{Picks}
+use Rattle.pmt_explain.proofs.GroupingLemmas.{picks-more, picks-other}
 use Rattle.pmt_explanation.specs.declared.failures.ShownFailure.{ShownFailure}
 use Rattle.pmt_explanation.specs.Failing.{failing_events}
 use Rattle.pmt_explanation.specs.Showing.{IsShown, Fails, AreShown}
 
+-- ---- What has a failure fails
+
+abbrev is_some_failure : Option Failure → Bool
+is_some_failure None = false
+is_some_failure (Some f) = true
+
+some-none : (f : Failure) → ¬ (Some f ≡ None)
+some-none f e = true≢false (ap is_some_failure e)
+
+op-fails : (T : Recording) (i : ℕ) (op : Op) (f : Failure) → IsFailureOf T i op (Some f) → ¬ IsFailureOf T i op None
+op-fails T i (Store w) f h none = some-none f h
+op-fails T i (Clwb a) f h none = some-none f h
+op-fails T i (ClflushOpt a) f h none = some-none f h
+op-fails T i (Clflush a) f h none = some-none f h
+op-fails T i Sfence f h none = some-none f h
+op-fails T i Mfence f h none = some-none f h
+op-fails T i (IsPersist A) f h none = persist_failure_fails T i A f h none
+op-fails T i (IsOrderedBefore A B) f h none = ordered_failure_fails T i A B f h none
+
+event-fails : (T : Recording) (i : ℕ) (o : Option Event) (f : Failure) → MatchOption o (Some f ≡ None) (λ (e : Event). IsFailureOf T i e.op (Some f)) →
+    ¬ MatchOption o (◌≡◌ {A = Option Failure} None None) (λ (e : Event). IsFailureOf T i e.op None)
+event-fails T i None f h none = some-none f h
+event-fails T i (Some e) f h none = op-fails T i e.op f h none
+
+failure-fails : (T : Recording) (i : ℕ) (f : Failure) → IsFailureAt T i (Some f) → Fails T i
+failure-fails T i f h = event-fails T i (event T i) f h
+
 -- ---- The list, one event more
 
-front-all : (P : ℕ → Type 0) (xs : List ℕ) (x : ℕ) → AllByRecursion P (xs ++ x ∷ []) → AllByRecursion P xs × P x
-front-all P [] x h = (tt, h.0)
-front-all P (y ∷ xs) x h = let rest = front-all P xs x h.1 in ((h.0, rest.0), rest.1)
-
-pub shown-none : (T : Recording) (shown : List ShownFailure) → shown ≡ [] → AreShown T [] shown
-shown-none T shown e = record { each = subst (All (IsShown T)) (sym e) (All-nil (IsShown T)); all = λ h. ap (map (λ (s : ShownFailure). s.event)) e }
+abbrev number_of : ShownFailure → ℕ
+number_of s = s.event
 
 pub shown-more : (T : Recording) (numbers : List ℕ) (shown new : List ShownFailure) (n : ℕ) (s : ShownFailure) →
     AreShown T numbers shown → IsShown T s → s.event ≡ n → new ≡ shown ++ s ∷ [] → AreShown T (numbers ++ n ∷ []) new
 shown-more T numbers shown new n s before it is e =
-    let number : ShownFailure → ℕ = λ (s : ShownFailure). s.event in
+    let fails : Fails T n = subst (Fails T) is (failure-fails T s.event s.failure it.fails) in
+    let events : map number_of new ≡ map number_of shown ++ n ∷ [] =
+    ap (map number_of) e ∙ map-append number_of shown (s ∷ []) ∙ ap (λ (k : ℕ). map number_of shown ++ k ∷ []) is in
     record {
       each = subst (All (IsShown T)) (sym e) (All-push (IsShown T) shown s before.each it);
-      all = λ h.
-          let older : map number shown ≡ numbers = before.all (front-all (Fails T) numbers n h).0 in
-          ap (map number) e ∙ map-append number shown (s ∷ []) ∙ ap (λ (ns : List ℕ). ns ++ s.event ∷ []) older ∙ ap (λ (k : ℕ). numbers ++ k ∷ []) is;
+      picked = subst (Picks (Fails T) (numbers ++ n ∷ [])) (sym events) (picks-more (Fails T) numbers (map number_of shown) n before.picked fails);
     }
 
 pub shown-passing : (T : Recording) (numbers : List ℕ) (shown : List ShownFailure) (n : ℕ) → AreShown T numbers shown → IsFailureAt T n None → AreShown T (numbers ++ n ∷ []) shown
 shown-passing T numbers shown n before passes = record {
   each = before.each;
-  all = λ h. absurd ((front-all (Fails T) numbers n h).1 passes);
+  picked = picks-other (Fails T) numbers (map number_of shown) n before.picked (λ fails. fails passes);
 }
 
 -- ---- A failure's lost store has a cause
@@ -54,13 +80,6 @@ low T n None l = omega arith
 low T n (Some k) l =
     let few = front-le-count l (history T n) in
     cond_both (l == k) (count_at T l n) (front_at T l n) (λ (v : ℕ). front_at T l n ≤ v) (λ same. few) (λ other. omega arith)
-
-abbrev is_some_failure : Option Failure → Bool
-is_some_failure None = false
-is_some_failure (Some f) = true
-
-some-none : (f : Failure) → ¬ (Some f ≡ None)
-some-none f e = true≢false (ap is_some_failure e)
 
 lost-of_op : (T : Recording) (i : ℕ) (op : Op) (f : Failure) → IsFailureOf T i op (Some f) → (full : Option ℕ) × IsLost T f.place full f.lost.store
 lost-of_op T i (Store w) f h = absurd (some-none f h)
@@ -109,6 +128,23 @@ all-take P zero xs h = tt
 all-take P (suc n) [] h = tt
 all-take P (suc n) (x ∷ xs) h = (h.0, all-take P n xs h.1)
 
-pub shown-all : (T : Recording) (verdicts : List Verdict) (limit : ℕ) (shown : List ShownFailure) → IsVerdicts T verdicts → AreShown T (take limit (failing_events verdicts)) shown →
-    map (λ (s : ShownFailure). s.event) shown ≡ take limit (failing_events verdicts)
-shown-all T verdicts limit shown right told = told.all (all-take (Fails T) limit (failing_events verdicts) (all-fail T verdicts (λ v within. (right.just v).0 within)))
+all-picked : (P : ℕ → Type 0) (xs ys : List ℕ) → Picks P xs ys → AllByRecursion P xs → ys ≡ xs
+all-picked P [] ys none h = none
+all-picked P (x ∷ xs) ys (inl (own, (zs, is, rest))) h = is ∙ ap (λ (ws : List ℕ). x ∷ ws) (all-picked P xs zs rest h.1)
+all-picked P (x ∷ xs) ys (inr (other, rest)) h = absurd (other h.0)
+
+all-kept : (P : ℕ → Type 0) (x : ℕ) (kept : List ℕ) (b : Bool) → P x → AllByRecursion P kept → AllByRecursion P (if b then x ∷ kept else kept)
+all-kept P x kept true one rest = (one, rest)
+all-kept P x kept false one rest = rest
+
+all-filter : (P : ℕ → Type 0) (f : ℕ → Bool) (xs : List ℕ) → AllByRecursion P xs → AllByRecursion P (filter f xs)
+all-filter P f [] h = tt
+all-filter P f (x ∷ xs) h = all-kept P x (filter f xs) (f x) h.0 (all-filter P f xs h.1)
+
+-- Of those that fail the first ones that are asked for are shown, all of them.
+pub shown-all : (T : Recording) (verdicts : List Verdict) (f : ℕ → Bool) (limit : ℕ) (shown : List ShownFailure) → IsVerdicts T verdicts →
+    AreShown T (take limit (filter f (failing_events verdicts))) shown → map (λ (s : ShownFailure). s.event) shown ≡ take limit (filter f (failing_events verdicts))
+shown-all T verdicts f limit shown right told =
+    let fail = all-fail T verdicts (λ v within. (right.just v).0 within) in
+    let few : List ℕ = take limit (filter f (failing_events verdicts)) in
+    all-picked (Fails T) few (map number_of shown) told.picked (all-take (Fails T) limit (filter f (failing_events verdicts)) (all-filter (Fails T) f (failing_events verdicts) fail))

@@ -13,7 +13,7 @@ use Rattle.pmt_explanation.specs.declared.failures.RangeAfter.{RangeAfter}
 use Rattle.pmt_explanation.specs.declared.failures.ShownFailure.{ShownFailure}
 use Rattle.pmt_explanation.specs.declared.labels.Labels.{Labels}
 use Rattle.pmt_explanation.specs.declared.unwritten.Unwritten.{Unwritten}
-use Rattle.pmt_explanation.specs.Mending.{mend_of}
+use Rattle.pmt_reasons.specs.Mends.{mend_of}
 use Rattle.pmt_explanation.specs.Parts.{json_line, object_of, array_of, count_data, or_null, address_data, line_data, event_data, byte_store_data, range_data, cause_data, reason_data, mend_data}
 
 abbrev pub line_count_data : Recording → LineCount → Data
@@ -23,18 +23,20 @@ line_count_data T c = object_of
     ∷ (codes "stores", count_data c.stores)
     ∷ [])
 
-abbrev pub byte_data : CrashByte → Data
-byte_data b = object_of
-    ((codes "byte", address_data b.byte)
-    ∷ (codes "store", or_null (λ (s : StoredByte). count_data s.store) b.last)
-    ∷ (codes "value", or_null (λ (s : StoredByte). count_data s.value) b.last)
-    ∷ [])
+-- The number of the store that the byte is from.
+abbrev pub byte_store : CrashByte → Data
+byte_store b = or_null (λ (s : StoredByte). count_data s.store) b.last
+
+-- What the byte holds.
+abbrev pub byte_value : CrashByte → Data
+byte_value b = or_null (λ (s : StoredByte). count_data s.value) b.last
 
 abbrev pub range_after_data : RangeAfter → Data
 range_after_data r = object_of
     ((codes "address", address_data r.range.addr)
-    ∷ (codes "bytes", array_of (map byte_data r.bytes.items))
     ∷ (codes "length", count_data r.range.len)
+    ∷ (codes "stores", array_of (map byte_store r.bytes.items))
+    ∷ (codes "values", array_of (map byte_value r.bytes.items))
     ∷ [])
 
 -- A failed assertion in full.
@@ -49,6 +51,7 @@ failure_data T labels f = object_of
     ∷ (codes "mend", mend_data T f.mend)
     ∷ (codes "place", count_data f.failure.place)
     ∷ (codes "ranges", array_of (map range_after_data f.ranges.items))
+    ∷ (codes "whole_lines", count_data f.whole_lines)
     ∷ [])
 
 -- Stores that are never persisted.

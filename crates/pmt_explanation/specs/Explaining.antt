@@ -8,24 +8,29 @@ use Rattle.pmt_explain.specs.OverwrittenGroups.{AreOverwrittenGroups}
 use Rattle.pmt_analysis.specs.Analysing.{Analysed}
 use Rattle.pmt_explanation.specs.declared.explaining.Explanation.{Explanation}
 use Rattle.pmt_explanation.specs.declared.failures.ShownFailure.{ShownFailure}
-use Rattle.pmt_explanation.specs.declared.ignoring.Ignored.{Ignored}
+use Rattle.pmt_explanation.specs.declared.explaining.Options.{Options}
+use Rattle.pmt_explanation.specs.declared.choosing.Kind.TheVariants as kinds
+use Rattle.pmt_explanation.specs.declared.labels.Labels.{Labels}
+use Rattle.pmt_explanation.specs.Asking.{asked_dropped, asked_numbers, asked_pairs, asked_unwritten}
 use Rattle.pmt_explanation.specs.Failing.{failing_events}
 use Rattle.pmt_explanation.specs.Ignoring.{lost_store, told_stores, overwriting, told_pairs}
 use Rattle.pmt_explanation.specs.Showing.{IsShown}
 use Rattle.pmt_explanation.specs.Unwriting.{unwritten_of}
 
--- What is told of an analysis where the bytes of these ranges are ignored.
-pub record IsExplanation (a : Analysed) (ranges : List Ignored) (x : Explanation) : Type 0 where
+-- What is told of an analysis, with these labels, where this is asked.
+pub record IsExplanation (a : Analysed) (labels : Labels) (o : Options) (x : Explanation) : Type 0 where
   pub failing : x.failing.items ≡ failing_events a.verdicts
+  pub asked_failing : x.asked_failing.items ≡ asked_numbers a.trace labels o.choice kinds.Failure x.failing.items
   pub failures : All (IsShown a.trace) x.failures.items
-  pub shown : map (λ (s : ShownFailure). s.event) x.failures.items ≡ take x.limit x.failing.items
-  pub stores : x.stores.items ≡ told_stores a.trace ranges a.findings
-  pub lost : AreLostGroups a.trace x.stores.items x.lost.items
+  pub shown : map (λ (s : ShownFailure). s.event) x.failures.items ≡ take x.limit x.asked_failing.items
+  pub stores : x.stores.items ≡ told_stores a.trace o.ignored.items a.findings
+  pub lost : AreLostGroups a.trace (asked_numbers a.trace labels o.choice kinds.NeverPersisted x.stores.items) x.lost.items
   pub dropped : AreDropped a.trace x.dropped.items
-  pub overwritten : AreOverwrittenGroups a.trace (told_pairs a.trace ranges a.findings) x.overwritten.items
-  pub unwritten : x.unwritten.items ≡ unwritten_of a.trace
+  pub asked_dropped : x.asked_dropped.items ≡ asked_dropped a.trace labels o.choice x.dropped.items
+  pub overwritten : AreOverwrittenGroups a.trace (asked_pairs a.trace labels o.choice (told_pairs a.trace o.ignored.items a.findings)) x.overwritten.items
+  pub unwritten : x.unwritten.items ≡ asked_unwritten a.trace labels o.choice (unwritten_of a.trace)
   pub ignored_stores : x.ignored_never_persisted ≡ count_by (λ (f : Finding). is_some (lost_store f)) a.findings - length x.stores.items
-  pub ignored_pairs : x.ignored_overwritten ≡ count_by (λ (f : Finding). is_some (overwriting f)) a.findings - length (told_pairs a.trace ranges a.findings)
+  pub ignored_pairs : x.ignored_overwritten ≡ count_by (λ (f : Finding). is_some (overwriting f)) a.findings - length (told_pairs a.trace o.ignored.items a.findings)
 
 -- An assertion fails, or a store that is not ignored is never persisted.
 abbrev pub has_failed : Explanation → Bool

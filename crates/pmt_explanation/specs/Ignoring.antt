@@ -9,26 +9,26 @@ use Rattle.pmt_model.specs.declared.finding.Finding.{Finding}
 use Rattle.pmt_model.specs.declared.finding.Finding.TheVariants.{Overwritten, NeverPersisted, RedundantFlush, FenceWithoutFlush}
 use Rattle.pmt_model.specs.Traces.{Recording, event}
 use Rattle.pmt_explain.specs.declared.overwritten_grouping.Overwriting.{Overwriting}
-use Rattle.pmt_explanation.specs.declared.ignoring.Ignored.{Ignored}
+use Rattle.pmt_explanation.specs.declared.ignoring.ByteRange.{ByteRange}
 
 -- The byte lies in the range.
-abbrev pub has_byte : ℕ → Ignored → Bool
+abbrev pub has_byte : ℕ → ByteRange → Bool
 has_byte b r = nat_le r.addr b && nat_lt b (r.addr + r.len)
 
 -- The byte lies in one of the ranges.
-abbrev pub is_byte_ignored : List Ignored → ℕ → Bool
+abbrev pub is_byte_ignored : List ByteRange → ℕ → Bool
 is_byte_ignored ranges b = list_any (has_byte b) ranges
 
 -- Each of these bytes, the first of which is at a, lies in one of the ranges.
-abbrev pub are_ignored : List Ignored → ℕ → List ℕ → Bool
+abbrev pub are_ignored : List ByteRange → ℕ → List ℕ → Bool
 are_ignored ranges a [] = true
 are_ignored ranges a (b ∷ bytes) = is_byte_ignored ranges a && are_ignored ranges (a + 1) bytes
 
 -- Each byte of the store lies in one of the ranges.
-abbrev pub is_store_ignored : List Ignored → Written → Bool
+abbrev pub is_store_ignored : List ByteRange → Written → Bool
 is_store_ignored ranges w = are_ignored ranges w.addr w.bytes
 
-abbrev pub is_op_ignored : List Ignored → Op → Bool
+abbrev pub is_op_ignored : List ByteRange → Op → Bool
 is_op_ignored ranges (Store w) = is_store_ignored ranges w
 is_op_ignored ranges (Clwb a) = false
 is_op_ignored ranges (ClflushOpt a) = false
@@ -38,12 +38,12 @@ is_op_ignored ranges Mfence = false
 is_op_ignored ranges (IsPersist r) = false
 is_op_ignored ranges (IsOrderedBefore r q) = false
 
-abbrev pub is_event_ignored : List Ignored → Option Event → Bool
+abbrev pub is_event_ignored : List ByteRange → Option Event → Bool
 is_event_ignored ranges None = false
 is_event_ignored ranges (Some e) = is_op_ignored ranges e.op
 
 -- Event i is a store that is ignored.
-abbrev pub is_ignored : Recording → List Ignored → ℕ → Bool
+abbrev pub is_ignored : Recording → List ByteRange → ℕ → Bool
 is_ignored T ranges i = is_event_ignored ranges (event T i)
 
 -- The store that the finding tells as never persisted.
@@ -58,7 +58,7 @@ abbrev pub lost_stores : List Finding → List ℕ
 lost_stores findings = filter_map lost_store findings
 
 -- Those of them that are not ignored.
-abbrev pub told_stores : Recording → List Ignored → List Finding → List ℕ
+abbrev pub told_stores : Recording → List ByteRange → List Finding → List ℕ
 told_stores T ranges findings = filter (λ i. not (is_ignored T ranges i)) (lost_stores findings)
 
 -- The pair of stores that the finding tells as overwritten.
@@ -73,5 +73,5 @@ abbrev pub overwritings : List Finding → List Overwriting
 overwritings findings = filter_map overwriting findings
 
 -- Those of them whose earlier store is not ignored.
-abbrev pub told_pairs : Recording → List Ignored → List Finding → List Overwriting
+abbrev pub told_pairs : Recording → List ByteRange → List Finding → List Overwriting
 told_pairs T ranges findings = filter (λ (p : Overwriting). not (is_ignored T ranges p.earlier)) (overwritings findings)

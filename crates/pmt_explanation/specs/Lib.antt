@@ -1,10 +1,11 @@
+pub mod Asking
+pub mod Choosing
 pub mod Counting
 pub mod Entries
 pub mod Explaining
 pub mod Failing
 pub mod Ignoring
 pub mod Labelling
-pub mod Mending
 pub mod Parts
 pub mod Showing
 pub mod Summing

@@ -17,8 +17,8 @@ use Rattle.pmt_reasons.specs.declared.reason.Reason.{Reason}
 use Rattle.pmt_reasons.specs.declared.reason.Reason.TheVariants as reasons
 use Rattle.pmt_reasons.specs.declared.failure.ByteStore.{ByteStore}
 use Rattle.pmt_explanation.specs.declared.labels.Labels.{Labels}
-use Rattle.pmt_explanation.specs.declared.mending.Mend.{Mend}
-use Rattle.pmt_explanation.specs.declared.mending.Mend.TheVariants as mends
+use Rattle.pmt_reasons.specs.declared.mend.Mend.{Mend}
+use Rattle.pmt_reasons.specs.declared.mend.Mend.TheVariants as mends
 use Rattle.pmt_explanation.specs.Labelling.{label_of}
 
 -- A line of the answer: the value, and LF.

@@ -1,6 +1,6 @@
 -- Failed assertions in full.
-use Rattle.std.specs.Prelude.{◌≡◌, ℕ, nat_eq, Bool, false, List, [], ◌∷◌, map, Option, None, Some, unwrap_or}
-use Rattle.std.specs.List.{All, AllByRecursion}
+use Rattle.std.specs.Prelude.{◌≡◌, ℕ, ◌-◌, nat_eq, nat_lt, Bool, false, List, [], ◌∷◌, length, map, filter, Option, None, Some, unwrap_or}
+use Rattle.std.specs.List.{All}
 use Rattle.std.specs.Option.{option_eq}
 use Rattle.pmt_model.specs.Values.{Layout, Span, line_of}
 use Rattle.pmt_model.specs.declared.event.Event.{Event}
@@ -10,13 +10,15 @@ use Rattle.pmt_model.specs.Traces.{Recording, event, history, lines_of}
 use Rattle.pmt_reasons.specs.declared.cause.Cause.{Cause}
 use Rattle.pmt_reasons.specs.declared.failure.ByteStore.{ByteStore}
 use Rattle.pmt_reasons.specs.declared.failure.Failure.{Failure}
+use Rattle.pmt_reasons.specs.declared.mend.Mend.{Mend}
 use Rattle.pmt_reasons.specs.Failures.{IsFailureAt}
+use Rattle.pmt_reasons.specs.Mends.{mend_of, MendsFailure}
+use Rattle.pmt_explain.specs.declared.lines.LineCount.{LineCount}
 use Rattle.pmt_explain.specs.CauseOf.{IsCauseOf}
 use Rattle.pmt_explain.specs.Crashes.{full_line, line_count, AreCrashBytes}
+use Rattle.pmt_explain.specs.Grouping.{Picks}
 use Rattle.pmt_explanation.specs.declared.failures.RangeAfter.{RangeAfter}
 use Rattle.pmt_explanation.specs.declared.failures.ShownFailure.{ShownFailure}
-use Rattle.pmt_explanation.specs.declared.mending.Mend.{Mend}
-use Rattle.pmt_explanation.specs.Mending.{mend_of}
 
 -- The bytes are what the crash leaves in the range.
 abbrev pub IsRangeAfter : Recording → Failure → RangeAfter → Type 0
@@ -70,19 +72,30 @@ failure_mend T f c =
     let lost : Option ℕ = store_line T f.lost.store in
     mend_of c (unwrap_or lost 0) f.lost.store (Some f.place) (keeps_same_line T lost f.kept)
 
--- The assertion fails so: by this crash, which loses the store for this cause, with this mend, and leaves these stores of each line, and these bytes.
+-- How many stores of each line the crash leaves persisted.
+abbrev pub crash_counts : Recording → Failure → List LineCount
+crash_counts T f = map (line_count T f.place (full_line T f.kept)) (lines_of (history T f.place))
+
+-- Those of the lines that lose a store.
+abbrev pub lines_with_loss : List LineCount → List LineCount
+lines_with_loss counts = filter (λ (c : LineCount). nat_lt c.persisted c.stores) counts
+
+-- The assertion fails so: by this crash, which loses the store for this cause, and is no crash where this mend is put in; it leaves these stores of
+-- each line that loses one, and these bytes.
 pub record IsShown (T : Recording) (s : ShownFailure) : Type 0 where
   pub fails : IsFailureAt T s.event (Some s.failure)
   pub why : IsCauseOf T s.failure.place s.failure.lost.store (Some s.cause)
   pub mend : s.mend ≡ failure_mend T s.failure s.cause
-  pub lines : s.lines.items ≡ map (line_count T s.failure.place (full_line T s.failure.kept)) (lines_of (history T s.failure.place))
+  pub mends : MendsFailure T s.event s.failure s.mend
+  pub lines : s.lines.items ≡ lines_with_loss (crash_counts T s.failure)
+  pub whole_lines : s.whole_lines ≡ length (crash_counts T s.failure) - length s.lines.items
   pub ranges : AreRangesAfter T s.event s.failure s.ranges.items
 
 -- Event i is an assertion that doesn't pass.
 abbrev pub Fails : Recording → ℕ → Type 0
 Fails T i = ¬ IsFailureAt T i None
 
--- Failures of these events in full; of all of them in their order, where each of them fails.
+-- Of these events those that fail, in their order, each with its failure in full.
 pub record AreShown (T : Recording) (numbers : List ℕ) (shown : List ShownFailure) : Type 0 where
   pub each : All (IsShown T) shown
-  pub all : AllByRecursion (Fails T) numbers → map (λ (s : ShownFailure). s.event) shown ≡ numbers
+  pub picked : Picks (Fails T) numbers (map (λ (s : ShownFailure). s.event) shown)

@@ -2,13 +2,13 @@
 ghost use Rattle.std.specs.Prelude.{◌≡◌, IfOk, MatchOption, None, take};
 ghost use Rattle.pmt_reasons.specs.Failures.{IsFailureAt};
 ghost use Rattle.pmt_explanation.specs.Failing.{failing_events as failing_in};
-ghost use Rattle.pmt_explanation.specs.Showing.{AreRangesAfter, AreShown, IsRangeAfter, IsShown, failure_mend, store_line};
+ghost use Rattle.pmt_explanation.specs.Showing.{AreRangesAfter, AreShown, IsRangeAfter, IsShown, failure_mend, lines_with_loss, store_line};
 
 use crate::counting::first;
-use crate::mending::{Mend, mend_for};
+use crate::mending::mend_for;
 use pmt_explain::{CrashByte, LineCount, cause, crash_bytes, crash_lines, failure};
 use pmt_model::{Op, OutOfMemory, Range, Trace, Verdict, line_of};
-use pmt_reasons::{Cause, Failure};
+use pmt_reasons::{Cause, Failure, Mend};
 use std::alloc::Global;
 
 /// What memory holds in a range after a crash.
@@ -29,10 +29,12 @@ pub struct ShownFailure {
     pub failure: Failure,
     /// Why the lost store is not safe at the crash's place.
     pub cause: Cause,
-    /// What makes it safe there.
+    /// What makes it safe there: with it put in, no crash up to the assertion loses the store, or keeps the other without it.
     pub mend: Mend,
-    /// How many stores of each line are persisted after the crash.
+    /// How many stores are persisted after the crash, of each line that loses one.
     pub lines: Vec<LineCount>,
+    /// How many lines lose none of their stores.
+    pub whole_lines: u64,
     /// What memory holds in the assertion's range, or in its two ranges, after the crash.
     pub ranges: Vec<RangeAfter>,
 }
@@ -51,7 +53,7 @@ pub fn failing_events(alloc: Global, verdicts: &[Verdict]) -> Result<Vec<u64>, O
         .collect(alloc)
 }
 
-/// The failures of these assertions in full, of at most `limit`, the first ones.
+/// Of the first `limit` of these events those that are assertions and fail, in the same order, each with its failure in full.
 ///
 /// # Errors
 /// Where memory was refused.
@@ -87,7 +89,9 @@ fn shown_failure(
     let Some(why) = cause(trace, found.lost.store, found.place) else {
         return Ok(None);
     };
-    let lines = crash_lines(alloc, trace, &found)?;
+    let all_lines = crash_lines(alloc, trace, &found)?;
+    let lines = losing_lines(alloc, all_lines.as_slice())?;
+    let whole_lines = all_lines.len().saturating_sub(lines.len()) as u64;
     let ranges = ranges_after(alloc, trace, number, &found)?;
     Ok(Some(ShownFailure {
         event: number,
@@ -95,8 +99,20 @@ fn shown_failure(
         cause: why,
         mend: mend_of_failure(trace, &found, why),
         lines,
+        whole_lines,
         ranges,
     }))
+}
+
+// Those of the lines that lose a store.
+fn losing_lines(alloc: Global, lines: &[LineCount]) -> Result<Vec<LineCount>, OutOfMemory>
+    ensures { IfOk result (λ losing. losing.items ≡ lines_with_loss lines.now) }
+{
+    lines
+        .iter()
+        .copied()
+        .filter(|line| line.persisted < line.stores)
+        .collect(alloc)
 }
 
 // What makes the lost store safe at the crash's place: before the assertion, or before the store that is kept.

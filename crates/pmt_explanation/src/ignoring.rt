@@ -8,7 +8,7 @@ use std::alloc::Global;
 
 /// The `len` bytes from `addr` on: a store all of whose bytes lie in such ranges is ignored.
 #[derive(Clone, Copy, Debug, PartialEq, Eq)]
-pub struct Ignored {
+pub struct ByteRange {
     /// The address of the first byte.
     pub addr: u64,
     /// How many bytes.
@@ -16,21 +16,21 @@ pub struct Ignored {
 }
 
 // Whether the byte lies in the range.
-fn has_byte(range: Ignored, byte: u64) -> bool
+fn has_byte(range: ByteRange, byte: u64) -> bool
     ensures { result ≡ range_has byte range }
 {
     range.addr <= byte && byte - range.addr < range.len
 }
 
 // Whether the byte lies in one of the ranges.
-fn is_byte_ignored(ranges: &[Ignored], byte: u64) -> bool
+fn is_byte_ignored(ranges: &[ByteRange], byte: u64) -> bool
     ensures { result ≡ byte_ignored ranges.now byte }
 {
     ranges.iter().any(|range| has_byte(*range, byte))
 }
 
 /// Whether each byte of the store lies in one of the ranges.
-pub fn is_store_ignored(ranges: &[Ignored], store: &WordStore) -> bool
+pub fn is_store_ignored(ranges: &[ByteRange], store: &WordStore) -> bool
     ensures { result ≡ store_ignored ranges.now store.now }
 {
     let first = store.addr().get();
@@ -44,7 +44,7 @@ pub fn is_store_ignored(ranges: &[Ignored], store: &WordStore) -> bool
 }
 
 /// Whether the event is a store each of whose bytes lies in one of the ranges.
-pub fn is_ignored(trace: &Trace, ranges: &[Ignored], number: u64) -> bool
+pub fn is_ignored(trace: &Trace, ranges: &[ByteRange], number: u64) -> bool
     ensures { result ≡ event_ignored trace.now ranges.now number }
 {
     let Some(event) = trace.get(number) else {
@@ -65,7 +65,7 @@ pub fn lost_stores(
     alloc: Global,
     trace: &Trace,
     findings: &[Finding],
-    ranges: &[Ignored],
+    ranges: &[ByteRange],
 ) -> Result<Vec<u64>, OutOfMemory>
     ensures { IfOk result (λ stores. stores.items ≡ told_stores trace.now ranges.now findings.now) }
 {
@@ -84,7 +84,7 @@ pub fn overwritings(
     alloc: Global,
     trace: &Trace,
     findings: &[Finding],
-    ranges: &[Ignored],
+    ranges: &[ByteRange],
 ) -> Result<Vec<Overwriting>, OutOfMemory>
     ensures { IfOk result (λ pairs. pairs.items ≡ told_pairs trace.now ranges.now findings.now) }
 {

@@ -2,7 +2,7 @@
 ghost use Rattle.std.specs.Prelude.{◌≡◌, IfOk, map};
 ghost use Rattle.serde_json.specs.View.{view};
 ghost use Rattle.pmt_explanation.specs.Parts.{array_of, byte_store_data, or_null};
-ghost use Rattle.pmt_explanation.specs.Entries.{byte_data, failure_data, line_count_data, range_after_data};
+ghost use Rattle.pmt_explanation.specs.Entries.{byte_store, byte_value, failure_data, line_count_data, range_after_data};
 
 use crate::failures::{RangeAfter, ShownFailure};
 use crate::json_objects::object_value;
@@ -42,6 +42,7 @@ pub(crate) fn failure_value(
         ("mend", mend),
         ("place", Value::from(shown.failure.place)),
         ("ranges", ranges),
+        ("whole_lines", Value::from(shown.whole_lines)),
     ]?;
     object_value(alloc, fields)
 }
@@ -61,7 +62,7 @@ fn kept_value(
     }
 }
 
-// How many stores of each line the crash leaves persisted.
+// How many stores the crash leaves persisted, of each line that loses one.
 fn lines_value(alloc: Global, trace: &Trace, lines: &[LineCount]) -> Result<Value, OutOfMemory>
     ensures { IfOk result (λ v. view v ≡ array_of (map (line_count_data trace.now) lines.now)) }
 {
@@ -99,37 +100,53 @@ fn range_after_value(alloc: Global, after: &RangeAfter) -> Result<Value, OutOfMe
     ensures { IfOk result (λ v. view v ≡ range_after_data after.now) }
 {
     let address = address_text(alloc, after.range.addr().get())?;
-    let bytes = bytes_value(alloc, after.bytes.as_slice())?;
+    let stores = stores_value(alloc, after.bytes.as_slice())?;
+    let values = values_value(alloc, after.bytes.as_slice())?;
     let fields = vec![in alloc;
         ("address", Value::String(address)),
-        ("bytes", bytes),
         ("length", Value::from(after.range.len())),
+        ("stores", stores),
+        ("values", values),
     ]?;
     object_value(alloc, fields)
 }
 
-fn bytes_value(alloc: Global, bytes: &[CrashByte]) -> Result<Value, OutOfMemory>
-    ensures { IfOk result (λ v. view v ≡ array_of (map byte_data bytes.now)) }
+// The numbers of the stores that the bytes are from.
+fn stores_value(alloc: Global, bytes: &[CrashByte]) -> Result<Value, OutOfMemory>
+    ensures { IfOk result (λ v. view v ≡ array_of (map byte_store bytes.now)) }
 {
     let mut values = Vec::with_capacity(alloc, bytes.len())?;
     for byte in bytes {
-        values.push(byte_value(alloc, *byte)?)?;
+        values.push(store_value(*byte))?;
     }
     Ok(Value::Array(values))
 }
 
-fn byte_value(alloc: Global, byte: CrashByte) -> Result<Value, OutOfMemory>
-    ensures { IfOk result (λ v. view v ≡ byte_data byte) }
+fn store_value(byte: CrashByte) -> Value
+    ensures { view result ≡ byte_store byte }
 {
-    let address = address_text(alloc, byte.byte)?;
-    let (store, value) = match byte.last {
-        Some(last) => (Value::from(last.store), Value::from(last.value)),
-        None => (Value::Null, Value::Null),
-    };
-    let fields = vec![in alloc;
-        ("byte", Value::String(address)),
-        ("store", store),
-        ("value", value),
-    ]?;
-    object_value(alloc, fields)
+    match byte.last {
+        Some(last) => Value::from(last.store),
+        None => Value::Null,
+    }
+}
+
+// What the bytes hold.
+fn values_value(alloc: Global, bytes: &[CrashByte]) -> Result<Value, OutOfMemory>
+    ensures { IfOk result (λ v. view v ≡ array_of (map byte_value bytes.now)) }
+{
+    let mut values = Vec::with_capacity(alloc, bytes.len())?;
+    for byte in bytes {
+        values.push(held_value(*byte))?;
+    }
+    Ok(Value::Array(values))
+}
+
+fn held_value(byte: CrashByte) -> Value
+    ensures { view result ≡ byte_value byte }
+{
+    match byte.last {
+        Some(last) => Value::from(last.value),
+        None => Value::Null,
+    }
 }

@@ -7,6 +7,7 @@ ghost use Rattle.pmt_explanation.specs.Parts.{json_line};
 ghost use Rattle.pmt_explanation.specs.Entries.{dropped_line, failure_line, lost_line, overwritten_line, unwritten_line};
 ghost use Rattle.pmt_explanation.specs.Summing.{IsJsonText, summary_line};
 
+use crate::choosing::Choice;
 use crate::counting::first;
 use crate::explaining::Explanation;
 use crate::failures::ShownFailure;
@@ -21,7 +22,8 @@ use pmt_model::{OutOfMemory, Trace};
 use serde_json::Value;
 use std::alloc::Global;
 
-/// The explanation as JSON, an object a line: the summary, and the entries of each kind, at most as many as the limit says.
+/// The explanation as JSON, an object a line: the summary, with what was asked for, and the entries of each kind, at most as many as
+/// the limit says.
 ///
 /// # Errors
 /// Where memory was refused.
@@ -29,19 +31,20 @@ pub fn json_text(
     alloc: Global,
     explanation: &Explanation,
     labels: &Labels,
+    choice: &Choice,
 ) -> Result<Vec<u8>, OutOfMemory>
-    ensures { IfOk result (λ text. IsJsonText explanation.now labels.now text.items) }
+    ensures { IfOk result (λ text. IsJsonText explanation.now labels.now choice.now text.items) }
 {
     let trace = explanation.analysis.trace();
     let limit = explanation.limit;
     let failures = explanation.failures.as_slice();
     let lost = first(explanation.lost.as_slice(), limit);
-    let dropped = first(explanation.dropped.as_slice(), limit);
+    let dropped = first(explanation.asked_dropped.as_slice(), limit);
     let overwritten = first(explanation.overwritten.as_slice(), limit);
     let unwritten = first(explanation.unwritten.as_slice(), limit);
     let counts = summary_of(explanation);
     let mut text = Vec::new(alloc);
-    push_summary(alloc, &mut text, explanation, &counts)?;
+    push_summary(alloc, &mut text, explanation, choice, &counts)?;
     push_failures(alloc, &mut text, trace, labels, failures)?;
     push_losses(alloc, &mut text, trace, labels, lost)?;
     push_drops(alloc, &mut text, trace, labels, dropped)?;
@@ -66,12 +69,13 @@ fn push_summary(
     alloc: Global,
     text: &mut Vec<u8>,
     explanation: &Explanation,
+    choice: &Choice,
     counts: &Summary,
 ) -> Result<(), OutOfMemory>
-    ensures { OnOk result (text.new.items ≡ text.old.items ++ summary_line explanation.now counts.now) }
+    ensures { OnOk result (text.new.items ≡ text.old.items ++ summary_line explanation.now choice.now counts.now) }
 {
     let more = more_value(alloc, explanation)?;
-    let value = summary_value(alloc, counts, explanation.limit, more)?;
+    let value = summary_value(alloc, counts, explanation.limit, choice, more)?;
     push_value(alloc, text, &value)
 }
 

@@ -7,10 +7,9 @@ ghost use Rattle.pmt_explanation.specs.Parts.{address_data, by_of as by_in, byte
 
 use crate::json_objects::object_value;
 use crate::labels::Labels;
-use crate::mending::Mend;
 use crate::words::{address_of, address_text, words_of};
 use pmt_model::{OutOfMemory, Range, Trace};
-use pmt_reasons::{ByteStore, Cause, Reason};
+use pmt_reasons::{ByteStore, Cause, Mend, Reason};
 use serde_json::Value;
 use std::alloc::Global;
 
@@ -298,7 +297,7 @@ fn store_first_value(
 }
 
 // The number, if there is one.
-fn count_or_null(number: Option<u64>) -> Value
+pub(crate) fn count_or_null(number: Option<u64>) -> Value
     ensures { view result ≡ or_null count_data number }
 {
     match number {

@@ -1,12 +1,19 @@
 //! The counts of an explanation as JSON.
-ghost use Rattle.std.specs.Prelude.{◌≡◌, IfOk};
+ghost use Rattle.std.specs.Prelude.{◌≡◌, IfOk, string_bytes};
+ghost use Rattle.serde_json.specs.Data.{string};
 ghost use Rattle.serde_json.specs.View.{view};
-ghost use Rattle.pmt_explanation.specs.Summing.{more_data, summary_data};
+ghost use Rattle.pmt_explanation.specs.Choosing.{kind_name as name_in};
+ghost use Rattle.pmt_explanation.specs.Parts.{or_null, count_data};
+ghost use Rattle.pmt_explanation.specs.Summing.{asked_data, byte_range_data, more_data, summary_data};
 
+use crate::choosing::{Choice, Kind};
 use crate::counting::per_cent;
 use crate::explaining::Explanation;
+use crate::ignoring::ByteRange;
 use crate::json_objects::object_value;
+use crate::json_parts::count_or_null;
 use crate::summary::Summary;
+use crate::words::address_text;
 use pmt_model::OutOfMemory;
 use serde_json::Value;
 use std::alloc::Global;
@@ -16,14 +23,17 @@ pub(crate) fn summary_value(
     alloc: Global,
     summary: &Summary,
     limit: usize,
+    choice: &Choice,
     more: Value,
 ) -> Result<Value, OutOfMemory>
-    ensures { IfOk result (λ v. view v ≡ summary_data summary.now limit (view more)) }
+    ensures { IfOk result (λ v. view v ≡ summary_data summary.now limit choice.now (view more)) }
 {
+    let asked = asked_value(alloc, choice)?;
     let kind = Value::try_from_str(alloc, "summary")?;
     let of_fences = per_cent(summary.fences_dropped, summary.fences);
     let of_flushes = per_cent(summary.flushes_dropped, summary.flushes);
     let fields = vec![in alloc;
+        ("asked", asked),
         ("assertions", Value::from(summary.assertions)),
         ("cache_lines", Value::from(summary.cache_lines)),
         ("events", Value::from(summary.events)),
@@ -46,6 +56,7 @@ pub(crate) fn summary_value(
         ("limit", Value::from(limit)),
         ("more", more),
         ("never_persisted", Value::from(summary.never_persisted)),
+        ("schema", Value::from(2u64)),
         ("stores", Value::from(summary.stores)),
         ("threads", Value::from(summary.threads)),
     ]?;
@@ -60,11 +71,11 @@ pub(crate) fn more_value(alloc: Global, explanation: &Explanation) -> Result<Val
     let fields = vec![in alloc;
         (
             "dropped",
-            Value::from(explanation.dropped.len().saturating_sub(limit))
+            Value::from(explanation.asked_dropped.len().saturating_sub(limit))
         ),
         (
             "failure",
-            Value::from(explanation.failing.len().saturating_sub(limit))
+            Value::from(explanation.asked_failing.len().saturating_sub(limit))
         ),
         (
             "never_persisted",
@@ -80,4 +91,65 @@ pub(crate) fn more_value(alloc: Global, explanation: &Explanation) -> Result<Val
         ),
     ]?;
     object_value(alloc, fields)
+}
+
+// What is asked for.
+fn asked_value(alloc: Global, choice: &Choice) -> Result<Value, OutOfMemory>
+    ensures { IfOk result (λ v. view v ≡ asked_data choice.now) }
+{
+    let label = text_or_null(alloc, &choice.label)?;
+    let only = kind_or_null(alloc, choice.only)?;
+    let range = range_or_null(alloc, choice.range)?;
+    let fields = vec![in alloc;
+        ("from", count_or_null(choice.from)),
+        ("label", label),
+        ("only", only),
+        ("range", range),
+        ("thread", thread_or_null(choice.thread)),
+        ("to", count_or_null(choice.to)),
+    ]?;
+    object_value(alloc, fields)
+}
+
+fn text_or_null(alloc: Global, text: &Option<String>) -> Result<Value, OutOfMemory>
+    ensures { IfOk result (λ v. view v ≡ or_null (λ s. string (string_bytes s)) text.now) }
+{
+    match text {
+        Some(text) => Value::try_from_str(alloc, text.as_str()),
+        None => Ok(Value::Null),
+    }
+}
+
+fn kind_or_null(alloc: Global, kind: Option<Kind>) -> Result<Value, OutOfMemory>
+    ensures { IfOk result (λ v. view v ≡ or_null (λ k. string (name_in k)) kind) }
+{
+    match kind {
+        Some(kind) => Value::try_from_str(alloc, kind.name()),
+        None => Ok(Value::Null),
+    }
+}
+
+fn range_or_null(alloc: Global, range: Option<ByteRange>) -> Result<Value, OutOfMemory>
+    ensures { IfOk result (λ v. view v ≡ or_null byte_range_data range) }
+{
+    let Some(range) = range else {
+        return Ok(Value::Null);
+    };
+    let address = address_text(alloc, range.addr)?;
+    object_value(
+        alloc,
+        vec![in alloc;
+            ("address", Value::String(address)),
+            ("length", Value::from(range.len)),
+        ]?,
+    )
+}
+
+fn thread_or_null(thread: Option<u8>) -> Value
+    ensures { view result ≡ or_null count_data thread }
+{
+    match thread {
+        Some(thread) => Value::from(thread),
+        None => Value::Null,
+    }
 }

@@ -3,6 +3,9 @@
 //! The definitions stand in `specs/`.
 #![tactic(auto)]
 
+mod asking;
+pub mod choosing;
+mod commands;
 pub mod counting;
 pub mod explaining;
 pub mod failures;
@@ -16,20 +19,31 @@ mod json_summary;
 pub mod labels;
 pub mod mending;
 mod people;
+mod people_causes;
+mod people_dropped;
 mod people_entries;
 mod people_failures;
+mod people_guesses;
+mod people_memory;
+mod people_overwritten;
 mod people_parts;
+mod people_ranges;
+mod people_summary;
+mod screen;
 pub mod summary;
+pub mod telling;
 pub mod unwritten;
 mod words;
 mod written;
 
+pub use crate::choosing::{Choice, Kind};
 pub use crate::explaining::{Explanation, Options, explanation_of, has_failed};
 pub use crate::failures::{RangeAfter, ShownFailure};
-pub use crate::ignoring::Ignored;
+pub use crate::ignoring::ByteRange;
 pub use crate::json_lines::json_text;
 pub use crate::labels::Labels;
-pub use crate::mending::{Mend, mend_for};
+pub use crate::mending::mend_for;
 pub use crate::people::text;
 pub use crate::summary::{Summary, summary_of};
+pub use crate::telling::Screen;
 pub use crate::unwritten::Unwritten;

@@ -1,25 +1,38 @@
-//! What is never persisted, dropped, overwritten or never stored, in words.
+//! What is never persisted or never stored, in words.
 
+use crate::commands::push_draw;
+use crate::counting::first;
 use crate::json_parts::line_address;
-use crate::labels::Labels;
 use crate::mending::mend_for;
 use crate::people_parts::{plural, push_cause, push_event, push_mend};
+use crate::screen::Section;
+use crate::telling::Telling;
 use crate::unwritten::Unwritten;
-use pmt_explain::{Dropped, LostGroup, OverwrittenGroup};
-use pmt_model::{OutOfMemory, Range, Trace};
-use pmt_reasons::Reason;
-use std::alloc::Global;
+use pmt_explain::LostGroup;
+use pmt_model::{OutOfMemory, Range};
+
+// What is never persisted.
+pub(crate) fn lost_section(told: &Telling<'_>) -> Result<Section, OutOfMemory> {
+    let groups = told.explanation.lost.as_slice();
+    let mut entries = Vec::new(told.alloc);
+    for group in first(groups, told.explanation.limit) {
+        let mut entry = String::new(told.alloc);
+        push_lost(&mut entry, told, group)?;
+        entries.push(entry)?;
+    }
+    Ok(Section {
+        heading: String::new(told.alloc),
+        entries,
+        total: groups.len(),
+        what: "groups of stores that are never persisted",
+        words: "--only never_persisted --limit all",
+    })
+}
 
 // Adds stores that are never persisted.
-pub(crate) fn push_lost(
-    alloc: Global,
-    out: &mut String,
-    trace: &Trace,
-    labels: &Labels,
-    group: &LostGroup,
-) -> Result<(), OutOfMemory> {
+fn push_lost(out: &mut String, told: &Telling<'_>, group: &LostGroup) -> Result<(), OutOfMemory> {
     let count = group.count;
-    let line = line_address(trace, group.line);
+    let line = line_address(told.trace, group.line);
     let (verb, object) = if count == 1 {
         ("is", "it")
     } else {
@@ -27,116 +40,56 @@ pub(crate) fn push_lost(
     };
     writeln!(
         out,
-        "\nerror: {count} store{} to cache line {line:#x} {verb} never persisted: a crash at the end can lose {object}",
+        "error: {count} store{} to cache line {line:#x} {verb} never persisted: a crash at the end can lose {object}",
         plural(count)
     )?;
     let role = if count == 1 { "store" } else { "first" };
     write!(out, "  {role}:  ")?;
-    push_event(alloc, out, trace, labels, group.first)?;
+    push_event(out, told, group.first)?;
     if count > 1 {
         out.push_str("  last:   ")?;
-        push_event(alloc, out, trace, labels, group.last)?;
+        push_event(out, told, group.last)?;
     }
     out.push_str("  why:    ")?;
-    push_cause(alloc, out, trace, labels, group.cause, group.line)?;
+    push_cause(out, told, group.cause, group.line)?;
     out.push_str("  fix:    ")?;
     push_mend(
         out,
-        trace,
-        labels,
+        told,
         mend_for(group.cause, group.line, group.last, None, false),
-    )
-}
-
-// Adds a flush or fence that is dropped.
-pub(crate) fn push_dropped(
-    alloc: Global,
-    out: &mut String,
-    trace: &Trace,
-    labels: &Labels,
-    dropped: Dropped,
-) -> Result<(), OutOfMemory> {
-    let number = dropped.event;
-    let how = match dropped.reason {
-        Reason::Unfenced => "since no fence completes it",
-        _ => "and can go",
-    };
-    writeln!(out, "\nnote: event {number} does nothing, {how}")?;
-    out.push_str("  event:  ")?;
-    push_event(alloc, out, trace, labels, number)?;
-    out.push_str("  why:    ")?;
-    push_reason(alloc, out, trace, labels, dropped.reason)
-}
-
-// Adds why it is dropped.
-fn push_reason(
-    alloc: Global,
-    out: &mut String,
-    trace: &Trace,
-    labels: &Labels,
-    reason: Reason,
-) -> Result<(), OutOfMemory> {
-    match reason {
-        Reason::Safe => out.push_str("its cache line has no store that is not persisted already\n"),
-        Reason::Unfenced => out.push_str(
-            "its thread makes no fence after it; to save its stores, keep the flush and add that fence\n",
-        ),
-        Reason::Repeated { by } => {
-            out.push_str(
-                "its thread flushes the cache line again before its next fence, which does the same:\n          ",
-            )?;
-            push_event(alloc, out, trace, labels, by)
-        }
-        Reason::Overtaken { by } => {
-            out.push_str(
-                "before its thread's next fence, all that it flushes is persisted by another flush, complete at\n          ",
-            )?;
-            push_event(alloc, out, trace, labels, by)
-        }
-        Reason::Empty => out.push_str("no clwb or clflushopt of its thread waits for it\n"),
-        Reason::Useless => out.push_str(
-            "all that its thread has flushed since its last fence is persisted already\n",
-        ),
-    }
-}
-
-// Adds stores that are overwritten.
-pub(crate) fn push_overwritten(
-    alloc: Global,
-    out: &mut String,
-    trace: &Trace,
-    labels: &Labels,
-    group: &OverwrittenGroup,
-) -> Result<(), OutOfMemory> {
-    let count = group.count;
-    let same = group.same;
-    let line = line_address(trace, group.line);
-    writeln!(
-        out,
-        "\nnote: {count} time{} a store to cache line {line:#x} is overwritten before any flush of the line ({same} with the same bytes)",
-        plural(count)
     )?;
-    out.push_str("  first:  ")?;
-    push_event(alloc, out, trace, labels, group.first.earlier)?;
-    out.push_str("  by:     ")?;
-    push_event(alloc, out, trace, labels, group.first.later)
+    push_draw(out, told, "--around", group.last)
+}
+
+// Assertions on bytes that no store has written.
+pub(crate) fn unwritten_section(told: &Telling<'_>) -> Result<Section, OutOfMemory> {
+    let found = told.explanation.unwritten.as_slice();
+    let mut entries = Vec::new(told.alloc);
+    for assertion in first(found, told.explanation.limit) {
+        let mut entry = String::new(told.alloc);
+        push_unwritten(&mut entry, told, assertion)?;
+        entries.push(entry)?;
+    }
+    Ok(Section {
+        heading: String::from_str(
+            told.alloc,
+            "warning: assertions on bytes that no store has written by then, which check nothing there:\n",
+        )?,
+        entries,
+        total: found.len(),
+        what: "assertions on bytes that were never stored",
+        words: "--only unwritten --limit all",
+    })
 }
 
 // Adds an assertion on bytes that no store has written.
-pub(crate) fn push_unwritten(
-    alloc: Global,
+fn push_unwritten(
     out: &mut String,
-    trace: &Trace,
-    labels: &Labels,
+    told: &Telling<'_>,
     found: &Unwritten,
 ) -> Result<(), OutOfMemory> {
-    let number = found.event;
-    writeln!(
-        out,
-        "\nwarning: the assertion of event {number} speaks of bytes that no store has written by then: it checks nothing there"
-    )?;
-    out.push_str("  assertion: ")?;
-    push_event(alloc, out, trace, labels, number)?;
+    out.push_str("  ")?;
+    push_event(out, told, found.event)?;
     push_never_stored(out, found.first)?;
     push_never_stored(out, found.second)
 }
@@ -150,7 +103,7 @@ fn push_never_stored(out: &mut String, range: Option<Range>) -> Result<(), OutOf
     let len = range.len();
     writeln!(
         out,
-        "  never stored: {len} byte{} from {addr:#x} on",
+        "    never stored: {len} byte{} from {addr:#x} on",
         plural(len)
     )
 }

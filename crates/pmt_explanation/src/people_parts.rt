@@ -1,66 +1,66 @@
 //! Events, causes and mends in words.
 
 use crate::json_parts::line_address;
-use crate::labels::Labels;
-use crate::mending::Mend;
+use crate::telling::Telling;
 use crate::words::words_of;
-use pmt_model::{OutOfMemory, Trace};
-use pmt_reasons::Cause;
-use std::alloc::Global;
+use pmt_model::OutOfMemory;
+use pmt_reasons::{Cause, Mend};
 
 // The ending of a noun for so many.
 pub(crate) fn plural(count: u64) -> &'static str {
     if count == 1 { "" } else { "s" }
 }
 
-// Adds how many more there are than are shown, if there are more.
-pub(crate) fn push_more(
-    out: &mut String,
-    count: usize,
-    limit: usize,
-    what: &str,
-) -> Result<(), OutOfMemory> {
-    if count <= limit {
-        return Ok(());
+// Whether the cause is that no flush follows.
+pub(crate) fn is_unflushed(cause: Cause) -> bool {
+    match cause {
+        Cause::Unflushed => true,
+        Cause::Later
+        | Cause::Unfenced {
+            flush: _,
+            thread: _,
+            other: _,
+        } => false,
     }
-    let more = count - limit;
-    writeln!(
-        out,
-        "\n... and {more} more: {what} (a higher --limit shows them)"
-    )
 }
 
 // Adds the event as a person finds it again: its number, line, thread, label and words.
 pub(crate) fn push_event(
-    alloc: Global,
     out: &mut String,
-    trace: &Trace,
-    labels: &Labels,
+    told: &Telling<'_>,
     number: u64,
 ) -> Result<(), OutOfMemory> {
-    let Some(event) = trace.get(number) else {
+    let Some(event) = told.trace.get(number) else {
         return writeln!(out, "event {number}");
     };
     let thread = event.thread;
     let line = number.saturating_add(1);
-    write!(out, "event {number} (trace line {line}, thread {thread})")?;
-    if let Some(label) = labels.get(number) {
-        write!(out, " at {label}")?;
-    }
-    let words = words_of(alloc, event)?;
+    write!(out, "event {number} (line {line}, thread {thread})")?;
+    push_label(out, told, number)?;
+    let words = words_of(told.alloc, event)?;
     writeln!(out, ": {words}")
+}
+
+// Adds where the event is made, if it has a label.
+pub(crate) fn push_label(
+    out: &mut String,
+    told: &Telling<'_>,
+    number: u64,
+) -> Result<(), OutOfMemory> {
+    match told.labels.get(number) {
+        Some(label) => write!(out, " at {label}"),
+        None => Ok(()),
+    }
 }
 
 // Adds why the store is not safe by then.
 pub(crate) fn push_cause(
-    alloc: Global,
     out: &mut String,
-    trace: &Trace,
-    labels: &Labels,
+    told: &Telling<'_>,
     cause: Cause,
     line: u64,
 ) -> Result<(), OutOfMemory> {
-    let line = line_address(trace, line);
+    let line = line_address(told.trace, line);
     match cause {
         Cause::Later => writeln!(out, "the store comes later than the crash"),
         Cause::Unflushed => writeln!(
@@ -77,34 +77,27 @@ pub(crate) fn push_cause(
                 "cache line {line:#x} is flushed after the store, but thread {thread} makes no fence after its flush by then"
             )?;
             out.push_str("  flush:  ")?;
-            push_event(alloc, out, trace, labels, flush)?;
-            push_other(alloc, out, trace, labels, other)
+            push_event(out, told, flush)?;
+            push_other(out, told, other)
         }
     }
 }
 
 // Adds the fence of another thread that came in the place of the one that is wanted.
-fn push_other(
-    alloc: Global,
-    out: &mut String,
-    trace: &Trace,
-    labels: &Labels,
-    other: Option<u64>,
-) -> Result<(), OutOfMemory> {
+fn push_other(out: &mut String, told: &Telling<'_>, other: Option<u64>) -> Result<(), OutOfMemory> {
     let Some(number) = other else {
         return Ok(());
     };
     out.push_str(
         "  note:   a fence completes the flushes of its own thread alone, so this one does not help: ",
     )?;
-    push_event(alloc, out, trace, labels, number)
+    push_event(out, told, number)
 }
 
 // Adds what mends the store.
 pub(crate) fn push_mend(
     out: &mut String,
-    trace: &Trace,
-    labels: &Labels,
+    told: &Telling<'_>,
     mend: Mend,
 ) -> Result<(), OutOfMemory> {
     match mend {
@@ -114,19 +107,19 @@ pub(crate) fn push_mend(
             before,
         } => {
             write!(out, "Fence by thread {thread} after ")?;
-            push_place(out, labels, after)?;
-            push_before(out, labels, before)
+            push_place(out, told, after)?;
+            push_before(out, told, before)
         }
         Mend::FlushAndFence {
             line,
             after,
             before,
         } => {
-            let line = line_address(trace, line);
+            let line = line_address(told.trace, line);
             write!(out, "Flush cache line {line:#x} after ")?;
-            push_place(out, labels, after)?;
+            push_place(out, told, after)?;
             out.push_str(", and fence by the thread that flushes it")?;
-            push_before(out, labels, before)
+            push_before(out, told, before)
         }
         Mend::StoreFirst {
             store,
@@ -134,28 +127,32 @@ pub(crate) fn push_mend(
             same_line,
         } => {
             out.push_str("Make the store of ")?;
-            push_place(out, labels, store)?;
+            push_place(out, told, store)?;
             out.push_str(" earlier")?;
-            push_before(out, labels, before)?;
+            push_before(out, told, before)?;
             push_first(out, same_line)
         }
     }
 }
 
 // Adds the event's number, with its label if it has one.
-fn push_place(out: &mut String, labels: &Labels, number: u64) -> Result<(), OutOfMemory> {
+fn push_place(out: &mut String, told: &Telling<'_>, number: u64) -> Result<(), OutOfMemory> {
     write!(out, "event {number}")?;
-    match labels.get(number) {
+    match told.labels.get(number) {
         Some(label) => write!(out, " ({label})"),
         None => Ok(()),
     }
 }
 
 // Adds by when, and ends the sentence.
-fn push_before(out: &mut String, labels: &Labels, before: Option<u64>) -> Result<(), OutOfMemory> {
+fn push_before(
+    out: &mut String,
+    told: &Telling<'_>,
+    before: Option<u64>,
+) -> Result<(), OutOfMemory> {
     if let Some(event) = before {
         out.push_str(", before ")?;
-        push_place(out, labels, event)?;
+        push_place(out, told, event)?;
     }
     out.push_str(".\n")
 }

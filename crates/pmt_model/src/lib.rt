@@ -28,6 +28,3 @@ pub use crate::selection::Selection;
 pub use crate::split::split_store;
 pub use crate::store::{Payload, WordStore};
 pub use crate::trace::Trace;
-
-#[cfg(test)]
-mod tests;

@@ -5,3 +5,5 @@ pub mod ReasonLemmas
 pub mod ReasonLaws
 pub mod LastStores
 pub mod FailureLaws
+pub mod MendLaws
+pub mod PuttingInLaws

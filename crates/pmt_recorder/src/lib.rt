@@ -33,6 +33,3 @@ pub use crate::scripts::record_scripts;
 pub use crate::session::{SealFault, Session};
 pub use crate::shelf::{Shelf, Snapshot};
 pub use crate::tape::Tape;
-
-#[cfg(test)]
-mod tests;

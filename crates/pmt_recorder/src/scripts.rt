@@ -178,6 +178,3 @@ pub fn record_scripts<G: Gate + Sync, R: Threads + Wait + Sync>(
 {
     record_over::<Brand, G, R>(rt, alloc, Blank::new(256), gate, scripts.as_slice())
 }
-
-#[cfg(test)]
-pub(crate) mod tests;

@@ -1,15 +1,19 @@
-//! The analysis of the trace that a reader gives.
-ghost use Rattle.std.specs.Prelude.{◌≡◌, ◌+◌, ◌-◌, ◌^◌, ◌<◌, IfOk, IfErr, true, not};
+//! The analysis of the trace that a reader or a source gives.
+ghost use Rattle.std.specs.Prelude.{◌≡◌, ◌+◌, ◌-◌, ◌^◌, ◌<◌, ◌↔◌, IfOk, IfErr, IfSome, IsErrOf, IsFalse, true, not};
 ghost use Rattle.pmt_text.specs.Coming.{ComesWhole};
 ghost use Rattle.pmt_text.specs.Counting.{failure_count, inner_device};
+ghost use Rattle.pmt_text.specs.Sources.{CountsReads};
+ghost use Rattle.pmt_lines.specs.Sourcing.{IsFaultOf};
 ghost use Rattle.pmt_analysis.specs.Analysing.{IsAnalysed};
+ghost use Rattle.pmt_workers.specs.Asking.{TellsSource, told_by};
 ghost use Rattle.pmt_workers.specs.Halving.{is_worker_count};
 ghost use Rattle.pmt_report.specs.Runs.{IsAnalysisFault, coming_from_reader, run_read_faults, tells_workers};
 
 use crate::fault::{RunError, run_error};
+use crate::swept::swept;
 use pmt_analysis::Analysis;
 use pmt_model::NoGate;
-use pmt_text::{Counted, TextSource};
+use pmt_text::{Counted, EventSource, TextSource};
 use pmt_workers::{AnalyseError, analyse_with};
 use std::alloc::Global;
 use std::io::Read;
@@ -36,7 +40,7 @@ pub fn analysed<T: Threads + Wait + Sync, R: Read>(
     ensures read_failures { failure_count result.0 ≡ failure_count reader + run_read_faults result.1 }
 {
     let mut source = TextSource::new(alloc, reader);
-    let found = analyse_with(rt, alloc, &NoGate, &mut source, workers);
+    let found = analysis_from(rt, alloc, &mut source, workers);
     let reader = source.into_input();
     match found {
         Ok(analysis) => (reader, Ok(analysis)),
@@ -44,4 +48,29 @@ pub fn analysed<T: Threads + Wait + Sync, R: Read>(
         Err(AnalyseError::Source(fault)) => (reader, Err(run_error(fault))),
         Err(AnalyseError::OutOfMemory) => (reader, Err(RunError::OutOfMemory)),
     }
+}
+
+/// The analysis of the trace whose events the source has still to give, by this many workers. One goes over the events, with no jobs,
+/// and more share them by lines: a trace has one analysis, so the answer is the same.
+///
+/// # Errors
+/// As `analyse_with`.
+pub(crate) fn analysis_from<T: Threads + Sync, S: EventSource>(
+    rt: &T,
+    alloc: Global,
+    source: &mut S,
+    workers: usize,
+) -> Result<Analysis, AnalyseError>
+    ensures workers { IsErrOf result AnalyseError.BadWorkers ↔ IsFalse (is_worker_count workers) }
+    ensures unasked { IsErrOf result AnalyseError.BadWorkers → source.new ≡ source.old }
+    ensures right { IfOk result IsAnalysed }
+    ensures whole { IfOk result (λ a. ComesWhole (S.coming source.old) a.trace) }
+    ensures fault { IfErr (told_by result) (λ e. IfSome (S.coming source.old) (λ c. IsFaultOf c e)) }
+    ensures told { TellsSource (S.state source.old) result (S.state source.new) }
+    ensures failures { CountsReads (S.failures source.old) (told_by result) (S.failures source.new) }
+{
+    if workers == 1 {
+        return swept(alloc, source);
+    }
+    analyse_with(rt, alloc, &NoGate, source, workers)
 }

@@ -3,8 +3,8 @@ ghost use Rattle.std.specs.Prelude.{◌≡◌, ◌+◌, ◌-◌, ◌^◌, ◌<�
 ghost use Rattle.std.specs.List.{list_any};
 ghost use Rattle.pmt_text.specs.Counting.{failure_count, inner_device};
 ghost use Rattle.pmt_workers.specs.Halving.{is_worker_count};
-ghost use Rattle.pmt_report.specs.Checks.{IsJudgedAs, IsReportOf, has_failed, is_failure, is_loss, report_for, unanswered};
-ghost use Rattle.pmt_report.specs.Runs.{IsAnalysisFault, Runs, coming_from_reader, run_read_faults, tells_workers, write_faults};
+ghost use Rattle.pmt_report.specs.Checks.{TellsCheck, has_failed, is_failure, is_loss, report_for, unanswered};
+ghost use Rattle.pmt_report.specs.Runs.{coming_from_reader, run_read_faults, tells_workers, write_faults};
 
 use crate::analysing::analysed;
 use crate::fault::RunError;
@@ -19,7 +19,7 @@ use std::sync::Wait;
 use std::thread::Threads;
 
 /// Writes the report of the trace whose text the reader gives, by this many workers, and tells whether a verdict fails or a store is
-/// never persisted. The reader is handed back.
+/// never persisted: both are of one analysis of that trace. The reader is handed back.
 ///
 /// # Errors
 /// In this order: `BadWorkers` unless there are 1, 2, 4, 8 or 16, in which case nothing is read; `Text`, `TooMany` and `Read` as
@@ -35,8 +35,7 @@ pub fn run_check<T: Threads + Wait + Sync, R: Read, W: Write>(
     requires writes { failure_count writer.old < 2 ^ 64 - 1 }
     ensures workers { tells_workers result.1 ≡ not (is_worker_count workers) }
     ensures unread { tells_workers result.1 ≡ true → result.0 ≡ reader }
-    ensures runs { Runs IsReportOf IsAnalysisFault (coming_from_reader (R.remaining (inner_device reader))) (W.contents (inner_device writer.old)) (W.contents (inner_device writer.new)) (unanswered result.1) }
-    ensures judged { IfOk result.1 (IsJudgedAs (coming_from_reader (R.remaining (inner_device reader)))) }
+    ensures told { TellsCheck (coming_from_reader (R.remaining (inner_device reader))) (W.contents (inner_device writer.old)) (W.contents (inner_device writer.new)) result.1 }
     ensures read_failures { failure_count result.0 ≡ failure_count reader + run_read_faults result.1 }
     ensures write_failures { failure_count writer.new ≡ failure_count writer.old + write_faults result.1 }
 {

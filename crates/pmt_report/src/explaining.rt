@@ -8,10 +8,10 @@ ghost use Rattle.pmt_explanation.specs.Explaining.{IsExplanation};
 ghost use Rattle.pmt_report.specs.declared.explaining.ExplainError.TheVariants.{OutOfMemory};
 ghost use Rattle.pmt_report.specs.Asking.{TellsSource, told_by};
 
-use pmt_explanation::{Explanation, Options, explanation_of};
-use pmt_model::NoGate;
+use crate::analysing::analysis_from;
+use pmt_explanation::{Explanation, Labels, Options, explanation_of};
 use pmt_text::{EventSource, SourceError};
-use pmt_workers::{AnalyseError, analyse_with};
+use pmt_workers::AnalyseError;
 use std::alloc::{AllocError, Global};
 use std::thread::Threads;
 use thiserror::Error;
@@ -35,7 +35,7 @@ impl From<AllocError> for ExplainError {
     }
 }
 
-/// Explains the trace whose events the source has still to give.
+/// Explains the trace whose events the source has still to give, with these labels of its events.
 ///
 /// # Errors
 /// `Source` with the fault that the source told, or with `Failed` where it had told a fault before. `OutOfMemory` where memory was
@@ -44,9 +44,10 @@ pub fn explain<T: Threads + Sync, S: EventSource>(
     rt: &T,
     alloc: Global,
     source: &mut S,
+    labels: &Labels,
     options: &Options,
 ) -> Result<Explanation, ExplainError>
-    ensures explained { IfOk result (λ x. IsExplanation x.analysis options.now.ignored.items x) }
+    ensures explained { IfOk result (λ x. IsExplanation x.analysis labels.now options.now x) }
     ensures analysed { IfOk result (λ x. IsAnalysed x.analysis) }
     ensures limit { IfOk result (λ x. x.limit ≡ options.now.limit) }
     ensures whole { IfOk result (λ x. ComesWhole (S.coming source.old) x.analysis.trace) }
@@ -54,8 +55,8 @@ pub fn explain<T: Threads + Sync, S: EventSource>(
     ensures told { TellsSource (S.state source.old) result (S.state source.new) }
     ensures failures { CountsReads (S.failures source.old) (told_by result) (S.failures source.new) }
 {
-    match analyse_with(rt, alloc, &NoGate, source, 1) {
-        Ok(analysis) => Ok(explanation_of(alloc, analysis, options)?),
+    match analysis_from(rt, alloc, source, 1) {
+        Ok(analysis) => Ok(explanation_of(alloc, analysis, labels, options)?),
         Err(AnalyseError::Source(fault)) => Err(ExplainError::Source(fault)),
         Err(AnalyseError::OutOfMemory) => Err(ExplainError::OutOfMemory),
         Err(AnalyseError::BadWorkers) => unreachable!(),

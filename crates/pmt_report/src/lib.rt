@@ -13,6 +13,7 @@ pub mod listing;
 mod output;
 pub mod record_fault;
 mod report;
+mod swept;
 mod taking;
 mod texts;
 pub mod trim;

@@ -100,7 +100,7 @@ abbrev pub AreStored : Recording → ℕ → ℕ → ℕ → Type 0
 AreStored T number low high = (l : ℕ) (w : Written) → IsAct T number (Stores l w) → (low ≡ w.addr) × (high ≡ w.addr + length w.bytes)
 
 -- whether a store writes a byte, by the addresses
-written : (w : Written) (b low high : ℕ) (v : Bool) → low ≡ w.addr → high ≡ w.addr + length w.bytes → (nat_le low b && nat_lt b high) ≡ v → writes w b ≡ v
+pub written : (w : Written) (b low high : ℕ) (v : Bool) → low ≡ w.addr → high ≡ w.addr + length w.bytes → (nat_le low b && nat_lt b high) ≡ v → writes w b ≡ v
 written w b low high true from to e = writes-from_byte w b (parts (nat_le low b) (nat_lt b high) refl refl e)
   where
     parts : (x y : Bool) → nat_le low b ≡ x → nat_lt b high ≡ y → (x && y) ≡ true → (w.addr ≤ b) × (b < w.addr + length w.bytes)

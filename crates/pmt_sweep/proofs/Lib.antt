@@ -4,6 +4,7 @@ pub mod JoiningLemmas
 pub mod EndingLemmas
 pub mod KnownLemmas
 pub mod ChainLemmas
+pub mod ByteTableLemmas
 pub mod OverwritingLemmas
 pub mod OpenLemmas
 pub mod NumberedLemmas
@@ -13,6 +14,8 @@ pub mod SweepLemmas
 pub mod WriterListLemmas
 pub mod LineWriterListLemmas
 pub mod WriterLemmas
+pub mod WholeLemmas
+pub mod SpacingLemmas
 pub mod LineWriterLemmas
 pub mod SettlingLemmas
 pub mod VerdictsSoFar

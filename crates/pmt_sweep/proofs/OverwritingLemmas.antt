@@ -1,9 +1,9 @@
 -- The stores that a store overwrites.
-use Rattle.std.proofs.Common.{◌≡◌, ℕ, suc, ◌+◌, ◌-◌, ◌<◌, ◌≤◌, ◌⊎◌, inl, inr, false, List, length, take, Some, refl, sym, ap, subst, ◌∙◌, arith}
+use Rattle.std.proofs.Common.{◌≡◌, ℕ, suc, ◌+◌, ◌-◌, ◌<◌, ◌≤◌, ◌⊎◌, inl, inr, false, List, [], ◌++◌, length, take, Some, refl, sym, ap, subst, ◌∙◌, arith}
 use Rattle.std.specs.Prelude.{◌↔◌, slice_index}
 use Rattle.std.proofs.lemmas.Bool.{true≢false}
 use Rattle.std.proofs.lemmas.Option.{same_Some}
-use Rattle.std.proofs.lemmas.List.{get_or-take, length-take}
+use Rattle.std.proofs.lemmas.List.{append-nil, get_or-take, length-take}
 use Rattle.pmt_model.specs.declared.finding.Finding.{Finding}
 use Rattle.pmt_model.specs.declared.finding.Finding.TheVariants.{Overwritten, NeverPersisted, RedundantFlush, FenceWithoutFlush}
 use Rattle.pmt_model.specs.Values.{Written, line_of}
@@ -14,10 +14,10 @@ use Rattle.pmt_model.specs.Selections.{IsRising, Has}
 use Rattle.pmt_model.specs.Analyses.{reported_at, HasFinding, IsFinding}
 use Rattle.pmt_laws.proofs.Histories.{act-unique}
 use Rattle.pmt_laws.proofs.OverwrittenLemmas.{overwritten_by_numbers, last_store_number-is, IsLastWriter}
-use Rattle.pmt_lines.specs.Scans.{IsAmong, overwritten_by}
+use Rattle.pmt_lines.specs.Scans.{IsAmong, overwritten_by, PushesOverwritten}
 use Rattle.pmt_lines.proofs.FindingLists.{has-overwritten, overwritten-has, overwritten-ordered}
 use Rattle.pmt_lines.proofs.TraceLemmas.{size-of_format, store-of_trace, byte-line, byte-from_writes, writes-from_byte}
-use Rattle.pmt_sweep.specs.Known.{is_known_late, AreKnownAt}
+use Rattle.pmt_sweep.specs.Known.{is_known_late, AreKnownAt, AddsKnown}
 use Rattle.pmt_sweep.specs.Chains.{IsNoneAfter, IsLastAfter, IsNewest}
 
 -- Event j is the last store to one of these bytes among the first n events, and comes after event flush.
@@ -114,7 +114,7 @@ among T n flush low count numbers size are j = (to, from)
         here : slice_index numbers k ≡ j
         here = sym (get_or-take count numbers k 0 small) ∙ at
 
-        go : ((slice_index numbers k ≡ 0) × IsNoneAfter T n flush (low + k)) ⊎ ((flush < slice_index numbers k) × (last_store_number (low + k) (history T n) ≡ Some (slice_index numbers k))) → WritesLast T n flush low (low + count) j
+        go : ((slice_index numbers k ≤ flush) × IsNoneAfter T n flush (low + k)) ⊎ ((flush < slice_index numbers k) × (last_store_number (low + k) (history T n) ≡ Some (slice_index numbers k))) → WritesLast T n flush low (low + count) j
         go (inl x) = absurd (omega (arith, x.0, here, later))
         go (inr x) = (later, low + k, omega arith, omega (arith, small), x.1 ∙ ap (λ (m : ℕ). Some m) here)
 
@@ -127,7 +127,7 @@ among T n flush low count numbers size are j = (to, from)
         there : low + (b - low) ≡ b
         there = omega (arith, low_b)
 
-        go : ((slice_index numbers (b - low) ≡ 0) × IsNoneAfter T n flush (low + (b - low))) ⊎ ((flush < slice_index numbers (b - low)) × (last_store_number (low + (b - low)) (history T n) ≡ Some (slice_index numbers (b - low)))) → slice_index numbers (b - low) ≡ j
+        go : ((slice_index numbers (b - low) ≤ flush) × IsNoneAfter T n flush (low + (b - low))) ⊎ ((flush < slice_index numbers (b - low)) × (last_store_number (low + (b - low)) (history T n) ≡ Some (slice_index numbers (b - low)))) → slice_index numbers (b - low) ≡ j
         go (inl x) = absurd (omega (arith, x.1 j (ap (λ m. last_store_number m (history T n)) there ∙ last), later))
         go (inr x) = same_Some (slice_index numbers (b - low)) j (sym x.1 ∙ ap (λ m. last_store_number m (history T n)) there ∙ last)
 
@@ -135,3 +135,36 @@ among T n flush low count numbers size are j = (to, from)
 pub none-written : (T : Recording) (l n flush low high newest : ℕ) → IsNewest T l n flush low high newest → newest ≡ 0 → (j : ℕ) → ¬ WritesLast T n flush low high j
 none-written T l n flush low high newest (inl x) e j (later, b, from, to, last) = omega (arith, x.1 b from to j last, later)
 none-written T l n flush low high newest (inr x) e j writes_last = omega (arith, x.0, e)
+
+-- what a store overwrites is added
+module _ (T : Recording) (l n : ℕ) (w : Written) (flush low high : ℕ) (is_trace : IsTrace T) (is : IsAct T (suc n) (Stores l w)) (last : flush ≡ last_flush l (history T n)) (from : low ≡ w.addr) (to : high ≡ w.addr + length w.bytes) where
+  of_store : (j : ℕ) → WritesLast T n flush low high j ↔ WritesLast T n flush w.addr (w.addr + length w.bytes) j
+  of_store j = (
+    λ writes_last. subst (λ a. WritesLast T n flush a (w.addr + length w.bytes) j) from (subst (λ b. WritesLast T n flush low b j) to writes_last),
+    λ writes_last. subst (λ a. WritesLast T n flush a high j) (sym from) (subst (λ b. WritesLast T n flush w.addr b j) (sym to) writes_last),
+  )
+
+  -- nothing, where no byte was stored since the flush
+  pub adds-nothing : (newest : ℕ) (found : List Finding) → IsNewest T l n flush low high newest → newest ≡ 0 → AddsKnown T (suc n) found found
+  adds-nothing newest found is_newest zero_newest =
+      let none = none-written T l n flush low high newest is_newest zero_newest in
+      ([], sym (append-nil found), known-store T l n w is_trace is flush [] last tt (λ j. (λ has. absurd has, λ writes_last. absurd (none j ((of_store j).1 writes_last)))))
+
+  -- the last store to each byte is among these numbers
+  pub adds-overwritten : (later : ℕ) (numbers earlier : List ℕ) (old new : List Finding) → low ≤ high → later ≡ suc n → high - low ≤ length numbers → earlier ≡ take (high - low) numbers →
+      ((k : ℕ) → low + k < high → IsLastAfter T n flush (low + k) (slice_index numbers k)) → PushesOverwritten old new earlier flush later → AddsKnown T (suc n) old new
+  adds-overwritten later numbers earlier old new some number size taken are pushes =
+      (overwritten_by (suc n) pushes.above, pushes.pushed ∙ ap (λ e. old ++ overwritten_by e pushes.above) number, known-store T l n w is_trace is flush pushes.above last pushes.are_above.rising just)
+    where
+      count : ℕ
+      count = high - low
+
+      end : low + count ≡ high
+      end = omega (arith, some)
+
+      told : (j : ℕ) → ((flush < j) × IsAmong earlier j) ↔ WritesLast T n flush low high j
+      told j = subst (λ b. ((flush < j) × IsAmong earlier j) ↔ WritesLast T n flush low b j) end
+          (subst (λ ns. ((flush < j) × IsAmong ns j) ↔ WritesLast T n flush low (low + count) j) (sym taken) (among T n flush low count numbers size (λ k small. are k (omega (arith, small, end))) j))
+
+      just : (j : ℕ) → Has pushes.above j ↔ WritesLast T n flush w.addr (w.addr + length w.bytes) j
+      just j = (λ has. (of_store j).0 ((told j).0 ((pushes.are_above.just j).0 has)), λ writes_last. (pushes.are_above.just j).1 ((told j).1 ((of_store j).1 writes_last)))

@@ -16,11 +16,13 @@ use Rattle.pmt_sweep.specs.declared.sweeping.Progress.{Progress}
 use Rattle.pmt_sweep.specs.Known.{AreKnownAt, AreKnownTo, AddsKnown}
 use Rattle.pmt_sweep.specs.Rows.{last_line_store, IsPlaceOf, KeepsPlaces, AreRows}
 use Rattle.pmt_sweep.specs.Chains.{AreChained}
+use Rattle.pmt_sweep.specs.ByteTables.{AreTables}
 use Rattle.pmt_sweep.specs.Ending.{StandAt}
 use Rattle.pmt_sweep.specs.Sweeping.{has_some, AreOpen, taken, IsSweepOf}
 use Rattle.pmt_sweep.specs.OpenFlushes.{AreNumbered}
 use Rattle.pmt_sweep.specs.Flags.{AreFlagsTo}
 use Rattle.pmt_sweep.proofs.KnownLemmas.{known-next, known-fence}
+use Rattle.pmt_sweep.proofs.ByteTableLemmas.{tables-later}
 
 -- What is told of the next event, where it is a store: the store to its line before it, and the place of its line.
 abbrev pub TellsStore : List Act → List LineRow → Act → ℕ → ℕ → Type 0
@@ -46,13 +48,14 @@ standing-next T rows new places a p is tells kept standing i l w within store = 
 
 pub next : (T : Recording) (s new : Progress) (a : Act) (x p : ℕ) → IsSweepOf T s → IsAct T (suc (taken s)) a → new.before.items ≡ s.before.items ++ x ∷ [] → new.places.items ≡ s.places.items ++ p ∷ [] → KeepsPlaces s.rows new.rows → AreRows (a ∷ history T (taken s)) new.rows → AreOpen (a ∷ history T (taken s)) new.rows new.open_flushes →
     TellsStore (history T (taken s)) new.rows a x p → AddsKnown T (suc (taken s)) s.found.items new.found.items → AreNumbered (a ∷ history T (taken s)) new.rows new.open_flushes new.open_numbers →
-    AreFlagsTo T (suc (taken s)) new.kept.items → IsSweepOf T new
-next T s new a x p so_far is before places kept rows opens tells adds numbered flags =
+    AreFlagsTo T (suc (taken s)) new.kept.items → AreTables T (taken s) new.tables → IsSweepOf T new
+next T s new a x p so_far is before places kept rows opens tells adds numbered flags tables =
     record {
       within = subst (λ n. n ≤ length T.events) (sym one) (act-within T (suc n) a is).1;
       rows = subst (λ h. AreRows h new.rows) (sym grown) rows;
       opens = subst (λ h. AreOpen h new.rows new.open_flushes) (sym grown) opens;
       chained = subst (AreChained T) (sym before) (chained-next T s.before.items a x is (λ l w e. (tells l w e).0) so_far.chained);
+      tables = subst (λ m. AreTables T m new.tables) (sym one) (tables-later T n new.tables tables);
       all = ap length places ∙ length_push s.places.items p ∙ omega (arith, so_far.all, one);
       standing = subst (StandAt T new.rows) (sym places) (standing-next T s.rows new.rows s.places.items a p (subst (λ m. IsAct T (suc m) a) (sym so_far.all) is) (λ l w e. (tells l w e).1) kept so_far.standing);
       known = subst (λ m. AreKnownTo T m new.found.items) (sym one) (subst (AreKnownTo T (suc n)) (sym adds.1) (known-next T n s.found.items adds.0 so_far.known adds.2));

@@ -36,7 +36,7 @@ byte_of-line T l o trace within = go T.format.line_size (size-of_format T.format
     go n (Bytes256 e) h = rw e (omega (arith, e, h))
 
 -- the bytes of a store end within its line
-store-within : (T : Recording) (l i low : ℕ) (s : Written) → IsTrace T → IsAct T i (Stores l s) → byte_of T l low ≡ s.addr → low + length s.bytes ≤ T.format.line_size
+pub store-within : (T : Recording) (l i low : ℕ) (s : Written) → IsTrace T → IsAct T i (Stores l s) → byte_of T l low ≡ s.addr → low + length s.bytes ≤ T.format.line_size
 store-within T l i low s trace is from = go T.format.line_size (size-of_format T.format trace.format) from known.line
   where
     known : IsStoreOf T.format l s
@@ -147,13 +147,13 @@ writer-left T l n a y x is number rank within part left safe old = record {
 }
 
 -- the fields that settling leaves
-record IsSettled (w v : Writer) : Type 0 where
-  number : v.number ≡ w.number
-  rank : v.rank ≡ w.rank
-  low : v.low ≡ w.low
-  high : v.high ≡ w.high
+pub record IsSettled (w v : Writer) : Type 0 where
+  pub number : v.number ≡ w.number
+  pub rank : v.rank ≡ w.rank
+  pub low : v.low ≡ w.low
+  pub high : v.high ≡ w.high
 
-settled-is : (front n : ℕ) (w : Writer) → IsSettled w (settled front n w)
+pub settled-is : (front n : ℕ) (w : Writer) → IsSettled w (settled front n w)
 settled-is front n w = go ((w.safe == 0) && nat_le w.rank front)
   where
     go : (b : Bool) → IsSettled w (if b then record w { safe = n } else w)

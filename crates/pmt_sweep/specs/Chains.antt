@@ -24,10 +24,10 @@ IsUnwrittenFrom T n number b = last_store_number b (history T n) ≡ last_store_
 abbrev pub IsNoneAfter : Recording → ℕ → ℕ → ℕ → Type 0
 IsNoneAfter T n flush b = (j : ℕ) → last_store_number b (history T n) ≡ Some j → j ≤ flush
 
--- The number is that of the last store to the byte at b among the first n events where that comes after event flush; else it is 0.
+-- The number is that of the last store to the byte at b among the first n events where that comes after event flush; else it doesn't.
 abbrev pub IsLastAfter : Recording → ℕ → ℕ → ℕ → ℕ → Type 0
 IsLastAfter T n flush b number =
-    ((number ≡ 0) × IsNoneAfter T n flush b) ⊎ ((flush < number) × (last_store_number b (history T n) ≡ Some number))
+    ((number ≤ flush) × IsNoneAfter T n flush b) ⊎ ((flush < number) × (last_store_number b (history T n) ≡ Some number))
 
 -- The newest store after event flush that may write a byte from low to high, or 0 where none does.
 abbrev pub IsNewest : Recording → ℕ → ℕ → ℕ → ℕ → ℕ → ℕ → Type 0

@@ -1,6 +1,7 @@
 pub mod Known
 pub mod Rows
 pub mod Chains
+pub mod ByteTables
 pub mod Ending
 pub mod LineEnds
 pub mod Joining

@@ -9,6 +9,7 @@ use Rattle.pmt_sweep.specs.declared.sweeping.Progress.{Progress}
 use Rattle.pmt_sweep.specs.Known.{AreKnownTo}
 use Rattle.pmt_sweep.specs.Rows.{AreRows, HasOpen}
 use Rattle.pmt_sweep.specs.Chains.{AreChained}
+use Rattle.pmt_sweep.specs.ByteTables.{AreTables}
 use Rattle.pmt_sweep.specs.Ending.{StandAt}
 use Rattle.pmt_sweep.specs.OpenFlushes.{AreNumbered}
 use Rattle.pmt_sweep.specs.Flags.{AreFlagsTo}
@@ -38,6 +39,7 @@ pub record IsSweepOf (T : Recording) (s : Progress) : Type 0 where
   pub rows : AreRows (history T (taken s)) s.rows
   pub opens : AreOpen (history T (taken s)) s.rows s.open_flushes
   pub chained : AreChained T s.before.items
+  pub tables : AreTables T (taken s) s.tables
   pub all : length s.places.items ≡ taken s
   pub standing : StandAt T s.rows s.places.items
   pub known : AreKnownTo T (taken s) s.found.items

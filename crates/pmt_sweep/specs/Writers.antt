@@ -1,5 +1,5 @@
 -- Which store wrote each byte of a line last.
-use Rattle.std.specs.Prelude.{◌≡◌, ℕ, ◌+◌, ◌*◌, ◌<◌, ◌≤◌, ◌⊎◌, ◌↔◌, ◌^◌, ◌&&◌, ◌==◌, nat_le, if◌then◌else◌, List, Contains, Option, MatchOption}
+use Rattle.std.specs.Prelude.{◌≡◌, ℕ, ◌+◌, ◌*◌, ◌<◌, ◌≤◌, ◌⊎◌, ◌↔◌, ◌^◌, ◌&&◌, ◌==◌, nat_le, if◌then◌else◌, List, length, get_or, Contains, Option, MatchOption}
 use Rattle.pmt_model.specs.Traces.{Recording}
 use Rattle.pmt_model.specs.Fronts.{front_at}
 use Rattle.pmt_asserts.specs.declared.oldest.Oldest.{Oldest}
@@ -34,6 +34,12 @@ pub record TakesOver (w : Writer) (old new : List Writer) : Type 0 where
 abbrev pub settled : ℕ → ℕ → Writer → Writer
 settled front n w = if (w.safe == 0) && nat_le w.rank front then record w { safe = n } else w
 
+-- Each store has bytes, and they come after those of the stores before it.
+pub record IsSpaced (ws : List Writer) : Type 0 where
+  pub some : (k : ℕ) (d : Writer) → k < length ws → (get_or ws k d).low < (get_or ws k d).high
+  pub fits : (k : ℕ) (d : Writer) → k < length ws → (get_or ws k d).high < 2 ^ 16
+  pub rising : (i k : ℕ) (d : Writer) → i < k → k < length ws → (get_or ws i d).high ≤ (get_or ws k d).low
+
 -- Each store that wrote one of these bytes is persisted for sure by event number by.
 abbrev pub AreSafeBy : List Writer → ℕ → ℕ → ℕ → Type 0
 AreSafeBy ws low high by = (w : Writer) → Contains ws w → Meets low high w → (1 ≤ w.safe) × (w.safe ≤ by)
@@ -60,10 +66,17 @@ pub record IsWhole (ws : List Writer) (whole : Whole) : Type 0 where
   pub within : (w : Writer) → Contains ws w → w.high ≤ whole.reach
   pub fits : whole.reach ≤ 2 ^ 16
 
--- All stores are persisted for sure by event number by, and what is known of them as a whole is right; or by is 0.
-pub record AreSettled (by : ℕ) (whole : Whole) (ws : List Writer) : Type 0 where
+-- Each store that is not yet persisted for sure has at least this rank.
+abbrev pub ArePending : ℕ → List Writer → Type 0
+ArePending rank ws = (w : Writer) → Contains ws w → w.safe ≡ 0 → rank ≤ w.rank
+
+-- The stores are spaced. All are persisted for sure by event number by, or by is 0; those that are not yet have at least the rank that is
+-- given; and what is known of them as a whole is right, or its reach is 0.
+pub record AreSummed (by rank : ℕ) (whole : Whole) (ws : List Writer) : Type 0 where
+  pub spaced : IsSpaced ws
   pub all : AreAllSafe by ws
-  pub known : 1 ≤ by → IsWhole ws whole
+  pub later : ArePending rank ws
+  pub known : 1 ≤ whole.reach → IsWhole ws whole
 
 -- ---- What the stores of a list are to a trace
 

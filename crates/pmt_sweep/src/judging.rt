@@ -21,6 +21,8 @@ pub(crate) struct Judging {
     pub(crate) progress: Progress,
     pub(crate) writers: LineWriters,
     pub(crate) verdicts: Vec<Verdict>,
+    // The places of lines of which the oldest store has to be found again before an assertion is judged.
+    pub(crate) stale: Vec<u32>,
 }
 
 impl Judging {
@@ -32,6 +34,7 @@ impl Judging {
             progress: Progress::new(alloc, trace)?,
             writers: LineWriters::new(alloc),
             verdicts: Vec::new(alloc),
+            stale: Vec::new(alloc),
         })
     }
 
@@ -73,6 +76,8 @@ impl Judging {
             low,
             high: low + store.bytes().len() as u16,
         };
+        let is_fresh = self.writers.is_fresh(place);
+        push_stale(&mut self.stale, is_fresh, self.progress.places[index])?;
         self.writers.store(place, writer)?;
         Ok(())
     }
@@ -131,11 +136,21 @@ impl Judging {
         let _is_trace = trace.len();
         self.progress.take_assertion()?;
         let number = self.progress.before.len() as u64;
+        self.writers.refresh(self.stale.as_slice());
+        self.stale.clear();
         if let Some(verdict) = verdict_by(self, trace, number) {
             self.verdicts.push(verdict)?;
         }
         Ok(())
     }
+}
+
+// Adds the place, if its line was fresh.
+fn push_stale(stale: &mut Vec<u32>, is_fresh: bool, place: u32) -> Result<(), OutOfMemory> {
+    if is_fresh {
+        stale.push(place)?;
+    }
+    Ok(())
 }
 
 // What a sweep finds that judges the assertions as they come.
@@ -153,6 +168,7 @@ pub(crate) fn judged(alloc: Global, trace: &Trace) -> Result<Swept, OutOfMemory>
         progress,
         writers: _,
         verdicts,
+        stale: _,
     } = judging;
     progress.finish(alloc, trace, verdicts)
 }

@@ -4,6 +4,7 @@
 #![tactic(auto)]
 
 mod answers;
+mod byte_tables;
 mod chain;
 mod ending;
 mod joining;
@@ -13,6 +14,7 @@ mod open_numbers;
 mod rows;
 mod settling;
 pub mod sweeping;
+mod taking_over;
 mod writers;
 
 pub use crate::sweeping::{Swept, sweep};

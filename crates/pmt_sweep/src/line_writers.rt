@@ -51,6 +51,32 @@ impl LineWriters {
         self.lines[place].store(writer)
     }
 
+    // Whether what is to be known of the line at this place is known, or nothing was stored to it.
+    pub(crate) fn is_fresh(&self, place: usize) -> bool {
+        match self.lines.get(place) {
+            None => true,
+            Some(writers) => writers.is_fresh(),
+        }
+    }
+
+    // Finds out what is to be known of the lines at these places.
+    pub(crate) fn refresh(&mut self, places: &[u32])
+        ensures { self.new ≡ self.old }
+    {
+        for place in places {
+            self.refresh_at(*place as usize);
+        }
+    }
+
+    // Finds out what is to be known of the line at this place.
+    fn refresh_at(&mut self, place: usize)
+        ensures { self.new ≡ self.old }
+    {
+        if let Some(writers) = self.lines.get_mut(place) {
+            writers.refresh();
+        }
+    }
+
     // The event with this number, after which the front of the line at this place has this value.
     pub(crate) fn settle(&mut self, place: usize, front: u64, number: u32)
         ensures { SettlesAll (λ _. front) (place ∷ []) number self.old self.new }

@@ -10,6 +10,7 @@ ghost use Rattle.pmt_asserts.specs.Judging.{event_asserts};
 ghost use Rattle.pmt_sweep.specs.Rows.{IsPlaceOf};
 ghost use Rattle.pmt_sweep.specs.Sweeping.{IsSweepOf, taken};
 
+use crate::byte_tables::ByteTables;
 use crate::chain::{LastOfLine, push_overwritten_by};
 use crate::ending::never_persisted;
 use crate::joining::joined;
@@ -45,6 +46,8 @@ pub(crate) struct Progress {
     pub(crate) open_numbers: OpenNumbers,
     // Of each event that has come and is a store, the number of the store to its line before it, or 0.
     pub(crate) before: Vec<u32>,
+    // Of the lines whose stores were looked for far back, the last store to each byte.
+    pub(crate) tables: ByteTables,
     // Of each event that has come and is a store, the place of its line's row.
     pub(crate) places: Vec<u32>,
     // What is found, apart from stores that are never persisted.
@@ -55,7 +58,8 @@ pub(crate) struct Progress {
 
 /// The findings and verdicts of the trace, all that is kept of it, and how many lines it stores or flushes: one pass forward over the
 /// events, and one over the stores for those that are never persisted. It takes one look-up of a line for each store and flush, some 80
-/// bytes a line and 9 an event; where the trace has assertions, some 120 bytes more for each line that is stored.
+/// bytes a line and 9 an event; where the trace has assertions, some 120 bytes more for each line that is stored; where over 16 stores to a
+/// line follow one another without a flush, at most 4 bytes more for each byte of the line, and some 60 for the line.
 ///
 /// # Errors
 /// Where memory was refused.
@@ -98,6 +102,7 @@ impl Progress {
             open_flushes: OpenFlushes::new(alloc)?,
             open_numbers: OpenNumbers::new(alloc)?,
             before: Vec::with_capacity(alloc, events)?,
+            tables: ByteTables::new(alloc),
             places: Vec::with_capacity(alloc, events)?,
             found: Vec::new(alloc),
             kept: Vec::with_capacity(alloc, events)?,
@@ -150,6 +155,7 @@ impl Progress {
         };
         push_overwritten_by(
             &mut self.found,
+            &mut self.tables,
             trace,
             self.before.as_slice(),
             line,
@@ -268,11 +274,13 @@ impl Progress {
             open_flushes: _,
             open_numbers: _,
             before,
+            tables,
             places,
             found,
             kept,
         } = self;
         drop(before);
+        drop(tables);
         let lines = rows.len();
         let late = never_persisted(alloc, trace, &rows, places.as_slice())?;
         drop(rows);
@@ -301,108 +309,4 @@ fn is_clflush_covered(state: &LineState) -> bool
     ensures { result ≡ nat_le state.now.count state.now.front }
 {
     state.count() <= state.front()
-}
-
-#[cfg(test)]
-mod tests {
-    use super::*;
-    use pmt_model::Range;
-    use std::test::Fail;
-
-    // The trace of these events.
-    fn trace_of(alloc: Global, events: &[(u8, Op)]) -> Result<Trace, Fail> {
-        let mut trace = Trace::new(alloc);
-        for event in events {
-            let (thread, op) = *event;
-            trace.push(Event { thread, op })?;
-        }
-        Ok(trace)
-    }
-
-    // Two bytes stored one by one, then both at once, and a flush that no fence follows.
-    #[test]
-    fn overwritten_and_never_persisted(rt: HostRuntime) -> Result<(), Fail> {
-        let events = [
-            (0, Op::store(0x1000, &[1])?),
-            (0, Op::store(0x1001, &[2])?),
-            (0, Op::store(0x1000, &[3, 4])?),
-            (0, Op::clwb(0x1000)?),
-        ];
-        let trace = trace_of(rt.alloc(), events.as_slice())?;
-        let never = |event| Finding::NeverPersisted {
-            event,
-            flushed: true,
-        };
-        let over = |earlier| Finding::Overwritten { earlier, later: 3 };
-        let swept = sweep(rt.alloc(), &trace)?;
-        assert_eq!(rt; swept.lines, 1);
-        assert_eq!(rt;
-            swept.findings.as_slice(),
-            [never(1), never(2), over(1), over(2), never(3)].as_slice()
-        );
-        Ok(())
-    }
-
-    // The second flush has no store that the first one has not marked, the third comes after the fence, and the last fence has no flush.
-    // Of the first two the fence keeps the newest.
-    #[test]
-    fn redundant(rt: HostRuntime) -> Result<(), Fail> {
-        let events = [
-            (0, Op::store(0x1000, &[1])?),
-            (0, Op::clwb(0x1000)?),
-            (0, Op::clwb(0x1000)?),
-            (0, Op::Sfence),
-            (0, Op::clwb(0x1000)?),
-            (0, Op::Sfence),
-            (0, Op::Sfence),
-        ];
-        let trace = trace_of(rt.alloc(), events.as_slice())?;
-        let flush = |event| Finding::RedundantFlush { event };
-        let fence = Finding::FenceWithoutFlush { event: 7 };
-        let swept = sweep(rt.alloc(), &trace)?;
-        assert_eq!(rt;
-            swept.findings.as_slice(),
-            [flush(3), flush(5), fence].as_slice()
-        );
-        assert_eq!(rt; swept.selection.numbers(), [1, 3, 4].as_slice());
-        Ok(())
-    }
-
-    // The verdict of the assertion with this number.
-    fn is_judged(swept: &Swept, event: u64, ordered: bool, pass: bool) -> bool {
-        let wanted = Verdict {
-            event,
-            ordered,
-            pass,
-        };
-        swept.verdicts.contains(&wanted)
-    }
-
-    // A store is not persisted before its fence, orders a store after it, and not one before it; stored once more, it orders none.
-    #[test]
-    fn judged_as_they_come(rt: HostRuntime) -> Result<(), Fail> {
-        let first = Range::new(0x1000, 1)?;
-        let second = Range::new(0x1040, 1)?;
-        let events = [
-            (0, Op::store(0x1000, &[1])?),
-            (1, Op::IsPersist(first)),
-            (0, Op::clwb(0x1000)?),
-            (0, Op::Sfence),
-            (1, Op::IsPersist(first)),
-            (0, Op::store(0x1040, &[1])?),
-            (1, Op::IsOrderedBefore(first, second)),
-            (1, Op::IsOrderedBefore(second, first)),
-            (0, Op::store(0x1000, &[2])?),
-            (1, Op::IsOrderedBefore(first, second)),
-        ];
-        let trace = trace_of(rt.alloc(), events.as_slice())?;
-        let swept = sweep(rt.alloc(), &trace)?;
-        assert_eq!(rt; swept.verdicts.len(), 5);
-        assert!(rt; is_judged(&swept, 2, false, false));
-        assert!(rt; is_judged(&swept, 5, false, true));
-        assert!(rt; is_judged(&swept, 7, true, true));
-        assert!(rt; is_judged(&swept, 8, true, false));
-        assert!(rt; is_judged(&swept, 10, true, false));
-        Ok(())
-    }
 }

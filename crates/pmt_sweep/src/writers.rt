@@ -1,8 +1,8 @@
 //! Of a line, which store wrote each byte last, and since when that store is persisted for sure.
-ghost use Rattle.std.specs.Prelude.{Contains, ◌≡◌, ℕ, suc, ◌<◌, ◌≤◌, ◌↔◌, List, [], ◌∷◌, ◌++◌, length, map, IfSome, IsTrue, OnOk};
-ghost use Rattle.pmt_sweep.specs.Giving.{part_of, GivesWay, IsSeat};
-ghost use Rattle.pmt_sweep.specs.Writers.{settled, AreAllSafe, AreRankedBy, AreSafeBy, IsFirst, IsFirstOf, IsWhole, Meets, TakesOver};
+ghost use Rattle.std.specs.Prelude.{Contains, ◌≡◌, ℕ, ◌<◌, ◌≤◌, ◌↔◌, List, [], ◌∷◌, ◌++◌, map, IsTrue, OnOk};
+ghost use Rattle.pmt_sweep.specs.Writers.{settled, AreAllSafe, ArePending, AreRankedBy, AreSafeBy, IsFirst, IsFirstOf, IsWhole, Meets, TakesOver};
 
+use crate::taking_over::take_over;
 use pmt_asserts::Oldest;
 use pmt_model::OutOfMemory;
 use smallvec::SmallVec;
@@ -10,7 +10,7 @@ use std::alloc::Global;
 use std::marker::Model;
 
 // Most lines of a log hold so many, with no block of memory.
-const FEW: usize = 4;
+pub(crate) const FEW: usize = 4;
 
 /// A store, as the last one that wrote some bytes of its line.
 #[derive(Clone, Copy, Debug, Default, PartialEq, Eq)]
@@ -30,10 +30,13 @@ pub(crate) struct Writer {
 /// The last stores to the bytes of a line, each with the bytes that no later one wrote.
 #[derive(Drop)]
 pub(crate) struct Writers {
+    // Each has bytes, which come after those of the ones before it.
     held: SmallVec<Writer, FEW>,
     // All of them are persisted for sure by the event with this number; 0 where that is not known.
     safe: u32,
-    // What is known of all of them, where they are persisted for sure.
+    // Those that are not yet persisted for sure have at least this rank.
+    pending: u32,
+    // What is known of all of them; nothing, where its reach is 0.
     whole: Whole,
 }
 
@@ -49,13 +52,13 @@ struct Whole {
 impl Model for Writers {
     ghost use Rattle.std.specs.Prelude.{List};
     ghost use Rattle.pmt_sweep.specs.declared.writers.Writer.{Writer};
-    ghost use Rattle.pmt_sweep.specs.Writers.{AreSettled};
+    ghost use Rattle.pmt_sweep.specs.Writers.{AreSummed};
 
     ghost Value = { List Writer };
 
     ghost view = { λ w. w.held.items };
 
-    ghost invariant = { λ w. AreSettled w.safe w.whole w.held.items };
+    ghost invariant = { λ w. AreSummed w.safe w.pending w.whole w.held.items };
 }
 
 impl Writers {
@@ -66,6 +69,7 @@ impl Writers {
         Writers {
             held: SmallVec::new(alloc),
             safe: 0,
+            pending: u32::MAX,
             whole: Whole {
                 first: None,
                 reach: 0,
@@ -73,27 +77,41 @@ impl Writers {
         }
     }
 
-    // A new store: its bytes are no other one's any more.
+    // A new store: its bytes are no other one's any more. What was known of all of them is forgotten.
     pub(crate) fn store(&mut self, writer: Writer) -> Result<(), OutOfMemory>
         requires { writer.low < writer.high }
         ensures { OnOk result (TakesOver writer self.old self.new) }
     {
+        let pending = self.pending.min(writer.rank);
         self.safe = 0;
-        take_over(&mut self.held, writer)
+        self.pending = 0;
+        self.whole.reach = 0;
+        take_over(&mut self.held, writer)?;
+        self.pending = pending;
+        Ok(())
+    }
+
+    // Whether it is known what is to be known of all of them, or there are none.
+    pub(crate) fn is_fresh(&self) -> bool {
+        self.whole.reach != 0 || self.held.is_empty()
+    }
+
+    // Finds out what is to be known of all of them.
+    pub(crate) fn refresh(&mut self)
+        ensures { self.new ≡ self.old }
+    {
+        self.whole = whole_of(self.held.as_slice());
     }
 
     // The event with this number, after which the line's front has this value.
     pub(crate) fn settle(&mut self, front: u64, number: u32)
         ensures { self.new ≡ map (settled front number) self.old }
     {
-        if self.safe != 0 {
+        if front < self.pending as u64 {
             return;
         }
-        let by = settle_each(self.held.as_mut_slice(), front, number);
-        if by != 0 {
-            self.whole = whole_of(self.held.as_slice());
-            self.safe = by;
-        }
+        self.safe = settle_each(self.held.as_mut_slice(), front, number);
+        self.pending = pending_of(self.held.as_slice());
     }
 
     // Whether each store that wrote a byte from `low` to `high` is persisted for sure by the event with this number.
@@ -127,7 +145,8 @@ impl Writers {
     pub(crate) fn oldest(&self, low: u64, high: u64) -> Option<Oldest>
         ensures { IsFirst self.now low high result }
     {
-        if self.safe != 0 && low == 0 && self.whole.reach as u64 <= high {
+        let reach = self.whole.reach;
+        if low == 0 && reach != 0 && reach as u64 <= high {
             return self.whole.first;
         }
         oldest_of(self.held.as_slice(), low, high)
@@ -140,13 +159,6 @@ impl Writer {
         ensures { IsTrue result ↔ Meets low high self.now }
     {
         low.max(self.low as u64) < high.min(self.high as u64)
-    }
-
-    // Whether what it wrote lies within what the other wrote.
-    fn is_within(&self, other: &Writer) -> bool
-        ensures { IsTrue result ↔ (other.now.low ≤ self.now.low) × (self.now.high ≤ other.now.high) }
-    {
-        other.low <= self.low && self.high <= other.high
     }
 
     // After the event with this number, where its line's front has this value then.
@@ -171,90 +183,6 @@ impl Writer {
     }
 }
 
-// A new store comes to these: its bytes are no other one's any more.
-fn take_over(held: &mut SmallVec<Writer, FEW>, writer: Writer) -> Result<(), OutOfMemory>
-    ensures { OnOk result (TakesOver writer held.old.items held.new.items) }
-{
-    if let Some(seat) = seat_of(held.as_slice(), &writer) {
-        return take_seat(held, seat, writer);
-    }
-    for place in (0..held.len()).rev() {
-        give_way(held, place, &writer)?;
-    }
-    held.push(writer)?;
-    Ok(())
-}
-
-// Where the new store may stand, with the others as they are: at the place of the only one that shares a byte with it, if that one has no
-// other bytes; at the end, if none does.
-fn seat_of(held: &[Writer], writer: &Writer) -> Option<usize>
-    ensures { IfSome result (IsSeat writer.now held.now) }
-{
-    let mut seat = held.len();
-    for (place, older) in held.iter().enumerate() {
-        if older.meets(writer.low as u64, writer.high as u64) {
-            if seat < held.len() || !older.is_within(writer) {
-                return None;
-            }
-            seat = place;
-        }
-    }
-    Some(seat)
-}
-
-// The new store takes this seat.
-fn take_seat(
-    held: &mut SmallVec<Writer, FEW>,
-    seat: usize,
-    writer: Writer,
-) -> Result<(), OutOfMemory>
-    requires { IsSeat writer held.old.items seat }
-    ensures { OnOk result (TakesOver writer held.old.items held.new.items) }
-{
-    if seat < held.len() {
-        held[seat] = writer;
-    } else {
-        held.push(writer)?;
-    }
-    Ok(())
-}
-
-// The store at this place gives way to the new one: it stays where they wrote no byte both, and else what it wrote on either side stays.
-fn give_way(
-    held: &mut SmallVec<Writer, FEW>,
-    place: usize,
-    writer: &Writer,
-) -> Result<(), OutOfMemory>
-    requires { place < length held.old.items }
-    ensures { (first : List Writer) → GivesWay writer.now (suc place) first held.old.items → OnOk result (GivesWay writer.now place first held.new.items) }
-{
-    if !held[place].meets(writer.low as u64, writer.high as u64) {
-        return Ok(());
-    }
-    let older = held.swap_remove(place);
-    push_part(held, &older, older.low, older.high.min(writer.low))?;
-    push_part(held, &older, older.low.max(writer.high), older.high)
-}
-
-// What an older store wrote from `low` to `high`, where that is anything.
-fn push_part(
-    held: &mut SmallVec<Writer, FEW>,
-    older: &Writer,
-    low: u16,
-    high: u16,
-) -> Result<(), OutOfMemory>
-    ensures { OnOk result (held.new.items ≡ held.old.items ++ part_of older.now low high) }
-{
-    if low < high {
-        held.push(Writer {
-            low,
-            high,
-            ..*older
-        })?;
-    }
-    Ok(())
-}
-
 // The event with this number, after which the front of these stores' line has this value. The result: an event by which they are all
 // persisted for sure, or 0.
 fn settle_each(held: &mut [Writer], front: u64, number: u32) -> u32
@@ -272,6 +200,19 @@ fn settle_each(held: &mut [Writer], front: u64, number: u32) -> u32
         *writer = settled;
     }
     if all { latest } else { 0 }
+}
+
+// A rank that each of these stores has at least, if it is not yet persisted for sure.
+fn pending_of(held: &[Writer]) -> u32
+    ensures { ArePending result held.now }
+{
+    let mut pending = u32::MAX;
+    for writer in held {
+        if writer.safe == 0 {
+            pending = pending.min(writer.rank);
+        }
+    }
+    pending
 }
 
 // The first of some stores, if there are any, or this one, if it came before.

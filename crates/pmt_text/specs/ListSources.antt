@@ -25,6 +25,9 @@ list_format s = Some s.trace.now.format
 abbrev pub list_room : ListSource → ℕ
 list_room s = length s.trace.now.events - s.given
 
+abbrev pub list_given : ListSource → ℕ
+list_given s = s.given
+
 pub list_few : (s : ListSource) → list_room s ≤ event_limit
 list_few s = let few = s.few in omega (arith, few)
 

@@ -1,5 +1,5 @@
 -- What a source of events tells, call by call.
-use Rattle.std.specs.Prelude.{◌≡◌, ◌≢◌, ℕ, ◌+◌, ◌<◌, List, [], ◌∷◌, ◌++◌, Option, Some, None, Result, Ok, Err}
+use Rattle.std.specs.Prelude.{◌≡◌, ◌≢◌, ℕ, ◌+◌, ◌<◌, ◌⊎◌, List, [], ◌∷◌, ◌++◌, Option, Some, None, Result, Ok, Err}
 use Rattle.pmt_model.specs.declared.event.Event.{Event}
 use Rattle.pmt_model.specs.Values.{Layout}
 use Rattle.pmt_model.specs.Traces.{IsEventIn}
@@ -103,7 +103,17 @@ IsOfLaterLine (Some f) Read = Unit {0}
 IsOfLaterLine (Some f) OutOfMemory = Unit {0}
 IsOfLaterLine (Some f) Failed = Unit {0}
 
--- ---- Events left, and failed reads
+-- a format that can't be told is not known, unless a fault was told before
+abbrev pub LeavesUnknown : Option Layout → SourceError → Type 0
+LeavesUnknown format e = (e ≡ Failed) ⊎ (format ≡ None)
+
+-- ---- Events given and left, and failed reads
+
+-- how many events were given after this answer
+abbrev pub given_after : ℕ → Result (Option Event) SourceError → ℕ
+given_after given (Ok (Some e)) = given + 1
+given_after given (Ok None) = given
+given_after given (Err e) = given
 
 -- an event that was given leaves one less to come
 abbrev pub LeavesFewer : ℕ → Result (Option Event) SourceError → ℕ → Type 0

@@ -1,7 +1,6 @@
 -- What a source over a text gives.
-use Rattle.std.specs.Prelude.{ℕ, ◌+◌, ◌-◌, ◌≤◌, List, [], Option, Some, None, option_map, Result, Ok, Err}
+use Rattle.std.specs.Prelude.{ℕ, ◌-◌, ◌≤◌, List, [], Option, Some, None, option_map, Result, Ok, Err}
 use Rattle.std.proofs.Common.{arith}
-use Rattle.pmt_model.specs.declared.event.Event.{Event}
 use Rattle.pmt_model.specs.Values.{Layout}
 use Rattle.pmt_model.specs.Traces.{event_limit}
 use Rattle.pmt_text.specs.declared.kind.SourceError.{SourceError}
@@ -31,12 +30,6 @@ coming_in Open known format = known
 coming_in Ended known format = end_of format
 coming_in (Failed fault) known format = None
 
--- how many events were given after this answer
-abbrev pub given_after : ℕ → Result (Option Event) SourceError → ℕ
-given_after given (Ok (Some e)) = given + 1
-given_after given (Ok None) = given
-given_after given (Err e) = given
-
 -- what the header takes: what comes after it is that of its format
 abbrev pub TakesHeader : Option Coming → Result Layout SourceError → (Layout → Option Coming) → Type 0
 TakesHeader old (Ok f) later = HasFormat old (Some f) × Gives old [] (later f)
@@ -61,6 +54,10 @@ module _ {R : Type 0} where
   -- at most so many events are still to come
   abbrev pub text_room : TextSource R → ℕ
   text_room s = event_limit - s.given
+
+  -- how many events it gave
+  abbrev pub text_given : TextSource R → ℕ
+  text_given s = s.given
 
   -- its reader
   abbrev pub text_input : TextSource R → Counted R

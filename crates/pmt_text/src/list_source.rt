@@ -36,13 +36,15 @@ impl<'a> ListSource<'a> {
 }
 
 impl EventSource for ListSource<'_> {
-    ghost use Rattle.pmt_text.specs.ListSources.{list_coming, list_state, list_format, list_room, list_few, list_listed, list_same_format};
+    ghost use Rattle.pmt_text.specs.ListSources.{list_coming, list_state, list_format, list_given, list_room, list_few, list_listed, list_same_format};
 
     ghost coming = { list_coming };
 
     ghost state = { list_state };
 
     ghost known_format = { list_format };
+
+    ghost given = { list_given };
 
     ghost room = { list_room };
 

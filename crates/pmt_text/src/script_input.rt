@@ -107,6 +107,3 @@ fn faulty_line(text: &[u8]) -> Option<TextError>
     }
     None
 }
-
-#[cfg(test)]
-mod tests;

@@ -3,7 +3,7 @@ ghost use Rattle.std.specs.Prelude.{◌≡◌, ℕ, ◌≤◌, List, Option, Som
 ghost use Rattle.pmt_model.specs.Values.{Layout};
 ghost use Rattle.pmt_model.specs.Traces.{event_limit};
 ghost use Rattle.pmt_text.specs.Coming.{Coming};
-ghost use Rattle.pmt_text.specs.Sources.{TakesNext, TakesFormat, TellsNext, TellsFormat, KeepsFormat, IsGivenIn, IsOfFirstLine, IsOfLaterLine, LeavesFewer, CountsReads, Lends};
+ghost use Rattle.pmt_text.specs.Sources.{TakesNext, TakesFormat, TellsNext, TellsFormat, KeepsFormat, IsGivenIn, IsOfFirstLine, IsOfLaterLine, LeavesFewer, LeavesUnknown, CountsReads, Lends, given_after};
 ghost use Rattle.pmt_text.specs.declared.source.SourceState.{SourceState};
 
 use crate::kind::SourceError;
@@ -32,6 +32,9 @@ pub trait EventSource {
     // Its format, once it is known.
     ghost known_format: { Self → Option Layout };
 
+    // How many events it gave.
+    ghost given: { Self → ℕ };
+
     // At most so many events are still to come.
     ghost room: { Self → ℕ };
 
@@ -50,7 +53,9 @@ pub trait EventSource {
         ensures taken { TakesFormat (coming self.old) result (coming self.new) }
         ensures known { IfOk result (λ f. known_format self.new ≡ Some f) }
         ensures kept { KeepsFormat (known_format self.old) (known_format self.new) }
+        ensures unknown { IfErr result (LeavesUnknown (known_format self.new)) }
         ensures first_line { IfErr result IsOfFirstLine }
+        ensures given { given self.new ≡ given self.old }
         ensures room { room self.new ≡ room self.old }
         ensures failures { CountsReads (failures self.old) result (failures self.new) };
 
@@ -64,6 +69,7 @@ pub trait EventSource {
         ensures in_format { IsGivenIn (known_format self.new) result }
         ensures kept { KeepsFormat (known_format self.old) (known_format self.new) }
         ensures later_line { IfErr result (IsOfLaterLine (known_format self.old)) }
+        ensures given { given self.new ≡ given_after (given self.old) result }
         ensures room { LeavesFewer (room self.old) result (room self.new) }
         ensures failures { CountsReads (failures self.old) result (failures self.new) }
         ensures lent { Lends result (lent self.new) };

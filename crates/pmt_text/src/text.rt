@@ -128,6 +128,3 @@ fn push_op(ops: &mut Vec<Op>, line: &[u8]) -> Result<(), ReadError>
         Err(_) => Err(ReadError::OutOfMemory),
     }
 }
-
-#[cfg(test)]
-mod tests;

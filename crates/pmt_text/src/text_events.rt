@@ -3,8 +3,8 @@ ghost use Rattle.std.specs.Prelude.{◌≡◌, ◌≢◌, ◌+◌, ◌-◌, ◌^
 ghost use Rattle.pmt_model.specs.Traces.{event_limit};
 ghost use Rattle.pmt_text.specs.Counting.{failure_count};
 ghost use Rattle.pmt_text.specs.Lines.{IsEventAt, IsLineAt, last_line};
-ghost use Rattle.pmt_text.specs.Sources.{TakesNext, IsGivenIn, IsOfFirstLine, IsOfLaterLine, Lends, read_faults};
-ghost use Rattle.pmt_text.specs.TextSources.{coming_from, given_after, TakesHeader};
+ghost use Rattle.pmt_text.specs.Sources.{TakesNext, IsGivenIn, IsOfFirstLine, IsOfLaterLine, Lends, given_after, read_faults};
+ghost use Rattle.pmt_text.specs.TextSources.{coming_from, TakesHeader};
 ghost use Rattle.pmt_text.specs.Coming.{fault_at};
 
 use crate::header::judge_header;

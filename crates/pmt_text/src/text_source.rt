@@ -1,6 +1,6 @@
 //! The events of a reader's text, as a source.
 ghost use Rattle.std.specs.Prelude.{◌≡◌, ◌≢◌, ◌-◌, ◌^◌, ◌<◌, ◌≤◌, false, true, is_some, option_map, Some, IfErr};
-ghost use Rattle.pmt_text.specs.Sources.{TakesNext, TellsNext, IsGivenIn, IsOfLaterLine, LeavesFewer, CountsReads, Lends};
+ghost use Rattle.pmt_text.specs.Sources.{TakesNext, TellsNext, IsGivenIn, IsOfLaterLine, LeavesFewer, CountsReads, Lends, given_after};
 ghost use Rattle.pmt_model.specs.Traces.{event_limit};
 ghost use Rattle.pmt_text.specs.declared.source.SourceState.{SourceState};
 ghost use Rattle.pmt_text.specs.declared.source.SourceState.TheVariants as states;
@@ -31,7 +31,7 @@ pub struct TextSource<R> {
 }
 
 impl<R: Read> TextSource<R> {
-    ghost use Rattle.pmt_text.specs.TextSources.{text_coming, text_state, text_input, text_format, text_room, text_failures, text_lent};
+    ghost use Rattle.pmt_text.specs.TextSources.{text_coming, text_state, text_input, text_format, text_given, text_room, text_failures, text_lent};
 
     /// The source of this reader's text.
     pub fn new(alloc: Global, input: Counted<R>) -> Self
@@ -71,6 +71,7 @@ impl<R: Read> TextSource<R> {
         ensures in_format { IsGivenIn (Some format) result }
         ensures kept { text_format self.new ≡ Some format }
         ensures later_line { IfErr result (IsOfLaterLine (Some format)) }
+        ensures given { text_given self.new ≡ given_after (text_given self.old) result }
         ensures room { LeavesFewer (text_room self.old) result (text_room self.new) }
         ensures failures { CountsReads (text_failures self.old) result (text_failures self.new) }
         ensures lent { Lends result (text_lent self.new) }
@@ -93,7 +94,7 @@ impl<R: Read> TextSource<R> {
 }
 
 impl<R: Read> EventSource for TextSource<R> {
-    ghost use Rattle.pmt_text.specs.TextSources.{text_coming, text_state, text_format, text_room, text_failures, text_lent, text_few};
+    ghost use Rattle.pmt_text.specs.TextSources.{text_coming, text_state, text_format, text_given, text_room, text_failures, text_lent, text_few};
     ghost use Rattle.pmt_text.specs.SourceLaws.{text_listed, text_same_format};
 
     ghost coming = { text_coming R.remaining };
@@ -101,6 +102,8 @@ impl<R: Read> EventSource for TextSource<R> {
     ghost state = { text_state };
 
     ghost known_format = { text_format };
+
+    ghost given = { text_given };
 
     ghost room = { text_room };
 
@@ -151,6 +154,3 @@ impl<R: Read> EventSource for TextSource<R> {
         self.lines.last_line()
     }
 }
-
-#[cfg(test)]
-mod tests;

@@ -38,6 +38,3 @@ pub fn write_all_counted<W: Write>(writer: &mut Counted<W>, text: &[u8]) -> Resu
     }
     Ok(())
 }
-
-#[cfg(test)]
-mod tests;

@@ -1,7 +1,8 @@
 -- The pass over a line's steps from the last to the first.
-use Rattle.std.proofs.Common.{◌≡◌, ◌≢◌, ℕ, zero, suc, ◌-◌, ◌<◌, ◌≤◌, ◌⊎◌, inl, inr, Bool, true, false, List, [], ◌∷◌, length, get_or, set, take, Bor, Option, Some, None, refl, sym, ap, subst, ◌∙◌, arith, get_or-set_same, get_or-set_other}
+use Rattle.std.proofs.Common.{◌≡◌, ◌≢◌, ℕ, zero, suc, ◌-◌, ◌<◌, ◌≤◌, ◌⊎◌, inl, inr, Bool, true, false, List, [], ◌∷◌, ◌++◌, length, get_or, set, take, reverse, Bor, Option, Some, None, refl, sym, ap, subst, ◌∙◌, arith, get_or-set_same, get_or-set_other}
 use Rattle.std.specs.Prelude.{slice_get, ◌↔◌, MatchOption, is_some, unwrap_or, replicate}
 use Rattle.std.proofs.lemmas.Bool.{cases_lt, cases_eq, cases_Bool, false≢true}
+use Rattle.std.proofs.lemmas.List.{reverse-append}
 use Rattle.std.proofs.lemmas.Option.{none-some, same_Some}
 use Rattle.pmt_model.specs.Machine.{Stores, Flushes, Clflushes, Fences}
 use Rattle.pmt_model.specs.Traces.{Recording, IsAct}
@@ -375,3 +376,7 @@ turn s found raises left rises keeps waiting after numbers more told unwraps som
       waits = waits ∙ ap (λ b. waiting_before s.kind s.thread b waiting) some;
       keeps = more_is ∙ ap (λ b. with_step b s.number numbers) (kept ∙ ap (λ b. is_kept s.kind s.thread b waiting) some);
     }
+
+-- a number that was added at the end stands first in the reverse
+pub reverse-push : (numbers : List ℕ) (n : ℕ) → reverse (numbers ++ n ∷ []) ≡ n ∷ reverse numbers
+reverse-push numbers n = reverse-append numbers (n ∷ [])

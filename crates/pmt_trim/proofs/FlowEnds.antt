@@ -21,7 +21,7 @@ use Rattle.pmt_lines.proofs.SourceRunLemmas.{Shown, SoFar, SameReads}
 use Rattle.pmt_trim.specs.declared.stream.Stream.{Stream}
 use Rattle.pmt_trim.specs.declared.stream_error.StreamError.{StreamError}
 use Rattle.pmt_trim.specs.declared.stream_error.StreamError.TheVariants.{Source, OutOfMemory, Write}
-use Rattle.pmt_trim.specs.Streaming.{IsOut, ComesFirst, ComesBefore, WritesFirst, Streams, TellsStream, CountsStream}
+use Rattle.pmt_trim.specs.Streaming.{IsOut, ComesFirst, ComesBefore, AreGiven, AreTaken, SourceRun, CameFirst, WritesFirst, Streams, TellsStream, CountsStream}
 use Rattle.pmt_trim.specs.Leaving.{IsSoFar, IsStreamOf, WritesPiece, WritesRest, Closes}
 use Rattle.pmt_trim.proofs.FlowLemmas.{out-short}
 
@@ -34,10 +34,11 @@ abbrev pub shows : Option Coming → SourceState → Option Layout → Option �
 shows now new known reads room = record { coming = now; state = new; format = known; failures = reads; room = room }
 
 -- So much has come and is out.
-pub record Flow (first now : Option Coming) (old new : SourceState) (known : Option Layout) (reads new_reads : Option ℕ) (room : ℕ) (before after : Option (List ℕ)) (faults new_faults : ℕ) (s : Stream) (written : ℕ) : Type 0 where
+pub record Flow (first now : Option Coming) (old new : SourceState) (known : Option Layout) (had has : ℕ) (reads new_reads : Option ℕ) (room : ℕ) (before after : Option (List ℕ)) (faults new_faults : ℕ) (s : Stream) (written : ℕ) : Type 0 where
   pub trace : Recording
   pub text : List ℕ
   pub source : SoFar (showed first old reads) (shows now new known new_reads room) trace
+  pub given : AreGiven had has trace
   pub stream : IsSoFar trace s text written
   pub out : Appends before after text
   pub unfailed : new_faults ≡ faults
@@ -103,19 +104,26 @@ same-end (Some n) mid new same counts =
 
 -- ---- One more event, and the ends
 
-module _ {first now : Option Coming} {old mid : SourceState} {known : Option Layout} {reads mid_reads : Option ℕ} {room : ℕ} {before after : Option (List ℕ)} {faults mid_faults : ℕ} {s : Stream} {written : ℕ} (f : Flow first now old mid known reads mid_reads room before after faults mid_faults s written) where
+module _ {first now : Option Coming} {old mid : SourceState} {known : Option Layout} {had has : ℕ} {reads mid_reads : Option ℕ} {room : ℕ} {before after : Option (List ℕ)} {faults mid_faults : ℕ} {s : Stream} {written : ℕ} (f : Flow first now old mid known had has reads mid_reads room before after faults mid_faults s written) where
   come : ComesFirst first f.trace
   come = comes-first first now f.trace f.source.given f.source.format
 
+  -- what the source shows once it has given so many
+  abbrev run : ℕ → Option Layout → SourceRun
+  run many format = record { coming = first; before = had; after = many; format = format }
+
+  same-given : (many : ℕ) → many ≡ has → AreGiven had many f.trace
+  same-given many same = same ∙ f.given
+
   -- what is out stays
-  out-first : (later : Option (List ℕ)) → Keeps after later → WritesFirst (ComesFirst first) IsOut before later written
-  out-first later keeps =
+  out-first : (many : ℕ) (format : Option Layout) → AreTaken had many f.trace → (later : Option (List ℕ)) → Keeps after later → WritesFirst (CameFirst (run many format)) IsOut before later written
+  out-first many format taken later keeps =
       let all : take (length f.text) f.text ≡ f.text = take_all (length f.text) f.text (omega arith) in
-      let P : ℕ → Type 0 = λ n. WritesFirst (ComesFirst first) IsOut before later n in
+      let P : ℕ → Type 0 = λ n. WritesFirst (CameFirst (run many format)) IsOut before later n in
       subst P f.stream.many
       (record {
         trace = f.trace;
-        come = come;
+        come = record { come = come; given = taken };
         text = f.text;
         right = f.stream.out;
         out = subst (Appends before later) (sym all) (Appends-kept before after later f.text f.out keeps);
@@ -123,39 +131,47 @@ module _ {first now : Option Coming} {old mid : SourceState} {known : Option Lay
       })
 
   -- memory was refused
-  pub memory-streams : (later : Option (List ℕ)) (count then_count : ℕ) (result : Result (Unit {0}) StreamError) → Keeps after later → Closes (Err OutOfMemory) written count result then_count →
-      Streams first before later result
-  memory-streams later count then_count result keeps closes = ⊎_elim told failed closes
+  pub memory-streams : (many : ℕ) (format : Option Layout) → many ≡ has + 1 → (later : Option (List ℕ)) (count then_count : ℕ) (result : Result (Unit {0}) StreamError) → Keeps after later → Closes (Err OutOfMemory) written count result then_count →
+      Streams (run many format) before later result
+  memory-streams many format more later count then_count result keeps closes = ⊎_elim told failed closes
     where
-      told : (result ≡ Err OutOfMemory) × (then_count ≡ count) → Streams first before later result
-      told x =
-          subst (Streams first before later) (sym x.0)
-          (inr (record { trace = f.trace; come = come; text = f.text; right = f.stream.out; out = Appends-kept before after later f.text f.out keeps }))
+      taken : AreTaken had many f.trace
+      taken = let g = f.given in inr (omega (arith, more, g))
 
-      failed : (result ≡ Err (Write written)) × (then_count ≡ count + 1) → Streams first before later result
-      failed x = subst (Streams first before later) (sym x.0) (inl (out-first later keeps))
+      told : (result ≡ Err OutOfMemory) × (then_count ≡ count) → Streams (run many format) before later result
+      told x =
+          subst (Streams (run many format) before later) (sym x.0)
+          (inr (record { trace = f.trace; come = record { come = come; given = taken }; text = f.text; right = f.stream.out; out = Appends-kept before after later f.text f.out keeps }))
+
+      failed : (result ≡ Err (Write written)) × (then_count ≡ count + 1) → Streams (run many format) before later result
+      failed x = subst (Streams (run many format) before later) (sym x.0) (inl (out-first many format taken later keeps))
 
   later-line : (e : SourceError) → IsOfLaterLine known e → IsOfLaterLine (Some f.trace.format) e
   later-line e line = subst (λ k. IsOfLaterLine k e) f.source.in_format line
 
   -- the source told a fault
-  pub source-streams : (later : Option (List ℕ)) (count then_count : ℕ) (e : SourceError) (result : Result (Unit {0}) StreamError) → Faults now e → IsOfLaterLine known e → Keeps after later →
-      Closes (Err (Source e)) written count result then_count → Streams first before later result
-  source-streams later count then_count e result faulty line keeps closes = ⊎_elim told failed closes
+  pub source-streams : (many : ℕ) (format : Option Layout) → many ≡ has → KeepsFormat known format → (later : Option (List ℕ)) (count then_count : ℕ) (e : SourceError) (result : Result (Unit {0}) StreamError) → Faults now e → IsOfLaterLine known e → Keeps after later →
+      Closes (Err (Source e)) written count result then_count → Streams (run many format) before later result
+  source-streams many format same kept later count then_count e result faulty line keeps closes = ⊎_elim told failed closes
     where
-      told : (result ≡ Err (Source e)) × (then_count ≡ count) → Streams first before later result
+      told : (result ≡ Err (Source e)) × (then_count ≡ count) → Streams (run many format) before later result
       told x =
-          subst (Streams first before later) (sym x.0)
+          subst (Streams (run many format) before later) (sym x.0)
           (inr (record {
             trace = f.trace;
-            come = (comes-before first now f.trace e f.source.given f.source.format faulty, later-line e line);
+            come = record {
+              come = comes-before first now f.trace e f.source.given f.source.format faulty;
+              given = same-given many same;
+              format = subst (λ k. KeepsFormat k format) f.source.in_format kept;
+              line = later-line e line;
+            };
             text = f.text;
             right = f.stream.out;
             out = Appends-kept before after later f.text f.out keeps;
           }))
 
-      failed : (result ≡ Err (Write written)) × (then_count ≡ count + 1) → Streams first before later result
-      failed x = subst (Streams first before later) (sym x.0) (inl (out-first later keeps))
+      failed : (result ≡ Err (Write written)) × (then_count ≡ count + 1) → Streams (run many format) before later result
+      failed x = subst (Streams (run many format) before later) (sym x.0) (inl (out-first many format (inl (same-given many same)) later keeps))
 
   -- the source told its end
   whole-came : IsOver now None → ComesWhole first f.trace
@@ -164,22 +180,23 @@ module _ {first now : Option Coming} {old mid : SourceState} {known : Option Lay
   longer : (rest : List ℕ) (k w : ℕ) → w ≡ written + k → take w (f.text ++ rest) ≡ f.text ++ take k rest
   longer rest k w is = ap (λ n. take n (f.text ++ rest)) (is ∙ ap (λ n. n + k) (sym f.stream.many)) ∙ take-append-add f.text rest k
 
-  pub rest-streams : (later : Option (List ℕ)) (result : Result (Unit {0}) StreamError) → IsOver now None → WritesRest f.trace f.text written after later result → Streams first before later result
-  rest-streams later (Ok u) over rest =
-      record { trace = f.trace; come = whole-came over; text = f.text ++ rest.0; right = rest.1; out = Appends-trans before after later f.text rest.0 f.out rest.2 }
-  rest-streams later (Err OutOfMemory) over rest =
-      inr (record { trace = f.trace; come = come; text = f.text; right = f.stream.out; out = Appends-kept before after later f.text f.out rest })
-  rest-streams later (Err (Write w)) over (inl rest) = let P : ℕ → Type 0 = λ n. Streams first before later (Err (Write n)) in subst P (sym rest.1) (inl (out-first later rest.0))
-  rest-streams later (Err (Write w)) over (inr rest) =
+  pub rest-streams : (many : ℕ) (format : Option Layout) → many ≡ has → (later : Option (List ℕ)) (result : Result (Unit {0}) StreamError) → IsOver now None → WritesRest f.trace f.text written after later result → Streams (run many format) before later result
+  rest-streams many format same later (Ok u) over rest =
+      record { trace = f.trace; come = record { come = whole-came over; given = same-given many same }; text = f.text ++ rest.0; right = rest.1; out = Appends-trans before after later f.text rest.0 f.out rest.2 }
+  rest-streams many format same later (Err OutOfMemory) over rest =
+      inr (record { trace = f.trace; come = record { come = come; given = inl (same-given many same) }; text = f.text; right = f.stream.out; out = Appends-kept before after later f.text f.out rest })
+  rest-streams many format same later (Err (Write w)) over (inl rest) =
+      let P : ℕ → Type 0 = λ n. Streams (run many format) before later (Err (Write n)) in subst P (sym rest.1) (inl (out-first many format (inl (same-given many same)) later rest.0))
+  rest-streams many format same later (Err (Write w)) over (inr rest) =
       inr (record {
         trace = f.trace;
-        come = whole-came over;
+        come = record { come = whole-came over; given = same-given many same };
         text = f.text ++ rest.0;
         right = rest.2;
         out = subst (Appends before later) (sym (longer rest.0 rest.1 w rest.5)) (Appends-trans before after later f.text (take rest.1 rest.0) f.out rest.3);
         within = let size = length-append f.text rest.0 in let many = f.stream.many in omega (arith, size, many, rest.4, rest.5);
       })
-  rest-streams later (Err (Source e)) over rest = absurd rest
+  rest-streams many format same later (Err (Source e)) over rest = absurd rest
 
   pub rest-told : (later : Option (List ℕ)) (new : SourceState) (result : Result (Unit {0}) StreamError) → TellsNext mid (Ok None) new → WritesRest f.trace f.text written after later result → TellsStream old result new
   rest-told later new (Ok u) tells rest = (tells-end old mid new f.source.same_state f.source.unfailed tells).0
@@ -219,27 +236,34 @@ module _ {first now : Option Coming} {old mid : SourceState} {known : Option Lay
         let many = f.stream.many in
         omega (arith, short, size, many)
 
+    given-more : (many : ℕ) → many ≡ has + 1 → AreGiven had many (with_event f.trace e)
+    given-more many more = let g = f.given in let size = length-append f.trace.events (e ∷ []) in omega (arith, g, size, more)
+
     -- of its text the first bytes are out
-    pub piece-streams : (next : Option Coming) (later : Option (List ℕ)) (fault : StreamError) → Gives now (e ∷ []) next → WritesPiece after later piece written (Err fault) → Streams first before later (Err fault)
-    piece-streams next later (Write w) given writes =
+    pub piece-streams : (many : ℕ) (format : Option Layout) → many ≡ has + 1 → (next : Option Coming) (later : Option (List ℕ)) (fault : StreamError) → Gives now (e ∷ []) next → WritesPiece after later piece written (Err fault) → Streams (run many format) before later (Err fault)
+    piece-streams many format more next later (Write w) given writes =
         inl (record {
           trace = with_event f.trace e;
-          come = comes-first first next (with_event f.trace e) (Gives-trans first now next f.trace.events (e ∷ []) f.source.given given) f.source.format;
+          come = record {
+            come = comes-first first next (with_event f.trace e) (Gives-trans first now next f.trace.events (e ∷ []) f.source.given given) f.source.format;
+            given = inl (given-more many more);
+          };
           text = f.text ++ piece;
           right = out';
           out = subst (Appends before later) (sym (longer piece writes.0 w writes.3)) (Appends-trans before after later f.text (take writes.0 piece) f.out writes.1);
           within = let size = length-append f.text piece in let many = f.stream.many in omega (arith, size, many, writes.2, writes.3);
         })
-    piece-streams next later OutOfMemory given writes = absurd writes
-    piece-streams next later (Source x) given writes = absurd writes
+    piece-streams many format more next later OutOfMemory given writes = absurd writes
+    piece-streams many format more next later (Source x) given writes = absurd writes
 
-    pub flow-more : (next : Option Coming) (new : SourceState) (new_known : Option Layout) (new_reads : Option ℕ) (later : Option (List ℕ)) (new_faults more : ℕ) →
+    pub flow-more : (many : ℕ) → many ≡ has + 1 → (next : Option Coming) (new : SourceState) (new_known : Option Layout) (new_reads : Option ℕ) (later : Option (List ℕ)) (new_faults more : ℕ) →
         SoFar (showed first old reads) (shows next new new_known new_reads less) (with_event f.trace e) → IsStreamOf (with_event f.trace e) t (f.text ++ t.text.items) → Appends after later piece × (more ≡ written + length piece) →
-        new_faults ≡ mid_faults + 0 → Flow first next old new new_known reads new_reads less before later faults new_faults t more
-    flow-more next new new_known new_reads later new_faults more source stream writes unfailed = record {
+        new_faults ≡ mid_faults + 0 → Flow first next old new new_known had many reads new_reads less before later faults new_faults t more
+    flow-more many one next new new_known new_reads later new_faults more source stream writes unfailed = record {
       trace = with_event f.trace e;
       text = f.text ++ piece;
       source = source;
+      given = given-more many one;
       stream = record {
         trace = event-trace e less is fewer;
         stream = (let P : List ℕ → Type 0 = λ bytes. IsStreamOf (with_event f.trace e) t (f.text ++ bytes) in subst P (sym same) stream);
@@ -251,18 +275,18 @@ module _ {first now : Option Coming} {old mid : SourceState} {known : Option Lay
     }
 
 -- of the header the first bytes are out
-pub first-streams : (first now : Option Coming) (f : Layout) (old new : Option (List ℕ)) (text piece : List ℕ) (fault : StreamError) → Gives first [] now → HasFormat first (Some f) →
-    IsOut (empty f) text → piece ≡ text → WritesPiece old new piece 0 (Err fault) → Streams first old new (Err fault)
-first-streams first now f old new text piece (Write w) given format out same writes =
+pub first-streams : (first now : Option Coming) (before after : ℕ) (known : Option Layout) (f : Layout) (old new : Option (List ℕ)) (text piece : List ℕ) (fault : StreamError) → after ≡ before → Gives first [] now → HasFormat first (Some f) →
+    IsOut (empty f) text → piece ≡ text → WritesPiece old new piece 0 (Err fault) → Streams (record { coming = first; before = before; after = after; format = known }) old new (Err fault)
+first-streams first now before after known f old new text piece (Write w) none given format out same writes =
     let same_count : w ≡ writes.0 = omega (arith, writes.3) in
     let P : List ℕ → Type 0 = λ bytes. IsOut (empty f) bytes in
     inl (record {
       trace = empty f;
-      come = comes-first first now (empty f) given format;
+      come = record { come = comes-first first now (empty f) given format; given = inl (omega (arith, none)) };
       text = piece;
       right = subst P (sym same) out;
       out = subst (λ n. Appends old new (take n piece)) (sym same_count) writes.1;
       within = omega (arith, writes.2, writes.3);
     })
-first-streams first now f old new text piece OutOfMemory given format out same writes = absurd writes
-first-streams first now f old new text piece (Source e) given format out same writes = absurd writes
+first-streams first now before after known f old new text piece OutOfMemory none given format out same writes = absurd writes
+first-streams first now before after known f old new text piece (Source e) none given format out same writes = absurd writes

@@ -2,7 +2,7 @@ pub mod HeadlineLemmas
 pub mod Waiting
 pub mod RaiseLemmas
 pub mod BackLemmas
-pub mod AddingLemmas
+pub mod KeptLemmas
 pub mod MarkingLemmas
 pub mod LineLemmas
 pub mod JoinLemmas

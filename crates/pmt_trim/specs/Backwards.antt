@@ -1,11 +1,9 @@
 -- What one step says when the steps of a line are read from the last to the first. A thread waits where its next step is a fence
 -- that raises the front of the line.
-use Rattle.std.specs.Prelude.{◌≡◌, ◌≢◌, ℕ, Bool, false, List, [], ◌∷◌, ◌++◌, reverse, slice_index_or, slice_set}
+use Rattle.std.specs.Prelude.{◌≡◌, ◌≢◌, ℕ, Bool, false, List, [], ◌∷◌, ◌++◌, slice_index_or, slice_set}
 use Rattle.pmt_lines.specs.declared.step.StepKind.{StepKind}
 use Rattle.pmt_lines.specs.declared.step.StepKind.TheVariants.{Store, Flush, Clflush, Fence}
 use Rattle.pmt_lines.specs.declared.raises.Raise.{Raise}
-use Rattle.pmt_lines.specs.Steps.{LineWork}
-use Rattle.pmt_trim.specs.Kept.{IsJobKept}
 
 -- Whether the step by thread t is kept: a flush where the thread waits, a clflush or a fence where it raises the front.
 abbrev pub is_kept : StepKind → ℕ → Bool → List Bool → Bool
@@ -28,9 +26,3 @@ LastIsAt raises place before = (r : Raise) × (raises ≡ before ++ r ∷ []) ×
 -- The last raise, if there is one, is at another place.
 abbrev pub LastIsElsewhere : List Raise → ℕ → Type 0
 LastIsElsewhere raises place = (before : List Raise) (r : Raise) → raises ≡ before ++ r ∷ [] → r.place ≢ place
-
--- After the old numbers stand those that are kept for the line of the job, the last one first.
-pub record AddsBack (job : LineWork) (old new : List ℕ) : Type 0 where
-  pub more : List ℕ
-  pub added : new ≡ old ++ reverse more
-  pub kept : IsJobKept job more

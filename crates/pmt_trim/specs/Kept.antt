@@ -1,5 +1,5 @@
--- What is kept for one line, and for all lines, one after another.
-use Rattle.std.specs.Prelude.{◌≡◌, ◌≢◌, ℕ, ◌-◌, ◌↔◌, List, [], ◌∷◌, ◌++◌, length}
+-- What is kept for one line, and the lists of what is kept for all lines.
+use Rattle.std.specs.Prelude.{◌≡◌, ◌≢◌, ℕ, ◌-◌, ◌↔◌, List, [], ◌∷◌, length}
 use Rattle.pmt_model.specs.Machine.{Fences}
 use Rattle.pmt_model.specs.Traces.{Recording, IsAct, history, lines_of}
 use Rattle.pmt_model.specs.Fronts.{front_at}
@@ -23,17 +23,13 @@ pub record IsLineKept (T : Recording) (l : ℕ) (kept : List ℕ) : Type 0 where
 abbrev pub IsJobKept : LineWork → List ℕ → Type 0
 IsJobKept job kept = (T : Recording) → IsJobOf T job.line job.steps → IsLineKept T job.line kept
 
--- After the old numbers stand those that are kept for the line of the job.
-pub record AddsLineKept (job : LineWork) (old new : List ℕ) : Type 0 where
-  pub more : List ℕ
-  pub added : new ≡ old ++ more
-  pub kept : IsJobKept job more
+-- Such a list for each of these lines, in their order.
+abbrev pub AreLinesKept : Recording → List ℕ → List (List ℕ) → Type 0
+AreLinesKept T [] [] = Unit {0}
+AreLinesKept T [] (kept ∷ lists) = ⊥
+AreLinesKept T (l ∷ lines) [] = ⊥
+AreLinesKept T (l ∷ lines) (kept ∷ lists) = IsLineKept T l kept × AreLinesKept T lines lists
 
--- The numbers that are kept for the first of these lines, then those for the next one, and so on.
-abbrev pub AreLinesKept : Recording → List ℕ → List ℕ → Type 0
-AreLinesKept T [] kept = kept ≡ []
-AreLinesKept T (l ∷ lines) kept = (first rest : List ℕ) × (kept ≡ first ++ rest) × IsLineKept T l first × AreLinesKept T lines rest
-
--- Those for each line of the trace that is stored or flushed, in order of first appearance.
-abbrev pub AreAllKept : Recording → List ℕ → Type 0
-AreAllKept T kept = AreLinesKept T (lines_of (history T (length T.events))) kept
+-- Such a list for each line of the trace that is stored or flushed, in order of first appearance.
+abbrev pub AreAllKept : Recording → List (List ℕ) → Type 0
+AreAllKept T lists = AreLinesKept T (lines_of (history T (length T.events))) lists

@@ -2,6 +2,7 @@
 use Rattle.std.specs.Prelude.{◌≡◌, ◌≢◌, ℕ, ◌+◌, ◌<◌, ◌≤◌, ◌⊎◌, ◌↔◌, List, ◌++◌, length, take, Option, Some, None, IfSome, Result, Ok, Err}
 use Rattle.std.specs.Io.KnownBytes.{Keeps, Appends}
 use Rattle.pmt_model.specs.declared.event.Event.{Event}
+use Rattle.pmt_model.specs.Values.{Layout}
 use Rattle.pmt_model.specs.Traces.{Recording}
 use Rattle.pmt_model.specs.Selections.{IsRising, Has, cut}
 use Rattle.pmt_model.specs.Keeping.{IsKept, IsKeep}
@@ -11,7 +12,7 @@ use Rattle.pmt_text.specs.declared.kind.SourceError.TheVariants as sources
 use Rattle.pmt_text.specs.declared.source.SourceState.{SourceState}
 use Rattle.pmt_text.specs.declared.source.SourceState.TheVariants as states
 use Rattle.pmt_text.specs.Coming.{Coming, ComesWhole}
-use Rattle.pmt_text.specs.Sources.{IsOfFirstLine, IsOfLaterLine, read_faults}
+use Rattle.pmt_text.specs.Sources.{IsOfFirstLine, IsOfLaterLine, LeavesUnknown, read_faults}
 use Rattle.pmt_text.specs.Spelling.{spelling}
 use Rattle.pmt_trim.specs.declared.stream_error.StreamError.{StreamError}
 use Rattle.pmt_trim.specs.declared.stream_error.StreamError.TheVariants.{Source, OutOfMemory, Write}
@@ -53,6 +54,14 @@ pub record IsTextOfTrimmed (T : Recording) (text : List ℕ) : Type 0 where
 abbrev pub ComesFirst : Option Coming → Recording → Type 0
 ComesFirst coming T = IfSome coming (λ c. (c.format ≡ Some T.format) × ((later : List Event) × (c.events ≡ T.events ++ later)))
 
+-- Between these two counts of given events just those of T were given.
+abbrev pub AreGiven : ℕ → ℕ → Recording → Type 0
+AreGiven before after T = after ≡ before + length T.events
+
+-- Those of T were given, or one more, for which memory was refused.
+abbrev pub AreTaken : ℕ → ℕ → Recording → Type 0
+AreTaken before after T = AreGiven before after T ⊎ (after ≡ before + length T.events + 1)
+
 -- The events of T come, and then the fault. A failed read and want of memory may come after any event.
 abbrev pub ComesBefore : Option Coming → SourceError → Recording → Type 0
 ComesBefore coming (sources.Text f) T = IfSome coming (λ c. c ≡ record { format = Some T.format; events = T.events; fault = Some (sources.Text f) })
@@ -80,13 +89,44 @@ pub record WritesFirst (HasCome : Recording → Type 0) (IsText : Recording → 
   pub out : Appends old new (take written text)
   pub within : written ≤ length text
 
--- Ok: the text of the trimmed trace is out. A source's fault: what was out before it, or nothing where the format was not told. Want
--- of memory: what was out before the event, or nothing where the header had no room. A write fault: the first bytes of such a text.
-abbrev pub Streams : Option Coming → Option (List ℕ) → Option (List ℕ) → Result (Unit {0}) StreamError → Type 0
-Streams coming old new (Ok u) = Writes (ComesWhole coming) IsTextOfTrimmed old new
-Streams coming old new (Err (Source e)) = (Keeps old new × IsOfFirstLine e) ⊎ Writes (λ T. ComesBefore coming e T × IsOfLaterLine (Some T.format) e) IsOut old new
-Streams coming old new (Err OutOfMemory) = Keeps old new ⊎ Writes (ComesFirst coming) IsOut old new
-Streams coming old new (Err (Write written)) = WritesFirst (ComesFirst coming) IsOut old new written ⊎ WritesFirst (ComesWhole coming) IsTextOfTrimmed old new written
+-- What a source shows of a run: what was coming, how many events it had given before and has given after, and the format known after.
+pub record SourceRun : Type 0 where
+  pub coming : Option Coming
+  pub before : ℕ
+  pub after : ℕ
+  pub format : Option Layout
+
+-- The events of T came, which are all, and then the end.
+pub record CameWhole (run : SourceRun) (T : Recording) : Type 0 where
+  pub come : ComesWhole run.coming T
+  pub given : AreGiven run.before run.after T
+
+-- The events of T came first, and memory was refused for the next one, or a write failed.
+pub record CameFirst (run : SourceRun) (T : Recording) : Type 0 where
+  pub come : ComesFirst run.coming T
+  pub given : AreTaken run.before run.after T
+
+-- The events of T came, which are all that were given, and then the fault, told once the format was.
+pub record CameBefore (run : SourceRun) (e : SourceError) (T : Recording) : Type 0 where
+  pub come : ComesBefore run.coming e T
+  pub given : AreGiven run.before run.after T
+  pub format : run.format ≡ Some T.format
+  pub line : IsOfLaterLine (Some T.format) e
+
+-- The fault was told for the format, which is not known, and no event was given; or a fault had been told before.
+pub record CameToNothing (run : SourceRun) (e : SourceError) : Type 0 where
+  pub given : run.after ≡ run.before
+  pub format : LeavesUnknown run.format e
+  pub line : IsOfFirstLine e
+
+-- Ok: the text of the trimmed trace is out. A source's fault: just what the events given before it let out, or nothing where the format
+-- was not told. Want of memory: what was out before the event, or nothing where the header had no room. A write fault: the first bytes
+-- of such a text.
+abbrev pub Streams : SourceRun → Option (List ℕ) → Option (List ℕ) → Result (Unit {0}) StreamError → Type 0
+Streams run old new (Ok u) = Writes (CameWhole run) IsTextOfTrimmed old new
+Streams run old new (Err (Source e)) = (Keeps old new × CameToNothing run e) ⊎ Writes (CameBefore run e) IsOut old new
+Streams run old new (Err OutOfMemory) = (Keeps old new × (run.after ≡ run.before)) ⊎ Writes (CameFirst run) IsOut old new
+Streams run old new (Err (Write written)) = WritesFirst (CameFirst run) IsOut old new written ⊎ WritesFirst (CameWhole run) IsTextOfTrimmed old new written
 
 -- Ok is answered only where the source has told its end, a fault only where it has told that fault, `Failed` only where it had told
 -- a fault before, and want of memory only where it has told no fault.

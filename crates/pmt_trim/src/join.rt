@@ -8,17 +8,19 @@ ghost use Rattle.pmt_trim.specs.Marking.{op_stays, is_kept_at, MarksThese};
 use pmt_model::{Event, Op, OutOfMemory, Selection, Trace};
 use std::alloc::Global;
 
-/// All that is kept of the trace: what is kept for its lines, for one line after another, and the stores and assertions.
+/// All that is kept of the trace: what is kept for its lines, one list for each, and the stores and assertions.
 ///
 /// # Errors
 /// Where memory was refused.
-pub fn liveness(alloc: Global, trace: &Trace, kept: &[u32]) -> Result<Selection, OutOfMemory>
-    requires { AreAllKept trace.now kept.now }
+pub fn liveness(alloc: Global, trace: &Trace, lists: &[Vec<u64>]) -> Result<Selection, OutOfMemory>
+    requires { AreAllKept trace.now (map (λ kept. kept.items) lists.now) }
     ensures { IfOk result (λ selection. IsKeep trace.now selection) }
 {
     let mut marks = stores_and_assertions(alloc, trace.events())?;
     let marked = marks.as_mut_slice();
-    mark_all(marked, kept);
+    for list in lists {
+        mark_all(marked, list.as_slice());
+    }
     marked_numbers(alloc, marked)
 }
 
@@ -43,7 +45,7 @@ fn always_stays(op: Op) -> bool
 }
 
 // Marks the numbers.
-fn mark_all(marked: &mut [bool], numbers: &[u32])
+fn mark_all(marked: &mut [bool], numbers: &[u64])
     requires { (n : ℕ) → Has numbers.now n → (1 ≤ n) × (n ≤ length marked.old) }
     ensures { MarksThese marked.old numbers.now marked.new }
 {

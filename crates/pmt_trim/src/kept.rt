@@ -1,43 +1,36 @@
 //! What is kept of one line.
-ghost use Rattle.std.specs.Prelude.{◌≡◌, ◌≤◌, ◌++◌, length, take, drop, reverse, OnOk, MatchOption};
-ghost use Rattle.pmt_trim.specs.Kept.{AddsLineKept};
-ghost use Rattle.pmt_trim.specs.Backwards.{AddsBack, is_kept, waiting_before, LastIsAt, LastIsElsewhere};
+ghost use Rattle.std.specs.Prelude.{◌≡◌, reverse, IfOk, MatchOption};
+ghost use Rattle.pmt_trim.specs.Kept.{IsJobKept};
+ghost use Rattle.pmt_trim.specs.Backwards.{is_kept, waiting_before, LastIsAt, LastIsElsewhere};
 
 use pmt_lines::{LineResult, Raise, Step, StepKind};
 use pmt_model::OutOfMemory;
+use std::alloc::Global;
 
-/// Adds the rising numbers of the line's useful flushes and clflushes, and of the fences that raise its front: in whatever trace the
+/// The rising numbers of the line's useful flushes and clflushes, and of the fences that raise its front: in whatever trace the
 /// result's job is the line's.
 ///
 /// # Errors
-/// Where memory was refused; some of the numbers may be added then.
-pub fn add_line_kept(kept: &mut Vec<u32>, found: &LineResult) -> Result<(), OutOfMemory>
-    ensures { OnOk result (AddsLineKept found.now.job kept.old.items kept.new.items) }
+/// Where memory was refused.
+pub fn line_kept(alloc: Global, found: &LineResult) -> Result<Vec<u64>, OutOfMemory>
+    ensures { IfOk result (λ kept. IsJobKept found.now.job kept.items) }
 {
     if found.raises().is_empty() {
-        return Ok(());
+        return Ok(Vec::new(alloc));
     }
-    let start = kept.len();
-    add_back(kept, found)?;
-    turn_from(kept, start);
-    Ok(())
+    let mut kept = kept_back(alloc, found)?;
+    kept.reverse();
+    Ok(kept)
 }
 
-// Turns the numbers from this place on.
-fn turn_from(numbers: &mut Vec<u32>, start: usize)
-    requires { start ≤ length numbers.old.items }
-    ensures { numbers.new.items ≡ take start numbers.old.items ++ reverse (drop start numbers.old.items) }
-{
-    numbers[start..].reverse();
-}
-
-// Adds the line's numbers, from the last one to the first.
-fn add_back(kept: &mut Vec<u32>, found: &LineResult) -> Result<(), OutOfMemory>
-    ensures { OnOk result (AddsBack found.now.job kept.old.items kept.new.items) }
+// The line's numbers, from the last one to the first. A raise keeps its fence or clflush, and at most one flush.
+fn kept_back(alloc: Global, found: &LineResult) -> Result<Vec<u64>, OutOfMemory>
+    ensures { IfOk result (λ kept. IsJobKept found.now.job (reverse kept.items)) }
 {
     let steps = found.job().steps();
     let mut raises = found.raises();
     let mut waiting = [false; 256];
+    let mut kept = Vec::with_capacity(alloc, raises.len().saturating_mul(2))?;
     for i in (0..steps.len()).rev() {
         let Step {
             number,
@@ -47,10 +40,10 @@ fn add_back(kept: &mut Vec<u32>, found: &LineResult) -> Result<(), OutOfMemory>
         let before = raises_before(raises, number);
         raises = before.unwrap_or(raises);
         if go_back(kind, thread, before.is_some(), &mut waiting) {
-            kept.push(number as u32)?;
+            kept.push(number)?;
         }
     }
-    Ok(())
+    Ok(kept)
 }
 
 // The raises before the last one, if that one is at this place.

@@ -15,13 +15,11 @@ mod stream;
 pub mod stream_error;
 pub mod stream_laws;
 pub mod streaming;
-#[cfg(test)]
-mod tests;
 pub mod trimming;
 pub mod whole_text;
 
 pub use crate::join::{liveness, marked_numbers};
-pub use crate::kept::add_line_kept;
+pub use crate::kept::line_kept;
 pub use crate::pass::Pass;
 pub use crate::shortest::{all_events, shortest_selection};
 pub use crate::stream_error::StreamError;

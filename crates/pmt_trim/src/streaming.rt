@@ -17,7 +17,9 @@ use std::io::Write;
 /// is written in one piece, and the writer is flushed once after the last one. Memory is that of the events that wait.
 ///
 /// # Errors
-/// `Source` with the fault that the source told: nothing is out where it was told for the format, else just what was out before it.
+/// `Source` with the fault that the source told. Where it was told for the format, or had been told before, nothing is out. Else just the
+/// header is out and, of the events that the source gave, those that are kept and stand before the oldest flush whose thread has not
+/// fenced since; also where a read failed, too much came, or memory was refused to the source.
 /// `OutOfMemory` where memory was refused to the trimmer itself; the source told no fault then, and what was out before the event stays
 /// out. `Write` where a write or the last flush failed, also after another fault: the first `written` bytes are out. In each case the
 /// bytes that are out are the first of the trimmed trace, whatever would have come.
@@ -27,7 +29,7 @@ pub fn trim_stream<S: EventSource, W: Write>(
     out: &mut Counted<W>,
 ) -> Result<(), StreamError>
     requires { failure_count out.old < 2 ^ 64 - 1 }
-    ensures streams { Streams (S.coming source.old) (W.contents (inner_device out.old)) (W.contents (inner_device out.new)) result }
+    ensures streams { Streams (record { coming = S.coming source.old; before = S.given source.old; after = S.given source.new; format = S.known_format source.new }) (W.contents (inner_device out.old)) (W.contents (inner_device out.new)) result }
     ensures told { TellsStream (S.state source.old) result (S.state source.new) }
     ensures read_failures { CountsStream (S.failures source.old) result (S.failures source.new) }
     ensures write_failures { failure_count out.new ≡ failure_count out.old + stream_write_faults result }
@@ -115,6 +117,3 @@ fn close<W: Write>(
         Err(_) => Err(StreamError::Write { written }),
     }
 }
-
-#[cfg(test)]
-mod tests;

@@ -1,3 +1,4 @@
 pub mod AnswerLemmas
 pub mod CutLemmas
+pub mod JudgingLemmas
 pub mod ResultLemmas

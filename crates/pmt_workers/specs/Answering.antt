@@ -1,28 +1,19 @@
 -- What the workers answer.
-use Rattle.std.specs.Prelude.{◌≡◌, ℕ, List, [], ◌∷◌, ◌++◌}
+use Rattle.std.specs.Prelude.{◌≡◌, List, [], ◌∷◌}
 use Rattle.pmt_lines.specs.Steps.{LineWork}
-use Rattle.pmt_lines.specs.Raises.{LineFound, IsLineResult}
+use Rattle.pmt_lines.specs.Raises.{IsLineResult}
 use Rattle.pmt_trim.specs.Kept.{IsJobKept}
-use Rattle.pmt_workers.specs.declared.shard.ShardAnswer.{ShardAnswer}
+use Rattle.pmt_workers.specs.declared.shard.LineAnswer.{LineAnswer}
 
--- The result of the job.
-pub record IsResultTo (job : LineWork) (found : LineFound) : Type 0 where
-  pub same : found.job ≡ job
-  pub right : IsLineResult found
+-- The answer to a job: the result of that job, and what is kept for its line in whatever trace the job is of.
+pub record IsAnswerTo (job : LineWork) (answer : LineAnswer) : Type 0 where
+  pub same : answer.result.job ≡ job
+  pub right : IsLineResult answer.result
+  pub kept : IsJobKept job answer.kept.items
 
--- A result of each job, in their order.
-abbrev pub AreResultsTo : List LineWork → List LineFound → Type 0
-AreResultsTo [] [] = Unit {0}
-AreResultsTo [] (r ∷ results) = ⊥
-AreResultsTo (j ∷ jobs) [] = ⊥
-AreResultsTo (j ∷ jobs) (r ∷ results) = IsResultTo j r × AreResultsTo jobs results
-
--- The numbers that are kept for the line of the first job, in whatever trace the job is of, then those for the next one, and so on.
-abbrev pub AreJobsKept : List LineWork → List ℕ → Type 0
-AreJobsKept [] kept = kept ≡ []
-AreJobsKept (j ∷ jobs) kept = (first rest : List ℕ) × (kept ≡ first ++ rest) × IsJobKept j first × AreJobsKept jobs rest
-
--- The answer to these jobs: the result of each, and what is kept for their lines, both in the order of the jobs.
-pub record IsAnswerTo (jobs : List LineWork) (answer : ShardAnswer) : Type 0 where
-  pub results : AreResultsTo jobs answer.results.items
-  pub kept : AreJobsKept jobs answer.kept.items
+-- An answer to each job, in their order.
+abbrev pub AreAnswersTo : List LineWork → List LineAnswer → Type 0
+AreAnswersTo [] [] = Unit {0}
+AreAnswersTo [] (a ∷ answers) = ⊥
+AreAnswersTo (j ∷ jobs) [] = ⊥
+AreAnswersTo (j ∷ jobs) (a ∷ answers) = IsAnswerTo j a × AreAnswersTo jobs answers

@@ -1,3 +1,4 @@
 pub mod Answering
+pub mod Results
 pub mod Halving
 pub mod Asking

@@ -13,8 +13,8 @@ ghost use Rattle.pmt_workers.specs.Halving.{is_worker_count};
 
 use crate::halves::run_in_halves;
 use crate::judging::judged;
-use crate::shard::{ShardAnswer, ShardGate};
-use crate::swept::swept;
+use crate::results::taken_apart;
+use crate::shard::ShardGate;
 use pmt_analysis::Analysis;
 use pmt_findings::findings;
 use pmt_lines::{Jobs, SplitError, run_fences, split_trace, take_trace};
@@ -59,7 +59,8 @@ impl From<AllocError> for AnalyseError {
 }
 
 /// The analysis of the trace whose events the source has still to give, by this many workers. It is the same for every number of
-/// workers and every gate. One worker makes no jobs, and so no call of the gate.
+/// workers and every gate. Each worker makes one call of the gate, with its number, from 0, and all of its part of the jobs, also an
+/// empty one.
 ///
 /// # Errors
 /// `BadWorkers` unless there are 1, 2, 4, 8 or 16 workers; the source is unchanged then. `Source` with the fault that the source
@@ -96,7 +97,7 @@ pub fn are_allowed(workers: usize) -> bool
     matches!(workers, 1 | 2 | 4 | 8 | 16)
 }
 
-// The analysis of the trace. One worker goes over its events, with no job for each line.
+// The analysis of the trace, which is taken apart by lines.
 fn analysis_of<R: Threads + Sync, G: ShardGate + Sync>(
     rt: &R,
     alloc: Global,
@@ -108,9 +109,6 @@ fn analysis_of<R: Threads + Sync, G: ShardGate + Sync>(
     ensures trace { IfOk result (λ a. a.trace ≡ trace) }
     ensures right { IfOk result IsAnalysed }
 {
-    if workers == 1 {
-        return swept(alloc, trace);
-    }
     let jobs = split_trace(alloc, trace)?;
     analysis_of_jobs(rt, alloc, gate, jobs, workers)
 }
@@ -134,13 +132,12 @@ fn analysis_of_jobs<R: Threads + Sync, G: ShardGate + Sync>(
         fences,
     } = jobs;
     let touched = lines.len();
-    let ShardAnswer { results, kept } = run_in_halves(rt, alloc, gate, 0, workers, lines)?;
+    let parts = run_in_halves(rt, alloc, gate, 0, workers, lines)?;
+    let (results, lists) = taken_apart(alloc, parts, touched)?;
+    let selection = liveness(alloc, &trace, lists.as_slice())?;
+    drop(lists);
     let threads = run_fences(alloc, fences)?;
     let found = findings(alloc, results.as_slice(), &threads)?;
-    let selection = liveness(alloc, &trace, kept.as_slice())?;
     let verdicts = judged(rt, alloc, results, &trace)?;
     Ok(Analysis::new(trace, touched, found, verdicts, selection))
 }
-
-#[cfg(test)]
-mod tests;

@@ -5,14 +5,11 @@ pub mod analyse;
 mod cut;
 mod halves;
 mod judging;
+mod results;
 pub mod shard;
-mod swept;
 pub mod trimming;
 
 pub use crate::analyse::{AnalyseError, analyse_with, are_allowed};
-pub use crate::shard::{ShardAnswer, ShardGate, run_shard};
+pub use crate::shard::{LineAnswer, ShardGate, run_shard};
 pub use crate::trimming::trimmed;
 pub use pmt_analysis::Analysis;
-
-#[cfg(test)]
-mod tests;

@@ -1,17 +1,17 @@
 //! The part of one worker, and the gate that it goes through.
 ghost use Rattle.std.specs.Prelude.{IfOk};
-ghost use Rattle.pmt_workers.specs.Answering.{IsAnswerTo};
+ghost use Rattle.pmt_workers.specs.Answering.{IsAnswerTo, AreAnswersTo};
 
 use pmt_lines::{LineJob, LineResult, run_line};
 use pmt_model::{NoGate, OutOfMemory};
-use pmt_trim::add_line_kept;
+use pmt_trim::line_kept;
 use std::alloc::Global;
 
-/// What one worker gives: the results of its jobs, and the numbers that are kept for their lines, one line's after another's.
+/// What one job gives: its result, and the numbers that are kept for its line.
 #[derive(Debug, Drop)]
-pub struct ShardAnswer {
-    pub results: Vec<LineResult>,
-    pub kept: Vec<u32>,
+pub struct LineAnswer {
+    pub result: LineResult,
+    pub kept: Vec<u64>,
 }
 
 /// Where a worker runs its part of the jobs: tests watch the workers there.
@@ -25,8 +25,8 @@ pub trait ShardGate {
         alloc: Global,
         worker: usize,
         jobs: Vec<LineJob>,
-    ) -> Result<ShardAnswer, OutOfMemory>
-        ensures { IfOk result (IsAnswerTo jobs.items) };
+    ) -> Result<Vec<LineAnswer>, OutOfMemory>
+        ensures { IfOk result (λ answers. AreAnswersTo jobs.items answers.items) };
 }
 
 impl ShardGate for NoGate {
@@ -35,24 +35,30 @@ impl ShardGate for NoGate {
         alloc: Global,
         _worker: usize,
         jobs: Vec<LineJob>,
-    ) -> Result<ShardAnswer, OutOfMemory> {
+    ) -> Result<Vec<LineAnswer>, OutOfMemory> {
         run_shard(alloc, jobs)
     }
 }
 
-/// The answer to these jobs: the work of one worker, who shares nothing with any other.
+/// The answers to these jobs, in their order: the work of one worker, who shares nothing with any other.
 ///
 /// # Errors
 /// Where memory was refused; the jobs are given up.
-pub fn run_shard(alloc: Global, jobs: Vec<LineJob>) -> Result<ShardAnswer, OutOfMemory>
-    ensures { IfOk result (IsAnswerTo jobs.items) }
+pub fn run_shard(alloc: Global, jobs: Vec<LineJob>) -> Result<Vec<LineAnswer>, OutOfMemory>
+    ensures { IfOk result (λ answers. AreAnswersTo jobs.items answers.items) }
 {
-    let mut results = Vec::with_capacity(alloc, jobs.len())?;
-    let mut kept = Vec::new(alloc);
+    let mut answers = Vec::with_capacity(alloc, jobs.len())?;
     for job in jobs {
-        let result = run_line(alloc, job)?;
-        add_line_kept(&mut kept, &result)?;
-        results.push(result)?;
+        answers.push(answer_to(alloc, job)?)?;
     }
-    Ok(ShardAnswer { results, kept })
+    Ok(answers)
+}
+
+// The result of the job, and what is kept for its line.
+fn answer_to(alloc: Global, job: LineJob) -> Result<LineAnswer, OutOfMemory>
+    ensures { IfOk result (λ answer. IsAnswerTo job answer) }
+{
+    let result = run_line(alloc, job)?;
+    let kept = line_kept(alloc, &result)?;
+    Ok(LineAnswer { result, kept })
 }

@@ -1,5 +1,7 @@
 //! The words of the program, by clap.
 use crate::draw_words::draw_command;
+use crate::explain_command::explain_command;
+use crate::image_words::image_command;
 use clap::{Arg, ArgAction, Command};
 use std::alloc::{AllocError, Global};
 
@@ -13,9 +15,13 @@ const UNUSED: &str =
 
 /// The words of the program and of its commands.
 pub fn commands<'a>(alloc: Global) -> Result<Command<'a>, AllocError> {
-    let judging = with_command(with_command(program(alloc)?, check(alloc))?, explain(alloc))?;
+    let judging = with_command(
+        with_command(program(alloc)?, check(alloc))?,
+        explain_command(alloc),
+    )?;
     let writing = with_command(with_command(judging, trim(alloc))?, fronts(alloc))?;
-    with_command(with_command(writing, record(alloc))?, draw_command(alloc))
+    let drawing = with_command(with_command(writing, record(alloc))?, draw_command(alloc))?;
+    with_command(drawing, image_command(alloc))
 }
 
 // The command with one of its own.
@@ -34,7 +40,7 @@ fn program<'a>(alloc: Global) -> Result<Command<'a>, AllocError> {
     Ok(
         command
             .override_usage(
-                "pmtrim < TRACE\n       pmtrim check [--workers N] [FILE]\n       pmtrim explain [--ignore A:N].. [--limit N] [--labels FILE] [--json] [FILE]\n       pmtrim trim [--workers N] [--stream] [FILE]\n       pmtrim fronts FILE PLACE\n       pmtrim record SCRIPT..\n       pmtrim draw [--around I | --from I --to J] [--line A].. [--labels FILE] [FILE]",
+                "pmtrim < TRACE\n       pmtrim check [--workers N] [FILE]\n       pmtrim explain [--ignore A:N].. [--limit N] [--only KIND] .. [--labels FILE] [--json] [FILE]\n       pmtrim trim [--workers N] [--stream] [FILE]\n       pmtrim fronts FILE PLACE\n       pmtrim record SCRIPT..\n       pmtrim draw [--failure N | --around I | --from I --to J] [--line A].. [--labels FILE] [FILE]\n       pmtrim image (--failure N | --at PLACE [--all] [--line A:K]..) [--pool BASE --origin A] [--out FILE] [FILE]",
             )
             .about(
                 "Checks traces of persistent memory events, and trims the flushes and fences that no crash can show.{n}With no words it trims the trace on standard input.",
@@ -54,55 +60,6 @@ fn check<'a>(alloc: Global) -> Result<Command<'a>, AllocError> {
         )
         .arg(workers(alloc, SHARED))?
         .arg(file(alloc))
-}
-
-fn explain<'a>(alloc: Global) -> Result<Command<'a>, AllocError> {
-    let command = Command::new(alloc, "explain")
-        .override_usage(
-            "pmtrim explain [--ignore A:N].. [--limit N] [--labels FILE] [--json] [FILE]",
-        )
-        .about("Says what is wrong in a trace, why, and where to put the flush or fence.")
-        .after_help(
-            "Writes a summary, then each failed assertion with a crash that violates it, stores that are never persisted, flushes and fences without effect, and overwritten stores.{n}Statuses: 0 done; 1 an assertion fails or a store that is not ignored is never persisted; 2 wrong words; 3 trace or labels refused; 4 file fault; 5 out of memory{n}Example: pmtrim explain --labels run.trace.labels run.trace",
-        )
-        .arg(ignore(alloc))?
-        .arg(limit(alloc))?;
-    command
-        .arg(labels(alloc))?
-        .arg(json(alloc))?
-        .arg(file(alloc))
-}
-
-fn ignore<'a>(alloc: Global) -> Arg<'a> {
-    Arg::new(alloc, "ignore")
-        .long("ignore")
-        .value_name("A:N")
-        .action(ArgAction::Append)
-        .help(
-            "Leave out what is lost in the N bytes from address A on, as 0x1000:8; may be given more than once",
-        )
-}
-
-fn limit<'a>(alloc: Global) -> Arg<'a> {
-    Arg::new(alloc, "limit")
-        .long("limit")
-        .value_name("N")
-        .default_value("10")
-        .help("How many entries of each kind to show")
-}
-
-fn labels<'a>(alloc: Global) -> Arg<'a> {
-    Arg::new(alloc, "labels")
-        .long("labels")
-        .value_name("FILE")
-        .help("What to call the events: lines EVENT TEXT by rising event number")
-}
-
-fn json<'a>(alloc: Global) -> Arg<'a> {
-    Arg::new(alloc, "json")
-        .long("json")
-        .action(ArgAction::SetTrue)
-        .help("Write a JSON object a line")
 }
 
 fn trim<'a>(alloc: Global) -> Result<Command<'a>, AllocError> {

@@ -7,9 +7,11 @@ use crate::fault::Fault;
 use crate::opener::Opener;
 use crate::writing::write_whole;
 use pmt_analysis::Analysis;
-use pmt_draw::{Known, Label, Picture, View, picture_of, svg_text};
-use pmt_explain::dropped;
+use pmt_draw::{Known, Label, Picture, Refusal, View, picture_of, refusal_of, svg_text};
+use pmt_explain::{dropped, lost_groups, overwritten_groups};
 use pmt_explanation::Labels;
+use pmt_explanation::failures::failing_events;
+use pmt_explanation::ignoring::{lost_stores, overwritings};
 use pmt_model::OutOfMemory;
 use pmt_report::analysed;
 use pmt_text::Counted;
@@ -52,7 +54,7 @@ where
     I: Read + Drop,
 {
     let analysis = asked(rt, drawing.file, files, input)?;
-    Ok(picture(rt.alloc(), &analysis, &drawing.view)?)
+    picture(rt.alloc(), &analysis, &drawing.view)
 }
 
 // The analysis of the trace of the file or of `input`.
@@ -81,16 +83,49 @@ where
     }
 }
 
-// The picture of the analysis.
-fn picture(alloc: Global, analysis: &Analysis, view: &View) -> Result<Picture, OutOfMemory> {
-    let reasons = dropped(alloc, analysis.trace())?;
+// The picture of the analysis, of which the view speaks.
+fn picture(alloc: Global, analysis: &Analysis, view: &View) -> Result<Picture, Fault> {
+    let trace = analysis.trace();
+    let findings = analysis.findings();
+    let failing = failing_events(alloc, analysis.verdicts())?;
+    let never = lost_stores(alloc, trace, findings, &[])?;
+    let lost = lost_groups(alloc, trace, never.as_slice())?;
+    let reasons = dropped(alloc, trace)?;
+    let pairs = overwritings(alloc, trace, findings, &[])?;
+    let overwritten = overwritten_groups(alloc, trace, pairs.as_slice())?;
     let known = Known {
-        trace: analysis.trace(),
+        trace,
         lines: analysis.lines() as u64,
         verdicts: analysis.verdicts(),
+        failing: failing.as_slice(),
+        never: never.as_slice(),
+        lost: lost.as_slice(),
         dropped: reasons.as_slice(),
+        overwritten: overwritten.as_slice(),
     };
-    picture_of(alloc, known, view)
+    match refusal_of(known, view.span, view.kept.as_slice()) {
+        Some(refusal) => Err(refused(alloc, refusal, trace.len())?),
+        None => Ok(picture_of(alloc, known, view)?),
+    }
+}
+
+// The fault of words that are not of the trace with so many events.
+fn refused(alloc: Global, refusal: Refusal, events: usize) -> Result<Fault, AllocError> {
+    let message = match refusal {
+        Refusal::PastEnd(number) => format!(in alloc;
+            "event {number} lies past the end: the trace has {events} events"
+        )?,
+        Refusal::NoAssertion(number) => format!(in alloc;
+            "event {number} is no assertion, so '--failure {number}' has nothing to draw"
+        )?,
+        Refusal::Passes(number) => format!(in alloc;
+            "the assertion of event {number} passes, so '--failure {number}' has nothing to draw"
+        )?,
+        Refusal::AbsentLine(address) => format!(in alloc;
+            "no event of the trace speaks of the line of '--line {address:#x}'"
+        )?,
+    };
+    Fault::usage(alloc, message.as_str())
 }
 
 // The text of the picture with these labels.

@@ -20,11 +20,11 @@ pub struct Drawing<'a> {
 pub fn draw_command<'a>(alloc: Global) -> Result<Command<'a>, AllocError> {
     let command = Command::new(alloc, "draw")
         .override_usage(
-            "pmtrim draw [--around I | --from I --to J] [--line A].. [--labels FILE] [FILE]",
+            "pmtrim draw [--failure N | --around I | --from I --to J] [--line A].. [--labels FILE] [FILE]",
         )
         .about("Draws what is safe when, as one SVG.")
         .after_help(
-            "Without --around and --from it draws the first assertion that fails, with what led to it; where none fails, the first events. At most 120 events and 30 lines are drawn; the picture says what is left out.{n}Statuses: 0 done; 2 wrong words; 3 trace or labels refused; 4 file fault; 5 out of memory{n}Example: pmtrim draw run.trace > run.svg",
+            "Without --failure, --around and --from it draws what explain tells first: an assertion that fails, with what led to it; else stores that are never persisted; else what has no effect or is written over; else the first events. At most 120 events and 30 lines are drawn; the picture says what is left out.{n}Statuses: 0 done; 2 wrong words, or they are not of this trace; 3 trace or labels refused; 4 file fault; 5 out of memory{n}Example: pmtrim draw run.trace > run.svg",
         );
     let placed = with_places(alloc, command)?;
     with_names(alloc, placed)
@@ -33,6 +33,12 @@ pub fn draw_command<'a>(alloc: Global) -> Result<Command<'a>, AllocError> {
 // Which events.
 fn with_places<'a>(alloc: Global, command: Command<'a>) -> Result<Command<'a>, AllocError> {
     command
+        .arg(value(
+            alloc,
+            "failure",
+            "N",
+            "Draw the assertion of event N, which fails",
+        ))?
         .arg(value(alloc, "around", "I", "Draw the events around event I"))?
         .arg(value(
             alloc,
@@ -116,23 +122,43 @@ fn kept_line(alloc: Global, word: &str) -> Result<u64, Fault> {
 
 // Which events are asked for.
 fn span_of(alloc: Global, given: &ArgMatches<'_>) -> Result<Span, Fault> {
-    let around = number_of(alloc, given, "around", "--around <I>")?;
-    let first = number_of(alloc, given, "from", "--from <I>")?;
-    let last = number_of(alloc, given, "to", "--to <J>")?;
-    match span(around, first, last) {
+    let asked = Asked {
+        failure: number_of(alloc, given, "failure", "--failure <N>")?,
+        around: number_of(alloc, given, "around", "--around <I>")?,
+        first: number_of(alloc, given, "from", "--from <I>")?,
+        last: number_of(alloc, given, "to", "--to <J>")?,
+    };
+    match span(asked) {
         Ok(span) => Ok(span),
         Err(message) => Err(Fault::usage(alloc, message)?),
     }
 }
 
+// The numbers that the options give.
+#[derive(Clone, Copy)]
+struct Asked {
+    failure: Option<u64>,
+    around: Option<u64>,
+    first: Option<u64>,
+    last: Option<u64>,
+}
+
 // Which events these options ask for, or what is wrong with them.
-fn span(around: Option<u64>, first: Option<u64>, last: Option<u64>) -> Result<Span, &'static str> {
-    match (around, first, last) {
-        (None, None, None) => Ok(Span::Failure),
-        (Some(number), None, None) => Ok(Span::Around(number)),
-        (None, Some(first), Some(last)) if first <= last => Ok(Span::Between { first, last }),
-        (None, Some(_), Some(_)) => Err("the event of '--to' comes before that of '--from'"),
-        (Some(_), _, _) => Err("'--around' stands without '--from' and '--to'"),
+fn span(asked: Asked) -> Result<Span, &'static str> {
+    let Asked {
+        failure,
+        around,
+        first,
+        last,
+    } = asked;
+    match (failure, around, first, last) {
+        (None, None, None, None) => Ok(Span::First),
+        (Some(number), None, None, None) => Ok(Span::Failure(number)),
+        (None, Some(number), None, None) => Ok(Span::Around(number)),
+        (None, None, Some(first), Some(last)) if first <= last => Ok(Span::Between { first, last }),
+        (None, None, Some(_), Some(_)) => Err("the event of '--to' comes before that of '--from'"),
+        (Some(_), _, _, _) => Err("'--failure' stands without '--around', '--from' and '--to'"),
+        (None, Some(_), _, _) => Err("'--around' stands without '--from' and '--to'"),
         _ => Err("'--from' and '--to' stand together"),
     }
 }

@@ -6,9 +6,12 @@ use crate::explain_words::ExplainWords;
 use crate::fault::Fault;
 use crate::labels::read_labels;
 use crate::opener::{OpenError, Opener};
+use crate::ranges::read_ranges;
 use crate::reading::{read_whole, system_fault};
 use crate::refused::{line_of_text, refused_line};
-use pmt_explanation::{Explanation, Labels, Options, has_failed, json_text, text};
+use pmt_explanation::{
+    ByteRange, Explanation, Labels, Options, Screen, has_failed, json_text, text,
+};
 use pmt_model::OutOfMemory;
 use pmt_report::{ExplainError, RunError, explain};
 use pmt_text::{Counted, SourceError, TextError, TextSource};
@@ -16,17 +19,21 @@ use std::alloc::Global;
 use std::io::{Cursor, Read, Write};
 use std::thread::Threads;
 
+// The lines of a text where the words don't say how many entries are shown.
+const ROWS: usize = 60;
+
 // What a person calls the input that has no name.
 const STANDARD_INPUT: &str = "standard input";
 
-/// Explains the trace of the file or of `input`, and writes what is asked for to `out`. The labels file is read and judged first.
-/// The status is 1 where an assertion fails, or a store is never persisted that is not ignored.
+/// Explains the trace of the file or of `input`, and writes what is asked for to `out`. The files of ranges and of labels are read and
+/// judged first. The status is 1 where an assertion fails, or a store is never persisted that is not ignored.
 ///
 /// # Errors
-/// The labels' fault, then that of the trace, then that of the write. Each names the file and says why.
+/// The fault of a file of ranges, of the labels, of the trace, that no failed assertion is where one was asked for, the fault of the
+/// write: the first of them. Each names the file and says why.
 pub fn run_explain<T, O, I, W>(
     rt: &T,
-    words: &ExplainWords<'_>,
+    mut words: ExplainWords<'_>,
     files: &O,
     input: I,
     out: &mut W,
@@ -39,9 +46,18 @@ where
     ensures { IfOk result (λ status. status ≤ 1) }
 {
     let alloc = rt.alloc();
+    for index in 0..words.ignore_files.len() {
+        let name = match words.ignore_files.get(index) {
+            Some(name) => *name,
+            None => break,
+        };
+        let bytes = read_file(alloc, files, name)?;
+        read_ranges(alloc, name, bytes.as_slice(), &mut words.options.ignored)?;
+    }
     let labels = labels_of(alloc, files, words.labels)?;
-    let explanation = explanation_of(rt, words, files, input)?;
-    write_out(alloc, &explanation, &labels, words.json, out)?;
+    let explanation = explanation_of(rt, &words, &labels, files, input)?;
+    judge_failure(alloc, &explanation, words.failure)?;
+    write_out(alloc, &explanation, &labels, &words, out)?;
     if has_failed(&explanation) {
         Ok(1)
     } else {
@@ -49,10 +65,29 @@ where
     }
 }
 
+// That the assertion of this event, if one was asked for, fails.
+fn judge_failure(
+    alloc: Global,
+    explanation: &Explanation,
+    failure: Option<u64>,
+) -> Result<(), Fault> {
+    let Some(number) = failure else {
+        return Ok(());
+    };
+    if explanation.failing.contains(&number) {
+        return Ok(());
+    }
+    let message = format!(in alloc;
+        "invalid value '{number}' for '--failure <N>': event {number} is no assertion that a crash can violate; explain --only failure shows those that are"
+    )?;
+    Err(Fault::usage(alloc, message.as_str())?)
+}
+
 // The explanation of the trace of the file or of `input`.
 fn explanation_of<T, O, I>(
     rt: &T,
     words: &ExplainWords<'_>,
+    labels: &Labels,
     files: &O,
     input: I,
 ) -> Result<Explanation, Fault>
@@ -63,7 +98,7 @@ where
 {
     let name = words.file.unwrap_or(STANDARD_INPUT);
     let bytes = bytes_of(rt.alloc(), words.file, files, input)?;
-    explained(rt, name, bytes.as_slice(), &words.options)
+    explained(rt, name, bytes.as_slice(), labels, &words.options)
 }
 
 // The bytes of the file, or those of `input` where none is named.
@@ -107,11 +142,12 @@ fn explained<T: AllocGlobal + Threads + Sync>(
     rt: &T,
     name: &str,
     bytes: &[u8],
+    labels: &Labels,
     options: &Options,
 ) -> Result<Explanation, Fault> {
     let alloc = rt.alloc();
     let mut source = TextSource::new(alloc, Counted::new(Cursor::new(bytes)));
-    match explain(rt, alloc, &mut source, options) {
+    match explain(rt, alloc, &mut source, labels, options) {
         Ok(explanation) => Ok(explanation),
         Err(ExplainError::Source(fault)) => Err(source_fault(alloc, name, bytes, fault)?),
         Err(ExplainError::OutOfMemory) => Err(Fault::OutOfMemory),
@@ -153,10 +189,10 @@ fn write_out<W: Write>(
     alloc: Global,
     explanation: &Explanation,
     labels: &Labels,
-    json: bool,
+    words: &ExplainWords<'_>,
     out: &mut W,
 ) -> Result<(), Fault> {
-    let answer = answer_of(alloc, explanation, labels, json)?;
+    let answer = answer_of(alloc, explanation, labels, words)?;
     let written = match out.write_all(answer.as_slice()) {
         Ok(()) => out.flush(),
         Err(error) => Err(error),
@@ -172,11 +208,17 @@ fn answer_of(
     alloc: Global,
     explanation: &Explanation,
     labels: &Labels,
-    json: bool,
+    words: &ExplainWords<'_>,
 ) -> Result<Vec<u8>, OutOfMemory> {
-    if json {
-        json_text(alloc, explanation, labels)
-    } else {
-        text(alloc, explanation, labels)
+    let choice = &words.options.choice;
+    if words.json {
+        return json_text(alloc, explanation, labels, choice);
     }
+    let screen = Screen {
+        rows: if words.is_limited { None } else { Some(ROWS) },
+        choice,
+        trace: words.file,
+        labels: words.labels,
+    };
+    text(alloc, explanation, labels, &screen)
 }

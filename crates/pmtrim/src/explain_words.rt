@@ -1,16 +1,30 @@
 //! The words of `explain`.
 
+use crate::explain_choice::choice_of;
 use crate::fault::Fault;
+use crate::ranges::asked_range;
 use clap::ArgMatches;
-use pmt_explanation::{Ignored, Options};
-use pmt_text::number::{read_address, read_number};
+use pmt_explanation::{ByteRange, Choice, Options};
+use pmt_text::number::read_number;
 use std::alloc::{AllocError, Global};
+
+// The most entries of a kind where the words name no number.
+const FEW: usize = 10;
+
+// As many entries as there can be: each has an event of its own.
+const ALL: usize = 1_000_000;
 
 /// What `explain` is asked for.
 #[derive(Drop)]
 pub struct ExplainWords<'a> {
-    /// The bytes that may be lost, and the most entries of a kind that are shown.
+    /// The bytes that may be lost, the most entries of a kind that are shown, and which findings are told.
     pub options: Options,
+    /// The files that name more bytes that may be lost.
+    pub ignore_files: Vec<&'a str>,
+    /// Whether the words say how many entries are shown; the text has the lines of a screen where they don't.
+    pub is_limited: bool,
+    /// The one failed assertion that is asked for, by its event.
+    pub failure: Option<u64>,
     /// The labels file.
     pub labels: Option<&'a str>,
     /// Whether JSON is written.
@@ -24,26 +38,45 @@ pub struct ExplainWords<'a> {
 /// # Errors
 /// A usage fault that names the wrong word and says what is allowed; `OutOfMemory`.
 pub fn explain_words<'a>(alloc: Global, given: &ArgMatches<'a>) -> Result<ExplainWords<'a>, Fault> {
+    let choice = choice_of(alloc, given)?;
+    let failure = match choice.is_one_failure {
+        true => choice.choice.from,
+        false => None,
+    };
     Ok(ExplainWords {
-        options: options_of(alloc, given)?,
+        options: options_of(alloc, given, choice.choice)?,
+        ignore_files: files_of(alloc, given)?,
+        is_limited: given.get_str("limit").is_some(),
+        failure,
         labels: given.get_str("labels"),
         json: given.get_flag("json"),
         file: given.get_str("FILE"),
     })
 }
 
-fn options_of(alloc: Global, given: &ArgMatches<'_>) -> Result<Options, Fault> {
+// The files that name bytes to ignore.
+fn files_of<'a>(alloc: Global, given: &ArgMatches<'a>) -> Result<Vec<&'a str>, Fault> {
+    let mut files = Vec::new(alloc);
+    files.extend_from_slice(given.get_strs("ignore-file").unwrap_or(&[]))?;
+    Ok(files)
+}
+
+fn options_of(alloc: Global, given: &ArgMatches<'_>, choice: Choice) -> Result<Options, Fault> {
     let ranges = given.get_strs("ignore").unwrap_or(&[]);
     let ignored = ignored_of(alloc, ranges)?;
-    let limit = asked_limit(alloc, given.get_str("limit").unwrap_or("10"))?;
-    Ok(Options { ignored, limit })
+    let limit = asked_limit(alloc, given.get_str("limit"))?;
+    Ok(Options {
+        ignored,
+        limit,
+        choice,
+    })
 }
 
 // The ranges that these words name.
-fn ignored_of(alloc: Global, ranges: &[&str]) -> Result<Vec<Ignored>, Fault> {
+fn ignored_of(alloc: Global, ranges: &[&str]) -> Result<Vec<ByteRange>, Fault> {
     let mut ignored = Vec::new(alloc);
     for text in ranges {
-        let range = asked_range(alloc, text)?;
+        let range = asked_range(alloc, "--ignore <A:N>", text)?;
         if ignored.push(range).is_err() {
             return Err(Fault::OutOfMemory);
         }
@@ -51,51 +84,29 @@ fn ignored_of(alloc: Global, ranges: &[&str]) -> Result<Vec<Ignored>, Fault> {
     Ok(ignored)
 }
 
-// The range that this word names.
-fn asked_range(alloc: Global, text: &str) -> Result<Ignored, Fault> {
-    match range_of(text.as_bytes()) {
-        Some(range) => Ok(range),
-        None => Err(bad_range(alloc, text)?),
-    }
-}
-
 // The limit that this word names.
-fn asked_limit(alloc: Global, text: &str) -> Result<usize, Fault> {
+fn asked_limit(alloc: Global, word: Option<&str>) -> Result<usize, Fault> {
+    let Some(text) = word else {
+        return Ok(FEW);
+    };
     match limit_of(text.as_bytes()) {
         Some(limit) => Ok(limit),
         None => Err(bad_limit(alloc, text)?),
     }
 }
 
-// The range that `A:N` names, where A and N are spelled as in a trace and the range lies below 2^48.
-fn range_of(text: &[u8]) -> Option<Ignored> {
-    let colon = text.iter().position(|byte| *byte == b':')?;
-    let addr = read_address(&text[..colon])?;
-    let len = read_number(10, &text[colon + 1..])?;
-    let end = addr.checked_add(len)?;
-    if len == 0 || end > 1 << 48 {
-        return None;
-    }
-    Some(Ignored { addr, len })
-}
-
-// The usage fault of a wrong range.
-fn bad_range(alloc: Global, text: &str) -> Result<Fault, AllocError> {
-    let message = format!(in alloc;
-        "invalid value '{text}' for '--ignore <A:N>': the address of the first byte, and how many bytes, as in a trace: 0x1000:8; the last byte is at most 0xffffffffffff"
-    )?;
-    Fault::usage(alloc, message.as_str())
-}
-
-// The number, where the text is decimal without leading zeros.
+// The number, where the text is decimal without leading zeros, or all.
 fn limit_of(text: &[u8]) -> Option<usize> {
+    if text == b"all".as_slice() {
+        return Some(ALL);
+    }
     Some(read_number(10, text)? as usize)
 }
 
 // The usage fault of a wrong limit.
 fn bad_limit(alloc: Global, text: &str) -> Result<Fault, AllocError> {
     let message = format!(in alloc;
-        "invalid value '{text}' for '--limit <N>': a decimal number without leading zeros; 0 shows the summary alone"
+        "invalid value '{text}' for '--limit <N>': a decimal number without leading zeros, or 'all'; 0 shows the summary alone"
     )?;
     Fault::usage(alloc, message.as_str())
 }

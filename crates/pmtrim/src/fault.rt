@@ -12,6 +12,8 @@ use std::io::Write;
 pub enum Fault {
     /// The words are wrong; the text says how, and ends with LF.
     Usage(String),
+    /// What the words ask for is not there; the text says why, and ends with LF.
+    Absent(String),
     /// An input is refused; the text says where and why, and ends with LF.
     Refused(String),
     /// The system refused something; the text says what and why, and ends with LF.
@@ -53,7 +55,7 @@ impl Fault {
         ensures { result ≤ 6 }
     {
         match self {
-            Fault::Usage(_) => 2,
+            Fault::Usage(_) | Fault::Absent(_) => 2,
             Fault::Refused(_) => 3,
             Fault::System(_) => 4,
             Fault::Run(error) => error.status(),
@@ -82,7 +84,8 @@ impl Fault {
     // The lines that say what is wrong.
     fn text(&self, alloc: Global) -> Result<String, OutOfMemory> {
         match self {
-            Fault::Usage(text) | Fault::Refused(text) | Fault::System(text) => text.clone(),
+            Fault::Usage(text) | Fault::Absent(text) | Fault::Refused(text) | Fault::System(text) =>
+                { text.clone() }
             Fault::Run(error) => ended(fault_text(alloc, error)),
             Fault::Record(fault) => ended(fault.line(alloc)),
             Fault::File => String::from_str(alloc, "file fault\n"),

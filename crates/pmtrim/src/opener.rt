@@ -1,6 +1,7 @@
 //! Opening named files.
 use std::fs;
-use std::io::{self, ErrorKind, Read};
+use std::io::{self, ErrorKind, Read, Write};
+use std::os::unix::fs::MetadataExt;
 use std::rt::Files;
 
 /// Why a named file was not opened.
@@ -22,6 +23,24 @@ pub trait Opener {
     /// # Errors
     /// `System` where it can't be opened, `OutOfMemory`.
     fn open(&self, name: &str) -> Result<Self::Reader, OpenError>;
+
+    /// What writes a file.
+    type Writer: Write + Drop;
+
+    /// How many bytes the file has; none of what is no file, as a folder or a device.
+    ///
+    /// # Errors
+    /// `System` where it can't be asked, `OutOfMemory`.
+    fn size(&self, name: &str) -> Result<Option<u64>, OpenError>;
+
+    /// The writer of the file with this name, which is empty then.
+    ///
+    /// # Errors
+    /// `System` where it can't be created, or is the same as the other file; `OutOfMemory`.
+    fn create(&self, name: &str, other: &str) -> Result<Self::Writer, OpenError>;
+
+    /// Removes the file with this name, if it is one that can be removed. A device stays.
+    fn remove(&self, name: &str);
 }
 
 /// The files of the system.
@@ -43,8 +62,49 @@ impl<R: Files> Opener for SystemFiles<'_, R> {
     fn open(&self, name: &str) -> Result<R::File, OpenError> {
         match fs::open(self.rt, name) {
             Ok(file) => Ok(file),
-            Err(e) if e.kind() == ErrorKind::OutOfMemory => Err(OpenError::OutOfMemory),
-            Err(e) => Err(OpenError::System(e)),
+            Err(e) => Err(open_error(e)),
         }
+    }
+
+    type Writer = R::File;
+
+    fn size(&self, name: &str) -> Result<Option<u64>, OpenError> {
+        match fs::metadata(self.rt, name) {
+            Ok(found) if found.is_file() => Ok(Some(found.len())),
+            Ok(_) => Ok(None),
+            Err(e) => Err(open_error(e)),
+        }
+    }
+
+    fn create(&self, name: &str, other: &str) -> Result<R::File, OpenError> {
+        if is_same(self.rt, name, other) {
+            return Err(OpenError::System(io::Error::from(ErrorKind::AlreadyExists)));
+        }
+        match fs::create(self.rt, name) {
+            Ok(file) => Ok(file),
+            Err(e) => Err(open_error(e)),
+        }
+    }
+
+    fn remove(&self, name: &str) {
+        if let Ok(Some(_)) = self.size(name) {
+            let _removed = fs::remove_file(self.rt, name);
+        }
+    }
+}
+
+fn open_error(error: io::Error) -> OpenError {
+    if error.kind() == ErrorKind::OutOfMemory {
+        OpenError::OutOfMemory
+    } else {
+        OpenError::System(error)
+    }
+}
+
+// Whether both names are of one file.
+fn is_same<R: Files>(rt: &R, name: &str, other: &str) -> bool {
+    match (fs::metadata(rt, name), fs::metadata(rt, other)) {
+        (Ok(one), Ok(two)) => one.dev() == two.dev() && one.ino() == two.ino(),
+        _ => false,
     }
 }

@@ -3,6 +3,7 @@ use crate::command::commands;
 use crate::draw_words::{Drawing, drawing_of};
 use crate::explain_words::{ExplainWords, explain_words};
 use crate::fault::Fault;
+use crate::image_words::{ImageWords, image_words};
 use clap::error::ErrorKind;
 use clap::{ArgMatches, Error};
 use std::alloc::{AllocError, Global};
@@ -33,6 +34,8 @@ pub enum Request<'a> {
     },
     /// The picture of a trace.
     Draw(Drawing<'a>),
+    /// The pool's file as a crash leaves it.
+    Image(ImageWords<'a>),
     /// The trace that these scripts record.
     Record {
         scripts: Vec<&'a str>,
@@ -46,6 +49,7 @@ impl Request<'_> {
             Request::Check { file, .. } | Request::Trim { file, .. } => file.is_none(),
             Request::Explain(words) => words.file.is_none(),
             Request::Draw(drawing) => drawing.file.is_none(),
+            Request::Image(words) => words.file.is_none(),
             Request::Show(_) | Request::Fronts { .. } | Request::Record { .. } => false,
         }
     }
@@ -80,6 +84,7 @@ fn asked<'a>(alloc: Global, matches: &ArgMatches<'a>) -> Result<Request<'a>, Fau
         Some(("explain", given)) => Ok(Request::Explain(explain_words(alloc, given)?)),
         Some(("fronts", given)) => fronts(alloc, given),
         Some(("record", given)) => record(alloc, given),
+        Some(("image", given)) => Ok(Request::Image(image_words(alloc, given)?)),
         Some(("draw", given)) => Ok(Request::Draw(drawing_of(alloc, given)?)),
         Some((_, given)) => Ok(trim(given)),
         None => Ok(Request::Trim {

@@ -4,6 +4,7 @@ ghost use Rattle.std.specs.Prelude.{◌≤◌, IfOk};
 use crate::draw::draw;
 use crate::explain::run_explain;
 use crate::fault::Fault;
+use crate::image::run_image;
 use crate::opener::Opener;
 use crate::record::record;
 use crate::request::{Request, request_of};
@@ -64,7 +65,7 @@ where
         Request::Show(text) => show(out, text.as_str()),
         Request::Fronts { file, place } => fronts(rt.alloc(), place, files, file, out),
         Request::Check { workers, file } => check(rt, workers, file, files, input, out),
-        Request::Explain(words) => run_explain(rt, &words, files, input, out),
+        Request::Explain(words) => run_explain(rt, words, files, input, out),
         Request::Trim {
             workers: _,
             stream: true,
@@ -76,6 +77,7 @@ where
             file,
         } => trim(rt, workers, file, files, input, out),
         Request::Draw(drawing) => draw(rt, &drawing, files, input, out),
+        Request::Image(words) => run_image(rt, &words, files, input, out),
         Request::Record { scripts } => record(rt, files, scripts.as_slice(), out),
     }
 }

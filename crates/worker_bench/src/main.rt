@@ -1,12 +1,13 @@
 //! Analyses the trace whose text comes in, by 1 and by 4 workers, for bench/: prints the number of its lines, or, with the word
 //! `time`, nanoseconds for each number of workers: of running the lines' jobs, by the worker that took longest, and of all the analysis.
-//! One worker makes no jobs; so its are run besides.
+//! All of it by 1 is what `check` does then: one pass over the events, with no jobs.
 #![tactic(auto)]
 
-use pmt_lines::{LineJob, split_trace, take_trace};
+use pmt_lines::{LineJob, take_trace};
 use pmt_model::{OutOfMemory, Trace};
+use pmt_sweep::sweep;
 use pmt_text::{ListSource, read_trace};
-use pmt_workers::{ShardAnswer, ShardGate, analyse_with, run_shard};
+use pmt_workers::{LineAnswer, ShardGate, analyse_with, run_shard};
 use std::alloc::Global;
 use std::env;
 use std::io::Read;
@@ -27,16 +28,16 @@ impl<R: Clock> ShardGate for Stopwatch<'_, R> {
         alloc: Global,
         _worker: usize,
         jobs: Vec<LineJob>,
-    ) -> Result<ShardAnswer, OutOfMemory> {
+    ) -> Result<Vec<LineAnswer>, OutOfMemory> {
         let start = Instant::now(self.rt);
-        let answer = run_shard(alloc, jobs);
+        let answers = run_shard(alloc, jobs);
         if let Ok(start) = start {
             if let Ok(time) = start.elapsed(self.rt) {
                 let nanos = u64::try_from(time.as_nanos()).unwrap_or(u64::MAX);
                 self.longest.fetch_max(nanos, Ordering::SeqCst);
             }
         }
-        answer
+        answers
     }
 }
 
@@ -57,14 +58,12 @@ fn timed<R: Clock + Threads + Sync>(
     Ok((gate.longest.load(Ordering::SeqCst), all, analysis.lines()))
 }
 
-// The nanoseconds that one thread takes to run the lines' jobs.
-fn lines_alone<R: Clock>(rt: &R, alloc: Global, trace: &Trace) -> anyhow::Result<u64> {
-    let copy = take_trace(alloc, &mut ListSource::new(trace))?;
-    let jobs = split_trace(alloc, copy)?;
+// The nanoseconds of one pass over the events.
+fn swept<R: Clock>(rt: &R, alloc: Global, trace: &Trace) -> anyhow::Result<u128> {
     let start = Instant::now(rt)?;
-    let _answer = run_shard(alloc, jobs.lines)?;
-    let nanos = start.elapsed(rt)?.as_nanos();
-    Ok(u64::try_from(nanos).unwrap_or(u64::MAX))
+    let copy = take_trace(alloc, &mut ListSource::new(trace))?;
+    let _swept = sweep(alloc, &copy)?;
+    Ok(start.elapsed(rt)?.as_nanos())
 }
 
 fn main(rt: HostRuntime) -> anyhow::Result<()> {
@@ -76,10 +75,10 @@ fn main(rt: HostRuntime) -> anyhow::Result<()> {
     for workers in [1, 4] {
         let (longest, all, lines) = timed(&rt, alloc, &trace, workers)?;
         if asked {
-            let longest = if workers == 1 {
-                lines_alone(&rt, alloc, &trace)?
+            let all = if workers == 1 {
+                swept(&rt, alloc, &trace)?
             } else {
-                longest
+                all
             };
             println!(rt; "workers {workers} longest {longest} all {all}")?;
         } else {

@@ -1,5 +1,4 @@
 use Rattle.std.proofs.Common.{None, Some, refl}
-use Rattle.std.proofs.lemmas.Result.{IfOk-weaker}
 use Rattle.pmt_explain.proofs.KeepingLemmas.{crash-second}
 use Rattle.pmt_explain.proofs.failing.second_kept.Goals as goal
 
@@ -9,6 +8,4 @@ returns-in-None c =
 
 pub returns-in-Some : goal.returns-in-Some
 returns-in-Some c =
-    IfOk-weaker c.crash_after.result _ _
-    (λ p found. crash-second c.args.trace.now c.args.low c.args.last.now c.args.kept_low c.args.kept.now c.args.first c.line_of_store.result (Some c.in-Some.second) p c.requires.first c.requires.none c.line_of_store.ensures c.in-Some.ensures found)
-    c.crash_after.ensures
+    crash-second c.args.trace.now c.args.low c.args.last.now c.args.kept_low c.args.kept.now c.args.first c.line_of_store.result (Some c.in-Some.second) c.crash_after.result c.requires.first c.requires.none c.line_of_store.ensures c.in-Some.ensures c.crash_after.ensures

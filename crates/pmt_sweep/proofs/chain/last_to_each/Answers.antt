@@ -9,13 +9,13 @@ pub loop-i-preserved : goal.loop-i-preserved
 loop-i-preserved c =
     let numbers = c.loop-i.numbers in
     let i = c.loop-i.i in
-    let now = set numbers i c.last_to.result in
+    let now = set numbers i c.in_ok-numbers.field-0 in
     let Is = λ (k number : ℕ). IsLastAfter c.args.trace.now (length c.args.before.now) c.args.flush (c.args.bytes.low + k) number in
     let within : i < length numbers = omega (arith, c.loop-i.invariant.size, c.loop-i-test.true, c.requires.few) in
     record {
-      size = length-set numbers i c.last_to.result ∙ c.loop-i.invariant.size;
+      size = length-set numbers i c.in_ok-numbers.field-0 ∙ c.loop-i.invariant.size;
       each = λ k before. elim (cases_eq k i) [
-        | inl same ↦ subst (λ m. Is m (slice_index now m)) (sym same) (subst (Is i) (sym (get_or-set_same numbers i c.last_to.result 0 within)) c.last_to.ensures)
-        | inr other ↦ subst (Is k) (sym (get_or-set_other numbers i k c.last_to.result 0 other)) (c.loop-i.invariant.each k (omega (arith, before, other)))
+        | inl same ↦ subst (λ m. Is m (slice_index now m)) (sym same) (subst (Is i) (sym (get_or-set_same numbers i c.in_ok-numbers.field-0 0 within)) c.in_ok-numbers.ensures)
+        | inr other ↦ subst (Is k) (sym (get_or-set_other numbers i k c.in_ok-numbers.field-0 0 other)) (c.loop-i.invariant.each k (omega (arith, before, other)))
       ];
     }

@@ -8,18 +8,21 @@ use Rattle.pmt_trim.proofs.StreamLemmas.{lent-is}
 use Rattle.pmt_trim.proofs.streaming.trim_stream.Goals as goal
 
 pub returns-in_default-take-clause-streams : goal.returns-in_default-take-clause-streams
-returns-in_default-take-clause-streams g c = memory-streams c.take.invariant _ _ _ _ c.close.ensures.kept c.close.ensures.told
+returns-in_default-take-clause-streams g c =
+    let more = rw c.in-Ok-Some.field-0-is at c.in-Ok-Some.ensures.given in
+    memory-streams c.take.invariant _ _ more _ _ _ _ c.close.ensures.kept c.close.ensures.told
 
 pub returns-in-Err-next-clause-streams : goal.returns-in-Err-next-clause-streams
 returns-in-Err-next-clause-streams g c =
     let said = c.in-Err-next.ensures in
-    source-streams c.take.invariant _ _ _ c.in-Err-next.fault _ said.taken said.later_line c.close-in-Err-next.ensures.kept c.close-in-Err-next.ensures.told
+    source-streams c.take.invariant _ _ said.given said.kept _ _ _ c.in-Err-next.fault _ said.taken said.later_line c.close-in-Err-next.ensures.kept c.close-in-Err-next.ensures.told
 
 pub returns-in-Ok-None-clause-streams : goal.returns-in-Ok-None-clause-streams
 returns-in-Ok-None-clause-streams g c =
     let f = c.take.invariant in
     let taken = rw c.in-Ok-None.field-0-is at c.in-Ok-None.ensures.taken in
-    rest-streams f _ _ taken.0 (c.write_rest.ensures.rest f.trace f.text f.stream)
+    let same = rw c.in-Ok-None.field-0-is at c.in-Ok-None.ensures.given in
+    rest-streams f _ _ same _ _ taken.0 (c.write_rest.ensures.rest f.trace f.text f.stream)
 
 pub returns-in-Ok-None-clause-told : goal.returns-in-Ok-None-clause-told
 returns-in-Ok-None-clause-told g c =
@@ -52,8 +55,9 @@ take-preserved g c =
     let taken = rw c.in-Ok-Some.field-0-is at said.taken in
     let told = rw c.in-Ok-Some.field-0-is at said.told in
     let counted = rw c.in-Ok-Some.field-0-is at said.failures in
+    let more = rw c.in-Ok-Some.field-0-is at said.given in
     let came = c.in-Ok-take.ensures in
-    flow-more f _ _ (event-in f _ _ said.kept given) fewer c.take-in-Ok-Some.new.self _ (came.out f.trace f.text f.stream.stream) c.as_slice-in-Ok-Some.ensures.value _ _ _ _ _ _ _
+    flow-more f _ _ (event-in f _ _ said.kept given) fewer c.take-in-Ok-Some.new.self _ (came.out f.trace f.text f.stream.stream) c.as_slice-in-Ok-Some.ensures.value _ more _ _ _ _ _ _ _
     (so_far-more _ _ (shown c.next.new.self) f.trace c.in-Ok-Some.event f.source taken told said.kept counted fewer) (came.stream f.trace f.text f.stream.stream)
     c.in-Ok-write_piece-2.ensures.written c.in-Ok-write_piece-2.ensures.failures
 
@@ -64,13 +68,14 @@ returns-in-Err-write_piece-2-clause-streams g c =
     let fewer = rw c.in-Ok-Some.field-0-is at said.room in
     let given = rw c.in-Ok-Some.field-0-is at said.in_format in
     let taken = rw c.in-Ok-Some.field-0-is at said.taken in
-    piece-streams f _ _ (event-in f _ _ said.kept given) fewer c.take-in-Ok-Some.new.self _ (c.in-Ok-take.ensures.out f.trace f.text f.stream.stream) c.as_slice-in-Ok-Some.ensures.value _ _
+    let more = rw c.in-Ok-Some.field-0-is at said.given in
+    piece-streams f _ _ (event-in f _ _ said.kept given) fewer c.take-in-Ok-Some.new.self _ (c.in-Ok-take.ensures.out f.trace f.text f.stream.stream) c.as_slice-in-Ok-Some.ensures.value _ _ more _ _
     c.in-Err-write_piece-2.fault taken c.in-Err-write_piece-2.ensures.written
 
 pub returns-in-Err-write_piece-clause-streams : goal.returns-in-Err-write_piece-clause-streams
 returns-in-Err-write_piece-clause-streams g c =
     let taken = c.in-Ok.ensures.taken in
-    first-streams _ (g.S.EventSource.coming c.format.new.self) c.in-Ok.format _ _ c.in-Ok-new.stream.text.items _ c.in-Err-write_piece.fault taken.1 taken.0 c.in-Ok-new.ensures.out c.as_slice.ensures.value
+    first-streams _ (g.S.EventSource.coming c.format.new.self) _ _ _ c.in-Ok.format _ _ c.in-Ok-new.stream.text.items _ c.in-Err-write_piece.fault c.in-Ok.ensures.given taken.1 taken.0 c.in-Ok-new.ensures.out c.as_slice.ensures.value
     c.in-Err-write_piece.ensures.written
 
 pub take-init : goal.take-init
@@ -85,6 +90,7 @@ take-init g c =
       trace = empty c.in-Ok.format;
       text = c.in-Ok-new.stream.text.items;
       source = so_far-none first (shown c.format.new.self) c.in-Ok.format said.taken said.told said.known said.failures (g.met.S.EventSource.few c.format.new.self);
+      given = (let none = c.in-Ok.ensures.given in omega (arith, none));
       stream = record { trace = search rules; stream = c.in-Ok-new.ensures.stream; out = c.in-Ok-new.ensures.out; many = omega (arith, size, writes.1) };
       out = subst (λ (bytes : List ℕ). Appends (g.W.Write.contents (inner_device c.args.out.now)) (g.W.Write.contents (inner_device c.write_piece.new.out)) bytes) c.as_slice.ensures.value writes.0;
       unfailed = search rules;

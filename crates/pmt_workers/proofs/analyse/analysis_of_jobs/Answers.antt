@@ -1,33 +1,46 @@
-use Rattle.std.proofs.Common.{◌≡◌, ℕ, List, map, length, sym, ap, ◌∙◌, subst}
+use Rattle.std.proofs.Common.{◌≡◌, ℕ, List, map, length, Vec, Global, sym, ap, ◌∙◌, subst}
+use Rattle.std.specs.List.{flat_map}
 use Rattle.std.proofs.lemmas.List.{length-map}
 use Rattle.pmt_model.specs.Traces.{Recording, IsTrace}
 use Rattle.pmt_lines.specs.Steps.{LineWork}
+use Rattle.pmt_lines.specs.Raises.{LineFound}
 use Rattle.pmt_lines.specs.Splitting.{line_in, IsSplit}
 use Rattle.pmt_findings.specs.Merging.{job_in}
 use Rattle.pmt_trim.specs.Kept.{AreLinesKept, AreAllKept}
-use Rattle.pmt_workers.proofs.ResultLemmas.{jobs-same, lines-kept, results-of}
+use Rattle.pmt_asserts.specs.Tables.{AreResultsOf}
+use Rattle.pmt_workers.specs.declared.shard.LineAnswer.{LineAnswer}
+use Rattle.pmt_workers.specs.Results.{kept_in}
+use Rattle.pmt_workers.proofs.ResultLemmas.{jobs-same, lists-kept, results-of}
 use Rattle.pmt_workers.proofs.analyse.analysis_of_jobs.Goals as goal
 
 pub liveness-requires : goal.liveness-requires
 liveness-requires g c =
     let T : Recording = c.args.jobs.trace in
     let jobs : List LineWork = c.args.jobs.lines.items in
-    let kept : List ℕ = c.in_ok-results.field-0.kept.items in
-    let each : AreLinesKept T (map line_in jobs) kept = lines-kept T jobs kept c.requires.apart.jobs c.in_ok-results.ensures.kept in
-    subst (λ (ns : List ℕ). AreAllKept T ns) (sym c.as_slice-2.ensures.value) (subst (λ (ls : List ℕ). AreLinesKept T ls kept) c.requires.apart.covering each)
+    let items = λ (kept : Vec ℕ Global). kept.items in
+    let answers = flat_map (λ (part : Vec LineAnswer Global). part.items) c.in_ok-parts.parts.items in
+    let each : AreLinesKept T (map line_in jobs) (map kept_in answers) = lists-kept T jobs answers c.requires.apart.jobs c.in_ok-parts.ensures in
+    let lists : map items c.as_slice.result.now ≡ map kept_in answers = ap (map items) c.as_slice.ensures.value ∙ c.in_ok-results.ensures.lists in
+    subst (λ (ls : List (List ℕ)). AreAllKept T ls) (sym lists)
+    (subst (λ (ls : List ℕ). AreLinesKept T ls (map kept_in answers)) c.requires.apart.covering each)
 
 pub judged-requires-after_bounds : goal.judged-requires-after_bounds
 judged-requires-after_bounds g c κs within =
-    results-of c.args.jobs.trace c.args.jobs.lines.items c.in_ok-results.field-0.results.items c.requires.apart.covering c.requires.apart.jobs c.in_ok-results.ensures.results
+    let T : Recording = c.args.jobs.trace in
+    let jobs : List LineWork = c.args.jobs.lines.items in
+    let answers = flat_map (λ (part : Vec LineAnswer Global). part.items) c.in_ok-parts.parts.items in
+    subst (λ (rs : List LineFound). AreResultsOf T rs) (sym c.in_ok-results.ensures.results)
+    (results-of T jobs answers c.requires.apart.covering c.requires.apart.jobs c.in_ok-parts.ensures)
 
 pub new-requires : goal.new-requires
 new-requires g c =
     let T : Recording = c.args.jobs.trace in
     let jobs : List LineWork = c.args.jobs.lines.items in
+    let answers = flat_map (λ (part : Vec LineAnswer Global). part.items) c.in_ok-parts.parts.items in
     let is_trace : IsTrace T = subst IsTrace c.trace.view_is c.trace.invariant in
-    let results : map job_in c.as_slice.result.now ≡ jobs =
-    ap (map job_in) c.as_slice.ensures.value ∙ jobs-same jobs c.in_ok-results.field-0.results.items c.in_ok-results.ensures.results in
-    let split : IsSplit T (map job_in c.as_slice.result.now) c.in_ok-threads.threads.steps =
+    let results : map job_in c.as_slice-2.result.now ≡ jobs =
+    ap (map job_in) (c.as_slice-2.ensures.value ∙ c.in_ok-results.ensures.results) ∙ jobs-same jobs answers c.in_ok-parts.ensures in
+    let split : IsSplit T (map job_in c.as_slice-2.result.now) c.in_ok-threads.threads.steps =
     rw (results, c.in_ok-threads.ensures.job) c.requires.apart in
     record {
       touched = c.len-touched.ensures ∙ c.args.jobs.lines.ok.0 ∙ sym (length-map jobs line_in) ∙ ap length c.requires.apart.covering;

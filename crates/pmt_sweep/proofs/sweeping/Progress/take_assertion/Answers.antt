@@ -23,3 +23,4 @@ returns-clause-so_far c T is so_far =
     ([], sym (append-nil s.found.items), known-assertion T _ is)
     (numbered-assertion h s.rows s.open_flushes s.open_numbers so_far.numbered)
     (subst (AreFlagsTo T (suc (taken s))) (sym c.in_ok-push-3.ensures.items) (flags-stays T (taken s) s.kept.items Asserts is refl so_far.flags))
+    so_far.tables

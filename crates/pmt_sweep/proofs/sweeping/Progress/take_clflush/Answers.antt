@@ -40,3 +40,4 @@ returns-clause-so_far c T is so_far =
     (found_if (nat_le c.at.result.now.state.count c.at.result.now.state.front) (RedundantFlush (suc n)), found, known-clflush T l n c.at.result.now.state follows is)
     (numbered-clflush h l s.rows new s.open_flushes s.open_numbers kept so_far.numbered)
     (subst (AreFlagsTo T (suc n)) (sym flags) (flags-clflush T n l s.kept.items c.at.result.now.state follows is so_far.flags))
+    so_far.tables

@@ -60,3 +60,4 @@ returns-clause-so_far c T is so_far =
     (found_if c.is_empty.result (FenceWithoutFlush (suc n)), found, fence-told T t n c.is_empty.result places is c.is_empty.ensures (ap has_some c.of-places.ensures ∙ own.some))
     (rw (c.clear.ensures, c.clear-2.ensures) numbered)
     (subst (AreFlagsTo T (suc n)) (sym flags) (flags-fence T n t c.fence-is_kept.new.kept c.fence-is_kept.result is past))
+    so_far.tables

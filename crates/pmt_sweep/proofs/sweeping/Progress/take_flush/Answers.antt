@@ -50,3 +50,4 @@ returns-clause-so_far c T is so_far =
     (found_if (is_flush_covered state t) (RedundantFlush (suc n)), found, known-flush T l n t state follows is)
     (rw (c.in_ok-add.ensures, c.in_ok-add-2.ensures.more) numbered)
     (subst (AreFlagsTo T (suc n)) (sym c.in_ok-push-3.ensures.items) (flags-flush T n t l s.kept.items is so_far.flags))
+    so_far.tables

@@ -5,6 +5,7 @@ use Rattle.pmt_laws.proofs.Histories.{length-history}
 use Rattle.pmt_sweep.specs.Sweeping.{taken}
 use Rattle.pmt_laws.proofs.Histories.{act-within}
 use Rattle.pmt_sweep.specs.Chains.{AreChained}
+use Rattle.pmt_sweep.specs.ByteTables.{AreTables}
 use Rattle.pmt_sweep.specs.Known.{AddsKnown}
 use Rattle.pmt_sweep.specs.Rows.{last_line_store, IsPlaceOf, KeepsPlaces}
 use Rattle.pmt_sweep.specs.Flags.{AreFlagsTo}
@@ -17,6 +18,9 @@ use Rattle.pmt_sweep.proofs.sweeping.Progress.take_store.Goals as goal
 
 pub push_overwritten_by-requires-clause-chained : goal.push_overwritten_by-requires-clause-chained
 push_overwritten_by-requires-clause-chained c = subst (AreChained c.args.trace.now) (sym c.as_slice.ensures.value) c.requires.so_far.chained
+
+pub push_overwritten_by-requires-clause-tables : goal.push_overwritten_by-requires-clause-tables
+push_overwritten_by-requires-clause-tables c = subst (λ xs. AreTables c.args.trace.now (length xs) c.args.self.now.tables) (sym c.as_slice.ensures.value) c.requires.so_far.tables
 
 pub store-requires-clause-room : goal.store-requires-clause-room
 store-requires-clause-room c =
@@ -60,6 +64,7 @@ returns-clause-so_far c =
     kept rows
     (open-store h l w s.rows new s.open_flushes stood more so_far.opens)
     (λ k v e. store-told h new l k w v c.at-row.result.now.store p e last here)
-    (subst (λ xs. AddsKnown T (suc (length xs)) s.found.items c.push_overwritten_by.new.found.items) c.as_slice.ensures.value c.in_ok-push_overwritten_by.ensures)
+    (subst (λ xs. AddsKnown T (suc (length xs)) s.found.items c.push_overwritten_by.new.found.items) c.as_slice.ensures.value c.in_ok-push_overwritten_by.ensures.found)
     (numbered-store h l w s.rows new s.open_flushes s.open_numbers kept so_far.numbered)
     (subst (AreFlagsTo T (suc n)) (sym c.in_ok-push-3.ensures.items) (flags-stays T n s.kept.items (Stores l w) c.requires.next refl so_far.flags))
+    (subst (λ xs. AreTables T (length xs) c.push_overwritten_by.new.tables) c.as_slice.ensures.value c.in_ok-push_overwritten_by.ensures.tables)

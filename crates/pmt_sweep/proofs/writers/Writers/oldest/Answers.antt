@@ -3,12 +3,13 @@ use Rattle.pmt_sweep.specs.Writers.{IsFirst}
 use Rattle.pmt_sweep.proofs.WriterListLemmas.{whole-first}
 use Rattle.pmt_sweep.proofs.writers.Writers.oldest.Goals as goal
 
-pub returns-then-self-high : goal.returns-then-self-high
-returns-then-self-high c =
+pub returns-then-reach-high : goal.returns-then-reach-high
+returns-then-reach-high c =
     let held = c.self.inside.held.items in
     let same : held ≡ c.args.self.now = cc in
     let whole = c.self.inside.whole in
-    subst (λ ws. IsFirst ws c.args.low c.args.high whole.first) same (whole-first held whole c.args.low c.args.high (c.self.invariant.known (omega arith)) c.if-low-eq0.true c.if-self-high.true)
+    subst (λ ws. IsFirst ws c.args.low c.args.high whole.first) same
+    (whole-first held whole c.args.low c.args.high (c.self.invariant.known (omega (arith, c.if-reach-ne0.true))) c.if-low-eq0.true c.if-reach-high.true)
 
 pub returns : goal.returns
 returns c =

@@ -1,22 +1,29 @@
-use Rattle.std.proofs.Common.{◌≡◌, length, ap, sym, subst, ◌∙◌, arith}
+use Rattle.std.proofs.Common.{◌≡◌, length, map, ap, sym, subst, ◌∙◌}
 use Rattle.std.proofs.lemmas.List.{length-map}
-use Rattle.pmt_sweep.specs.Writers.{AreAllSafe, IsWhole, settled}
-use Rattle.pmt_sweep.proofs.WriterListLemmas.{refill-all, all_safe-settled}
+use Rattle.pmt_sweep.specs.Writers.{IsSpaced, AreAllSafe, ArePending, IsWhole, settled}
+use Rattle.pmt_sweep.proofs.WriterListLemmas.{refill-all}
+use Rattle.pmt_sweep.proofs.WholeLemmas.{later-settled, whole-settled}
+use Rattle.pmt_sweep.proofs.SpacingLemmas.{spaced-settled}
 use Rattle.pmt_sweep.proofs.writers.Writers.settle.Goals as goal
 
-pub returns-then-self-ne0 : goal.returns-then-self-ne0
-returns-then-self-ne0 c =
+pub returns-then-front-self : goal.returns-then-front-self
+returns-then-front-self c =
     let same : c.args.self.now ≡ c.self.inside.held.items = cc in
-    all_safe-settled c.args.front c.args.number c.self.inside.safe c.args.self.now (omega arith) (subst (AreAllSafe c.self.inside.safe) (sym same) c.self.invariant.all)
+    later-settled c.args.front c.args.number c.self.inside.pending c.args.self.now c.if-front-self.true (subst (ArePending c.self.inside.pending) (sym same) c.self.invariant.later)
 
 pub invariant_of-self : goal.invariant_of-self
 invariant_of-self c =
+    let settle = settled c.args.front c.args.number in
     let items = c.self.inside.held.items in
-    let new = c.settle_each-by.new.held in
-    let by = c.settle_each-by.result in
-    let as_long : length new ≡ length items =
-    ap (λ ws. length ws) c.settle_each-by.ensures.each ∙ length-map c.as_mut_slice.result.now (settled c.args.front c.args.number) ∙ ap (λ ws. length ws) c.as_mut_slice.ensures.value in
+    let whole = c.self.inside.whole in
+    let new = c.settle_each-self-inside.new.held in
+    let by = c.settle_each-self-inside.result in
+    let each : new ≡ map settle items = c.settle_each-self-inside.ensures.each ∙ ap (λ ws. map settle ws) c.as_mut_slice.ensures.value in
+    let as_long : length new ≡ length items = ap (λ ws. length ws) each ∙ length-map items settle in
+    let written = refill-all items new as_long in
     record {
-      all = subst (AreAllSafe by) (sym (refill-all items new as_long)) c.settle_each-by.ensures.all;
-      known = λ some. subst (λ ws. IsWhole ws c.whole_of-self-inside.result) c.as_slice.ensures c.whole_of-self-inside.ensures;
+      spaced = subst IsSpaced (sym (written ∙ each)) (spaced-settled c.args.front c.args.number items c.self.invariant.spaced);
+      all = subst (AreAllSafe by) (sym written) c.settle_each-self-inside.ensures.all;
+      later = subst (ArePending c.pending_of-self-inside.result) c.as_slice.ensures c.pending_of-self-inside.ensures;
+      known = λ some. subst (λ ws. IsWhole ws whole) (sym (written ∙ each)) (whole-settled c.args.front c.args.number items whole (c.self.invariant.known some));
     }

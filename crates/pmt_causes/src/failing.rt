@@ -1,0 +1,215 @@
+//! Failed assertions, in groups.
+
+ghost use Rattle.std.specs.Prelude.{◌≡◌, ◌≤◌, length, IfOk, OnOk, MatchOption};
+ghost use Rattle.std.specs.Option.{option_map};
+ghost use Rattle.pmt_model.specs.Traces.{history};
+ghost use Rattle.pmt_model.specs.Assertions.{PersistPasses, OrderedPasses};
+ghost use Rattle.pmt_reasons.specs.Failures.{IsFailureAt, IsPersistFailure, IsOrderedFailure};
+ghost use Rattle.pmt_explain.specs.Saving.{AreSafePlaces};
+ghost use Rattle.pmt_causes.specs.FailureKeys.{AreFailureGroups, AreKeyed, IsFailureKey, key_by, with_keyed};
+ghost use Rattle.pmt_causes.specs.Flushing.{AreNextFlushes};
+ghost use Rattle.pmt_causes.specs.Writers.{AreWriters};
+
+use crate::failure_keys::{AssertionKind, FailureKey, key_of};
+use crate::flushing::next_flushes;
+use crate::grouping::{Group, Keyed, groups};
+use crate::writers::LastWriters;
+use pmt_explain::{ordered_failure, persist_failure, safe_places};
+use pmt_model::{Op, OutOfMemory, Range, Trace};
+use pmt_reasons::Failure;
+use std::alloc::Global;
+
+/// Those of these events that are assertions and fail, in groups by their keys: those with most members first, and of as many
+/// members that with the lowest first one. The failure of each is that which `pmt_explain::failure` tells.
+///
+/// It takes at most four looks at each event, where the numbers rise, and one at each byte of the ranges of these assertions.
+///
+/// # Errors
+/// Where memory was refused.
+pub fn failure_groups(
+    alloc: Global,
+    trace: &Trace,
+    labels: &[Option<u64>],
+    numbers: &[u64],
+) -> Result<Vec<Group<FailureKey>>, OutOfMemory>
+    ensures { IfOk result (λ gs. AreFailureGroups trace.now labels.now numbers.now gs.items) }
+{
+    let items = failure_items(alloc, trace, labels, numbers)?;
+    groups(alloc, items.as_slice())
+}
+
+// Those of these events that are assertions and fail, each with its key.
+fn failure_items(
+    alloc: Global,
+    trace: &Trace,
+    labels: &[Option<u64>],
+    numbers: &[u64],
+) -> Result<Vec<Keyed<FailureKey>>, OutOfMemory>
+    ensures { IfOk result (λ items. AreKeyed trace.now labels.now numbers.now items.items) }
+{
+    let safe = safe_places(alloc, trace)?;
+    let flushes = next_flushes(alloc, trace)?;
+    let mut writers = LastWriters::new(alloc);
+    let mut items = Vec::new(alloc);
+    for number in numbers {
+        let key = key_at(
+            alloc,
+            trace,
+            labels,
+            safe.as_slice(),
+            flushes.as_slice(),
+            &mut writers,
+            *number,
+        )?;
+        push_keyed(&mut items, *number, key)?;
+    }
+    Ok(items)
+}
+
+// Adds the event, if it has a key.
+fn push_keyed(
+    items: &mut Vec<Keyed<FailureKey>>,
+    number: u64,
+    key: Option<FailureKey>,
+) -> Result<(), OutOfMemory>
+    ensures { OnOk result (items.new.items ≡ with_keyed number key items.old.items) }
+{
+    match key {
+        None => Ok(()),
+        Some(key) => {
+            items.push(Keyed { key, number })?;
+            Ok(())
+        }
+    }
+}
+
+// The key of the assertion with this number, if it is one and fails.
+fn key_at(
+    alloc: Global,
+    trace: &Trace,
+    labels: &[Option<u64>],
+    safe: &[u64],
+    flushes: &[u64],
+    writers: &mut LastWriters,
+    number: u64,
+) -> Result<Option<FailureKey>, OutOfMemory>
+    requires safe { AreSafePlaces trace.now safe.now }
+    requires flushes { AreNextFlushes trace.now flushes.now }
+    requires writers { AreWriters trace.now writers.old }
+    ensures key { IfOk result (λ o. MatchOption o (IsFailureAt trace.now number None) (IsFailureKey trace.now labels.now number)) }
+    ensures writers { OnOk result (AreWriters trace.now writers.new) }
+{
+    let Some(event) = trace.get(number) else {
+        return Ok(None);
+    };
+    let thread = event.thread;
+    let op = event.op;
+    match op {
+        Op::IsPersist(range) => {
+            let found = persist_at(alloc, trace, safe, writers, number, range)?;
+            Ok(keyed(
+                trace,
+                labels,
+                flushes,
+                number,
+                thread,
+                AssertionKind::Persist,
+                range,
+                found,
+            ))
+        }
+        Op::IsOrderedBefore(range, second) => {
+            let found = ordered_at(alloc, trace, safe, writers, number, range, second)?;
+            Ok(keyed(
+                trace,
+                labels,
+                flushes,
+                number,
+                thread,
+                AssertionKind::Ordered,
+                range,
+                found,
+            ))
+        }
+        Op::Store(_) | Op::Clwb(_) | Op::ClflushOpt(_) | Op::Clflush(_) | Op::Sfence | Op::Mfence =>
+            Ok(None),
+    }
+}
+
+// The key of the assertion with this number, if a crash violates it.
+fn keyed(
+    trace: &Trace,
+    labels: &[Option<u64>],
+    flushes: &[u64],
+    number: u64,
+    thread: u8,
+    kind: AssertionKind,
+    range: Range,
+    found: Option<Failure>,
+) -> Option<FailureKey>
+    ensures { result ≡ option_map (key_by trace.now.format labels.now flushes.now number thread kind range) found }
+{
+    match found {
+        None => None,
+        Some(failure) => Some(key_of(
+            trace.format(),
+            labels,
+            flushes,
+            number,
+            thread,
+            kind,
+            range,
+            &failure,
+        )),
+    }
+}
+
+// The crash that violates the isPersist of the range at the event with this number.
+fn persist_at(
+    alloc: Global,
+    trace: &Trace,
+    safe: &[u64],
+    writers: &mut LastWriters,
+    number: u64,
+    range: Range,
+) -> Result<Option<Failure>, OutOfMemory>
+    requires number { number ≤ length trace.now.events }
+    requires safe { AreSafePlaces trace.now safe.now }
+    requires writers { AreWriters trace.now writers.old }
+    ensures failure { IfOk result (λ o. MatchOption o (PersistPasses (history trace.now number) range) (IsPersistFailure trace.now number range)) }
+    ensures writers { OnOk result (AreWriters trace.now writers.new) }
+{
+    writers.go_to(alloc, trace, number)?;
+    let last = writers.last_in(alloc, range)?;
+    Ok(persist_failure(trace, safe, number, range, last.as_slice()))
+}
+
+// The crash that violates the isOrderedBefore of the two ranges at the event with this number.
+fn ordered_at(
+    alloc: Global,
+    trace: &Trace,
+    safe: &[u64],
+    writers: &mut LastWriters,
+    number: u64,
+    first: Range,
+    second: Range,
+) -> Result<Option<Failure>, OutOfMemory>
+    requires number { number ≤ length trace.now.events }
+    requires safe { AreSafePlaces trace.now safe.now }
+    requires writers { AreWriters trace.now writers.old }
+    ensures failure { IfOk result (λ o. MatchOption o (OrderedPasses (history trace.now number) first second) (IsOrderedFailure trace.now number first second)) }
+    ensures writers { OnOk result (AreWriters trace.now writers.new) }
+{
+    writers.go_to(alloc, trace, number)?;
+    let last = writers.last_in(alloc, first)?;
+    let kept = writers.last_in(alloc, second)?;
+    Ok(ordered_failure(
+        trace,
+        safe,
+        number,
+        first,
+        second,
+        last.as_slice(),
+        kept.as_slice(),
+    ))
+}

@@ -1,0 +1,140 @@
+//! What failed assertions of one group have in common.
+
+ghost use Rattle.std.specs.Prelude.{◌≡◌, ◌-◌, slice_index};
+ghost use Rattle.pmt_causes.specs.FailureKeys.{cause_by, key_by, origin_of as origin_in, part_of as part_in};
+
+use crate::labels::label_of;
+use pmt_model::{Format, Range};
+use pmt_reasons::Failure;
+
+/// Whence an event comes.
+#[derive(Clone, Copy, Debug, PartialEq, Eq, Hash)]
+pub enum Origin {
+    /// From the place in the program with this label, by the number that the caller gave it.
+    Label(u64),
+    /// From this thread, where no label is known.
+    Thread(u8),
+}
+
+/// The kind of an assertion.
+#[derive(Clone, Copy, Debug, PartialEq, Eq, Hash)]
+pub enum AssertionKind {
+    /// isPersist.
+    Persist,
+    /// isOrderedBefore.
+    Ordered,
+}
+
+/// The kind of a cause.
+#[derive(Clone, Copy, Debug, PartialEq, Eq, Hash)]
+pub enum CauseKind {
+    /// The store comes after the place.
+    Later,
+    /// No flush of its line follows it by the place.
+    Unflushed,
+    /// Its line is flushed, but no thread that flushed it has fenced since.
+    Unfenced,
+}
+
+/// Where a line lies in a range.
+#[derive(Clone, Copy, Debug, PartialEq, Eq, Hash)]
+pub enum RangePart {
+    /// It is the range's only line.
+    Only,
+    /// It is the first one of several.
+    First,
+    /// Others lie before and after it.
+    Inner,
+    /// It is the last one of several.
+    Last,
+}
+
+/// What failed assertions of one group have in common.
+#[derive(Clone, Copy, Debug, PartialEq, Eq, Hash)]
+pub struct FailureKey {
+    /// The kind of the assertions.
+    pub kind: AssertionKind,
+    /// The kind of the cause for which the told crash loses the store.
+    pub cause: CauseKind,
+    /// Where the line of the lost byte lies in the assertion's range, or in its first one.
+    pub part: RangePart,
+    /// Whence the assertions come.
+    pub origin: Origin,
+}
+
+// The key of the assertion with this number by the thread, of this kind and with this first range, where the crash violates it. Of
+// each store `flushes` has the number of the next flush of its line.
+pub(crate) fn key_of(
+    format: Format,
+    labels: &[Option<u64>],
+    flushes: &[u64],
+    number: u64,
+    thread: u8,
+    kind: AssertionKind,
+    range: Range,
+    failure: &Failure,
+) -> FailureKey
+    ensures { result ≡ key_by format labels.now flushes.now number thread kind range failure.now }
+{
+    let store = failure.lost.store;
+    let flush = flush_after(flushes, store);
+    FailureKey {
+        kind,
+        cause: cause_kind(failure.place, store, flush),
+        part: part_of(format, range, failure.lost.byte),
+        origin: origin_of(labels, number, thread),
+    }
+}
+
+// The next flush of the store's line, or 0 of no store.
+fn flush_after(flushes: &[u64], store: u64) -> u64
+    ensures { result ≡ slice_index flushes.now (store - 1) }
+{
+    match flushes.get(store.saturating_sub(1) as usize) {
+        Some(flush) => *flush,
+        None => 0,
+    }
+}
+
+// The kind of the cause for which the store is not safe at the place, where this is the next flush of its line.
+fn cause_kind(place: u64, store: u64, flush: u64) -> CauseKind
+    ensures { result ≡ cause_by place store flush }
+{
+    if place < store {
+        CauseKind::Later
+    } else if place < flush {
+        CauseKind::Unflushed
+    } else {
+        CauseKind::Unfenced
+    }
+}
+
+// Where the byte's line lies in the range.
+fn part_of(format: Format, range: Range, byte: u64) -> RangePart
+    ensures { result ≡ part_in format range byte }
+{
+    let size = format.line_size();
+    let start = range.addr().get();
+    let first = start / size;
+    let last = (start + (range.len() - 1)) / size;
+    let line = byte / size;
+    if first == last {
+        RangePart::Only
+    } else if line == first {
+        RangePart::First
+    } else if line == last {
+        RangePart::Last
+    } else {
+        RangePart::Inner
+    }
+}
+
+// Whence an event of the thread comes.
+pub(crate) fn origin_of(labels: &[Option<u64>], event: u64, thread: u8) -> Origin
+    ensures { result ≡ origin_in labels.now event thread }
+{
+    match label_of(labels, event) {
+        Some(label) => Origin::Label(label),
+        None => Origin::Thread(thread),
+    }
+}

@@ -1,0 +1,344 @@
+//! A band of a picture: columns that stand side by side, with the rows that have something there.
+use crate::bars::{Bar, Row};
+use crate::layout::{CONTENT, GAP, LANE, LEFT, NAME, STRIP, TAG, THREAD};
+use crate::picture::{Column, Picture};
+use crate::spans::line_of_op;
+use pmt_model::OutOfMemory;
+use std::alloc::Global;
+
+/// The most threads that have a row of their own.
+pub const MOST_THREADS: usize = 16;
+
+/// Where an event that is drawn stands.
+#[derive(Clone, Copy)]
+pub struct Slot {
+    /// The event's number.
+    pub number: u64,
+    /// The left side of its column.
+    pub left: u64,
+    /// Where events are left out before it, the middle of the room for them.
+    pub gap: Option<u64>,
+}
+
+/// Where a crash stands.
+#[derive(Clone, Copy)]
+pub struct Side {
+    /// Its place among the picture's crashes, from 0.
+    pub crash: usize,
+    /// Where its line stands.
+    pub x: u64,
+}
+
+/// Where a band starts.
+#[derive(Clone, Copy)]
+pub struct Start {
+    /// How many columns stand in the bands before.
+    pub column: usize,
+    /// How many crashes stand in the bands before.
+    pub crash: usize,
+    /// The number of the last event that is drawn in the bands before; 0 if there is none.
+    pub before: u64,
+}
+
+/// The places of the columns and crashes of a band.
+#[derive(Drop)]
+pub struct Band {
+    /// Where it starts, and where the next one does.
+    pub start: Start,
+    pub next: Start,
+    /// The columns, from left to right.
+    pub slots: Vec<Slot>,
+    /// The crashes, from left to right.
+    pub sides: Vec<Side>,
+    /// Where events are left out after all that are drawn, the middle of the room for them.
+    pub gap: Option<u64>,
+    /// The width of a column.
+    pub column: u64,
+    /// Where the columns end.
+    pub right: u64,
+    /// The threads that have a row of their own, rising.
+    pub threads: Vec<u8>,
+    /// Whether other threads share one more row.
+    pub others: bool,
+}
+
+impl Band {
+    /// The band that starts there, with columns of this width: as many as have room, and one at least.
+    pub fn new(
+        alloc: Global,
+        picture: &Picture,
+        start: Start,
+        column: u64,
+    ) -> Result<Self, OutOfMemory> {
+        let mut band = Band {
+            start,
+            next: start,
+            slots: Vec::new(alloc),
+            sides: Vec::new(alloc),
+            gap: None,
+            column,
+            right: LEFT,
+            threads: Vec::new(alloc),
+            others: false,
+        };
+        for place in picture.columns.iter().skip(start.column) {
+            if !band.slots.is_empty() && !band.has_room(picture, place.number) {
+                break;
+            }
+            band.push_column(picture, place.number)?;
+        }
+        if band.next.column >= picture.columns.len() {
+            band.end(picture)?;
+        }
+        band.take_threads(picture)?;
+        Ok(band)
+    }
+
+    // Whether the column of the event has room, with its crashes and what is left out before it.
+    fn has_room(&self, picture: &Picture, number: u64) -> bool {
+        let mut need = self.column;
+        if number != self.next.before.saturating_add(1) {
+            need = need.saturating_add(GAP);
+        }
+        for crash in picture.crashes.iter().skip(self.next.crash) {
+            if crash.failure.place <= number {
+                need = need.saturating_add(TAG);
+            }
+        }
+        self.right.saturating_add(need) <= LEFT + CONTENT
+    }
+
+    // Adds the column of the event, with what stands before it and the crashes right after it.
+    fn push_column(&mut self, picture: &Picture, number: u64) -> Result<(), OutOfMemory> {
+        let gap = self.take_gap(number != self.next.before.saturating_add(1));
+        self.push_crashes(picture, number.saturating_sub(1))?;
+        self.slots.push(Slot {
+            number,
+            left: self.right,
+            gap,
+        })?;
+        self.right = self.right.saturating_add(self.column);
+        self.push_crashes(picture, number)?;
+        self.next.before = number;
+        self.next.column = self.next.column.saturating_add(1);
+        Ok(())
+    }
+
+    // Adds what stands after all columns.
+    fn end(&mut self, picture: &Picture) -> Result<(), OutOfMemory> {
+        let is_gap = !self.slots.is_empty() && self.next.before < picture.events;
+        self.gap = self.take_gap(is_gap);
+        self.push_crashes(picture, u64::MAX)?;
+        self.right = self.right.max(LEFT.saturating_add(self.column));
+        Ok(())
+    }
+
+    // Where events are left out, takes the room for them and answers the middle of it.
+    fn take_gap(&mut self, is_gap: bool) -> Option<u64> {
+        if !is_gap {
+            return None;
+        }
+        let middle = self.right.saturating_add(GAP / 2);
+        self.right = self.right.saturating_add(GAP);
+        Some(middle)
+    }
+
+    // Adds the next crashes that come right after event `last` or before, side by side.
+    fn push_crashes(&mut self, picture: &Picture, last: u64) -> Result<(), OutOfMemory> {
+        for crash in picture.crashes.iter().skip(self.next.crash) {
+            if crash.failure.place > last {
+                break;
+            }
+            self.sides.push(Side {
+                crash: self.next.crash,
+                x: self.right,
+            })?;
+            self.next.crash = self.next.crash.saturating_add(1);
+            self.right = self.right.saturating_add(TAG);
+        }
+        Ok(())
+    }
+
+    // Gives rows to threads while there is room: to those of the crashes' assertions, to those of the columns, the last first, and to
+    // those whose flushes wait.
+    fn take_threads(&mut self, picture: &Picture) -> Result<(), OutOfMemory> {
+        for crash in picture.crashes.iter().skip(self.start.crash) {
+            if let Some(assertion) = crash.assertion {
+                if self.has_event(assertion.number) {
+                    if let Some(column) = picture.column(assertion.number) {
+                        self.give_row(column.event.thread)?;
+                    }
+                }
+            }
+        }
+        for column in picture.columns.iter().rev() {
+            if self.has_event(column.number) && !self.give_row(column.event.thread)? {
+                self.others = true;
+            }
+        }
+        for column in &picture.columns {
+            if self.waits(column) {
+                let _has_row = self.give_row(column.event.thread)?;
+            }
+        }
+        self.threads.sort_unstable();
+        Ok(())
+    }
+
+    // Gives the thread a row while there is room; tells whether it has one.
+    fn give_row(&mut self, thread: u8) -> Result<bool, OutOfMemory> {
+        if self.threads.as_slice().contains(&thread) {
+            return Ok(true);
+        }
+        if self.threads.len() >= MOST_THREADS {
+            return Ok(false);
+        }
+        self.threads.push(thread)?;
+        Ok(true)
+    }
+
+    // Whether the column is a flush of a band before, whose fence comes in this one or later.
+    fn waits(&self, column: &Column) -> bool {
+        match column.fence {
+            Some(fence) => column.number <= self.start.before && self.start.before < fence,
+            None => false,
+        }
+    }
+
+    /// Whether the event is drawn in this band, given that it is drawn.
+    pub fn has_event(&self, number: u64) -> bool {
+        self.start.before < number && number <= self.next.before
+    }
+
+    /// How wide the band is, with the names of its crashes.
+    pub fn wide(&self) -> u64 {
+        match self.sides.last() {
+            Some(side) => self.right.max(side.x.saturating_add(NAME)),
+            None => self.right,
+        }
+    }
+
+    /// The middle of the event's column; where it is left out, the middle of the room for what is left out; the side of the band where it
+    /// stands in another.
+    pub fn middle(&self, number: u64) -> u64 {
+        if number <= self.start.before {
+            return LEFT;
+        }
+        for slot in &self.slots {
+            if slot.number == number {
+                return slot.left.saturating_add(self.column / 2);
+            }
+            if number < slot.number {
+                return slot.gap.unwrap_or(slot.left);
+            }
+        }
+        self.right
+    }
+
+    /// The middle of the row of the thread, if the row begins there.
+    pub fn thread_middle(&self, thread: u8, top: u64) -> u64 {
+        let index = match self.threads.binary_search(&thread) {
+            Ok(index) => index,
+            Err(_) => self.threads.len(),
+        };
+        top.saturating_add(THREAD.saturating_mul(index as u64))
+            .saturating_add(THREAD / 2)
+    }
+
+    /// The height of the rows of all threads.
+    pub fn threads_height(&self) -> u64 {
+        let rows = self.threads.len() as u64;
+        let all = if self.others {
+            rows.saturating_add(1)
+        } else {
+            rows
+        };
+        THREAD.saturating_mul(all)
+    }
+
+    /// Whether the bar has something in this band: a store, or one that is not safe where the band begins.
+    pub fn has_bar(&self, bar: &Bar) -> bool {
+        let is_over = match bar.safe {
+            Some(safe) => safe <= self.start.before && bar.last <= self.start.before,
+            None => false,
+        };
+        !is_over && bar.store <= self.next.before
+    }
+
+    /// Whether something happens to the row's line in this band: an event of it, stores that get safe, or a crash that tells of them. A
+    /// picture of one band has each row there, and another one those with no event in its last band.
+    pub fn has_row(&self, picture: &Picture, row: &Row) -> bool {
+        let is_last = self.next.column >= picture.columns.len();
+        let is_only = is_last && self.start.column == 0;
+        is_only
+            || is_last && !has_event_of(picture, row.line)
+            || self
+                .slots
+                .iter()
+                .any(|slot| is_of_line(picture, slot.number, row.line))
+            || row.bars.iter().any(|bar| self.saves(bar))
+            || self
+                .sides
+                .iter()
+                .any(|side| tells_of(picture, side.crash, row))
+    }
+
+    // Whether the bar's stores get safe in this band.
+    fn saves(&self, bar: &Bar) -> bool {
+        match bar.safe {
+            Some(safe) => self.has_event(safe),
+            None => false,
+        }
+    }
+
+    /// The height of a line's row.
+    pub fn row_height(&self, row: &Row) -> u64 {
+        let mut lanes: u64 = 0;
+        for bar in &row.bars {
+            if self.has_bar(bar) {
+                lanes = lanes.max((bar.lane as u64).saturating_add(1));
+            }
+        }
+        LANE.saturating_mul(lanes)
+            .saturating_add(STRIP + 8)
+            .max(ROW)
+    }
+}
+
+// Whether the event is drawn, and stores to the line or flushes it.
+fn is_of_line(picture: &Picture, number: u64, line: u64) -> bool {
+    match picture.column(number) {
+        Some(column) => line_of_op(picture.format, column.event.op) == Some(line),
+        None => false,
+    }
+}
+
+// Whether an event is drawn that stores to the line or flushes it.
+fn has_event_of(picture: &Picture, line: u64) -> bool {
+    picture.columns.iter().any(|column| line_of_op(picture.format, column.event.op) == Some(line))
+}
+
+// Whether the crash loses or keeps a store of the row.
+fn tells_of(picture: &Picture, crash: usize, row: &Row) -> bool {
+    let Some(crash) = picture.crashes.get(crash) else {
+        return false;
+    };
+    if let Some(kept) = crash.failure.kept {
+        if is_of_line(picture, kept.store, row.line) {
+            return true;
+        }
+    }
+    crash
+        .lost
+        .iter()
+        .any(|store| is_of_line(picture, *store, row.line))
+}
+
+// The least height of a line's row: its name, and what is asserted of its bytes.
+const ROW: u64 = 46;
+
+/// Where the bars of a lane begin, in a row that begins there.
+pub fn lane_top(top: u64, lane: usize) -> u64 {
+    top.saturating_add(STRIP + 4)
+        .saturating_add(LANE.saturating_mul(lane as u64))
+}

@@ -1,0 +1,49 @@
+//! What is known of a trace before it is drawn.
+use pmt_explain::{Dropped, LostGroup, OverwrittenGroup};
+use pmt_model::{Trace, Verdict};
+use pmt_reasons::Reason;
+
+/// What is known of a trace.
+#[derive(Clone, Copy)]
+pub struct Known<'a> {
+    /// The trace.
+    pub trace: &'a Trace,
+    /// How many lines are stored or flushed in it.
+    pub lines: u64,
+    /// The verdicts of its assertions, in event order.
+    pub verdicts: &'a [Verdict],
+    /// The numbers of the assertions that fail, those first that are told first.
+    pub failing: &'a [u64],
+    /// The stores that are never persisted, by rising number.
+    pub never: &'a [u64],
+    /// Their groups, those first that are told first.
+    pub lost: &'a [LostGroup],
+    /// The events that are dropped, by rising number, each with its reason.
+    pub dropped: &'a [Dropped],
+    /// The groups of stores that are written over, those first that are told first.
+    pub overwritten: &'a [OverwrittenGroup],
+}
+
+impl Known<'_> {
+    /// Why the event with this number is dropped, if it is.
+    pub fn reason(&self, number: u64) -> Option<Reason> {
+        match self
+            .dropped
+            .binary_search_by_key(&number, |other| other.event)
+        {
+            Ok(index) => self.dropped.get(index).map(|other| other.reason),
+            Err(_) => None,
+        }
+    }
+
+    /// Whether the assertion with this number passes; none where the event is no assertion or there is none.
+    pub fn pass(&self, number: u64) -> Option<bool> {
+        match self
+            .verdicts
+            .binary_search_by_key(&number, |verdict| verdict.event)
+        {
+            Ok(index) => self.verdicts.get(index).map(|verdict| verdict.pass),
+            Err(_) => None,
+        }
+    }
+}

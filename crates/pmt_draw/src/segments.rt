@@ -1,0 +1,303 @@
+//! The bars of stores: a part for each state, with its words.
+use crate::bars::{Bar, Flush, Saver};
+use crate::layout::BAR;
+use crate::page::Page;
+use crate::pen::Pen;
+use crate::picture::Column;
+use crate::spans::line_of_op;
+use crate::words::push_event_words;
+use pmt_model::{Op, line_of};
+
+// The width of a letter in a bar, in tenths of a pixel.
+const LETTER: u64 = 67;
+
+// The most stores that the title of a bar names.
+const MOST_NAMED: u64 = 24;
+
+// The states of a store.
+#[derive(Clone, Copy)]
+enum State {
+    Pending,
+    Flushed,
+    Safe,
+}
+
+// The name of the state among the rules of the picture.
+fn class_of(state: State) -> &'static str {
+    match state {
+        State::Pending => "pending",
+        State::Flushed => "flushed",
+        State::Safe => "safe",
+    }
+}
+
+/// Adds the bar of stores to the line of this address.
+pub fn push_bar(pen: &mut Pen, page: Page<'_>, bar: &Bar, address: u64, top: u64) {
+    pen.fill(
+        "<g class='store' data-event='#' data-last='#' data-drawn='#' data-older='#' data-line='@'><title>",
+        &[bar.store, bar.last, bar.drawn, bar.older, address],
+    );
+    push_title(pen, page, bar, address);
+    pen.put("</title>");
+    let flushed = bar.flush.map(|flush| flush.number);
+    push_segment(pen, page, bar, State::Pending, bar.store, flushed, top);
+    if let Some(flush) = flushed {
+        if bar.safe != flushed {
+            push_segment(pen, page, bar, State::Flushed, flush, bar.safe, top);
+        }
+    }
+    if let Some(safe) = bar.safe {
+        push_segment(pen, page, bar, State::Safe, safe, bar.until, top);
+    }
+    push_ticks(pen, page, bar, address, top);
+    pen.put("</g>\n");
+}
+
+// Adds what is told of a bar.
+fn push_title(pen: &mut Pen, page: Page<'_>, bar: &Bar, address: u64) {
+    if bar.drawn == 0 {
+        pen.fill(
+            "event #, a store that is not drawn, and # more that are not",
+            &[bar.store, bar.older],
+        );
+    }
+    let mut named: u64 = 0;
+    for column in &page.picture.columns {
+        if let Some(offset) = offset_in(page, bar, address, column) {
+            if named < MOST_NAMED {
+                push_event_words(pen, column, page.labels);
+                pen.fill(", at +# of its line; ", &[offset]);
+            }
+            named = named.saturating_add(1);
+        }
+    }
+    if named > MOST_NAMED {
+        pen.fill("and # more stores; ", &[named.saturating_sub(MOST_NAMED)]);
+    }
+    match bar.flush {
+        Some(Flush { number, thread }) => pen.fill(
+            "flushed by event # of thread #",
+            &[number, thread as u64],
+        ),
+        None => pen.put("not flushed"),
+    }
+    push_safe_title(pen, bar);
+}
+
+// Adds from when on the bar's stores are safe, and by what.
+fn push_safe_title(pen: &mut Pen, bar: &Bar) {
+    match (bar.safe, bar.saver) {
+        (Some(safe), Some(Saver { thread, is_fence })) => {
+            let thread = thread as u64;
+            pen.fill("; safe from event # on, ", &[safe]);
+            pen.put(if is_fence { "the fence" } else { "the clflush" });
+            pen.fill(" of thread #", &[thread]);
+        }
+        (Some(safe), None) => pen.fill("; safe from event # on", &[safe]),
+        (None, _) => pen.put("; not safe"),
+    }
+}
+
+// Where the store in the column begins in its line, if it is one of the bar's.
+fn offset_in(page: Page<'_>, bar: &Bar, address: u64, column: &Column) -> Option<u64> {
+    let format = page.picture.format;
+    let op = column.event.op;
+    match op {
+        Op::Store(written) => {
+            let line = line_of(format, written.addr());
+            let is_here = line == address / format.line_size();
+            if is_here && bar.drawn > 0 && bar.has(column.number) {
+                Some(written.addr().get() % format.line_size())
+            } else {
+                None
+            }
+        }
+        _ => None,
+    }
+}
+
+// Adds a tick where each store of the bar but the first begins.
+fn push_ticks(pen: &mut Pen, page: Page<'_>, bar: &Bar, address: u64, top: u64) {
+    let line = address / page.picture.format.line_size();
+    if bar.drawn < 2 {
+        return;
+    }
+    for column in &page.picture.columns {
+        let number = column.number;
+        let is_here = line_of_op(page.picture.format, column.event.op) == Some(line);
+        let is_store = matches!(column.event.op, Op::Store(_));
+        if is_store && is_here && bar.has(number) && number > bar.store {
+            if page.band.has_event(number) {
+                let x = page.band.middle(number);
+                pen.fill(
+                    "<path class='stored' data-store='#' d='M# #V#'/>",
+                    &[number, x, top, top.saturating_add(BAR)],
+                );
+            }
+        }
+    }
+}
+
+// Adds one state of a bar, from one event to another or for good, as far as the band has it, with its words where there is room.
+fn push_segment(
+    pen: &mut Pen,
+    page: Page<'_>,
+    bar: &Bar,
+    state: State,
+    from: u64,
+    to: Option<u64>,
+    top: u64,
+) {
+    let x = page.band.middle(from);
+    let end = match to {
+        Some(to) => page.band.middle(to),
+        None => page.band.right,
+    };
+    if end <= x {
+        return;
+    }
+    pen.shape(
+        "rect",
+        class_of(state),
+        "data-from='#' x='#' y='#' width='#' height='#'/>",
+        &[from, x, top, end.saturating_sub(x), BAR],
+    );
+    let (start, room) = room_in(page, bar, x, end);
+    let letters = room.saturating_sub(8).saturating_mul(10) / LETTER;
+    push_longest(pen, page, bar, state, letters, start, top);
+}
+
+// Adds the longest words for the state that have room, if any have, into a box from this side on.
+fn push_longest(
+    pen: &mut Pen,
+    page: Page<'_>,
+    bar: &Bar,
+    state: State,
+    letters: u64,
+    start: u64,
+    top: u64,
+) {
+    for detail in [3, 2, 1, 0] {
+        let mut words = Pen::new(pen.alloc());
+        push_state(&mut words, page, bar, state, detail);
+        pen.share(&words);
+        if words.len() <= letters {
+            push_halo(pen, words.as_str(), start, top);
+            return;
+        }
+    }
+}
+
+// Adds the words, if there are any, into a box from this side on.
+fn push_halo(pen: &mut Pen, words: &str, start: u64, top: u64) {
+    if !words.is_empty() {
+        pen.fill(
+            "<text class='halo' x='#' y='#'>",
+            &[start.saturating_add(4), top.saturating_add(11)],
+        );
+        pen.put(words);
+        pen.put("</text>");
+    }
+}
+
+// Where words of the bar have room between these sides, and how much: no crash line crosses them, and no tick of a store.
+fn room_in(page: Page<'_>, bar: &Bar, left: u64, right: u64) -> (u64, u64) {
+    let (mut from, mut to) = (left, right);
+    if bar.drawn > 1 && page.band.has_event(bar.last) {
+        let last = page.band.middle(bar.last).saturating_add(4);
+        if left < last {
+            from = last.min(right);
+        }
+    }
+    for side in &page.band.sides {
+        let (low, high) = (side.x.saturating_sub(4), side.x.saturating_add(48));
+        if low < to && from < high {
+            if low.saturating_sub(from) >= to.saturating_sub(high) {
+                to = low.max(from);
+            } else {
+                from = high.min(to);
+            }
+        }
+    }
+    (from, to.saturating_sub(from))
+}
+
+// Adds the words for the state: the more detail, the longer.
+fn push_state(pen: &mut Pen, page: Page<'_>, bar: &Bar, state: State, detail: u8) {
+    match state {
+        State::Pending => push_pending(pen, page, bar, detail),
+        State::Flushed => {
+            if let Some(flush) = bar.flush {
+                push_flushed(pen, flush.thread as u64, detail);
+            }
+        }
+        State::Safe => push_safe(pen, bar, detail),
+    }
+}
+
+// Adds the words for stores that are not flushed.
+fn push_pending(pen: &mut Pen, page: Page<'_>, bar: &Bar, detail: u8) {
+    let (store, last, older) = (bar.store, bar.last, bar.older);
+    let many = bar.drawn > 1;
+    match detail {
+        0 if many => pen.fill("#x", &[bar.drawn]),
+        0 => pen.number(store),
+        1 if many => pen.fill("# stores", &[bar.drawn]),
+        1 => pen.fill("store #", &[store]),
+        _ if many => pen.fill("# stores, # to #: not flushed", &[bar.drawn, store, last]),
+        _ if older > 0 => pen.fill("store # and # more: not flushed", &[store, older]),
+        2 => pen.fill("store #: not flushed", &[store]),
+        _ => {
+            pen.fill("store #", &[store]);
+            push_value(pen, page, store);
+            pen.put(": not flushed");
+        }
+    }
+}
+
+// Adds where the store begins in its line and the bytes that it stores, if it is drawn.
+fn push_value(pen: &mut Pen, page: Page<'_>, store: u64) {
+    let Some(column) = page.picture.column(store) else {
+        return;
+    };
+    let op = column.event.op;
+    match op {
+        Op::Store(written) => {
+            let offset = written.addr().get() % page.picture.format.line_size();
+            pen.fill(" +#=", &[offset]);
+            pen.bytes(written.bytes());
+        }
+        _ => {}
+    }
+}
+
+// Adds the words for stores that a thread has flushed.
+fn push_flushed(pen: &mut Pen, thread: u64, detail: u8) {
+    match detail {
+        0 => pen.fill("T#", &[thread]),
+        1 => pen.fill("flushed by T#", &[thread]),
+        _ => pen.fill("flushed by T#, no fence of T# yet", &[thread, thread]),
+    }
+}
+
+// Adds the words for stores that are safe, and what made them so.
+fn push_safe(pen: &mut Pen, bar: &Bar, detail: u8) {
+    match (bar.saver, bar.safe, detail) {
+        (_, _, 0) | (None, _, _) | (_, None, _) => pen.put("safe"),
+        (
+            Some(
+                Saver {
+                    thread,
+                    is_fence: _,
+                },
+            ),
+            _,
+            1,
+        ) => { pen.fill("safe by T#", &[thread as u64]) }
+        (Some(Saver { thread, is_fence }), Some(safe), _) => {
+            pen.put("safe by ");
+            pen.put(if is_fence { "fence" } else { "clflush" });
+            pen.fill(" # of T#", &[safe, thread as u64]);
+        }
+    }
+}

@@ -1,0 +1,133 @@
+//! What a picture is about.
+use crate::known::Known;
+use crate::related::touches_any;
+use crate::spans::{line_of_op, lines_of_assertion};
+use crate::view::Span;
+use pmt_explain::{Dropped, LostGroup, Overwriting};
+use pmt_model::{OutOfMemory, Trace};
+use std::alloc::Global;
+
+/// What a picture is about.
+#[derive(Clone, Copy)]
+pub enum Subject {
+    /// The assertion with this number, which fails.
+    Failure(u64),
+    /// Stores to one line that are never persisted.
+    Lost(LostGroup),
+    /// A flush or fence that is dropped.
+    Dropped(Dropped),
+    /// A store whose bytes are written over before any flush.
+    Overwritten(Overwriting),
+    /// The events that are asked for, or the first ones.
+    Events,
+}
+
+/// What the picture of this span is about. Of the trace's findings it is the first that speaks of the kept lines, in the order in which
+/// they are told: failures, stores that are never persisted, what is dropped, what is written over. All lines are kept, if none is
+/// named.
+pub fn subject_of(
+    alloc: Global,
+    known: Known<'_>,
+    span: Span,
+    kept: &[u64],
+) -> Result<Subject, OutOfMemory> {
+    match span {
+        Span::First => first_subject(alloc, known, kept),
+        Span::Failure(number) => Ok(Subject::Failure(number)),
+        Span::Around(_) | Span::Between { .. } => Ok(Subject::Events),
+    }
+}
+
+// The first of the findings that speaks of the kept lines.
+fn first_subject(alloc: Global, known: Known<'_>, kept: &[u64]) -> Result<Subject, OutOfMemory> {
+    for number in known.failing {
+        if speaks_of(alloc, known.trace, *number, kept)? {
+            return Ok(Subject::Failure(*number));
+        }
+    }
+    for group in known.lost {
+        if is_kept(kept, group.line) {
+            return Ok(Subject::Lost(*group));
+        }
+    }
+    for event in known.dropped {
+        if is_kept_event(known.trace, event.event, kept) {
+            return Ok(Subject::Dropped(*event));
+        }
+    }
+    for group in known.overwritten {
+        if is_kept(kept, group.line) {
+            return Ok(Subject::Overwritten(group.first));
+        }
+    }
+    Ok(Subject::Events)
+}
+
+// Whether the line is kept.
+fn is_kept(kept: &[u64], line: u64) -> bool {
+    kept.is_empty() || kept.contains(&line)
+}
+
+// Whether the event stores to one of the kept lines or flushes one, all being kept where none is named.
+fn is_kept_event(trace: &Trace, number: u64, kept: &[u64]) -> bool {
+    if kept.is_empty() {
+        return true;
+    }
+    let Some(event) = trace.get(number) else {
+        return false;
+    };
+    match line_of_op(trace.format(), event.op) {
+        Some(line) => kept.contains(&line),
+        None => false,
+    }
+}
+
+// Whether the assertion reaches into one of the kept lines, all being kept where none is named.
+fn speaks_of(alloc: Global, trace: &Trace, number: u64, kept: &[u64]) -> Result<bool, OutOfMemory> {
+    if kept.is_empty() {
+        return Ok(true);
+    }
+    let Some(event) = trace.get(number) else {
+        return Ok(false);
+    };
+    let lines = lines_of_assertion(alloc, trace.format(), event.op, kept)?;
+    Ok(!lines.is_empty())
+}
+
+/// Why nothing is drawn of what is asked for.
+#[derive(Clone, Copy, Debug, PartialEq, Eq)]
+pub enum Refusal {
+    /// The trace ends before the event with this number.
+    PastEnd(u64),
+    /// The event with this number is no assertion.
+    NoAssertion(u64),
+    /// The assertion with this number passes.
+    Passes(u64),
+    /// No event stores to the line of this address, flushes it or asserts anything of it.
+    AbsentLine(u64),
+}
+
+/// Why nothing is drawn, where the span or a kept address is not of this trace.
+pub fn refusal_of(known: Known<'_>, span: Span, kept: &[u64]) -> Option<Refusal> {
+    let number = match span {
+        Span::First => 0,
+        Span::Failure(number) | Span::Around(number) => number,
+        Span::Between { first, last: _ } => first,
+    };
+    if number > known.trace.len() as u64 {
+        return Some(Refusal::PastEnd(number));
+    }
+    if span == Span::Failure(number) {
+        match known.pass(number) {
+            None => return Some(Refusal::NoAssertion(number)),
+            Some(true) => return Some(Refusal::Passes(number)),
+            Some(false) => {}
+        }
+    }
+    for address in kept {
+        if !touches_any(known.trace, *address / known.trace.format().line_size()) {
+            return Some(Refusal::AbsentLine(*address));
+        }
+    }
+    None
+}

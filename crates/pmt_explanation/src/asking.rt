@@ -1,0 +1,94 @@
+//! The findings that are asked for.
+ghost use Rattle.std.specs.Prelude.{◌≡◌, IfOk};
+ghost use Rattle.pmt_explanation.specs.Asking.{asked_dropped, asked_numbers as numbers_asked, asked_pairs as pairs_asked, asked_unwritten, is_asked_for as asked_for, is_pair_asked as pair_asked};
+
+use crate::choosing::{Choice, Kind, is_asked, is_chosen};
+use crate::labels::Labels;
+use crate::unwritten::Unwritten;
+use pmt_explain::{Dropped, Overwriting};
+use pmt_model::{OutOfMemory, Trace};
+use std::alloc::Global;
+
+// Whether the finding of this kind at the event is asked for.
+fn is_asked_for(trace: &Trace, labels: &Labels, choice: &Choice, kind: Kind, number: u64) -> bool
+    ensures { result ≡ asked_for trace.now labels.now choice.now kind number }
+{
+    is_asked(choice, kind) && is_chosen(trace, labels, choice, number)
+}
+
+// Those of the events whose finding of this kind is asked for, in the same order.
+pub(crate) fn asked_numbers(
+    alloc: Global,
+    trace: &Trace,
+    labels: &Labels,
+    choice: &Choice,
+    kind: Kind,
+    numbers: &[u64],
+) -> Result<Vec<u64>, OutOfMemory>
+    ensures { IfOk result (λ asked. asked.items ≡ numbers_asked trace.now labels.now choice.now kind numbers.now) }
+{
+    numbers
+        .iter()
+        .copied()
+        .filter(|number| is_asked_for(trace, labels, choice, kind, *number))
+        .collect(alloc)
+}
+
+// Those of the dropped events that are asked for, in the same order.
+pub(crate) fn asked_drops(
+    alloc: Global,
+    trace: &Trace,
+    labels: &Labels,
+    choice: &Choice,
+    dropped: &[Dropped],
+) -> Result<Vec<Dropped>, OutOfMemory>
+    ensures { IfOk result (λ asked. asked.items ≡ asked_dropped trace.now labels.now choice.now dropped.now) }
+{
+    dropped
+        .iter()
+        .copied()
+        .filter(|entry| is_asked_for(trace, labels, choice, Kind::Dropped, entry.event))
+        .collect(alloc)
+}
+
+// Whether the pair is asked for, by one of its stores.
+fn is_pair_asked(trace: &Trace, labels: &Labels, choice: &Choice, pair: Overwriting) -> bool
+    ensures { result ≡ pair_asked trace.now labels.now choice.now pair }
+{
+    is_asked_for(trace, labels, choice, Kind::Overwritten, pair.earlier)
+        || is_asked_for(trace, labels, choice, Kind::Overwritten, pair.later)
+}
+
+// Those of the pairs of which one store is asked for, in the same order.
+pub(crate) fn asked_pairs(
+    alloc: Global,
+    trace: &Trace,
+    labels: &Labels,
+    choice: &Choice,
+    pairs: &[Overwriting],
+) -> Result<Vec<Overwriting>, OutOfMemory>
+    ensures { IfOk result (λ asked. asked.items ≡ pairs_asked trace.now labels.now choice.now pairs.now) }
+{
+    pairs
+        .iter()
+        .copied()
+        .filter(|pair| is_pair_asked(trace, labels, choice, *pair))
+        .collect(alloc)
+}
+
+// Those of the assertions that are asked for, in the same order.
+pub(crate) fn asked_unwrittens(
+    alloc: Global,
+    trace: &Trace,
+    labels: &Labels,
+    choice: &Choice,
+    found: &[Unwritten],
+) -> Result<Vec<Unwritten>, OutOfMemory>
+    ensures { IfOk result (λ asked. asked.items ≡ asked_unwritten trace.now labels.now choice.now found.now) }
+{
+    found
+        .iter()
+        .copied()
+        .filter(|entry| is_asked_for(trace, labels, choice, Kind::Unwritten, entry.event))
+        .collect(alloc)
+}

@@ -1,0 +1,102 @@
+//! Guesses at what is noise: what could be left out.
+
+use crate::failures::line_of_store;
+use crate::json_parts::line_address;
+use crate::people_parts::{is_unflushed, plural};
+use crate::screen::Section;
+use crate::telling::Telling;
+use pmt_explain::OverwrittenGroup;
+use pmt_model::{Op, OutOfMemory, Trace, line_of};
+use std::collections::HashMap;
+
+// The most guesses of each kind.
+const FEW: usize = 3;
+
+// What looks like noise: stores to a line that no event flushes, and stores that always write the same bytes again.
+pub(crate) fn guesses_section(told: &Telling<'_>) -> Result<Section, OutOfMemory> {
+    let mut entries = Vec::new(told.alloc);
+    push_unflushed(told, &mut entries)?;
+    push_repeated(told, &mut entries)?;
+    let total = entries.len();
+    Ok(Section {
+        heading: String::from_str(
+            told.alloc,
+            "guess: if a crash may lose these, as locks or statistics, this leaves them out:\n",
+        )?,
+        entries,
+        total,
+        what: "guesses at what could be ignored",
+        words: "--limit all",
+    })
+}
+
+// Adds the first lines of never persisted stores that no event flushes.
+fn push_unflushed(told: &Telling<'_>, entries: &mut Vec<String>) -> Result<(), OutOfMemory> {
+    if told.explanation.lost.is_empty() {
+        return Ok(());
+    }
+    let flushed = flushed_lines(told)?;
+    let size = told.trace.format().line_size();
+    let mut guesses = 0usize;
+    for group in told.explanation.lost.as_slice() {
+        let is_quiet = is_unflushed(group.cause) && !flushed.contains_key(&group.line);
+        if guesses < FEW && is_quiet && !is_claimed(told, group.line) {
+            let line = line_address(told.trace, group.line);
+            let count = group.count;
+            entries.push(format!(in told.alloc;
+                "  --ignore {line:#x}:{size}  {count} store{}, and no flush of the line in the whole trace\n",
+                plural(count)
+            )?)?;
+            guesses = guesses.saturating_add(1);
+        }
+    }
+    Ok(())
+}
+
+// Whether a failed assertion that is told loses a store to the line.
+fn is_claimed(told: &Telling<'_>, line: u64) -> bool {
+    let failures = told.explanation.failures.as_slice();
+    failures.iter().any(|shown| line_of_store(told.trace, shown.failure.lost.store) == Some(line))
+}
+
+// The lines that are flushed.
+fn flushed_lines(told: &Telling<'_>) -> Result<HashMap<u64, bool>, OutOfMemory> {
+    let mut lines = HashMap::new(told.alloc);
+    for event in told.trace.events() {
+        let op = event.op;
+        match op {
+            Op::Clwb(addr) | Op::ClflushOpt(addr) | Op::Clflush(addr) => {
+                lines.insert(line_of(told.trace.format(), addr), true)?;
+            }
+            _ => {}
+        }
+    }
+    Ok(lines)
+}
+
+// Adds the first lines whose overwritten stores all write the same bytes again.
+fn push_repeated(told: &Telling<'_>, entries: &mut Vec<String>) -> Result<(), OutOfMemory> {
+    let mut guesses = 0usize;
+    for group in told.explanation.overwritten.as_slice() {
+        if guesses < FEW && group.same == group.count {
+            if let Some((addr, len)) = bytes_of(told.trace, group) {
+                let count = group.count;
+                entries.push(format!(in told.alloc;
+                    "  --ignore {addr:#x}:{len}  the same bytes are stored again, {count} time{} in this line\n",
+                    plural(count)
+                )?)?;
+                guesses = guesses.saturating_add(1);
+            }
+        }
+    }
+    Ok(())
+}
+
+// The bytes of the first store that is overwritten.
+fn bytes_of(trace: &Trace, group: &OverwrittenGroup) -> Option<(u64, u64)> {
+    let op = trace.get(group.first.earlier)?.op;
+    match op {
+        Op::Store(store) => Some((store.addr().get(), store.bytes().len() as u64)),
+        _ => None,
+    }
+}

@@ -1,0 +1,5 @@
+pub mod OverLemmas
+pub mod LayLemmas
+pub mod CopyLemmas
+pub mod CountLemmas
+pub mod StoreLemmas

@@ -1,0 +1,8 @@
+use Rattle.std.proofs.Common.{drop}
+use Rattle.std.specs.List.{AllByRecursion}
+use Rattle.pmt_image.specs.Counts.{count_in, IsBetween}
+use Rattle.pmt_image.proofs.crash.check_bounds.Given as goal
+
+abbrev pub invariant-loop-index : goal.invariant-loop-index
+invariant-loop-index l =
+    AllByRecursion (IsBetween (count_in l.least) (count_in l.greatest)) (drop l.index l.asked) → AllByRecursion (IsBetween (count_in l.least) (count_in l.greatest)) l.asked

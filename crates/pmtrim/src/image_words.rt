@@ -1,0 +1,237 @@
+//! The words of `image`.
+use crate::fault::Fault;
+use clap::{Arg, ArgAction, ArgMatches, Command};
+use pmt_model::Addr;
+use pmt_text::number::{read_address, read_number};
+use std::alloc::{AllocError, Global};
+
+/// So many stores of the line of this address: its first ones.
+#[derive(Clone, Copy)]
+pub struct AddressStores {
+    pub address: Addr,
+    pub stores: u64,
+}
+
+/// Which crash is asked for.
+#[derive(Drop)]
+pub enum AskedCrash {
+    /// That of the assertion that fails, by their order, from 1.
+    Failure(u64),
+    /// One after so many events.
+    At {
+        place: u64,
+        /// Whether each line has all its stores, and not only what no crash can lose.
+        all: bool,
+        /// The lines that have as many stores as is asked.
+        lines: Vec<AddressStores>,
+    },
+}
+
+/// What `image` is asked for.
+#[derive(Drop)]
+pub struct ImageWords<'a> {
+    /// The crash.
+    pub crash: AskedCrash,
+    /// The pool's file before the trace began; none for the one beside the trace.
+    pub pool: Option<&'a str>,
+    /// The address of the pool's first byte; none for the one beside the trace.
+    pub origin: Option<u64>,
+    /// The file that is written; none for standard output.
+    pub out: Option<&'a str>,
+    /// The trace; none for standard input.
+    pub file: Option<&'a str>,
+}
+
+/// The words of `image`.
+pub fn image_command<'a>(alloc: Global) -> Result<Command<'a>, AllocError> {
+    let command = Command::new(alloc, "image")
+        .override_usage(
+            "pmtrim image (--failure N | --at PLACE [--all] [--line A:K]..) [--pool BASE --origin A] [--out FILE] [FILE]",
+        )
+        .about("Writes the pool's file as a crash leaves it.")
+        .after_help(
+            "A crash at a place leaves each line the stores that no crash can lose, with --all all its stores, and the line of address A its first K. Without --pool and --origin the pool is FILE.base, and FILE.origin has the address of its first byte.{n}Statuses: 0 done; 2 wrong words, or no crash leaves so many stores; 3 trace or pool refused; 4 file fault; 5 out of memory{n}Example: pmtrim image --failure 1 --out crashed.pool run.trace",
+        );
+    let asked = with_crash(alloc, command)?;
+    with_files(alloc, asked)
+}
+
+// Which crash.
+fn with_crash<'a>(alloc: Global, command: Command<'a>) -> Result<Command<'a>, AllocError> {
+    let all = Arg::new(alloc, "all")
+        .long("all")
+        .action(ArgAction::SetTrue)
+        .help("Leave each line all its stores");
+    let line = value(
+        alloc,
+        "line",
+        "A:K",
+        "Leave the line of address A its first K stores, as 0x1000:2; may be repeated, and the last one of a line counts",
+    )
+    .action(ArgAction::Append);
+    command
+        .arg(value(
+            alloc,
+            "failure",
+            "N",
+            "The crash that violates the Nth assertion that fails, as explain tells it",
+        ))?
+        .arg(value(alloc, "at", "PLACE", "A crash after PLACE events"))?
+        .arg(all)?
+        .arg(line)
+}
+
+// Which files.
+fn with_files<'a>(alloc: Global, command: Command<'a>) -> Result<Command<'a>, AllocError> {
+    command
+        .arg(value(
+            alloc,
+            "pool",
+            "BASE",
+            "The pool's file before the trace began; wants --origin",
+        ))?
+        .arg(value(
+            alloc,
+            "origin",
+            "A",
+            "The address of the pool's first byte (hexadecimal); wants --pool",
+        ))?
+        .arg(value(
+            alloc,
+            "out",
+            "FILE",
+            "The file to write; standard output, if none is given",
+        ))?
+        .arg(Arg::new(alloc, "FILE").help("The trace; standard input, if none is given"))
+}
+
+fn value<'a>(alloc: Global, name: &'a str, shown: &'a str, help: &'a str) -> Arg<'a> {
+    Arg::new(alloc, name)
+        .long(name)
+        .value_name(shown)
+        .help(help)
+}
+
+/// What these words ask for.
+///
+/// # Errors
+/// A usage fault, or `OutOfMemory`.
+pub fn image_words<'a>(alloc: Global, given: &ArgMatches<'a>) -> Result<ImageWords<'a>, Fault> {
+    let crash = crash_of(alloc, given)?;
+    let words = ImageWords {
+        crash,
+        pool: given.get_str("pool"),
+        origin: origin_of(alloc, given)?,
+        out: given.get_str("out"),
+        file: given.get_str("FILE"),
+    };
+    if words.pool.is_some() != words.origin.is_some() {
+        return Err(Fault::usage(alloc, "'--pool' and '--origin' stand together")?);
+    }
+    if words.pool.is_none() && words.file.is_none() {
+        return Err(Fault::usage(
+            alloc,
+            "a trace from standard input has no pool beside it: name it by '--pool' and '--origin'",
+        )?);
+    }
+    Ok(words)
+}
+
+// Which crash is asked for.
+fn crash_of(alloc: Global, given: &ArgMatches<'_>) -> Result<AskedCrash, Fault> {
+    let failure = number_of(alloc, given, "failure", "--failure <N>")?;
+    let place = number_of(alloc, given, "at", "--at <PLACE>")?;
+    let all = given.get_flag("all");
+    let lines = lines_of(alloc, given)?;
+    match (failure, place) {
+        (Some(number), None) if number > 0 && !all && lines.is_empty() => {
+            Ok(AskedCrash::Failure(number))
+        }
+        (Some(0), None) => Err(Fault::usage(alloc, "failures are counted from 1")?),
+        (Some(_), None) => Err(Fault::usage(alloc, "'--all' and '--line' stand with '--at'")?),
+        (None, Some(place)) => Ok(AskedCrash::At { place, all, lines }),
+        _ => Err(Fault::usage(alloc, "one of '--failure' and '--at' says which crash")?),
+    }
+}
+
+// The lines that are asked for.
+fn lines_of(alloc: Global, given: &ArgMatches<'_>) -> Result<Vec<AddressStores>, Fault> {
+    let words = given.get_strs("line").unwrap_or(&[]);
+    let mut lines = Vec::with_capacity(alloc, words.len())?;
+    for word in words {
+        let line = line_of_word(alloc, word)?;
+        if lines.push(line).is_err() {
+            return Err(Fault::OutOfMemory);
+        }
+    }
+    Ok(lines)
+}
+
+// The line that this word asks for.
+fn line_of_word(alloc: Global, word: &str) -> Result<AddressStores, Fault> {
+    match read_line(word.as_bytes()) {
+        Some(line) => Ok(line),
+        None => Err(bad_word(
+            alloc,
+            word,
+            "--line <A:K>",
+            "an address and how many stores, as 0x1000:2",
+        )?),
+    }
+}
+
+// The line that `A:K` asks for.
+fn read_line(word: &[u8]) -> Option<AddressStores> {
+    let colon = word.iter().position(|byte| *byte == b':')?;
+    let value = read_address(&word[..colon])?;
+    let stores = read_number(10, &word[colon + 1..])?;
+    match Addr::new(value) {
+        Ok(address) => Some(AddressStores { address, stores }),
+        Err(_) => None,
+    }
+}
+
+// The address of the pool's first byte, if it is given.
+fn origin_of(alloc: Global, given: &ArgMatches<'_>) -> Result<Option<u64>, Fault> {
+    let Some(word) = given.get_str("origin") else {
+        return Ok(None);
+    };
+    match read_origin(word.as_bytes()) {
+        Some(origin) => Ok(Some(origin)),
+        None => Err(bad_word(
+            alloc,
+            word,
+            "--origin <A>",
+            "an address as 0x1000, at most 0xffffffffffff",
+        )?),
+    }
+}
+
+/// The address, which has 48 bits.
+pub fn read_origin(text: &[u8]) -> Option<u64> {
+    match read_address(text) {
+        Some(address) if address < 1 << 48 => Some(address),
+        _ => None,
+    }
+}
+
+// The number of the option, if it is given.
+fn number_of(
+    alloc: Global,
+    given: &ArgMatches<'_>,
+    name: &str,
+    shown: &str,
+) -> Result<Option<u64>, Fault> {
+    let Some(word) = given.get_str(name) else {
+        return Ok(None);
+    };
+    match read_number(10, word.as_bytes()) {
+        Some(number) => Ok(Some(number)),
+        None => Err(bad_word(alloc, word, shown, "a decimal number without leading zeros")?),
+    }
+}
+
+fn bad_word(alloc: Global, word: &str, shown: &str, allowed: &str) -> Result<Fault, AllocError> {
+    let message = format!(in alloc; "invalid value '{word}' for '{shown}': {allowed}")?;
+    Fault::usage(alloc, message.as_str())
+}
