@@ -1,0 +1,97 @@
+"""The program pmtrim, whose answers are proved: fronts, and images."""
+import os
+import re
+import shutil
+import signal
+import subprocess
+
+from faults import FILE_FAULT, WRONG_WORDS, Fault, of_file
+from pools import write_own_trace
+
+CODES = {number.value: number.name for number in signal.Signals}
+FRONT = re.compile(r"line 0x([0-9a-f]+) front (\d+) count (\d+)")
+
+
+def how_it_ended(code):
+    """A status, or the signal by which a program died."""
+    return f"status {code}" if code >= 0 else f"died by {CODES.get(-code, f'signal {-code}')}"
+
+
+def find_program(here):
+    """The program that PMTRIM names, or that stands beside this one, in its repository, or on the way of commands."""
+    named = os.environ.get("PMTRIM")
+    for path in [named] if named else [here / "pmtrim", here.parent / "crates/pmtrim/out/pmtrim", shutil.which("pmtrim")]:
+        if path and os.access(path, os.X_OK) and not os.path.isdir(path):
+            return str(path)
+    raise Fault(FILE_FAULT, f"{named or 'pmtrim'}: there is no such program: PMTRIM in the environment names it, or ./pmtrim --version builds it")
+
+
+class Commands:
+    """Runs the program. `processes` knows what runs, to end it."""
+
+    def __init__(self, program, trace_path, processes):
+        self.program = program
+        self.trace_path = trace_path
+        self.processes = processes
+
+    def run(self, *words):
+        """The answer; a fault is told in the program's own words, with its status."""
+        options = {"stdin": subprocess.DEVNULL, "stdout": subprocess.PIPE, "stderr": subprocess.PIPE}
+        process = self.processes.begin([self.program, *words], text=True, errors="replace", **options)
+        try:
+            answer, told = process.communicate()
+        except BaseException:
+            self.processes.kill_group(process)
+            process.wait()
+            raise
+        finally:
+            self.processes.ended(process)
+        self.processes.go_on()
+        if process.returncode != 0:
+            status = process.returncode if process.returncode in range(WRONG_WORDS, 6) else FILE_FAULT
+            raise Fault(status, f"pmtrim {words[0]}: {told.strip() or how_it_ended(process.returncode)}")
+        return answer
+
+    def fronts(self, place, line_size):
+        """The front and the count of each line, at a place."""
+        answer = self.run("fronts", self.trace_path, str(place))
+        return {int(line, 16) // line_size: (int(front), int(count)) for line, front, count in FRONT.findall(answer)}
+
+
+class ImageMaker:
+    """Makes the images of crashes. Of a trace with several pools, which pmtrim knows none of, each pool has its own part."""
+
+    def __init__(self, commands, trace, pools, folder):
+        self.commands = commands
+        self.line_size = trace.line_size
+        self.pools = pools
+        self.parts = [(trace.path, range(len(trace.lines) + 1))]
+        if len(pools) > 1:
+            paths = [f"{folder}/pool{number}.trace" for number in range(1, len(pools) + 1)]
+            self.parts = [(path, write_own_trace(trace, pool, path)) for pool, path in zip(pools, paths)]
+
+    def words(self, crash, number, path):
+        """The words by which pmtrim writes the image of a pool to a file."""
+        pool, (trace_path, places) = self.pools[number], self.parts[number]
+        own = [(line, stores) for line, stores in crash.lines if pool.origin < (line + 1) * self.line_size and line * self.line_size < pool.end]
+        crash = crash._replace(place=places[crash.place], lines=tuple(own))
+        return ["image", *crash.words(self.line_size), "--pool", pool.base, "--origin", f"{pool.origin:#x}", "--out", str(path), trace_path]
+
+    def make(self, crash, folder):
+        """Writes the images of all pools into a folder. Answers their paths."""
+        paths = [folder / ("image" if number == 0 else f"image{number + 1}") for number in range(len(self.pools))]
+        for number, path in enumerate(paths):
+            self.commands.run(*self.words(crash, number, path))
+        return paths
+
+    def differs(self, paths, contents):
+        """The first address of a line where the images don't hold what was foreseen; None where all do."""
+        for pool, path in zip(self.pools, paths):
+            try:
+                with open(path, "rb") as file:
+                    for address, content in contents:
+                        if pool.origin <= address < pool.end and os.pread(file.fileno(), len(content), address - pool.origin) != content:
+                            return address
+            except OSError as error:
+                raise of_file(path, error) from error
+        return None

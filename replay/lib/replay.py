@@ -1,0 +1,288 @@
+"""Makes images of crashes, and runs a checker on each."""
+import concurrent.futures
+import os
+import pathlib
+import shlex
+import shutil
+import signal
+import sys
+import tempfile
+import threading
+import time
+
+from checks import Checker
+from commands import Commands, ImageMaker, find_program
+from crashes import crashes_at
+from faults import DISAGREEMENT, FILE_FAULT, WRONG_WORDS, Fault, of_file
+from foreseen import Memory
+from pools import check_stores, find_pools
+from processes import Processes, Stopped
+from results import KeptResults, Results, identity_of, remove_tree
+from telling import MOST_STORES, Progress, next_words, summary, table
+from trace import Trace, places_of
+from words import HELP, take_words
+
+VERSION = "pmtrim-replay 1.0.0"
+ENDING = (signal.SIGINT, signal.SIGTERM, signal.SIGHUP)
+KEPT_IMAGES = 20
+
+
+class Ended(Exception):
+    """A signal asks for the end."""
+
+
+class Counts:
+    """How many crashes were taken, of how many different images; how many of these were run now, were known, and failed."""
+
+    crashes = images = run = known = failed = 0
+
+
+def check_is_there(path):
+    """The file can be opened, which pmtrim tells of without its name."""
+    try:
+        with open(path, "rb"):
+            pass
+    except OSError as error:
+        raise of_file(path, error) from error
+
+
+class Replay:
+    """A run over all images."""
+
+    def __init__(self, options, here, folder):
+        self.options = options
+        self.folder = folder
+        self.processes = Processes()
+        self.commands = Commands(find_program(here), options.trace, self.processes)
+        check_is_there(options.trace)
+        self.commands.fronts(0, 1)
+        self.trace = Trace(options.trace)
+        self.pools = find_pools(options.trace)
+        check_stores(self.pools, self.trace)
+        self.places = places_of(self.trace, options.at)
+        self.counts = Counts()
+        self.results = Results()
+        self.kept = pathlib.Path(options.keep).absolute() if options.keep else None
+        self.failures = {}
+        self.reached = 0
+        self.lock = threading.Lock()
+        self.fault = None
+
+    def prepare(self):
+        """Opens the results, and makes room for images."""
+        if self.kept:
+            self.results = KeptResults(self.kept, identity_of(self.options, self.pools))
+            remove_tree(self.kept / "work")
+            self.folder = self.kept / "work"
+            self.folder.mkdir()
+        self.maker = ImageMaker(self.commands, self.trace, self.pools, self.folder)
+        self.checker = Checker(self.options.checker, self.options.seconds, max(pool.size for pool in self.pools), self.processes)
+
+    def run(self):
+        """Takes all crashes, and runs the checker on each image that is new."""
+        progress = Progress(self.places[-1])
+        seen, room = set(), threading.BoundedSemaphore(2 * self.options.jobs)
+        with concurrent.futures.ThreadPoolExecutor(self.options.jobs) as workers:
+            try:
+                for crash, memory in self.crashes():
+                    self.counts.crashes += 1
+                    self.reached = crash.place
+                    name = f"{memory.sum_of(crash):064x}"
+                    if name not in seen:
+                        seen.add(name)
+                        self.counts.images += 1
+                        self.take(workers, room, name, crash, memory)
+                    progress.tell(crash.place, self.counts)
+                while not room_is_whole(room, 2 * self.options.jobs):
+                    self.go_on()
+                    progress.tell(self.places[-1], self.counts)
+            finally:
+                progress.clear()
+                if sys.exc_info()[0] is not None:
+                    self.processes.stop()
+        self.go_on()
+
+    def go_on(self):
+        """Raises what went wrong in a worker."""
+        if self.fault is not None:
+            raise self.fault
+
+    def crashes(self):
+        """All crashes, place by place, with the memory there."""
+        memory, before = Memory(self.trace, self.pools), None
+        for place in self.places:
+            stored = memory.go_to(place)
+            raised = before is None or any(self.trace.may_raise(number) for number in range(before + 1, place + 1))
+            if raised:
+                self.set_fronts(memory, place)
+            if stored or raised:
+                for crash in crashes_at(place, dict(memory.open), self.options.off):
+                    yield crash, memory
+            before = place
+
+    def set_fronts(self, memory, place):
+        bounds = self.commands.fronts(place, self.trace.line_size)
+        for line, (_, count) in memory.open.items():
+            if bounds.get(line, (0, 0))[1] != count:
+                raise Fault(DISAGREEMENT, f"pmtrim fronts {self.trace.path} {place}: another count of stores of a line than that of the trace")
+        memory.set_fronts({line: front for line, (front, _) in bounds.items()})
+
+    def take(self, workers, room, name, crash, memory):
+        """Hands an image to a worker, unless its result is known."""
+        result = {"number": self.counts.images, "place": crash.place}
+        if name in self.results.known:
+            with self.lock:
+                self.counts.known += 1
+                self.note(name, self.results.known[name])
+            return
+        contents, lost = memory.open_contents(crash), memory.lost_stores(crash)
+        result.update(lost=lost[:MOST_STORES], losses=len(lost), made_by=self.made_by(crash))
+        while not room.acquire(timeout=0.5):
+            self.go_on()
+        self.go_on()
+        workers.submit(self.check, room, name, crash, contents, result)
+
+    def made_by(self, crash):
+        """The words by which the image is made again, for a person."""
+        names = [f"crash{number or ''}.pool" for number in [0, *range(2, len(self.pools) + 1)]]
+        if len(self.pools) > 1:
+            return []
+        return [shlex.join(["pmtrim", *self.maker.words(crash, number, name)]) for number, name in enumerate(names)]
+
+    def check(self, room, name, crash, contents, result):
+        """Makes an image, runs the checker on it, and notes how that went. What goes wrong is kept for the one who waits."""
+        folder = self.folder / str(result["number"])
+        try:
+            outcome = self.check_in(folder, crash, contents)
+            result.update(failed=outcome.failed, status=outcome.status, tail=outcome.tail)
+            if not outcome.failed:
+                result = {"failed": False}
+            with self.lock:
+                self.counts.run += 1
+                self.results.add(name, result)
+                self.note(name, result)
+            if outcome.failed and self.kept and result["number"] <= self.last_kept():
+                self.keep_image(crash, folder, result["number"])
+        except Stopped:
+            pass
+        except Exception as error:
+            self.fault = self.fault or error
+        finally:
+            remove_tree(folder)
+            room.release()
+
+    def check_in(self, folder, crash, contents):
+        try:
+            (folder / "tmp").mkdir(parents=True)
+        except OSError as error:
+            raise of_file(folder, error) from error
+        paths = self.maker.make(crash, folder)
+        address = self.maker.differs(paths, contents)
+        if address is not None:
+            words = " ".join(self.maker.words(crash, 0, "crash.pool"))
+            raise Fault(DISAGREEMENT, f"the image by `pmtrim {words}` does not hold at {address:#x} what its stores write; please tell the authors")
+        return self.checker.run(paths, folder / "tmp")
+
+    def note(self, name, result):
+        """Counts a result, and keeps that of a failure for the table."""
+        if result["failed"]:
+            self.counts.failed += 1
+            self.failures[result["number"]] = result
+
+    def last_kept(self):
+        """The number of the last failed image that is kept."""
+        with self.lock:
+            numbers = sorted(self.failures)
+        return numbers[:KEPT_IMAGES][-1]
+
+    def keep_image(self, crash, folder, number):
+        """Makes the image anew, since the checker may have written to it, and leaves it in the folder that is kept."""
+        for pool, path in enumerate(self.maker.make(crash, folder)):
+            shutil.move(path, self.kept / f"image{number}{f'.{pool + 1}' if pool else ''}")
+
+    def tell(self, seconds):
+        """The answer, on standard output."""
+        lines = summary(self.trace, len(self.places), self.options, self.counts, seconds)
+        failures = [self.failures[number] for number in sorted(self.failures)]
+        if failures:
+            lines += ["", *table(self.trace, failures), "", *next_words(self.trace, failures[0])]
+        print("\n".join(lines), flush=True)
+
+    def clean_up(self):
+        self.processes.stop()
+        self.results.close()
+        remove_tree(self.folder)
+
+
+def room_is_whole(room, size):
+    """Whether all have given their room back; waits a moment for that."""
+    taken = 0
+    while taken < size and room.acquire(timeout=0.1):
+        taken += 1
+    for _ in range(taken):
+        room.release()
+    return taken == size
+
+
+def end(_number, _frame):
+    for number in ENDING:
+        signal.signal(number, signal.SIG_IGN)
+    raise Ended(_number)
+
+
+def run(options, here):
+    """Runs all, and answers the status."""
+    if shutil.which(options.checker[0]) is None:
+        raise Fault(WRONG_WORDS, f"{options.checker[0]}: there is no such program")
+    begun = time.monotonic()
+    folder = pathlib.Path(tempfile.mkdtemp(prefix="pmtrim-replay-"))
+    replay = None
+    try:
+        for number in ENDING:
+            if signal.getsignal(number) != signal.SIG_IGN:
+                signal.signal(number, end)
+        replay = Replay(options, here, folder)
+        replay.prepare()
+        replay.run()
+        replay.tell(time.monotonic() - begun)
+        return 1 if replay.failures else 0
+    except Ended:
+        if replay is not None:
+            replay.processes.stop()
+            replay.tell(time.monotonic() - begun)
+            more = "the same words go on" if options.keep else "with --keep DIR the same words would go on"
+            print(f"pmtrim-replay: stopped at place {replay.reached} of {replay.places[-1]}; {more}", file=sys.stderr)
+        raise
+    finally:
+        if replay is not None:
+            replay.clean_up()
+        remove_tree(folder)
+
+
+def silence(stream):
+    """What waits for a stream that can't be written goes nowhere, so that the end does not fail once more."""
+    os.dup2(os.open(os.devnull, os.O_WRONLY), stream.fileno())
+
+
+def main(words, here):
+    """The program. Answers its status."""
+    try:
+        if words in (["--help"], ["--version"]):
+            print(HELP if words == ["--help"] else VERSION, flush=True)
+            return 0
+        return run(take_words(words), here)
+    except Fault as fault:
+        print(f"pmtrim-replay: {fault}", file=sys.stderr)
+        return fault.status
+    except MemoryError:
+        print("pmtrim-replay: out of memory", file=sys.stderr)
+        return 5
+    except OSError as error:
+        print(f"pmtrim-replay: {error.filename or 'standard output'}: {error.strerror or error}", file=sys.stderr)
+        silence(sys.stdout)
+        return FILE_FAULT
+    except Ended as ended:
+        number = ended.args[0]
+        signal.signal(number, signal.SIG_DFL)
+        signal.raise_signal(number)
+        return 128 + number

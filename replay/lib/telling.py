@@ -1,0 +1,87 @@
+"""Progress, and the table at the end."""
+import shlex
+import sys
+import time
+
+MOST_FAILURES, MOST_STORES, MOST_LINES = 20, 6, 8
+EVERY = {True: 0.2, False: 60.0}  # seconds between two lines of progress: on a terminal, and elsewhere
+
+
+def counted(number, thing):
+    return f"{number} {thing}" if number == 1 else f"{number} {thing}s"
+
+
+class Progress:
+    """How far the run is, on standard error."""
+
+    def __init__(self, places):
+        self.places = places
+        self.terminal = sys.stderr.isatty()
+        self.told = time.monotonic()
+        self.width = 0
+
+    def tell(self, place, counts):
+        """Tells it, if it is time to."""
+        now = time.monotonic()
+        if now - self.told < EVERY[self.terminal]:
+            return
+        self.told = now
+        text = f"place {place} of {self.places}: {counts.images} images, {counts.run} run, {counts.failed} failed"
+        if self.terminal:
+            print(f"\r{text:{self.width}}", end="", file=sys.stderr, flush=True)
+            self.width = len(text)
+        else:
+            print(f"pmtrim-replay: {text}", file=sys.stderr, flush=True)
+
+    def clear(self):
+        if self.width:
+            print(f"\r{'':{self.width}}\r", end="", file=sys.stderr, flush=True)
+            self.width = 0
+
+
+def shorten(things, most, thing):
+    """The first of many, and how many more there are."""
+    return things[:most] + [f"and {counted(len(things) - most, f'more {thing}')}"] * (len(things) > most)
+
+
+def row_of(trace, result):
+    """A failed image: its number, its place, the event there, the checker's status; what it loses; and what the checker wrote last."""
+    rows = [f"{result['number']:>6} {result['place']:>6}  {trace.describe(result['place'])}", f"{'':15}checker: {result['status']}"]
+    lost = [trace.describe(number) for number in result["lost"][:MOST_STORES]]
+    more = result["losses"] - len(lost)
+    rows += [f"{'':15}loses {store}" for store in lost] + [f"{'':15}loses {more} more"] * (more > 0) + [f"{'':15}loses nothing"] * (not result["losses"])
+    return rows + [f"{'':15}| {line}" for line in result["tail"]]
+
+
+def table(trace, failures):
+    """The failed images, by number."""
+    rows = [" image  place  event, and what the crash loses"]
+    for result in failures[:MOST_FAILURES]:
+        rows += row_of(trace, result)
+    if len(failures) > MOST_FAILURES:
+        rows.append(f"       and {counted(len(failures) - MOST_FAILURES, 'more image')}")
+    return rows
+
+
+def next_words(trace, result):
+    """How to look at the first failure."""
+    path = shlex.quote(trace.path)
+    labels = f"--labels {shlex.quote(trace.path + '.labels')} " if trace.labels else ""
+    lines = sorted({trace.store(number)[0] // trace.line_size * trace.line_size for number in result["lost"]})
+    shown = "".join(f"--line {line:#x} " for line in lines[:MOST_LINES])
+    return [
+        "next, of the first one:",
+        *(f"  {words}" for words in result["made_by"]),
+        f"  pmtrim draw --around {max(result['place'], 1)} {shown}{labels}{path} > crash.svg",
+        f"  pmtrim explain {labels}{path}",
+    ]
+
+
+def summary(trace, places, options, counts, seconds):
+    """What was run."""
+    off = counted(options.off, "cache line")
+    known = f" ({counts.known} of them in an earlier run)" if counts.known else ""
+    return [
+        f"{trace.path}: {counted(len(trace.lines), 'event')}, {counted(places, 'place')}, at most {off} off the front or the count",
+        f"{counted(counts.crashes, 'crash').replace('crashs', 'crashes')}, {counted(counts.images, 'different image')}: {counts.failed} failed{known}; {seconds:.1f} s",
+    ]

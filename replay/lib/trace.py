@@ -1,0 +1,71 @@
+"""A trace, as far as images need it. That it is one is judged by pmtrim before."""
+import itertools
+
+from faults import FILE_FAULT, WRONG_WORDS, Fault, of_file
+
+FENCES = ("sfence", "mfence")
+
+
+class Trace:
+    """The lines of a trace's events. Event N is lines[N - 1]; place N is the moment after it."""
+
+    def __init__(self, path):
+        self.path = path
+        try:
+            with open(path, encoding="ascii") as file:
+                header, *self.lines = file.read().splitlines()
+        except OSError as error:
+            raise of_file(path, error) from error
+        except ValueError as error:
+            raise Fault(FILE_FAULT, f"{path}: it has changed while it was read") from error
+        self.line_size = int(header.split(" ")[2]) if header.startswith("pmtrace 2") else 64
+        self.labels = read_labels(f"{path}.labels")
+
+    def store(self, number):
+        """The address and the bytes of a store; None of another event."""
+        words = self.lines[number - 1].split(" ")
+        return (int(words[2], 16), bytes.fromhex(words[3])) if words[0] == "store" else None
+
+    def stores(self):
+        """The number, address and bytes of each store."""
+        for number, line in enumerate(self.lines, 1):
+            if line.startswith("store "):
+                yield (number, *self.store(number))
+
+    def may_raise(self, number):
+        """Whether the event may make stores safe: a fence, or a clflush."""
+        return self.lines[number - 1].startswith((*FENCES, "clflush "))
+
+    def describe(self, number):
+        """An event by its words and its label."""
+        if number == 0:
+            return "the beginning"
+        label = self.labels.get(number)
+        return f"event {number}{f' at {label}' if label else ''}: {self.lines[number - 1]}"
+
+
+def read_labels(path):
+    """The labels beside a trace, by event; none where there is no such file."""
+    labels = {}
+    try:
+        with open(path, encoding="utf-8", errors="replace") as file:
+            for line in file:
+                number, _, label = line.rstrip("\n").partition(" ")
+                if number.isdecimal():
+                    labels[int(number)] = label
+    except FileNotFoundError:
+        pass
+    except OSError as error:
+        raise of_file(path, error) from error
+    return labels
+
+
+def places_of(trace, ranges):
+    """The places where crashes are taken, rising: those that are asked for, or those around flushes, fences and claims, and the end."""
+    last = len(trace.lines)
+    if ranges is None:
+        around = (place for number, line in enumerate(trace.lines, 1) if not line.startswith("store ") for place in (number - 1, number))
+        return sorted({*around, last})
+    if max(most for _, most in ranges) > last:
+        raise Fault(WRONG_WORDS, f"a place of --at lies past the end: {trace.path} has {last} events")
+    return sorted(set(itertools.chain.from_iterable(range(least, most + 1) for least, most in ranges)))

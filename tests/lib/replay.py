@@ -1,0 +1,73 @@
+#!/usr/bin/env python3
+"""Runs pmtrim-replay on recorded and on random traces: replay.py PROGRAM. The last line is 'N passed, M failed'.
+
+Which images there are is taken from the lists of states of machine.py, by the words of `pmtrim-replay --help`.
+"""
+import pathlib
+import random
+import sys
+import tempfile
+
+from machine import random_trace, spelled
+from replay_faults import FaultTests
+from replay_programs import ProgramTests
+from replay_runs import images_in
+
+TRACES = 24
+ORIGIN, POOL_BYTES = 0x1000 - 5, 1100
+
+
+class ReplayTests(ProgramTests, FaultTests):
+    """The tests."""
+
+    def sets(self):
+        """The images of small random traces, each once."""
+        choose = random.Random(36)
+        for number in range(TRACES):
+            head, trace = random_trace(choose)
+            base = choose.randbytes(POOL_BYTES)
+            path = self.folder / f"random{number}.trace"
+            self.write_trace(path, head, [spelled(event) for event in trace.events], base, ORIGIN)
+            last = len(trace.events)
+            around = {place for at in trace.numbers if trace.event(at)[0] != "store" for place in (at - 1, at)} | {last}
+            some = sorted(choose.sample(range(last + 1), min(3, last + 1)))
+            self.expect_set(path, trace, base, [], 1, around)
+            self.expect_set(path, trace, base, ["--off", "64"], 64, range(last + 1))
+            self.expect_set(path, trace, base, ["--off", str(number % 3), "--at", ",".join(map(str, some))], number % 3, some)
+
+    def expect_set(self, path, trace, base, words, off, places):
+        """Each image of the set was seen by a checker, and no other one, and each once."""
+        wanted = {image for place in places for image in images_at(trace, place, base, off)}
+        copies = self.empty_folder("copies")
+        status, told, _ = self.replay([*words, path, "--", "sh", "-c", 'cp "$1" "$2/$(basename "$(dirname "$1")")"', "x", "{}", copies])
+        found = images_in(copies)
+        name = f"{path.name} {' '.join(words)}"
+        self.expect(f"{name}: status", status == 0, told)
+        self.expect(f"{name}: images", set(found) == wanted, f"{len(set(found))} images, {len(set(found) & wanted)} of {len(wanted)} wanted")
+        self.expect(f"{name}: each once", len(found) == len(wanted), f"{len(found)} checkers for {len(wanted)} images")
+
+
+def images_at(trace, place, base, off):
+    """The pools after the crashes at a place where at most so many lines are off their least, or off their greatest number of stores."""
+    reached = [dict(done) for done in trace.reached[place]]
+    least = {line: min(done.get(line, 0) for done in reached) for line in trace.lines(place)}
+    greatest = {line: len(trace.stores(line, place)) for line in trace.lines(place)}
+    for done in reached:
+        if min(sum(done.get(line, 0) != bound[line] for line in bound) for bound in (least, greatest)) <= off:
+            pool = bytearray(base)
+            for address, byte in trace.image(tuple(done.items())):
+                pool[address - ORIGIN] = byte
+            yield bytes(pool)
+
+
+def main():
+    with tempfile.TemporaryDirectory() as folder:
+        tests = ReplayTests(sys.argv[1], pathlib.Path(folder))
+        for test in (tests.sets, *tests.program_tests(), *tests.fault_tests()):
+            test()
+    print(f"{tests.passed} passed, {tests.failed} failed")
+    return 1 if tests.failed else 0
+
+
+if __name__ == "__main__":
+    sys.exit(main())

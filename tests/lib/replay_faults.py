@@ -1,0 +1,157 @@
+"""Checkers that hang, die or write without end, bases that are missing or short, runs that are stopped, and large pools."""
+import pathlib
+import re
+import signal
+import subprocess
+import time
+
+from replay_runs import REPLAY, Runs, counts_of
+
+TWO_LINES = ["store 0 0x0 01", "store 0 0x40 02", "clwb 0 0x0", "sfence 0"]
+IMAGES = {bytes([one] + 63 * [0] + [two] + 63 * [0]) for one, two in ((0, 0), (0, 2), (1, 0), (1, 2))}
+LARGE = 1 << 30
+
+
+def of_shell(script, *more):
+    return ["--", "sh", "-c", script, "x", "{}", *more]
+
+
+def is_running(word):
+    """Whether a process has this word."""
+    for path in pathlib.Path("/proc").glob("[0-9]*/cmdline"):
+        try:
+            if word.encode() in path.read_bytes().split(b"\0"):
+                return True
+        except OSError:
+            pass
+    return False
+
+
+def rows_of(told):
+    """The table, without what differs from run to run."""
+    return told.split("\n\n", 1)[1:]
+
+
+class FaultTests(Runs):
+    """What may go wrong."""
+
+    def fault_tests(self):
+        return self.checkers, self.kept_images, self.refusals, self.full, self.stopped, self.others_results, self.large
+
+    def small(self, name="small.trace", lines=(), size=128):
+        self.write_trace(self.folder / name, "pmtrace 2 64", lines or TWO_LINES, bytes(size), 0)
+        return name
+
+    def checkers(self):
+        """Each fails in its own way, and the others go on."""
+        trace = self.small()
+        for script, words, said in (
+            ("sleep 1234.5 & echo begun; wait", ["--seconds", "1"], "checker: no end within 1 s"),
+            ("yes", ["--seconds", "1"], "checker: no end within 1 s"),
+            ("kill -SEGV $$", [], "checker: died by SIGSEGV"),
+            ("exit 3", [], "checker: status 3"),
+            ("mkdir $TMPDIR/closed; touch $TMPDIR/closed/file; chmod 0 $TMPDIR/closed; false", [], "checker: status 1"),
+            ("sleep 1234.5 & exit 4", [], "checker: status 4"),
+            ("printf 'a\\033[2Jb\\n'; false", [], "| a?[2Jb"),
+            ("head -c 300000 /dev/zero | tr '\\0' 'z'; echo; echo last; false", [], "| last"),
+        ):
+            begun = time.monotonic()
+            status, told, faults = self.replay([*words, trace, *of_shell(script)])
+            self.expect(f"{script}: status", (status, faults, counts_of(told)) == (1, "", (6, 4, 4, 0)), told + faults)
+            self.expect(f"{script}: told", told.count(said) == 4 and len(told) < 6000, told[:3000])
+            self.expect(f"{script}: time", time.monotonic() - begun < 60, time.monotonic() - begun)
+            self.expect(f"{script}: nothing runs on", not is_running("1234.5"), "a child of the checker")
+
+    def kept_images(self):
+        """What the checker does to its image is not seen in others, nor in what is kept."""
+        kept = self.folder / "kept"
+        words = ["--keep", kept, self.small(), *of_shell('od -An -tx1 -v "$1" | tr -d " \\n"; echo; head -c 200 /dev/urandom > "$1"; false')]
+        status, told, faults = self.replay(words)
+        seen = {bytes.fromhex(line) for line in re.findall(r"^ +\| ([0-9a-f]+)$", told, re.M)}
+        self.expect("images are written to", (status, faults) == (1, "") and len(seen) <= 4, told + faults)
+        found = [path.read_bytes() for path in sorted(kept.glob("image*"))]
+        self.expect("images are kept", len(found) == 4 and set(found) == IMAGES, found)
+        self.expect("nothing else is kept", {path.name for path in kept.iterdir()} == {"state.jsonl", *(f"image{n}" for n in range(1, 5))}, told)
+
+    def refusals(self):
+        trace, always = self.small(), of_shell("true")
+        short = self.small("short.trace", size=64)
+        bad = self.small("bad.trace")
+        (self.folder / "bad.trace.origin").write_text("4096\n")
+        none = self.small("none.trace")
+        (self.folder / "none.trace.base").unlink()
+        broken = self.small("broken.trace", ["store 0 0x7 0102"])
+        other = self.empty_folder("other")
+        (other / "mine").write_text("of somebody")
+        for words, wanted, said in (
+            ([none, *always], 4, "none.trace.base is not there: the recorders write it with PMTRACE_BASE=1"),
+            ([short, *always], 3, "short.trace: event 2: store 0 0x40 02 lies in no pool: short.trace.base has the 64 bytes from 0x0 on"),
+            ([bad, *always], 3, "bad.trace.origin: not one line with an address"),
+            ([broken, *always], 3, "trace line 2"),
+            (["nothing.trace", *always], 4, "nothing.trace"),
+            ([trace, "--", "sh", "-c", "true"], 2, "has {}"),
+            ([trace, "--", "no-such-checker", "{}"], 2, "no-such-checker: there is no such program"),
+            ([trace], 2, "no checker is given"),
+            (["--at", "3-5", trace, *always], 2, "lies past the end: small.trace has 4 events"),
+            (["--at", "5-3", trace, *always], 2, "is no place"),
+            (["--off", "65", trace, *always], 2, "65 is no number from 0 to 64"),
+            (["--frob", trace, *always], 2, "unrecognized arguments: --frob"),
+            (["--keep", other, trace, *always], 2, "there are other files in it"),
+        ):
+            status, told, faults = self.replay(words)
+            self.expect(f"{words}", (status, told) == (wanted, "") and said in faults and faults.count("\n") == 1, f"{status} {told} {faults}")
+        self.expect("another's file stays", (other / "mine").read_text() == "of somebody", "it is gone")
+
+    def full(self):
+        """Where no file may be long an image can't be written, and a checker's file neither."""
+        large = self.small("wide.trace", size=1 << 20)
+        status, _, faults = self.run(["bash", "-c", 'ulimit -f 100; exec "$@"', "x", REPLAY, large, *of_shell("true")])
+        self.expect("no room for an image", status == 4 and "pmtrim image" in faults and faults.count("\n") == 1, faults)
+        self.expect("no room: nothing is left", not list(self.temporary.iterdir()), list(self.temporary.iterdir()))
+        status, told, _ = self.run(["bash", "-c", 'ulimit -f 100; exec "$@"', "x", REPLAY, self.small(), *of_shell('head -c 1000000 /dev/zero > "$1"')])
+        self.expect("a checker that fills the disk", status == 1 and counts_of(told) == (6, 4, 4, 0), told)
+
+    def stopped(self):
+        """A run that is stopped leaves no process and no image, and the same words go on."""
+        lines = [line for at in range(8) for line in (f"store 0 {8 * at:#x} 01", "clwb 0 0x0", "sfence 0")]
+        trace, script = self.small("long.trace", lines), 'sleep 0.3; echo seen; [ "$(od -An -tu1 -j40 -N1 "$1")" -eq 0 ]'
+        _, told, _ = self.replay(["--jobs", "2", trace, *of_shell(script)])
+        wanted = rows_of(told)
+        for number in (signal.SIGINT, signal.SIGTERM):
+            kept = self.folder / f"stopped{number}"
+            words = [REPLAY, "--jobs", "2", "--keep", kept, trace, *of_shell(script)]
+            process = subprocess.Popen([str(word) for word in words], cwd=self.folder, env=self.environment, stdout=subprocess.PIPE, stderr=subprocess.PIPE, text=True)
+            state = kept / "state.jsonl"
+            until = time.monotonic() + 300
+            while time.monotonic() < until and not (state.exists() and state.read_text().count("\n") >= 4):
+                time.sleep(0.05)
+            process.send_signal(number)
+            told, faults = process.communicate(timeout=60)
+            self.expect(f"{number.name}: status", process.returncode == -number and "stopped" in faults, (process.returncode, told, faults))
+            self.expect(f"{number.name}: what is left", not (kept / "work").exists() and not list(self.temporary.iterdir()), list(kept.iterdir()))
+            with open(state, "a") as file:
+                file.write('{"image": "half')
+            status, told, faults = self.replay(words[1:])
+            counts = counts_of(told)
+            self.expect(f"{number.name}: it goes on", (status, faults) == (1, "") and counts[:3] == (24, 9, 3) and 3 <= counts[3] < 9, told + faults)
+            self.expect(f"{number.name}: the same table", rows_of(told) == wanted, told)
+
+    def others_results(self):
+        """Results of another run are not taken for this one's."""
+        kept, trace = self.folder / "results", self.small()
+        self.expect("results are kept", self.replay(["--keep", kept, trace, *of_shell("true")])[0] == 0, "it failed")
+        for words, said in (([trace, *of_shell("false")], "another checker"), (["--off", "2", trace, *of_shell("true")], "another --off")):
+            status, _, faults = self.replay(["--keep", kept, *words])
+            self.expect(f"{said} is refused", status == 2 and said in faults, faults)
+        status, told, _ = self.replay(["--keep", kept, trace, *of_shell("true")])
+        self.expect("all is known", (status, counts_of(told)) == (0, (6, 4, 0, 4)), told)
+
+    def large(self):
+        """A pool of 1 GiB."""
+        trace = self.small("large.trace", [f"store 0 {LARGE - 1:#x} 07", f"clwb 0 {LARGE - 64:#x}", "sfence 0"], 0)
+        with open(self.folder / "large.trace.base", "wb") as file:
+            file.truncate(LARGE)
+        script = '[ "$(stat -c %s "$1")" -eq 1073741824 ] && tail -c 1 "$1" | od -An -tu1; false'
+        status, told, faults = self.replay(["--jobs", "1", trace, *of_shell(script)])
+        seen = sorted(line.strip() for line in re.findall(r"\| +(\d)$", told, re.M))
+        self.expect("a pool of 1 GiB", (status, seen) == (1, ["0", "7"]), told + faults)

@@ -1,0 +1,16 @@
+#!/usr/bin/env bash
+# Records programs with the pool's first bytes, and runs checkers on the images of their crashes by pmtrim-replay. The packages of
+# libpmem and valgrind are installed where they may be. Last line: 'N passed, M failed'.
+set -u
+cd "$(dirname "$0")/.." || exit 1
+# shellcheck source=tests/lib/program.sh
+. tests/lib/program.sh
+if ! [ -e /usr/include/valgrind/pub_tool_basics.h ] || ! command -v valgrind > /dev/null; then
+  { apt-get update && apt-get install -y --no-install-recommends valgrind; } > /dev/null 2>&1
+fi
+if ! make -s -C recorders/valgrind || ! make -s -C recorders/libpmem; then
+  echo "a recorder is not built; they need: apt-get install gcc make valgrind"
+  echo "0 passed, 1 failed"
+  exit 1
+fi
+exec python3 tests/lib/replay.py "$program"
