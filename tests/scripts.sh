@@ -1,0 +1,32 @@
+#!/usr/bin/env bash
+# Runs shellcheck, which is installed where it may be, over every shell script of the project. Last line: 'N passed, M failed'.
+set -u
+cd "$(dirname "$0")/.." || exit 1
+. tests/lib/cases.sh
+
+if ! command -v shellcheck > /dev/null; then
+  { apt-get update && apt-get install -y --no-install-recommends shellcheck; } > /dev/null 2>&1
+fi
+if ! command -v shellcheck > /dev/null; then
+  echo "the scripts are not checked; that needs: apt-get install shellcheck"
+  echo "0 passed, 1 failed"
+  exit 1
+fi
+
+# A script has a shell line, or a name that says so.
+while IFS= read -r -d '' file; do
+  [ -f "$file" ] || continue
+  IFS= read -r first < "$file"
+  case $file:$first in
+    *.sh:* | *.bash:* | *:'#!'*sh) ;;
+    *) continue ;;
+  esac
+  if shellcheck -x "$file"; then
+    passed=$((passed + 1))
+  else
+    failed=$((failed + 1))
+  fi
+done < <(git ls-files -z)
+
+echo "$passed passed, $failed failed"
+[ "$failed" -eq 0 ] && [ "$passed" -gt 0 ]
