@@ -1,0 +1,313 @@
+"""What a picture must show, by the states that runs reach, as machine.py lists them.
+
+The state of a store after an event is the part of its bar that stands right of the middle of the event's column.
+"""
+import re
+import unicodedata
+
+from drawn import SVG, of_class, shown_stores, title_of
+from machine import FENCES, FLUSHES, is_kept, of_store, spelled, verdict
+
+COLUMNS = 120
+CRASHES = 12
+WIDTH, HEIGHT = 1400, 24000
+LETTER = {"headline": 9.1, "told": 7.9, "small": 5.5}
+SIGNS = {
+    *("pending", "flushed", "safe", "stored", "dot", "mark", "wait", "never", "dropped", "unfenced", "pass", "fail", "crash", "lost-store"),
+}
+
+
+def state_of(trace, store, number):
+    """The state of a store right after an event."""
+    if trace.is_safe(store, number):
+        return "safe"
+    line = trace.line(store)
+    flushed = any(trace.is_flush_of(other, line, ("clflush", *FLUSHES)) for other in range(store + 1, number + 1))
+    return "flushed" if flushed else "pending"
+
+
+def stores_are_right(picture, trace):
+    """Each store that is drawn, after each event that is: its state; a bar may end only once its store is safe."""
+    drawn = {number for number in picture.numbers if trace.event(number)[0] == "store"}
+    hidden = {int(bar.get("data-event")) for band in picture.bands for bar in band.bars if not int(bar.get("data-drawn"))}
+    for store in drawn | hidden:
+        line = trace.line(store) * trace.size
+        if line not in picture.lines:
+            return False
+        for number in picture.numbers:
+            if line not in picture.band(number).lines:
+                continue
+            shown = picture.state(store, line, number)
+            wanted = state_of(trace, store, number) if store <= number else None
+            if shown != wanted and not (shown is None and wanted == "safe"):
+                return False
+    return True
+
+
+def bars_are_told(picture, trace):
+    """The title of a bar tells each store with its place in the line, and what makes them safe."""
+    last = max(picture.numbers, default=0)
+    for band in picture.bands:
+        for bar in band.bars:
+            title, line = title_of(bar), int(bar.get("data-line"), 16)
+            stores = [number for number in shown_stores(bar, picture.numbers) if trace.event(number)[0] == "store" and trace.line(number) * trace.size == line]
+            if int(bar.get("data-drawn")):
+                places = [f"event {number}: {spelled(trace.event(number))}, at +{trace.event(number)[2] - line} of its line" for number in stores]
+                if len(stores) != int(bar.get("data-drawn")) or not all(place in title for place in places):
+                    return False
+            saved = next((place for place in range(stores[-1], last + 1) if trace.is_safe(stores[-1], place)), None)
+            wanted = "not safe"
+            if saved is not None:
+                word, thread = trace.event(saved)[:2]
+                wanted = f"safe from event {saved} on, the {'fence' if word in FENCES else 'clflush'} of thread {thread}"
+            if not title.endswith(wanted):
+                return False
+    return True
+
+
+def earlier_are_counted(picture, trace, first):
+    """The stores before the window that are not safe where it begins, line by line."""
+    for line in picture.lines:
+        bars = {
+            int(bar.get("data-event")): int(bar.get("data-older")) + 1
+            for band in picture.bands
+            for bar in band.bars
+            if int(bar.get("data-line"), 16) == line and int(bar.get("data-event")) < first
+        }
+        unsafe = [store for store in trace.stores(line // trace.size, first - 1) if not trace.is_safe(store, first - 1)]
+        if sum(bars.values()) != len(unsafe):
+            return False
+    return True
+
+
+def worth(trace, number):
+    """What the mark of a flush or fence says: that it counts, that it has no effect, or that its fence is missing."""
+    word, thread = trace.event(number)[:2]
+    if word not in (*FENCES, *FLUSHES, "clflush") or is_kept(trace, number):
+        return "counts"
+    fenced = any(trace.event(other)[0] in FENCES and trace.event(other)[1] == thread for other in range(number, len(trace.events) + 1))
+    if word in FLUSHES and not fenced and not all(trace.is_safe(store, number - 1) for store in trace.stores(trace.line(number), number)):
+        return "unfenced"
+    return "hollow"
+
+
+def worth_shown(parts):
+    classes = {name for part in parts for name in part.get("class", "").split()}
+    return "hollow" if "dropped" in classes else "unfenced" if "unfenced" in classes else "counts"
+
+
+def flushes_are_right(picture, trace):
+    """In the row of its line a flush has the sign that it has in the row of its thread, and the name of its thread."""
+    for band in picture.bands:
+        for row in band.rows:
+            marks = [part for part in row if part.tag == SVG + "path"]
+            names = [part for part in row if part.tag == SVG + "text" and "small" in part.get("class").split() and part.text.startswith("T")]
+            flushes = [number for number in band.middle if trace.event(number)[0] in ("clflush", *FLUSHES) and trace.line(number) * trace.size == int(row.get("data-line"), 16)]
+            wanted = [(band.middle[number], f"T{trace.event(number)[1]}" + "!" * (worth(trace, number) == "unfenced"), worth(trace, number)) for number in flushes]
+            if [(int(name.get("x")), name.text, worth_shown([mark])) for name, mark in zip(names, marks)] != wanted or len(marks) != len(names):
+                return False
+    return True
+
+
+def events_are_right(picture, trace, numbers):
+    """Each event of the window once, with its words, its line, its sign, and the fence that completes it."""
+    if picture.numbers != list(numbers):
+        return False
+    for element in picture.events:
+        number = int(element.get("data-event"))
+        event = trace.event(number)
+        has_line = event[0] in ("store", "clflush", *FLUSHES)
+        line = f"{trace.line(number) * trace.size:#x}" if has_line else None
+        words = f"event {number}: {spelled(event)}"
+        if event[0].startswith("is"):
+            words += ": passes" if verdict(trace, number).endswith("pass") else ": fails"
+        title = title_of(element)
+        if element.get("data-line") != line or int(element.get("data-thread")) != event[1] or worth_shown(element) != worth(trace, number):
+            return False
+        if title != words and not (worth(trace, number) != "counts" and title.startswith(f"{words}: no effect, since ")):
+            return False
+        if (worth(trace, number) == "unfenced") != title.endswith("that fence is missing"):
+            return False
+        last = max(picture.numbers)
+        fences = [other for other in range(number, last + 1) if trace.event(other)[0] in FENCES and trace.event(other)[1] == event[1]]
+        if event[0] in FLUSHES and element.get("data-fence") != (str(fences[0]) if fences else None):
+            return False
+    return True
+
+
+def crash_is_right(crash, trace):
+    """A state that a run may leave at the crash's place violates the assertion."""
+    number, place, lost = (int(crash.get(name)) for name in ("data-event", "data-place", "data-lost"))
+    event = trace.event(number)
+    if lost not in trace.last_stores(event[2], event[3], number):
+        return False
+    loses = [done for done in trace.reached[place] if lost > place or not trace.is_persisted(done, lost)]
+    if event[0] == "isPersist":
+        return place == number and bool(loses)
+    kept = int(crash.get("data-kept"))
+    return kept in trace.last_stores(event[4], event[5], number) and kept <= place and any(trace.is_persisted(done, kept) for done in loses)
+
+
+def lost_by(trace, crash):
+    """The stores that a crash loses, of those that its assertion speaks of; at the end those to the line that are never persisted."""
+    place, lost = int(crash.get("data-place")), int(crash.get("data-lost"))
+    if crash.get("data-event") is None:
+        return {store for store in trace.stores(trace.line(lost), place) if not trace.is_safe(store, place)}
+    event = trace.event(int(crash.get("data-event")))
+    kept = crash.get("data-kept")
+    full = trace.line(int(kept)) if kept else None
+    last = trace.last_stores(event[2], event[3], int(crash.get("data-event")))
+    return {store for store in last if store > place or not trace.is_safe(store, place) and trace.line(store) != full}
+
+
+def losses_are_marked(picture, trace):
+    """Each store that a crash loses has a mark where it begins, a word in its bar's lane, and is counted."""
+    for band in picture.bands:
+        for crash in band.crashes:
+            lost = lost_by(trace, crash)
+            marked = {int(mark.get("data-store")): mark for mark in of_class(crash, "path", "lost-store")}
+            if int(crash.get("data-losses")) != len(lost) or set(marked) != {store for store in lost if store in band.middle}:
+                return False
+            if any(f"M{band.middle[store] - 3} " not in mark.get("d") for store, mark in marked.items()):
+                return False
+            tags = {int(tag.get("y")) for tag in of_class(crash, "rect", "tag-lost")}
+            if tags != {lane - 2 for store in lost for lane in lanes_of(band, store, trace.line(store) * trace.size)}:
+                return False
+    return True
+
+
+def lanes_of(band, store, line):
+    """Where the bar of the store stands, if it has one in the band."""
+    for bar in band.bars:
+        is_here = int(bar.get("data-line"), 16) == line and int(bar.get("data-event")) <= store <= int(bar.get("data-last"))
+        if is_here and int(bar.get("data-drawn")):
+            return {int(part.get("y")) for part in bar.iter(SVG + "rect")}
+    return set()
+
+
+def range_is_shown(picture, trace):
+    """On each line of the failed assertion: which of its bytes it speaks of."""
+    failure = re.fullmatch(r"is\w+ (\d+) fails\.", title_of(picture.root))
+    if failure is None:
+        return not picture.of_class("text", "asserted")
+    event = trace.event(int(failure[1]))
+    for band in picture.bands:
+        for row in band.rows:
+            line = int(row.get("data-line"), 16)
+            bytes_of = [[byte - line for byte in range(event[at], event[at + 1] + event[at]) if line <= byte < line + trace.size] for at in range(2, len(event), 2)]
+            wanted = [(found[0], found[-1]) for found in bytes_of if found]
+            if [(int(text.get("data-first")), int(text.get("data-last"))) for text in of_class(row, "text", "asserted")] != wanted:
+                return False
+    return True
+
+
+def crashes_are_right(picture, trace):
+    failing = [n for n in picture.numbers if trace.event(n)[0].startswith("is") and verdict(trace, n).endswith("fail")]
+    crashes = [crash for crash in picture.crashes if crash.get("data-event")]
+    told = sorted(int(crash.get("data-event")) for crash in crashes)
+    return told == failing[:len(told)] and len(told) >= min(len(failing), CRASHES) and all(crash_is_right(crash, trace) for crash in crashes)
+
+
+def first_failure(trace):
+    for number in trace.numbers:
+        if trace.event(number)[0].startswith("is") and verdict(trace, number).endswith("fail"):
+            return number
+    return None
+
+
+def story_is_right(picture, trace):
+    """Without words: what touches the lines of the first failure, up to it; else the stores to a line that are never persisted; else what
+    has no effect; else the first events."""
+    number = first_failure(trace)
+    if number is None:
+        return told_first_is_right(picture, trace)
+    event = trace.event(number)
+    ranges = [(event[2], event[3])] + ([(event[4], event[5])] if len(event) > 4 else [])
+    lines = {byte // trace.size for start, length in ranges for byte in range(start, start + length)}
+    touching = touching_of(trace, lines, number)
+    shown = set(picture.numbers)
+    strays = {n for n in shown - touching - {number} if trace.event(n)[0] not in FENCES and not trace.event(n)[0].startswith("is")}
+    return touching <= shown and number == max(shown) and not strays and picture.numbers == sorted(shown)
+
+
+def touching_of(trace, lines, end):
+    return {n for n in range(1, end) if trace.event(n)[0] in ("store", "clflush", *FLUSHES) and trace.line(n) in lines}
+
+
+def told_first_is_right(picture, trace):
+    end = len(trace.events)
+    lost = [store for store in trace.numbers if trace.event(store)[0] == "store" and not trace.is_safe(store, end)]
+    if lost:
+        line = trace.line(lost[0])
+        crash = picture.crashes[0]
+        told = crash.get("data-event") is None and int(crash.get("data-place")) == end and int(crash.get("data-lost")) == lost[0]
+        headline = re.fullmatch(r"Never persisted: (\d+) stores? to line (0x[0-9a-f]+)", title_of(picture.root))
+        return told and headline and int(headline[2], 16) == line * trace.size and touching_of(trace, {line}, end + 1) <= set(picture.numbers)
+    dropped = [number for number in trace.numbers if worth(trace, number) != "counts"]
+    if dropped:
+        return title_of(picture.root) == f"Event {dropped[0]} has no effect" and dropped[0] in picture.numbers
+    overwritten = [entry for number in trace.numbers if trace.event(number)[0] == "store" for entry in of_store(trace, number) if entry.startswith("overwritten")]
+    return "is written over" in title_of(picture.root) if overwritten else picture.numbers == list(trace.numbers)[:COLUMNS]
+
+
+def extent(text):
+    """Where a text stands: its sides and its base."""
+    kind = text.get("class", "").split()
+    letters = sum(2 if unicodedata.east_asian_width(letter) in "WF" else 1 for letter in "".join(text.itertext()))
+    long = letters * next((LETTER[name] for name in kind if name in LETTER), 6.7)
+    x = int(text.get("x"))
+    left = x - (long if "end" in kind else long / 2 if "mid" in kind else 0)
+    return left, left + long, int(text.get("y"))
+
+
+def is_on_page(picture):
+    """No text and no shape reaches over the page, and the page is as small as is said."""
+    width, height = int(picture.root.get("width")), int(picture.root.get("height"))
+    for text in picture.root.iter(SVG + "text"):
+        if text.get("x") is None or text.get("y") is None or "tiny" in text.get("class", ""):
+            continue
+        left, right, base = extent(text)
+        if right > width or left < 0 or base > height:
+            return False
+    boxes = [box for box in picture.root.iter(SVG + "rect") if not box.get("x", "0").startswith("-")]
+    return width <= WIDTH and height <= HEIGHT and all(int(box.get("x", 0)) + int(box.get("width", 0)) <= width for box in boxes)
+
+
+def crashes_are_apart(picture):
+    """Each crash has a line of its own, with room for the word beside it: no event, no other crash and no dots stand there. No line
+    crosses the name of a crash or the words of a column, and no two names meet."""
+    for band in picture.bands:
+        lines = [crash.find(SVG + "line") for crash in band.crashes]
+        names = [extent(crash.find(SVG + "text")) for crash in band.crashes]
+        words = [extent(text) for event in of_class(band.root, "g", "event") for text in event.iter(SVG + "text") if text.get("x")]
+        sides = [int(line.get("x1")) for line in lines]
+        taken = [*band.middle.values(), *(int(line.get("x1")) for line in of_class(band.root, "line", "cut"))]
+        rooms = [range(side - 2, side + 46) for side in sides]
+        if len(set(sides)) != len(sides) or len({base for _, _, base in names}) != len(names):
+            return False
+        if any(other in room for room, side in zip(rooms, sides) for other in [*taken, *sides] if other != side):
+            return False
+        for line, side in zip(lines, sides):
+            if any(left < side < right and base > int(line.get("y1")) for left, right, base in [*names, *words]):
+                return False
+    return True
+
+
+def rows_are_named(picture):
+    """In each band each thread of its events has a row, or shares the last one, and each line has its address."""
+    for band in picture.bands:
+        names = {text.text for text in band.root.iter(SVG + "text")}
+        threads = {f"thread {event.get('data-thread')}" for event in of_class(band.root, "g", "event")}
+        if not threads <= names and "other threads" not in names or not {f"{line:#x}" for line in band.lines} <= names:
+            return False
+    return True
+
+
+def legend_is_right(picture):
+    """The legend has the signs that are in use, no others, and is no higher than they need."""
+    legend, = picture.of_class("g", "legend")
+    shown = {name for part in legend.iter() for name in part.get("class", "").split()} & SIGNS
+    used = {name for band in picture.bands for part in band.root.iter() for name in part.get("class", "").split()} & SIGNS
+    heights = [int(sign.get("transform").split()[1].rstrip(")")) for sign in legend]
+    lower = max(heights) - min(heights) if heights else 0
+    return shown == used and lower <= 20 * ((len(heights) + 2) // 3 - 1) + 1 and int(picture.root.get("height")) - min(heights, default=0) <= lower + 20
