@@ -56,6 +56,14 @@ done < "$folder/options"
 cp examples/undo_log.trace* "$folder"
 holds 'pmtrim-replay runs' env -i PATH=/usr/bin:/bin "$replay" "$folder/undo_log.trace" -- test -s '{}'
 
+# The same of pmtrim-record, whose help needs no Valgrind.
+sed 's/\\fB\|\\fI\|\\fR//g; s/\\-/-/g' packaging/pmtrim-record.1 > "$folder/page"
+recorders/valgrind/pmtrim-record --help | grep -oE '^  --[a-z-]+' | grep -oE -- '--[a-z-]+' > "$folder/options"
+holds 'the help of pmtrim-record has options' grep -qx -- --pool "$folder/options"
+while read -r option; do
+  holds "the man page of pmtrim-record has $option" grep -qFw -- "$option" "$folder/page"
+done < "$folder/options"
+
 # What bash offers for some words.
 offered() {
   bash -c '. "$1"; shift; COMP_WORDS=("$@"); COMP_CWORD=$(($# - 1)); _pmtrim; echo "${COMPREPLY[*]}"' - \
