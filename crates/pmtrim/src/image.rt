@@ -12,9 +12,10 @@ use pmt_image::{
     CopyFault, CountFault, Crash, ImageFault, LineStores, Pool, Stop, crash_at, crash_of_failure,
     write_image,
 };
+use pmt_lines::{SplitError, take_trace};
 use pmt_model::{Format, Trace, line_of};
-use pmt_report::{RunError, analysed};
-use pmt_text::Counted;
+use pmt_report::{RunError, analysed, run_error};
+use pmt_text::{Counted, TextSource};
 use std::alloc::Global;
 use std::io::{Read, Write};
 use std::sync::Wait;
@@ -47,13 +48,43 @@ where
 {
     let alloc = rt.alloc();
     let base = base_of(alloc, words, files)?;
-    let analysis = analysis_of(rt, words.file, files, input)?;
-    let crash = crash_of(alloc, &analysis, &words.crash)?;
-    match words.out {
-        Some(name) => write_file(alloc, files, &analysis, &crash, &base, name)?,
-        None => write_to(alloc, files, &analysis, &crash, &base, out)?,
+    match &words.crash {
+        AskedCrash::Failure(number) => {
+            let analysis = analysis_of(rt, words.file, files, input)?;
+            let crash = failure_crash(alloc, &analysis, *number)?;
+            write_pool(
+                alloc,
+                files,
+                analysis.trace(),
+                &crash,
+                &base,
+                words.out,
+                out,
+            )?;
+        }
+        AskedCrash::At { place, all, lines } => {
+            let trace = trace_of(alloc, words.file, files, input)?;
+            let crash = asked_crash(alloc, &trace, *place, *all, lines.as_slice())?;
+            write_pool(alloc, files, &trace, &crash, &base, words.out, out)?;
+        }
     }
     Ok(0)
+}
+
+// Writes the pool after the crash to the named file, or to `out` where none is named.
+fn write_pool<O: Opener, W: Write>(
+    alloc: Global,
+    files: &O,
+    trace: &Trace,
+    crash: &Crash,
+    base: &Base,
+    name: Option<&str>,
+    out: &mut W,
+) -> Result<(), Fault> {
+    match name {
+        Some(name) => write_file(alloc, files, trace, crash, base, name),
+        None => write_to(alloc, files, trace, crash, base, out),
+    }
 }
 
 // The pool that is named, or the one beside the trace.
@@ -160,18 +191,40 @@ where
     }
 }
 
-// The crash that is asked for.
-fn crash_of(alloc: Global, analysis: &Analysis, asked: &AskedCrash) -> Result<Crash, Fault> {
-    match asked {
-        AskedCrash::Failure(number) => failure_crash(alloc, analysis, *number),
-        AskedCrash::At { place, all, lines } => {
-            let trace = analysis.trace();
-            let counts = by_line(alloc, trace.format(), lines.as_slice())?;
-            match crash_at(alloc, trace, *place, *all, counts.as_slice()) {
-                Ok(crash) => Ok(crash),
-                Err(fault) => Err(count_fault(alloc, trace.format(), fault)?),
-            }
-        }
+// The trace of the file or of `input`.
+fn trace_of<O, I>(alloc: Global, file: Option<&str>, files: &O, input: I) -> Result<Trace, Fault>
+where
+    O: Opener,
+    I: Read + Drop,
+{
+    match file {
+        Some(name) => taken(alloc, opened(alloc, files, name)?),
+        None => taken(alloc, input),
+    }
+}
+
+// The trace that the reader gives.
+fn taken<R: Read + Drop>(alloc: Global, reader: R) -> Result<Trace, Fault> {
+    let mut source = TextSource::new(alloc, Counted::new(reader));
+    match take_trace(alloc, &mut source) {
+        Ok(trace) => Ok(trace),
+        Err(SplitError::Source(fault)) => Err(Fault::Run(run_error(fault))),
+        Err(SplitError::OutOfMemory) => Err(Fault::OutOfMemory),
+    }
+}
+
+// The crash that is asked for at the place.
+fn asked_crash(
+    alloc: Global,
+    trace: &Trace,
+    place: u64,
+    all: bool,
+    asked: &[AddressStores],
+) -> Result<Crash, Fault> {
+    let counts = by_line(alloc, trace.format(), asked)?;
+    match crash_at(alloc, trace, place, all, counts.as_slice()) {
+        Ok(crash) => Ok(crash),
+        Err(fault) => Err(count_fault(alloc, trace.format(), fault)?),
     }
 }
 
@@ -237,7 +290,7 @@ fn count_fault(alloc: Global, format: Format, fault: CountFault) -> Result<Fault
 fn write_to<O: Opener, W: Write>(
     alloc: Global,
     files: &O,
-    analysis: &Analysis,
+    trace: &Trace,
     crash: &Crash,
     base: &Base,
     out: &mut W,
@@ -246,14 +299,7 @@ fn write_to<O: Opener, W: Write>(
     let name = base.name.as_str();
     let mut reader = Counted::new(opened(alloc, files, name)?);
     let mut writer = Counted::new(out);
-    let done = write_image(
-        alloc,
-        analysis.trace(),
-        crash,
-        pool,
-        &mut reader,
-        &mut writer,
-    );
+    let done = write_image(alloc, trace, crash, pool, &mut reader, &mut writer);
     match done {
         Ok(()) => Ok(()),
         Err(fault) => Err(image_fault(alloc, base, fault)?),
@@ -264,12 +310,12 @@ fn write_to<O: Opener, W: Write>(
 fn write_file<O: Opener>(
     alloc: Global,
     files: &O,
-    analysis: &Analysis,
+    trace: &Trace,
     crash: &Crash,
     base: &Base,
     name: &str,
 ) -> Result<(), Fault> {
-    check(alloc, analysis.trace(), crash, base)?;
+    check(alloc, trace, crash, base)?;
     let mut file = match files.create(name, base.name.as_str()) {
         Ok(file) => file,
         Err(OpenError::System(error)) => {
@@ -277,7 +323,7 @@ fn write_file<O: Opener>(
         }
         Err(OpenError::OutOfMemory) => return Err(Fault::OutOfMemory),
     };
-    match write_to(alloc, files, analysis, crash, base, &mut file) {
+    match write_to(alloc, files, trace, crash, base, &mut file) {
         Ok(()) => Ok(()),
         Err(fault) => {
             files.remove(name);
