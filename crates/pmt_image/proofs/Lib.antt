@@ -2,4 +2,6 @@ pub mod OverLemmas
 pub mod LayLemmas
 pub mod CopyLemmas
 pub mod CountLemmas
+pub mod ChoiceLemmas
+pub mod NearLemmas
 pub mod StoreLemmas

@@ -1,5 +1,7 @@
 pub mod Counts
 pub mod Crashes
+pub mod Near
+pub mod Choosing
 pub mod Pools
 pub mod Persisting
 pub mod Outsiders

@@ -135,7 +135,11 @@ fn bounds_at(alloc: Global, trace: &Trace, place: u64) -> Result<Bounds, OutOfMe
 }
 
 // The lines after a crash that leaves persisted what no crash can lose: it keeps no store, and which one it loses plays no part.
-fn least_lines(alloc: Global, trace: &Trace, place: u64) -> Result<Vec<LineCount>, OutOfMemory>
+pub(crate) fn least_lines(
+    alloc: Global,
+    trace: &Trace,
+    place: u64,
+) -> Result<Vec<LineCount>, OutOfMemory>
     ensures { IfOk result (λ lines. lines.items ≡ map (line_count trace.now place None) (lines_of (history trace.now place))) }
 {
     let failure = Failure {

@@ -6,9 +6,11 @@
 pub mod copying;
 pub mod crash;
 mod laying;
+pub mod near;
 mod persisting;
 pub mod pool;
 
 pub use crate::copying::{CopyFault, ImageFault, Stop, check_pool, write_image};
 pub use crate::crash::{CountFault, Crash, LineStores, crash_at, crash_of_failure};
+pub use crate::near::{NearCrashes, near_crashes};
 pub use crate::pool::Pool;

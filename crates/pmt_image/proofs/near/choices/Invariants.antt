@@ -1,0 +1,6 @@
+use Rattle.std.proofs.Common.{◌≡◌, [], ◌∷◌, drop, map}
+use Rattle.pmt_image.specs.Choosing.{chosen}
+use Rattle.pmt_image.proofs.near.choices.Given as goal
+
+abbrev pub invariant-loop-index : goal.invariant-loop-index
+invariant-loop-index l = chosen l.all l.most (drop l.index l.lines) (map (λ choice. choice.items) l.choices.items) ≡ chosen l.all l.most l.lines ([] ∷ [])

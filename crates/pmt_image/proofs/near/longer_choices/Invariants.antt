@@ -1,0 +1,8 @@
+use Rattle.std.proofs.Common.{◌≡◌, ◌-◌, take, map}
+use Rattle.std.specs.List.{flat_map}
+use Rattle.pmt_image.specs.Choosing.{low_of, settings}
+use Rattle.pmt_image.proofs.near.longer_choices.Given as goal
+
+abbrev pub invariant-loop-choice : goal.invariant-loop-choice
+invariant-loop-choice l =
+    map (λ choice. choice.items) l.more.items ≡ flat_map (settings l.most l.line.line (low_of l.all l.line) (l.line.stores - l.line.persisted)) (map (λ choice. choice.items) (take l.choice-index l.choices))
