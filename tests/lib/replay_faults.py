@@ -1,4 +1,5 @@
 """Checkers that hang, die or write without end, bases that are missing or short, runs that are stopped, and large pools."""
+import functools
 import pathlib
 import re
 import signal
@@ -120,7 +121,10 @@ class FaultTests(Runs):
         for number in (signal.SIGINT, signal.SIGTERM):
             kept = self.folder / f"stopped{number}"
             words = [REPLAY, "--jobs", "2", "--keep", kept, trace, *of_shell(script)]
-            process = subprocess.Popen([str(word) for word in words], cwd=self.folder, env=self.environment, stdout=subprocess.PIPE, stderr=subprocess.PIPE, text=True)
+            streams = {"stdout": subprocess.PIPE, "stderr": subprocess.PIPE, "text": True}
+            # what runs in the background may have been told to ignore signals
+            unignore = functools.partial(signal.signal, number, signal.SIG_DFL)
+            process = subprocess.Popen([str(word) for word in words], cwd=self.folder, env=self.environment, preexec_fn=unignore, **streams)
             state = kept / "state.jsonl"
             until = time.monotonic() + 300
             while time.monotonic() < until and not (state.exists() and state.read_text().count("\n") >= 4):
