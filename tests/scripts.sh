@@ -1,5 +1,6 @@
 #!/usr/bin/env bash
-# Runs shellcheck, which is installed where it may be, over every shell script of the project. Last line: 'N passed, M failed'.
+# Runs shellcheck, which is installed where it may be, over every shell script of the project, and asks whether the program has the
+# page's template as it is. Last line: 'N passed, M failed'.
 set -u
 cd "$(dirname "$0")/.." || exit 1
 . tests/lib/cases.sh
@@ -27,6 +28,13 @@ while IFS= read -r -d '' file; do
     failed=$((failed + 1))
   fi
 done < <(git ls-files -z)
+
+# The page's template stands in the program as it stands in page/.
+if python3 page/embed.py --check; then
+  passed=$((passed + 1))
+else
+  failed=$((failed + 1))
+fi
 
 echo "$passed passed, $failed failed"
 [ "$failed" -eq 0 ] && [ "$passed" -gt 0 ]

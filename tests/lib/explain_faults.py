@@ -100,6 +100,7 @@ BAD_WORDS = [
     (["--limit", "01"], "'01'"),
     (["--limit", "1", "--limit", "2"], "--limit"),
     (["--json", "--frob"], "'--frob'"),
+    (["--json", "--html"], "cannot be used with"),
     (["--labels"], "--labels"),
     (["t", "t"], "'t'"),
 ]

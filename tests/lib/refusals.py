@@ -187,6 +187,7 @@ def explained(run, folder):
     for words, status in (
         ([trace], 1),
         (["--json", "--labels", labels, "--ignore", "0x1000:8", "--ignore", "0x1004:8", trace], 1),
+        (["--html", "--labels", labels, trace], 1),
         (["--label", "save", "--range", "0x1000:8", "--labels", labels, "--ignore-file", ranges, trace], 1),
         (["--limit", "0", EXAMPLES / "flushed_by_two_threads.trace"], 0),
         ([bad], 3),

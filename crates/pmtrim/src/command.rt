@@ -5,6 +5,9 @@ use crate::image_words::image_command;
 use clap::{Arg, ArgAction, Command};
 use std::alloc::{AllocError, Global};
 
+/// The version of the program.
+pub const VERSION: &str = "1.0.0";
+
 const WORKERS: &[&str] = &["1", "2", "4", "8", "16"];
 
 const SHARED: &str =
@@ -34,13 +37,13 @@ fn with_command<'a>(
 
 fn program<'a>(alloc: Global) -> Result<Command<'a>, AllocError> {
     let command = Command::new(alloc, "pmtrim")
-        .version("1.0.0")
+        .version(VERSION)
         .no_binary_name(true)
         .bin_name("pmtrim")?;
     Ok(
         command
             .override_usage(
-                "pmtrim < TRACE\n       pmtrim check [--workers N] [FILE]\n       pmtrim explain [--ignore A:N].. [--limit N] [--only KIND] .. [--labels FILE] [--json] [FILE]\n       pmtrim trim [--workers N] [--stream] [FILE]\n       pmtrim fronts FILE PLACE\n       pmtrim record SCRIPT..\n       pmtrim draw [--failure N | --around I | --from I --to J] [--line A].. [--labels FILE] [FILE]\n       pmtrim image (--failure N | --at PLACE [--all] [--line A:K]..) [--pool BASE --origin A] [--out FILE] [FILE]",
+                "pmtrim < TRACE\n       pmtrim check [--workers N] [FILE]\n       pmtrim explain [--ignore A:N].. [--limit N] [--only KIND] .. [--labels FILE] [--json | --html] [FILE]\n       pmtrim trim [--workers N] [--stream] [FILE]\n       pmtrim fronts FILE PLACE\n       pmtrim record SCRIPT..\n       pmtrim draw [--failure N | --around I | --from I --to J] [--line A].. [--labels FILE] [FILE]\n       pmtrim image (--failure N | --at PLACE [--all] [--line A:K]..) [--pool BASE --origin A] [--out FILE] [FILE]",
             )
             .about(
                 "Checks traces of persistent memory events, and trims the flushes and fences that no crash can show.{n}With no words it trims the trace on standard input.",

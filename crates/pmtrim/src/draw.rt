@@ -7,7 +7,7 @@ use crate::fault::Fault;
 use crate::opener::Opener;
 use crate::writing::write_whole;
 use pmt_analysis::Analysis;
-use pmt_draw::{Known, Label, Picture, Refusal, View, picture_of, refusal_of, svg_text};
+use pmt_draw::{Known, Label, Picture, Refusal, Span, View, picture_of, refusal_of, svg_text};
 use pmt_explain::{dropped, lost_groups, overwritten_groups};
 use pmt_explanation::Labels;
 use pmt_explanation::failures::failing_events;
@@ -81,6 +81,19 @@ where
         Ok(analysis) => Ok(analysis),
         Err(error) => Err(Fault::Run(error)),
     }
+}
+
+/// The picture that `draw` makes of the analysed trace where the words name no event and no line, as SVG.
+///
+/// # Errors
+/// `OutOfMemory`.
+pub fn first_picture(alloc: Global, analysis: &Analysis, labels: &Labels) -> Result<String, Fault> {
+    let view = View {
+        span: Span::First,
+        kept: Vec::new(alloc),
+    };
+    let drawn = picture(alloc, analysis, &view)?;
+    Ok(svg_of(alloc, &drawn, labels)?)
 }
 
 // The picture of the analysis, of which the view speaks.

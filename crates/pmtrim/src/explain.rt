@@ -2,16 +2,15 @@
 ghost use Rattle.std.specs.Prelude.{◌≤◌, IfOk};
 
 use crate::diagnosis::diagnosed;
-use crate::explain_words::ExplainWords;
+use crate::explain_page::page_of;
+use crate::explain_words::{ExplainWords, Form};
 use crate::fault::Fault;
 use crate::labels::read_labels;
 use crate::opener::{OpenError, Opener};
 use crate::ranges::read_ranges;
 use crate::reading::{read_whole, system_fault};
 use crate::refused::{line_of_text, refused_line};
-use pmt_explanation::{
-    ByteRange, Explanation, Labels, Options, Screen, has_failed, json_text, text,
-};
+use pmt_explanation::{ByteRange, Explanation, Labels, Screen, has_failed, json_text, text};
 use pmt_model::OutOfMemory;
 use pmt_report::{ExplainError, RunError, explain};
 use pmt_text::{Counted, SourceError, TextError, TextSource};
@@ -55,14 +54,13 @@ where
         read_ranges(alloc, name, bytes.as_slice(), &mut words.options.ignored)?;
     }
     let labels = labels_of(alloc, files, words.labels)?;
-    let explanation = explanation_of(rt, &words, &labels, files, input)?;
+    let bytes = bytes_of(alloc, words.file, files, input)?;
+    let explanation = explained(rt, &words, bytes.as_slice(), &labels)?;
     judge_failure(alloc, &explanation, words.failure)?;
-    write_out(alloc, &explanation, &labels, &words, out)?;
-    if has_failed(&explanation) {
-        Ok(1)
-    } else {
-        Ok(0)
-    }
+    let status = if has_failed(&explanation) { 1 } else { 0 };
+    let answer = answer_of(alloc, explanation, &labels, words, bytes)?;
+    write_out(alloc, answer.as_slice(), out)?;
+    Ok(status)
 }
 
 // That the assertion of this event, if one was asked for, fails.
@@ -83,22 +81,9 @@ fn judge_failure(
     Err(Fault::usage(alloc, message.as_str())?)
 }
 
-// The explanation of the trace of the file or of `input`.
-fn explanation_of<T, O, I>(
-    rt: &T,
-    words: &ExplainWords<'_>,
-    labels: &Labels,
-    files: &O,
-    input: I,
-) -> Result<Explanation, Fault>
-where
-    T: AllocGlobal + Threads + Sync,
-    O: Opener,
-    I: Read + Drop,
-{
-    let name = words.file.unwrap_or(STANDARD_INPUT);
-    let bytes = bytes_of(rt.alloc(), words.file, files, input)?;
-    explained(rt, name, bytes.as_slice(), labels, &words.options)
+/// What a person calls the trace.
+pub fn name_of<'a>(words: &ExplainWords<'a>) -> &'a str {
+    words.file.unwrap_or(STANDARD_INPUT)
 }
 
 // The bytes of the file, or those of `input` where none is named.
@@ -140,16 +125,17 @@ fn read_file<O: Opener>(alloc: Global, files: &O, name: &str) -> Result<Vec<u8>,
 // The explanation of the trace with this text.
 fn explained<T: AllocGlobal + Threads + Sync>(
     rt: &T,
-    name: &str,
+    words: &ExplainWords<'_>,
     bytes: &[u8],
     labels: &Labels,
-    options: &Options,
 ) -> Result<Explanation, Fault> {
     let alloc = rt.alloc();
     let mut source = TextSource::new(alloc, Counted::new(Cursor::new(bytes)));
-    match explain(rt, alloc, &mut source, labels, options) {
+    match explain(rt, alloc, &mut source, labels, &words.options) {
         Ok(explanation) => Ok(explanation),
-        Err(ExplainError::Source(fault)) => Err(source_fault(alloc, name, bytes, fault)?),
+        Err(ExplainError::Source(fault)) => {
+            Err(source_fault(alloc, name_of(words), bytes, fault)?)
+        }
         Err(ExplainError::OutOfMemory) => Err(Fault::OutOfMemory),
     }
 }
@@ -184,16 +170,9 @@ fn too_long(alloc: Global, name: &str) -> Result<Fault, Fault> {
     Ok(Fault::Refused(line))
 }
 
-// Writes what is asked for, and flushes once.
-fn write_out<W: Write>(
-    alloc: Global,
-    explanation: &Explanation,
-    labels: &Labels,
-    words: &ExplainWords<'_>,
-    out: &mut W,
-) -> Result<(), Fault> {
-    let answer = answer_of(alloc, explanation, labels, words)?;
-    let written = match out.write_all(answer.as_slice()) {
+// Writes the answer, and flushes once.
+fn write_out<W: Write>(alloc: Global, answer: &[u8], out: &mut W) -> Result<(), Fault> {
+    let written = match out.write_all(answer) {
         Ok(()) => out.flush(),
         Err(error) => Err(error),
     };
@@ -203,20 +182,34 @@ fn write_out<W: Write>(
     }
 }
 
-// The JSON, or the text for people.
+// What is asked for of the trace with this text.
 fn answer_of(
+    alloc: Global,
+    explanation: Explanation,
+    labels: &Labels,
+    words: ExplainWords<'_>,
+    bytes: Vec<u8>,
+) -> Result<Vec<u8>, Fault> {
+    match words.form {
+        Form::Text => Ok(people_text(alloc, &explanation, labels, &words)?),
+        Form::Json => Ok(json_text(alloc, &explanation, labels, &words.options.choice)?),
+        Form::Page => page_of(alloc, explanation, labels, words, bytes.as_slice()),
+    }
+}
+
+/// The text for people.
+///
+/// # Errors
+/// `OutOfMemory`.
+pub fn people_text(
     alloc: Global,
     explanation: &Explanation,
     labels: &Labels,
     words: &ExplainWords<'_>,
 ) -> Result<Vec<u8>, OutOfMemory> {
-    let choice = &words.options.choice;
-    if words.json {
-        return json_text(alloc, explanation, labels, choice);
-    }
     let screen = Screen {
         rows: if words.is_limited { None } else { Some(ROWS) },
-        choice,
+        choice: &words.options.choice,
         trace: words.file,
         labels: words.labels,
     };

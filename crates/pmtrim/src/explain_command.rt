@@ -6,7 +6,7 @@ use std::alloc::{AllocError, Global};
 
 /// How `explain` is used.
 pub const USAGE: &str =
-    "pmtrim explain [--ignore A:N].. [--ignore-file FILE].. [--limit N] [--only KIND] [--thread T] [--range A:N] [--from I] [--to J] [--label TEXT] [--failure N] [--labels FILE] [--json] [FILE]";
+    "pmtrim explain [--ignore A:N].. [--ignore-file FILE].. [--limit N] [--only KIND] [--thread T] [--range A:N] [--from I] [--to J] [--label TEXT] [--failure N] [--labels FILE] [--json | --html] [FILE]";
 
 /// The words of `explain`.
 pub fn explain_command<'a>(alloc: Global) -> Result<Command<'a>, AllocError> {
@@ -86,6 +86,11 @@ fn with_files<'a>(alloc: Global, command: Command<'a>) -> Result<Command<'a>, Al
         .long("json")
         .action(ArgAction::SetTrue)
         .help("Write a JSON object a line");
+    let html = Arg::new(alloc, "html")
+        .long("html")
+        .action(ArgAction::SetTrue)
+        .help("Write one page of HTML that walks through the trace: open it in a browser")
+        .conflicts_with("json")?;
     command
         .arg(value(
             alloc,
@@ -94,6 +99,7 @@ fn with_files<'a>(alloc: Global, command: Command<'a>) -> Result<Command<'a>, Al
             "What to call the events: lines EVENT TEXT by rising event number",
         ))?
         .arg(json)?
+        .arg(html)?
         .arg(Arg::new(alloc, "FILE").help("The trace; standard input, if none is given"))
 }
 

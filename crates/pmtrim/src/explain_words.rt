@@ -11,8 +11,22 @@ use std::alloc::{AllocError, Global};
 // The most entries of a kind where the words name no number.
 const FEW: usize = 10;
 
+// The most entries of a kind on a page where the words name no number.
+const MANY: usize = 1_000;
+
 // As many entries as there can be: each has an event of its own.
 const ALL: usize = 1_000_000;
+
+/// In which form `explain` tells.
+#[derive(Clone, Copy, PartialEq, Eq)]
+pub enum Form {
+    /// A text for people.
+    Text,
+    /// A JSON object a line.
+    Json,
+    /// A page of HTML.
+    Page,
+}
 
 /// What `explain` is asked for.
 #[derive(Drop)]
@@ -27,8 +41,10 @@ pub struct ExplainWords<'a> {
     pub failure: Option<u64>,
     /// The labels file.
     pub labels: Option<&'a str>,
-    /// Whether JSON is written.
-    pub json: bool,
+    /// What is written.
+    pub form: Form,
+    /// The most entries of a kind that a page has.
+    pub page_limit: usize,
     /// The trace; standard input, if none is given.
     pub file: Option<&'a str>,
 }
@@ -49,9 +65,21 @@ pub fn explain_words<'a>(alloc: Global, given: &ArgMatches<'a>) -> Result<Explai
         is_limited: given.get_str("limit").is_some(),
         failure,
         labels: given.get_str("labels"),
-        json: given.get_flag("json"),
+        form: form_of(given),
+        page_limit: asked_limit(alloc, given.get_str("limit"), MANY)?,
         file: given.get_str("FILE"),
     })
+}
+
+// The form that the words ask for: the command takes one of them.
+fn form_of(given: &ArgMatches<'_>) -> Form {
+    if given.get_flag("html") {
+        Form::Page
+    } else if given.get_flag("json") {
+        Form::Json
+    } else {
+        Form::Text
+    }
 }
 
 // The files that name bytes to ignore.
@@ -64,7 +92,7 @@ fn files_of<'a>(alloc: Global, given: &ArgMatches<'a>) -> Result<Vec<&'a str>, F
 fn options_of(alloc: Global, given: &ArgMatches<'_>, choice: Choice) -> Result<Options, Fault> {
     let ranges = given.get_strs("ignore").unwrap_or(&[]);
     let ignored = ignored_of(alloc, ranges)?;
-    let limit = asked_limit(alloc, given.get_str("limit"))?;
+    let limit = asked_limit(alloc, given.get_str("limit"), FEW)?;
     Ok(Options {
         ignored,
         limit,
@@ -84,10 +112,10 @@ fn ignored_of(alloc: Global, ranges: &[&str]) -> Result<Vec<ByteRange>, Fault> {
     Ok(ignored)
 }
 
-// The limit that this word names.
-fn asked_limit(alloc: Global, word: Option<&str>) -> Result<usize, Fault> {
+// The limit that this word names, or else this one.
+fn asked_limit(alloc: Global, word: Option<&str>, other: usize) -> Result<usize, Fault> {
     let Some(text) = word else {
-        return Ok(FEW);
+        return Ok(other);
     };
     match limit_of(text.as_bytes()) {
         Some(limit) => Ok(limit),

@@ -1,0 +1,6 @@
+use Rattle.std.proofs.Common.{◌≡◌, ℕ, ◌+◌, ◌<◌, length, drop, get_or}
+use Rattle.pmt_page.specs.Columns.{dropped_letter}
+use Rattle.pmt_page.proofs.dropping.letters_of.Given as goal
+
+abbrev pub invariant-loop-index : goal.invariant-loop-index
+invariant-loop-index l = (length l.letters.items ≡ l.count) × ((i : ℕ) → i < l.count → get_or l.letters.items i 0 ≡ dropped_letter (drop l.index l.dropped) (i + 1))

@@ -1,0 +1,7 @@
+use Rattle.std.proofs.Common.{◌≡◌, ◌++◌, drop}
+use Rattle.std.specs.List.{flat_map}
+use Rattle.pmt_page.specs.Escapes.{embedded_byte}
+use Rattle.pmt_page.proofs.escapes.push_embedded.Given as goal
+
+abbrev pub invariant-loop-byte : goal.invariant-loop-byte
+invariant-loop-byte l = l.text.items ++ flat_map embedded_byte (drop l.byte-index l.json) ≡ l.initial.text.items ++ flat_map embedded_byte l.json

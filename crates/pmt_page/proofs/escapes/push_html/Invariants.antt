@@ -1,0 +1,7 @@
+use Rattle.std.proofs.Common.{◌≡◌, ◌++◌, drop}
+use Rattle.std.specs.List.{flat_map}
+use Rattle.pmt_page.specs.Escapes.{html_byte}
+use Rattle.pmt_page.proofs.escapes.push_html.Given as goal
+
+abbrev pub invariant-loop-byte : goal.invariant-loop-byte
+invariant-loop-byte l = l.text.items ++ flat_map html_byte (drop l.byte-index l.words) ≡ l.initial.text.items ++ flat_map html_byte l.words

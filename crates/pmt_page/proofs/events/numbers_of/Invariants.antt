@@ -1,0 +1,7 @@
+use Rattle.std.proofs.Common.{◌≡◌, ◌++◌, drop}
+use Rattle.std.specs.List.{flat_map}
+use Rattle.pmt_page.specs.Columns.{numbers_of}
+use Rattle.pmt_page.proofs.events.numbers_of.Given as goal
+
+abbrev pub invariant-loop-event : goal.invariant-loop-event
+invariant-loop-event l = l.found.items ++ flat_map (numbers_of l.column) (drop l.event-index l.events) ≡ flat_map (numbers_of l.column) l.events

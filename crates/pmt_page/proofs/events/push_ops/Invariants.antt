@@ -1,0 +1,6 @@
+use Rattle.std.proofs.Common.{◌≡◌, ◌++◌, drop}
+use Rattle.pmt_page.specs.Columns.{op_column}
+use Rattle.pmt_page.proofs.events.push_ops.Given as goal
+
+abbrev pub invariant-loop-event : goal.invariant-loop-event
+invariant-loop-event l = l.text.items ++ op_column (drop l.event-index l.events) ≡ l.initial.text.items ++ op_column l.events

@@ -1,0 +1,6 @@
+use Rattle.std.proofs.Common.{◌≡◌, ◌++◌, drop, map}
+use Rattle.pmt_page.specs.Columns.{verdict_letter}
+use Rattle.pmt_page.proofs.fields.push_verdicts.Given as goal
+
+abbrev pub invariant-loop-verdict : goal.invariant-loop-verdict
+invariant-loop-verdict l = l.text.items ++ map verdict_letter (drop l.verdict-index l.verdicts) ≡ l.initial.text.items ++ map verdict_letter l.verdicts

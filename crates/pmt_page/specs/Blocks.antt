@@ -1,0 +1,47 @@
+-- The data blocks besides the columns, as JSON.
+use Rattle.std.specs.Prelude.{◌≡◌, ℕ, ◌-◌, ◌==◌, Bool, if◌then◌else◌, List, [], ◌∷◌, ◌++◌, length, take, map, slice_get, codes, Some}
+use Rattle.std.specs.List.{flat_map}
+use Rattle.pmt_text.specs.Spelling.{numeral, hex_bytes}
+use Rattle.pmt_page.specs.declared.labels.Label.{Label}
+use Rattle.pmt_page.specs.Escapes.{quoted}
+use Rattle.pmt_page.specs.Numbers.{listed}
+
+-- What the page is of: a trace with this many events, this size of a cache line, this name and this digest.
+abbrev pub about : ℕ → ℕ → List ℕ → List ℕ → List ℕ → Bool → List ℕ
+about events line_size name program digest has_values =
+    codes "{\"events\":" ++ numeral 10 events
+    ++ codes ",\"line_size\":" ++ numeral 10 line_size
+    ++ codes ",\"name\":" ++ quoted name
+    ++ codes ",\"program\":" ++ quoted program
+    ++ codes ",\"schema\":1,\"sha256\":\"" ++ hex_bytes digest
+    ++ codes "\",\"values\":" ++ (if has_values then codes "true" else codes "false")
+    ++ codes "}"
+
+-- LF ends a value.
+abbrev pub separated_byte : ℕ → List ℕ
+separated_byte c = if c == 10 then codes "," else c ∷ []
+
+-- Values of JSON, each a line, as an array of them.
+abbrev pub array_of_lines : List ℕ → List ℕ
+array_of_lines lines = codes "[" ++ flat_map separated_byte (take (length lines - 1) lines) ++ codes "]"
+
+-- The distinct texts of labels, and of each label the place of its text among them, from 0.
+pub record AreTexts (labels : List Label) (texts : List (List ℕ)) (places : List ℕ) : Type 0 where
+  pub each : map (slice_get texts) places ≡ map (λ (l : Label). Some l.text.now) labels
+  pub distinct : (i j : ℕ) (text : List ℕ) → slice_get texts i ≡ Some text → slice_get texts j ≡ Some text → i ≡ j
+
+abbrev pub event_field : Label → List ℕ
+event_field l = numeral 10 l.event
+
+-- The numbers of the labelled events, the texts, and of each event the place of its text.
+abbrev pub labels_block : List Label → List (List ℕ) → List ℕ → List ℕ
+labels_block labels texts places =
+    codes "{\"events\":\"" ++ listed event_field labels
+    ++ codes "\",\"texts\":[" ++ listed quoted texts
+    ++ codes "],\"text\":\"" ++ listed (numeral 10) places
+    ++ codes "\"}"
+
+abbrev pub IsLabelsBlock : List Label → List ℕ → Type 0
+IsLabelsBlock labels block =
+    (texts : List (List ℕ)) × (places : List ℕ) × AreTexts labels texts places
+    × (block ≡ labels_block labels texts places)

@@ -1,0 +1,5 @@
+pub mod Numbers
+pub mod Columns
+pub mod Escapes
+pub mod Blocks
+pub mod Pages

@@ -1,0 +1,57 @@
+-- The page: the parts of its template, with a block between each two.
+use Rattle.std.specs.Prelude.{ℕ, List, ◌++◌}
+use Rattle.pmt_page.specs.declared.page.Blocks.{Blocks}
+use Rattle.pmt_page.specs.declared.parts.TheConstants.{BEFORE_TEXT, BEFORE_PICTURE, BEFORE_ABOUT, BEFORE_COLUMNS, BEFORE_EXPLAINED, BEFORE_LABELS, AFTER_LABELS}
+use Rattle.pmt_page.specs.declared.template.Template.{Template}
+use Rattle.pmt_page.specs.Escapes.{embedded, html}
+
+-- The parts of a template. Each but the last is named after the block that follows.
+pub record Parts : Type 0 where
+  pub before_text : List ℕ
+  pub before_picture : List ℕ
+  pub before_about : List ℕ
+  pub before_columns : List ℕ
+  pub before_explained : List ℕ
+  pub before_labels : List ℕ
+  pub after_labels : List ℕ
+
+-- What stands in the place of the script where none runs.
+abbrev pub without_script : Parts → Blocks → List ℕ
+without_script p b = p.before_text ++ html b.text.now ++ p.before_picture ++ b.picture.now
+
+-- The data of the trace.
+abbrev pub trace_data : Parts → Blocks → List ℕ
+trace_data p b = p.before_about ++ embedded b.about.now ++ p.before_columns ++ embedded b.columns.now
+
+-- What is told of it, and the script.
+abbrev pub told_data : Parts → Blocks → List ℕ
+told_data p b = p.before_explained ++ embedded b.explained.now ++ p.before_labels ++ embedded b.labels.now ++ p.after_labels
+
+unfoldable pub filled : Parts → Blocks → List ℕ
+filled p b = without_script p b ++ trace_data p b ++ told_data p b
+
+abbrev pub parts_of : Template → Parts
+parts_of t = record {
+  before_text = t.before_text.now;
+  before_picture = t.before_picture.now;
+  before_about = t.before_about.now;
+  before_columns = t.before_columns.now;
+  before_explained = t.before_explained.now;
+  before_labels = t.before_labels.now;
+  after_labels = t.after_labels.now;
+}
+
+-- The template in the folder page/.
+abbrev pub parts : Parts
+parts = record {
+  before_text = BEFORE_TEXT.now;
+  before_picture = BEFORE_PICTURE.now;
+  before_about = BEFORE_ABOUT.now;
+  before_columns = BEFORE_COLUMNS.now;
+  before_explained = BEFORE_EXPLAINED.now;
+  before_labels = BEFORE_LABELS.now;
+  after_labels = AFTER_LABELS.now;
+}
+
+unfoldable pub page : Blocks → List ℕ
+page b = filled parts b

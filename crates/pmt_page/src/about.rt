@@ -1,0 +1,91 @@
+//! What the page is of.
+ghost use Rattle.std.specs.Prelude.{◌≡◌, ◌++◌, ◌∷◌, codes, if◌then◌else◌, IfOk, OnOk};
+ghost use Rattle.sha2.specs.Sha256.{sha256};
+ghost use Rattle.pmt_text.specs.Spelling.{hex_bytes, numeral};
+ghost use Rattle.pmt_page.specs.Blocks.{about};
+ghost use Rattle.pmt_page.specs.Escapes.{quoted};
+
+use crate::digits::push_bytes;
+use crate::escapes::push_quoted;
+use pmt_model::OutOfMemory;
+use pmt_text::write::push_number;
+use sha2::{Digest, Sha256};
+use std::alloc::Global;
+
+/// What the page is of.
+#[derive(Clone, Copy)]
+pub struct About<'a> {
+    /// How many events the trace has.
+    pub events: u64,
+    /// How many bytes a cache line has.
+    pub line_size: u64,
+    /// What a person calls the trace.
+    pub name: &'a str,
+    /// The program and its version.
+    pub program: &'a str,
+    /// The SHA-256 digest of the trace's bytes.
+    pub digest: &'a [u8],
+    /// Whether the columns have the bytes of the stores.
+    pub has_values: bool,
+}
+
+/// The SHA-256 digest of the bytes.
+pub fn digest_of(bytes: &[u8]) -> [u8; 32]
+    ensures { result ≡ sha256 bytes.now }
+{
+    let mut hasher = Sha256::new();
+    hasher.update(bytes);
+    hasher.finalize()
+}
+
+/// The block that says what the page is of.
+///
+/// # Errors
+/// Where memory was refused.
+pub fn about_text(alloc: Global, page: About<'_>) -> Result<Vec<u8>, OutOfMemory>
+    ensures { IfOk result (λ text. text.items ≡ about page.entry.events page.entry.line_size page.entry.name.now page.entry.program.now page.entry.digest.now page.entry.has_values) }
+{
+    let mut text = Vec::new(alloc);
+    push_count(&mut text, b"{\"events\":", page.events)?;
+    push_count(&mut text, b",\"line_size\":", page.line_size)?;
+    push_string(&mut text, b",\"name\":", page.name)?;
+    push_string(&mut text, b",\"program\":", page.program)?;
+    push_digest(&mut text, page.digest)?;
+    push_end(&mut text, page.has_values)?;
+    Ok(text)
+}
+
+// Adds the words and the number.
+fn push_count(text: &mut Vec<u8>, words: &[u8], number: u64) -> Result<(), OutOfMemory>
+    ensures { OnOk result (text.new.items ≡ text.old.items ++ words.now ++ numeral 10 number) }
+{
+    text.extend_from_slice(words)?;
+    push_number(text, 10, number)
+}
+
+// Adds the words and the string.
+fn push_string(text: &mut Vec<u8>, words: &[u8], string: &str) -> Result<(), OutOfMemory>
+    ensures { OnOk result (text.new.items ≡ text.old.items ++ words.now ++ quoted string.now) }
+{
+    text.extend_from_slice(words)?;
+    push_quoted(text, string.as_bytes())
+}
+
+// Adds the schema and the digest.
+fn push_digest(text: &mut Vec<u8>, digest: &[u8]) -> Result<(), OutOfMemory>
+    ensures { OnOk result (text.new.items ≡ text.old.items ++ codes ",\"schema\":1,\"sha256\":\"" ++ hex_bytes digest.now) }
+{
+    text.extend_from_slice(b",\"schema\":1,\"sha256\":\"")?;
+    push_bytes(text, digest)
+}
+
+// Adds whether there are values, and ends the object.
+fn push_end(text: &mut Vec<u8>, has_values: bool) -> Result<(), OutOfMemory>
+    ensures { OnOk result (text.new.items ≡ text.old.items ++ codes "\",\"values\":" ++ (if has_values then codes "true" else codes "false") ++ codes "}") }
+{
+    if has_values {
+        text.extend_from_slice(b"\",\"values\":true}")
+    } else {
+        text.extend_from_slice(b"\",\"values\":false}")
+    }
+}

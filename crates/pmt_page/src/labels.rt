@@ -1,0 +1,148 @@
+//! What the events are called.
+ghost use Rattle.std.specs.Prelude.{◌≡◌, ◌∷◌, ◌++◌, map, IfOk, OnOk};
+ghost use Rattle.std.specs.List.{flat_map};
+ghost use Rattle.pmt_text.specs.Spelling.{numeral};
+ghost use Rattle.pmt_page.specs.Blocks.{AreTexts, IsLabelsBlock, event_field};
+ghost use Rattle.pmt_page.specs.Escapes.{quoted};
+ghost use Rattle.pmt_page.specs.Numbers.{listed};
+
+use crate::escapes::push_quoted;
+use indexmap::IndexSet;
+use pmt_model::OutOfMemory;
+use pmt_text::write::push_number;
+use std::alloc::{AllocError, Global};
+
+/// What the program calls an event.
+#[derive(Clone, Copy)]
+pub struct Label<'a> {
+    /// The event's number, from 1.
+    pub event: u64,
+    /// Its text.
+    pub text: &'a str,
+}
+
+// The distinct texts of labels, and of each label the place of its text among them, from 0.
+#[derive(Drop)]
+struct Texts<'a> {
+    texts: Vec<&'a str>,
+    places: Vec<u64>,
+}
+
+/// The block of these labels: each text once.
+///
+/// # Errors
+/// Where memory was refused.
+pub fn labels_text(alloc: Global, labels: &[Label<'_>]) -> Result<Vec<u8>, OutOfMemory>
+    ensures { IfOk result (λ text. IsLabelsBlock labels.now text.items) }
+{
+    let found = texts_of(alloc, labels)?;
+    let mut text = Vec::new(alloc);
+    text.extend_from_slice(b"{\"events\":\"")?;
+    push_events(&mut text, labels)?;
+    text.extend_from_slice(b"\",\"texts\":[")?;
+    push_texts(&mut text, found.texts.as_slice())?;
+    text.extend_from_slice(b"],\"text\":\"")?;
+    push_numbers(&mut text, found.places.as_slice())?;
+    text.extend_from_slice(b"\"}")?;
+    Ok(text)
+}
+
+// The texts of the labels.
+fn texts_of<'a>(alloc: Global, labels: &[Label<'a>]) -> Result<Texts<'a>, OutOfMemory>
+    ensures { IfOk result (λ t. AreTexts labels.now (map (λ s. s.now) t.texts.items) t.places.items) }
+{
+    let mut seen: IndexSet<&'a str> = IndexSet::new(alloc);
+    let mut places = Vec::with_capacity(alloc, labels.len())?;
+    for label in labels {
+        match seen.insert_full(label.text) {
+            Ok((place, _)) => places.push(place as u64)?,
+            Err(_) => return Err(AllocError),
+        }
+    }
+    let mut texts = Vec::new(alloc);
+    texts.extend_from_slice(seen.as_slice())?;
+    Ok(Texts { texts, places })
+}
+
+// Adds the numbers of the events with commas between them.
+fn push_events(text: &mut Vec<u8>, labels: &[Label<'_>]) -> Result<(), OutOfMemory>
+    ensures { OnOk result (text.new.items ≡ text.old.items ++ listed event_field labels.now) }
+{
+    match labels {
+        [] => Ok(()),
+        [first, later @ ..] => {
+            push_number(text, 10, first.event)?;
+            push_later_events(text, later)
+        }
+    }
+}
+
+// Adds them, each behind a comma.
+fn push_later_events(text: &mut Vec<u8>, labels: &[Label<'_>]) -> Result<(), OutOfMemory>
+    ensures { OnOk result (text.new.items ≡ text.old.items ++ flat_map (λ l. 44 ∷ event_field l) labels.now) }
+{
+    for label in labels {
+        push_later_number(text, label.event)?;
+    }
+    Ok(())
+}
+
+// Adds the numbers with commas between them.
+fn push_numbers(text: &mut Vec<u8>, numbers: &[u64]) -> Result<(), OutOfMemory>
+    ensures { OnOk result (text.new.items ≡ text.old.items ++ listed (numeral 10) numbers.now) }
+{
+    match numbers {
+        [] => Ok(()),
+        [first, later @ ..] => {
+            push_number(text, 10, *first)?;
+            push_later_numbers(text, later)
+        }
+    }
+}
+
+// Adds the numbers, each behind a comma.
+fn push_later_numbers(text: &mut Vec<u8>, numbers: &[u64]) -> Result<(), OutOfMemory>
+    ensures { OnOk result (text.new.items ≡ text.old.items ++ flat_map (λ n. 44 ∷ numeral 10 n) numbers.now) }
+{
+    for number in numbers {
+        push_later_number(text, *number)?;
+    }
+    Ok(())
+}
+
+fn push_later_number(text: &mut Vec<u8>, number: u64) -> Result<(), OutOfMemory>
+    ensures { OnOk result (text.new.items ≡ text.old.items ++ (44 ∷ numeral 10 number)) }
+{
+    text.push(b',')?;
+    push_number(text, 10, number)
+}
+
+// Adds the texts with commas between them.
+fn push_texts(text: &mut Vec<u8>, texts: &[&str]) -> Result<(), OutOfMemory>
+    ensures { OnOk result (text.new.items ≡ text.old.items ++ listed quoted (map (λ s. s.now) texts.now)) }
+{
+    match texts {
+        [] => Ok(()),
+        [first, later @ ..] => {
+            push_quoted(text, first.as_bytes())?;
+            push_later_texts(text, later)
+        }
+    }
+}
+
+// Adds the texts, each behind a comma.
+fn push_later_texts(text: &mut Vec<u8>, texts: &[&str]) -> Result<(), OutOfMemory>
+    ensures { OnOk result (text.new.items ≡ text.old.items ++ flat_map (λ s. 44 ∷ quoted s) (map (λ s. s.now) texts.now)) }
+{
+    for one in texts {
+        push_later_text(text, *one)?;
+    }
+    Ok(())
+}
+
+fn push_later_text(text: &mut Vec<u8>, one: &str) -> Result<(), OutOfMemory>
+    ensures { OnOk result (text.new.items ≡ text.old.items ++ (44 ∷ quoted one.now)) }
+{
+    text.push(b',')?;
+    push_quoted(text, one.as_bytes())
+}

@@ -1,0 +1,29 @@
+//! The template of the page: what stands before its blocks, between them and after them.
+
+use crate::parts::{
+    AFTER_LABELS, BEFORE_ABOUT, BEFORE_COLUMNS, BEFORE_EXPLAINED, BEFORE_LABELS, BEFORE_PICTURE,
+    BEFORE_TEXT,
+};
+
+/// The parts of a template, in the order in which they stand on the page. Each but the last is named after the block that follows.
+#[derive(Clone, Copy)]
+pub struct Template<'a> {
+    pub before_text: &'a str,
+    pub before_picture: &'a str,
+    pub before_about: &'a str,
+    pub before_columns: &'a str,
+    pub before_explained: &'a str,
+    pub before_labels: &'a str,
+    pub after_labels: &'a str,
+}
+
+/// The template in `page/`.
+pub const TEMPLATE: Template<'static> = Template {
+    before_text: BEFORE_TEXT,
+    before_picture: BEFORE_PICTURE,
+    before_about: BEFORE_ABOUT,
+    before_columns: BEFORE_COLUMNS,
+    before_explained: BEFORE_EXPLAINED,
+    before_labels: BEFORE_LABELS,
+    after_labels: AFTER_LABELS,
+};
