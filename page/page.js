@@ -180,8 +180,8 @@ class Page {
   provedNodes(about) {
     return [
       make('p', {}, `${about.program} wrote this page. Its proved functions gave the verdicts, the crash of each failed assertion with its`
-        + ' bytes, the causes, what mends a loss, what does nothing, and the fronts, of which the program reads off from which place on each'
-        + ' store is safe. They speak of the trace whose bytes have this SHA-256:'),
+        + ' bytes, the causes, what mends a loss, what does nothing, and from which place on each store is safe. They speak of the trace'
+        + ' whose bytes have this SHA-256:'),
       make('p', {}, make('code', { id: 'sha256' }, about.sha256)),
       make('p', {}, 'The script of this page looks these up, puts those of one cause together, and draws them; it decides nothing. What it'
         + ' does is tested, not proved: which events and lines are in sight and where they stand, the strip, the filters, and at a place that'
