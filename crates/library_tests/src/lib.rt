@@ -1,27 +1,17 @@
-//! The tests of the library crates, by public calls alone.
+//! The tests of the library crates that analyse, trim and explain, by public calls alone.
 //!
-//! A crate that has tests is proved once more together with them, so the tests of all stand in this one. Each module holds those of
-//! one crate, and is named after it.
+//! A crate that has tests is proved once more together with them, so the tests stand in crates of their own. Each module holds those of
+//! one crate, and is named after it. `text_tests` and `recorder_tests` hold the others.
 #![tactic(auto)]
 
 #[cfg(test)]
 mod asserts;
 #[cfg(test)]
-mod book;
-#[cfg(test)]
 mod explain;
 #[cfg(test)]
 mod lines;
 #[cfg(test)]
-mod marks;
-#[cfg(test)]
-mod model;
-#[cfg(test)]
-mod recorder;
-#[cfg(test)]
 mod sweep;
-#[cfg(test)]
-mod text;
 #[cfg(test)]
 mod trim;
 #[cfg(test)]

@@ -1,4 +1,4 @@
-use Rattle.library_tests.proofs.recorder.session_of_128.Given as goal
+use Rattle.recorder_tests.proofs.recorder.session_of_128.Given as goal
 
 abbrev pub ghosts-record_one-L-Roll : goal.ghosts-record_one-L-Roll
 ghosts-record_one-L-Roll g a = record { tapes = 1; format = a.format }

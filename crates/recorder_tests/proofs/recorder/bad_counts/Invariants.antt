@@ -1,5 +1,5 @@
 use Rattle.pmt_model.specs.Formats.{first_version}
-use Rattle.library_tests.proofs.recorder.bad_counts.Given as goal
+use Rattle.recorder_tests.proofs.recorder.bad_counts.Given as goal
 
 abbrev pub ghosts-start_refused-L-Roll : goal.ghosts-start_refused-L-Roll
 ghosts-start_refused-L-Roll g a = record { tapes = a.n; format = first_version }

@@ -1,5 +1,5 @@
 use Rattle.pmt_model.specs.Formats.{first_version}
-use Rattle.library_tests.proofs.recorder.million_events.Given as goal
+use Rattle.recorder_tests.proofs.recorder.million_events.Given as goal
 
 abbrev pub ghosts-record_million-L-Roll : goal.ghosts-record_million-L-Roll
 ghosts-record_million-L-Roll g a = record { tapes = 1; format = first_version }

@@ -1,5 +1,5 @@
 use Rattle.pmt_model.specs.Formats.{first_version}
-use Rattle.library_tests.proofs.recorder.two_recorders.Given as goal
+use Rattle.recorder_tests.proofs.recorder.two_recorders.Given as goal
 
 abbrev pub ghosts-record_two-L-Roll : goal.ghosts-record_two-L-Roll
 ghosts-record_two-L-Roll g a = record { tapes = 2; format = first_version }

@@ -1,0 +1,9 @@
+//! The tests of `pmt_model`, `pmt_text` and `pmt_marks`, by public calls alone: a module for each crate.
+#![tactic(auto)]
+
+#[cfg(test)]
+mod marks;
+#[cfg(test)]
+mod model;
+#[cfg(test)]
+mod text;
