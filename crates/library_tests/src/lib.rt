@@ -7,6 +7,8 @@
 #[cfg(test)]
 mod asserts;
 #[cfg(test)]
+mod causes;
+#[cfg(test)]
 mod explain;
 #[cfg(test)]
 mod lines;

@@ -1,6 +1,11 @@
+pub mod CountedLemmas
 pub mod ExactFailures
 pub mod ExactKeys
+pub mod FenceLemmas
 pub mod FlushingLemmas
 pub mod GroupLemmas
 pub mod KeyLemmas
+pub mod LateLemmas
+pub mod RowLemmas
+pub mod TallyLemmas
 pub mod WriterLemmas

@@ -1,6 +1,11 @@
+pub mod Counted
 pub mod Dropped
 pub mod FailureKeys
+pub mod Fences
 pub mod Flushing
 pub mod Groups
 pub mod Labels
+pub mod Late
+pub mod Tables
+pub mod Tallies
 pub mod Writers

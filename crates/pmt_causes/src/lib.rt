@@ -1,4 +1,5 @@
-//! What `pmtrim explain` tells in groups: failed assertions by cause, and what is dropped, by place and reason.
+//! What `pmtrim explain` tells in groups and tables: failed assertions by cause, what is dropped and what is saved late by place,
+//! and what each thread and label has.
 //!
 //! The definitions stand in `specs/`.
 #![tactic(auto)]
@@ -9,9 +10,13 @@ pub mod failure_keys;
 mod flushing;
 pub mod grouping;
 mod labels;
+pub mod late;
+pub mod tables;
 mod writers;
 
 pub use crate::dropping::{DropWord, DroppedKey, ReasonKind, Spot, dropped_groups};
 pub use crate::failing::failure_groups;
 pub use crate::failure_keys::{AssertionKind, CauseKind, FailureKey, Origin, RangePart};
 pub use crate::grouping::{Group, Keyed, groups};
+pub use crate::late::{LateSpot, fences_waited, late_groups};
+pub use crate::tables::{Row, label_table, thread_table};

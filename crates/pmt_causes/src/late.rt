@@ -1,0 +1,223 @@
+//! Stores that are saved late.
+
+ghost use Rattle.std.specs.Prelude.{◌≡◌, ◌<◌, ◌∷◌, [], ◌++◌, length, map, replicate, nat_le, IfOk, OnOk};
+ghost use Rattle.std.specs.List.{count_by};
+ghost use Rattle.std.specs.List.Sorted.{IsNonDecreasingBy};
+ghost use Rattle.pmt_causes.specs.Fences.{AreFences, list_by, wait_of, with_fence};
+ghost use Rattle.pmt_causes.specs.Late.{AreLateGroups, AreWaited, late_items as late_items_in, late_spot as late_spot_in, spot_of_op as spot_of_op_in, with_spot};
+
+use crate::grouping::{Group, Keyed, groups};
+use crate::labels::label_of;
+use pmt_explain::safe_places;
+use pmt_model::{Format, Op, OutOfMemory, Trace, line_of};
+use std::alloc::Global;
+
+/// Where late stores stand.
+#[derive(Clone, Copy, Debug, PartialEq, Eq, Hash)]
+pub enum LateSpot {
+    /// At the place in the program with this label, by its number.
+    Label(u64),
+    /// Stores without label: their line.
+    Line(u64),
+}
+
+/// Of each event that is a store, in order, how many fences of its own thread stand after it and before the first place from which on
+/// every run has it persisted; before the end where there is none. A fence by which it is persisted does not count, so a store
+/// that is flushed and fenced next has 0. Of another event 0.
+///
+/// It takes four looks at each event, and two searches in the fences of its thread at each store.
+///
+/// # Errors
+/// Where memory was refused.
+pub fn fences_waited(alloc: Global, trace: &Trace) -> Result<Vec<u64>, OutOfMemory>
+    ensures { IfOk result (λ list. AreWaited trace.now list.items) }
+{
+    let safe = safe_places(alloc, trace)?;
+    let fences = all_fences(alloc, trace)?;
+    let events = trace.events();
+    let mut waited = vec![in alloc; 0; events.len()]?;
+    for index in 0..events.len() {
+        let event = events[index];
+        let list = list_of(&fences, event.thread);
+        waited[index] = fences_of(list, event.op, index as u64 + 1, safe[index]);
+    }
+    Ok(waited)
+}
+
+/// The stores whose own thread made two fences or more before they were safe, in groups by spot: those with most members first,
+/// and of as many that with the lowest first one.
+///
+/// # Errors
+/// Where memory was refused.
+pub fn late_groups(
+    alloc: Global,
+    trace: &Trace,
+    labels: &[Option<u64>],
+) -> Result<Vec<Group<LateSpot>>, OutOfMemory>
+    ensures { IfOk result (λ gs. AreLateGroups trace.now labels.now gs.items) }
+{
+    let waited = fences_waited(alloc, trace)?;
+    let items = late_items(alloc, trace, labels, waited.as_slice())?;
+    groups(alloc, items.as_slice())
+}
+
+// Of each thread, by its number, the numbers of its fences.
+fn all_fences(alloc: Global, trace: &Trace) -> Result<Vec<Vec<u64>>, OutOfMemory>
+    ensures { IfOk result (λ fences. AreFences trace.now (length trace.now.events) (map (λ list. list.items) fences.items)) }
+{
+    let mut fences = no_fences(alloc)?;
+    let events = trace.events();
+    for index in 0..events.len() {
+        let event = events[index];
+        note_fence(&mut fences, event.thread, event.op, index as u64 + 1)?;
+    }
+    Ok(fences)
+}
+
+// No fence of any of the 256 threads.
+fn no_fences(alloc: Global) -> Result<Vec<Vec<u64>>, OutOfMemory>
+    ensures { IfOk result (λ fences. map (λ list. list.items) fences.items ≡ replicate 256 []) }
+{
+    let mut fences = Vec::new(alloc);
+    while fences.len() < 256 {
+        fences.push(Vec::new(alloc))?;
+    }
+    Ok(fences)
+}
+
+// Notes the event with this number, if it is a fence.
+fn note_fence(
+    fences: &mut Vec<Vec<u64>>,
+    thread: u8,
+    op: Op,
+    number: u64,
+) -> Result<(), OutOfMemory>
+    requires { length fences.old.items ≡ 256 }
+    ensures { OnOk result (map (λ list. list.items) fences.new.items ≡ with_fence thread op number (map (λ list. list.items) fences.old.items)) }
+{
+    match op {
+        Op::Sfence | Op::Mfence => push_fence(&mut fences[thread as usize], number),
+        Op::Store(_)
+        | Op::Clwb(_)
+        | Op::ClflushOpt(_)
+        | Op::Clflush(_)
+        | Op::IsPersist(_)
+        | Op::IsOrderedBefore(_, _) => Ok(()),
+    }
+}
+
+// One more fence.
+fn push_fence(fences: &mut Vec<u64>, number: u64) -> Result<(), OutOfMemory>
+    ensures { OnOk result (fences.new.items ≡ fences.old.items ++ number ∷ []) }
+{
+    fences.push(number)?;
+    Ok(())
+}
+
+// The fences of the thread.
+fn list_of(fences: &Vec<Vec<u64>>, thread: u8) -> &[u64]
+    requires { length fences.now.items ≡ 256 }
+    ensures small { thread < 256 }
+    ensures list { result.now ≡ list_by (map (λ list. list.items) fences.now.items) thread }
+{
+    fences[thread as usize].as_slice()
+}
+
+// How many of these fences of its thread come after the op with this number and before its safe place, if it is a store.
+fn fences_of(fences: &[u64], op: Op, number: u64, safe: u64) -> u64
+    requires { IsNonDecreasingBy (λ k. k) fences.now }
+    ensures { result ≡ wait_of fences.now op number safe }
+{
+    match op {
+        Op::Store(_) => {
+            let last = safe.saturating_sub(1);
+            fences_by(fences, last).saturating_sub(fences_by(fences, number))
+        }
+        Op::Clwb(_)
+        | Op::ClflushOpt(_)
+        | Op::Clflush(_)
+        | Op::Sfence
+        | Op::Mfence
+        | Op::IsPersist(_)
+        | Op::IsOrderedBefore(_, _) => 0,
+    }
+}
+
+// How many of these fences, whose numbers rise, come by the place.
+fn fences_by(fences: &[u64], place: u64) -> u64
+    requires { IsNonDecreasingBy (λ k. k) fences.now }
+    ensures { result ≡ count_by (λ k. nat_le k place) fences.now }
+{
+    fences.partition_point(|fence| *fence <= place) as u64
+}
+
+// The late stores with their spots, by the fences for which each event waited.
+fn late_items(
+    alloc: Global,
+    trace: &Trace,
+    labels: &[Option<u64>],
+    waited: &[u64],
+) -> Result<Vec<Keyed<LateSpot>>, OutOfMemory>
+    requires { length waited.now ≡ length trace.now.events }
+    ensures { IfOk result (λ items. items.items ≡ late_items_in trace.now labels.now waited.now (length trace.now.events)) }
+{
+    let events = trace.events();
+    let mut items = Vec::new(alloc);
+    for index in 0..events.len() {
+        let number = index as u64 + 1;
+        let event = events[index];
+        let label = label_of(labels, number);
+        let spot = spot_of(trace.format(), label, waited[index], event.op);
+        push_spot(&mut items, number, spot)?;
+    }
+    Ok(items)
+}
+
+// The spot of an op that waited for so many fences, if it is a late store.
+fn spot_of(format: Format, label: Option<u64>, waited: u64, op: Op) -> Option<LateSpot>
+    ensures { result ≡ spot_of_op_in format label waited op }
+{
+    match op {
+        Op::Store(store) => {
+            if waited >= 2 {
+                Some(late_spot(label, line_of(format, store.addr())))
+            } else {
+                None
+            }
+        }
+        Op::Clwb(_)
+        | Op::ClflushOpt(_)
+        | Op::Clflush(_)
+        | Op::Sfence
+        | Op::Mfence
+        | Op::IsPersist(_)
+        | Op::IsOrderedBefore(_, _) => None,
+    }
+}
+
+// Where a store to the line stands.
+fn late_spot(label: Option<u64>, line: u64) -> LateSpot
+    ensures { result ≡ late_spot_in label line }
+{
+    match label {
+        Some(label) => LateSpot::Label(label),
+        None => LateSpot::Line(line),
+    }
+}
+
+// Adds the event, if it has a spot.
+fn push_spot(
+    items: &mut Vec<Keyed<LateSpot>>,
+    number: u64,
+    spot: Option<LateSpot>,
+) -> Result<(), OutOfMemory>
+    ensures { OnOk result (items.new.items ≡ with_spot number spot items.old.items) }
+{
+    match spot {
+        None => Ok(()),
+        Some(key) => {
+            items.push(Keyed { key, number })?;
+            Ok(())
+        }
+    }
+}

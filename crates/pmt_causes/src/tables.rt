@@ -1,0 +1,277 @@
+//! Tables of what threads and labels have in a trace.
+
+ghost use Rattle.std.specs.Prelude.{◌≡◌, ◌+◌, ◌-◌, ◌^◌, ◌<◌, ◌||◌, ℕ, if◌then◌else◌, length, map, Some, is_some, IfOk, OnOk};
+ghost use Rattle.std.specs.List.{All};
+ghost use Rattle.std.specs.Ordering.{nat_cmp};
+ghost use Rattle.std.specs.BTreeMap.{IsOrdered, get, keys};
+ghost use Rattle.pmt_model.specs.Traces.{IsTrace};
+ghost use Rattle.pmt_explain.specs.Numbers.{number_at};
+ghost use Rattle.pmt_causes.specs.Tables.{AreThreadRows, AreLabelRows, AreRows, HasLowerKey, label_at, has_key};
+ghost use Rattle.pmt_causes.specs.Tallies.{AreCounts, AreDrops, IsFew, counts_in, row_in, with_op};
+
+use crate::labels::label_of;
+use pmt_explain::Dropped;
+use pmt_model::{Op, OutOfMemory, Trace};
+use std::alloc::Global;
+use std::collections::{BTreeMap, HashMap};
+
+/// What one thread or one label has in the trace.
+#[derive(Clone, Copy, Debug, PartialEq, Eq)]
+pub struct Row<K> {
+    /// The thread, or the label by its number.
+    pub key: K,
+    /// How many of its events are stores.
+    pub stores: u64,
+    /// How many are clwb, clflushopt or clflush.
+    pub flushes: u64,
+    /// How many are sfence or mfence.
+    pub fences: u64,
+    /// How many are dropped.
+    pub dropped: u64,
+}
+
+// How many events of a key are stores, flushes and fences.
+#[derive(Clone, Copy)]
+pub(crate) struct Counts {
+    stores: u64,
+    flushes: u64,
+    fences: u64,
+}
+
+/// The counts of each key that some event has.
+type Table = BTreeMap<u64, Counts>;
+
+/// How many dropped events have each key; 0 where it has none.
+type Drops = HashMap<u64, u64>;
+
+/// What each thread has that has an event, by rising thread. `dropped` are the dropped events: each entry counts that names an event
+/// of the trace.
+///
+/// It takes three looks at each event.
+///
+/// # Errors
+/// Where memory was refused.
+pub fn thread_table(
+    alloc: Global,
+    trace: &Trace,
+    dropped: &[Dropped],
+) -> Result<Vec<Row<u8>>, OutOfMemory>
+    ensures { IfOk result (λ rows. AreThreadRows trace.now dropped.now rows.items) }
+{
+    let threads = threads_of(alloc, trace)?;
+    let rows = rows_of(alloc, trace, threads.as_slice(), dropped)?;
+    thread_rows(alloc, rows.as_slice())
+}
+
+/// What each label has that some event has: those with most dropped events first, and of as many that with the lower number.
+/// `labels` are the numbers of the labels of the events, in order; an event past their end has none. `dropped` are the dropped
+/// events: each entry counts that names an event of the trace.
+///
+/// It takes two looks at each event.
+///
+/// # Errors
+/// Where memory was refused.
+pub fn label_table(
+    alloc: Global,
+    trace: &Trace,
+    labels: &[Option<u64>],
+    dropped: &[Dropped],
+) -> Result<Vec<Row<u64>>, OutOfMemory>
+    ensures { IfOk result (λ rows. AreLabelRows trace.now labels.now dropped.now rows.items) }
+{
+    let mut rows = rows_of(alloc, trace, labels, dropped)?;
+    rows.sort_by_key(|row| rank_of(row))?;
+    Ok(rows)
+}
+
+// Less for more dropped events.
+fn rank_of(row: &Row<u64>) -> u64
+    ensures { result ≡ 2 ^ 64 - 1 - row.now.dropped }
+{
+    u64::MAX - row.dropped
+}
+
+// Of each event its thread.
+fn threads_of(alloc: Global, trace: &Trace) -> Result<Vec<Option<u64>>, OutOfMemory>
+    ensures threads { IfOk result (λ list. list.items ≡ map (λ e. Some e.thread) trace.now.events) }
+    ensures is_trace { IsTrace trace.now }
+{
+    trace
+        .events()
+        .iter()
+        .map(|event| Some(event.thread as u64))
+        .collect(alloc)
+}
+
+// These rows as rows of threads.
+fn thread_rows(alloc: Global, rows: &[Row<u64>]) -> Result<Vec<Row<u8>>, OutOfMemory>
+    requires { All (λ r. r.key < 256) rows.now }
+    ensures { IfOk result (λ list. list.items ≡ rows.now) }
+{
+    let mut list = Vec::new(alloc);
+    for row in rows {
+        list.push(Row {
+            key: row.key as u8,
+            stores: row.stores,
+            flushes: row.flushes,
+            fences: row.fences,
+            dropped: row.dropped,
+        })?;
+    }
+    Ok(list)
+}
+
+// The rows of all keys, by rising key, where the events have these.
+fn rows_of(
+    alloc: Global,
+    trace: &Trace,
+    keys: &[Option<u64>],
+    dropped: &[Dropped],
+) -> Result<Vec<Row<u64>>, OutOfMemory>
+    ensures { IfOk result (λ rows. AreRows trace.now (label_at trace.now keys.now) dropped.now HasLowerKey rows.items) }
+{
+    let table = counts_of(alloc, trace, keys)?;
+    let drops = drops_of(alloc, trace, keys, dropped)?;
+    listed(alloc, &table, &drops)
+}
+
+// The rows of the table's keys.
+fn listed(alloc: Global, table: &Table, drops: &Drops) -> Result<Vec<Row<u64>>, OutOfMemory>
+    ensures rows { IfOk result (λ rows. rows.items ≡ map (row_in table.now drops.now) (keys table.now)) }
+    ensures ordered { IsOrdered nat_cmp table.now }
+{
+    table
+        .keys()
+        .map(|key| row_of(table, drops, *key))
+        .collect(alloc)
+}
+
+// The row of the key.
+fn row_of(table: &Table, drops: &Drops, key: u64) -> Row<u64>
+    ensures { result ≡ row_in table.now drops.now key }
+{
+    let counts = count_in(table, key);
+    Row {
+        key,
+        stores: counts.stores,
+        flushes: counts.flushes,
+        fences: counts.fences,
+        dropped: drops_in(drops, key),
+    }
+}
+
+// The counts of the events with these keys.
+fn counts_of(alloc: Global, trace: &Trace, keys: &[Option<u64>]) -> Result<Table, OutOfMemory>
+    ensures { IfOk result (AreCounts trace.now (label_at trace.now keys.now) (length trace.now.events)) }
+{
+    let events = trace.events();
+    let mut table = BTreeMap::new(alloc);
+    for index in 0..events.len() {
+        let event = events[index];
+        count_event(&mut table, label_of(keys, index as u64 + 1), event.op)?;
+    }
+    Ok(table)
+}
+
+// Counts an event with this key.
+fn count_event(table: &mut Table, key: Option<u64>, op: Op) -> Result<(), OutOfMemory>
+    requires { (k : ℕ) → IsFew (counts_in table.old k) }
+    ensures counts { OnOk result ((k : ℕ) → counts_in table.new k ≡ (if has_key k key then with_op op (counts_in table.old k) else counts_in table.old k)) }
+    ensures keys { OnOk result ((k : ℕ) → is_some (get nat_cmp table.new k) ≡ (has_key k key || is_some (get nat_cmp table.old k))) }
+{
+    match key {
+        None => Ok(()),
+        Some(key) => {
+            let old = count_in(table, key);
+            table.insert(key, counted_with(old, op))?;
+            Ok(())
+        }
+    }
+}
+
+// The counts of the key; none where the table does not have it.
+fn count_in(table: &Table, key: u64) -> Counts
+    ensures { result ≡ counts_in table.now key }
+{
+    match table.get(&key) {
+        Some(counts) => *counts,
+        None => Counts {
+            stores: 0,
+            flushes: 0,
+            fences: 0,
+        },
+    }
+}
+
+// These counts with one more event.
+fn counted_with(counts: Counts, op: Op) -> Counts
+    requires { IsFew counts }
+    ensures { result ≡ with_op op counts }
+{
+    match op {
+        Op::Store(_) => Counts {
+            stores: counts.stores + 1,
+            flushes: counts.flushes,
+            fences: counts.fences,
+        },
+        Op::Clwb(_) | Op::ClflushOpt(_) | Op::Clflush(_) => Counts {
+            stores: counts.stores,
+            flushes: counts.flushes + 1,
+            fences: counts.fences,
+        },
+        Op::Sfence | Op::Mfence => Counts {
+            stores: counts.stores,
+            flushes: counts.flushes,
+            fences: counts.fences + 1,
+        },
+        Op::IsPersist(_) | Op::IsOrderedBefore(_, _) => counts,
+    }
+}
+
+// How many of the dropped events have each key.
+fn drops_of(
+    alloc: Global,
+    trace: &Trace,
+    keys: &[Option<u64>],
+    dropped: &[Dropped],
+) -> Result<Drops, OutOfMemory>
+    ensures { IfOk result (AreDrops (label_at trace.now keys.now) dropped.now) }
+{
+    let mut drops = HashMap::new(alloc);
+    for entry in dropped {
+        count_drop(&mut drops, key_at(trace, keys, entry.event))?;
+    }
+    Ok(drops)
+}
+
+// Counts a dropped event with this key.
+fn count_drop(drops: &mut Drops, key: Option<u64>) -> Result<(), OutOfMemory>
+    requires { (k : ℕ) → number_at 0 drops.old k < 2 ^ 63 }
+    ensures { OnOk result ((k : ℕ) → number_at 0 drops.new k ≡ number_at 0 drops.old k + (if has_key k key then 1 else 0)) }
+{
+    match key {
+        None => Ok(()),
+        Some(key) => {
+            let old = drops_in(drops, key);
+            drops.insert(key, old + 1)?;
+            Ok(())
+        }
+    }
+}
+
+// How many dropped events have the key.
+fn drops_in(drops: &Drops, key: u64) -> u64
+    ensures { result ≡ number_at 0 drops.now key }
+{
+    drops.get(&key).copied().unwrap_or(0)
+}
+
+// The key of the event with this number, where the trace has one.
+fn key_at(trace: &Trace, keys: &[Option<u64>], number: u64) -> Option<u64>
+    ensures { result ≡ label_at trace.now keys.now number }
+{
+    if (trace.len() as u64) < number {
+        return None;
+    }
+    label_of(keys, number)
+}
