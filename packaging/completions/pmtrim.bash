@@ -17,7 +17,7 @@ _pmtrim() {
       explain) mapfile -t COMPREPLY < <(compgen -W '--ignore --ignore-file --limit --only --thread --range --from --to --label --failure --labels --json --html --help' -- "$word") ;;
       trim) mapfile -t COMPREPLY < <(compgen -W '--workers --stream --help' -- "$word") ;;
       draw) mapfile -t COMPREPLY < <(compgen -W '--failure --around --from --to --line --labels --help' -- "$word") ;;
-      image) mapfile -t COMPREPLY < <(compgen -W '--failure --at --all --line --pool --origin --out --help' -- "$word") ;;
+      image) mapfile -t COMPREPLY < <(compgen -W '--failure --at --all --line --list --off --pool --origin --out --help' -- "$word") ;;
       *) mapfile -t COMPREPLY < <(compgen -W '--help' -- "$word") ;;
     esac
   else

@@ -36,6 +36,8 @@ complete -c pmtrim -n "__fish_seen_subcommand_from image" -l failure -x -d 'The 
 complete -c pmtrim -n "__fish_seen_subcommand_from image" -l at -x -d 'After so many events'
 complete -c pmtrim -n "__fish_seen_subcommand_from image" -l all -d 'Leave each line all its stores'
 complete -c pmtrim -n "__fish_seen_subcommand_from image" -l line -x -d 'Leave the line of address A K stores, as A:K'
+complete -c pmtrim -n "__fish_seen_subcommand_from image" -l list -d 'List the crashes near places'
+complete -c pmtrim -n "__fish_seen_subcommand_from image" -l off -x -d 'How many lines may be off, in a list'
 complete -c pmtrim -n "__fish_seen_subcommand_from image" -l pool -r -d 'The file of the pool before'
 complete -c pmtrim -n "__fish_seen_subcommand_from image" -l origin -x -d 'The address of the first byte of the pool'
 complete -c pmtrim -n "__fish_seen_subcommand_from image" -l out -r -d 'The file to write'

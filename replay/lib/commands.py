@@ -4,7 +4,9 @@ import re
 import shutil
 import signal
 import subprocess
+import tempfile
 
+from crashes import read_crash
 from faults import FILE_FAULT, WRONG_WORDS, Fault, of_file
 from pools import write_own_trace
 
@@ -36,21 +38,35 @@ class Commands:
 
     def run(self, *words):
         """The answer; a fault is told in the program's own words, with its status."""
-        options = {"stdin": subprocess.DEVNULL, "stdout": subprocess.PIPE, "stderr": subprocess.PIPE}
-        process = self.processes.begin([self.program, *words], text=True, errors="replace", **options)
-        try:
-            answer, told = process.communicate()
-        except BaseException:
-            self.processes.kill_group(process)
-            process.wait()
-            raise
-        finally:
-            self.processes.ended(process)
-        self.processes.go_on()
-        if process.returncode != 0:
-            status = process.returncode if process.returncode in range(WRONG_WORDS, 6) else FILE_FAULT
-            raise Fault(status, f"pmtrim {words[0]}: {told.strip() or how_it_ended(process.returncode)}")
-        return answer
+        return "".join(self.lines(*words))
+
+    def lines(self, *words):
+        """The same, a line at a time; a fault is told after the last one."""
+        options = {"stdin": subprocess.DEVNULL, "stdout": subprocess.PIPE}
+        with tempfile.TemporaryFile() as told:
+            process = self.processes.begin([self.program, *words], text=True, errors="replace", stderr=told, **options)
+            try:
+                yield from process.stdout
+                process.wait()
+            except BaseException:
+                self.processes.kill_group(process)
+                process.wait()
+                raise
+            finally:
+                process.stdout.close()
+                self.processes.ended(process)
+            self.processes.go_on()
+            if process.returncode != 0:
+                told.seek(0)
+                status = process.returncode if process.returncode in range(WRONG_WORDS, 6) else FILE_FAULT
+                text = told.read().decode(errors="replace").strip()
+                raise Fault(status, f"pmtrim {words[0]}: {text or how_it_ended(process.returncode)}")
+
+    def crashes(self, places, off, line_size):
+        """The crashes near these places, or where none are given, near those that pmtrim takes then."""
+        at = ["--at", ",".join(f"{first}-{last}" for first, last in places)] if places else []
+        for line in self.lines("image", "--list", *at, "--off", str(off), self.trace_path):
+            yield read_crash(line, line_size)
 
     def fronts(self, place, line_size):
         """The front and the count of each line, at a place."""

@@ -1,6 +1,11 @@
-"""Which crashes are taken at a place."""
-import itertools
+"""Crashes, as `pmtrim image --list` tells them and `pmtrim image` takes them."""
+import re
 from typing import NamedTuple
+
+from faults import DISAGREEMENT, Fault
+
+TOLD = re.compile(r"--at (\d+)( --all)?((?: --line 0x[0-9a-f]+:\d+)*)\n")
+LINE = re.compile(r" --line 0x([0-9a-f]+):(\d+)")
 
 
 class Crash(NamedTuple):
@@ -8,7 +13,7 @@ class Crash(NamedTuple):
 
     place: int
     is_all: bool
-    lines: tuple  # of (line, stores), by rising line
+    lines: tuple  # of (line, stores)
 
     def words(self, line_size):
         """As `pmtrim image` takes it."""
@@ -24,22 +29,10 @@ class Crash(NamedTuple):
         return counts
 
 
-def choose(bounds, most, numbers_of):
-    """All ways to set at most so many lines to one of their numbers, fewest lines first."""
-    for size in range(min(most, len(bounds)) + 1):
-        for lines in itertools.combinations(sorted(bounds), size):
-            for numbers in itertools.product(*(numbers_of(*bounds[line]) for line in lines)):
-                yield tuple(zip(lines, numbers))
-
-
-def crashes_at(place, bounds, most):
-    """The crashes at a place where at most so many lines are off their front, and where at most so many are off their count; each once.
-    `bounds` has the front and the count of each line where they differ."""
-    for lines in choose(bounds, most, lambda front, count: range(front + 1, count + 1)):
-        yield Crash(place, False, lines)
-    if len(bounds) <= most:
-        return
-    for lines in choose(bounds, most, lambda front, count: range(count - 1, front - 1, -1)):
-        at_front = sum(stores == bounds[line][0] for line, stores in lines)
-        if len(bounds) - at_front > most:
-            yield Crash(place, True, lines)
+def read_crash(text, line_size):
+    """The crash that a line of the list tells."""
+    found = TOLD.fullmatch(text)
+    if found is None:
+        raise Fault(DISAGREEMENT, f"pmtrim image --list: {text.rstrip()!r} is no crash")
+    lines = tuple((int(address, 16) // line_size, int(stores)) for address, stores in LINE.findall(found[3]))
+    return Crash(int(found[1]), found[2] is not None, lines)

@@ -53,15 +53,12 @@ class Memory:
         self.of_fronts = self.of_counts = 0
 
     def go_to(self, place):
-        """Takes the stores up to a place. Answers whether there were any."""
-        stored = False
+        """Takes the stores up to a place."""
         for number in range(self.place + 1, place + 1):
             store = self.trace.store(number)
             if store is not None:
                 self._take(*store)
-                stored = True
         self.place = place
-        return stored
 
     def _take(self, address, written):
         number = address // self.trace.line_size

@@ -12,14 +12,13 @@ import time
 
 from checks import Checker
 from commands import Commands, ImageMaker, find_program
-from crashes import crashes_at
 from faults import DISAGREEMENT, FILE_FAULT, WRONG_WORDS, Fault, of_file
 from foreseen import Memory
 from pools import check_stores, find_pools
 from processes import Processes, Stopped
 from results import KeptResults, Results, identity_of, remove_tree
 from telling import MOST_STORES, Progress, next_words, summary, table
-from trace import Trace, places_of
+from trace import Trace
 from words import HELP, take_words
 
 VERSION = "pmtrim-replay 1.0.0"
@@ -59,7 +58,8 @@ class Replay:
         self.trace = Trace(options.trace)
         self.pools = find_pools(options.trace)
         check_stores(self.pools, self.trace)
-        self.places = places_of(self.trace, options.at)
+        self.last = max(last for _, last in options.at) if options.at else len(self.trace.lines)
+        self.places = 0
         self.counts = Counts()
         self.results = Results()
         self.kept = pathlib.Path(options.keep).absolute() if options.keep else None
@@ -80,7 +80,7 @@ class Replay:
 
     def run(self):
         """Takes all crashes, and runs the checker on each image that is new."""
-        progress = Progress(self.places[-1])
+        progress = Progress(self.last)
         seen, room = set(), threading.BoundedSemaphore(2 * self.options.jobs)
         with concurrent.futures.ThreadPoolExecutor(self.options.jobs) as workers:
             try:
@@ -95,7 +95,7 @@ class Replay:
                     progress.tell(crash.place, self.counts)
                 while not room_is_whole(room, 2 * self.options.jobs):
                     self.go_on()
-                    progress.tell(self.places[-1], self.counts)
+                    progress.tell(self.last, self.counts)
             finally:
                 progress.clear()
                 if sys.exc_info()[0] is not None:
@@ -110,15 +110,14 @@ class Replay:
     def crashes(self):
         """All crashes, place by place, with the memory there."""
         memory, before = Memory(self.trace, self.pools), None
-        for place in self.places:
-            stored = memory.go_to(place)
-            raised = before is None or any(self.trace.may_raise(number) for number in range(before + 1, place + 1))
-            if raised:
-                self.set_fronts(memory, place)
-            if stored or raised:
-                for crash in crashes_at(place, dict(memory.open), self.options.off):
-                    yield crash, memory
-            before = place
+        for crash in self.commands.crashes(self.options.at, self.options.off, self.trace.line_size):
+            if crash.place != before:
+                memory.go_to(crash.place)
+                if before is None or any(self.trace.may_raise(number) for number in range(before + 1, crash.place + 1)):
+                    self.set_fronts(memory, crash.place)
+                before = crash.place
+                self.places += 1
+            yield crash, memory
 
     def set_fronts(self, memory, place):
         bounds = self.commands.fronts(place, self.trace.line_size)
@@ -202,7 +201,7 @@ class Replay:
 
     def tell(self, seconds):
         """The answer, on standard output."""
-        lines = summary(self.trace, len(self.places), self.options, self.counts, seconds)
+        lines = summary(self.trace, self.places, self.options, self.counts, seconds)
         failures = [self.failures[number] for number in sorted(self.failures)]
         if failures:
             lines += ["", *table(self.trace, failures), "", *next_words(self.trace, failures[0])]
@@ -251,7 +250,7 @@ def run(options, here):
             replay.processes.stop()
             replay.tell(time.monotonic() - begun)
             more = "the same words go on" if options.keep else "with --keep DIR the same words would go on"
-            print(f"pmtrim-replay: stopped at place {replay.reached} of {replay.places[-1]}; {more}", file=sys.stderr)
+            print(f"pmtrim-replay: stopped at place {replay.reached} of {replay.last}; {more}", file=sys.stderr)
         raise
     finally:
         if replay is not None:

@@ -1,7 +1,5 @@
 """A trace, as far as images need it. That it is one is judged by pmtrim before."""
-import itertools
-
-from faults import FILE_FAULT, WRONG_WORDS, Fault, of_file
+from faults import FILE_FAULT, Fault, of_file
 
 FENCES = ("sfence", "mfence")
 
@@ -58,14 +56,3 @@ def read_labels(path):
     except OSError as error:
         raise of_file(path, error) from error
     return labels
-
-
-def places_of(trace, ranges):
-    """The places where crashes are taken, rising: those that are asked for, or those around flushes, fences and claims, and the end."""
-    last = len(trace.lines)
-    if ranges is None:
-        around = (place for number, line in enumerate(trace.lines, 1) if not line.startswith("store ") for place in (number - 1, number))
-        return sorted({*around, last})
-    if max(most for _, most in ranges) > last:
-        raise Fault(WRONG_WORDS, f"a place of --at lies past the end: {trace.path} has {last} events")
-    return sorted(set(itertools.chain.from_iterable(range(least, most + 1) for least, most in ranges)))

@@ -16,8 +16,10 @@ address in TRACE.origin, as recorders write them: PMTRACE_BASE=1, or pmtrim-reco
 The images, each once. At each place, that is after so many events, a crash leaves of each cache line a number of its stores, the
 first ones: no fewer than its front, those that no crash can lose, and no more than its count, all those so far. Taken are all
 crashes where at most K cache lines are off their front, and all where at most K are off their count. Crashes that leave the same
-bytes are one image, of the first place. The places are those right before and right after each flush, fence and claim, and the
-end. With a K as large as the number of cache lines these are all crashes of the run.
+bytes are one image, of the first place. The places are those where crashes turn: right after each fence and each clflush, and
+right after a store, or at the beginning, where no store comes next. Right before and right after any flush, fence or claim, and
+at the end, a crash leaves just what one leaves at such a place. With a K as large as the number of cache lines these are all
+crashes of the run. `pmtrim image --list` tells them.
 
   --at PLACES   other places: numbers and ranges of them, as 12,40-60; each number of a range is a place
   --off K       how many cache lines may be off, 0 to 64 (1)

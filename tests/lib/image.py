@@ -73,6 +73,56 @@ def every_image(program, case, place):
     return complaints
 
 
+def told_of(trace, line):
+    """The place that a line of a list tells, and how many stores of each line the crash leaves."""
+    words = line.split()
+    place, named = int(words[1]), words[2 + ("--all" in words) :]
+    base = (lambda line: len(trace.stores(line, place))) if "--all" in words else (lambda line: machine.least(trace, line, place))
+    counts = {line: base(line) for line in trace.lines(place)}
+    for word, pair in zip(named[::2], named[1::2], strict=True):
+        address, _, stores = pair.partition(":")
+        if word != "--line" or int(address, 16) % trace.size:
+            raise ValueError(line)
+        counts[int(address, 16) // trace.size] = int(stores)
+    return place, tuple(sorted(counts.items()))
+
+
+def near(trace, place, off):
+    """The crashes at a place where at most so many lines are off their least, or off their greatest number of stores."""
+    least = {line: machine.least(trace, line, place) for line in trace.lines(place)}
+    greatest = {line: len(trace.stores(line, place)) for line in trace.lines(place)}
+    for done in map(dict, trace.reached[place]):
+        if min(sum(done.get(line, 0) != bound[line] for line in bound) for bound in (least, greatest)) <= off:
+            yield place, tuple(sorted((line, done.get(line, 0)) for line in least))
+
+
+def turns(trace):
+    """The places after a fence or a clflush, and those after a store, or at the beginning, with no store coming next."""
+    names = ["begin", *(event[0] for event in trace.events), "end"]
+    for place in range(len(trace.events) + 1):
+        if names[place] in ("sfence", "mfence", "clflush") or (names[place] in ("begin", "store") and names[place + 1] != "store"):
+            yield place
+
+
+def every_list(program, case):
+    """The crashes near all places, near some, and near those that are taken where none are given, each once; `image` takes each line."""
+    complaints = []
+    last, most = len(case.trace.events), len(case.trace.lines(len(case.trace.events)))
+    asked = [(["--at", f"0-{last}", "--off", str(off)], range(last + 1), off) for off in (0, 1, most)]
+    asked += [(["--at", f"{last},0-{last // 2},0"], {*range(last // 2 + 1), last}, 1), ([], turns(case.trace), 1), (["--off", str(most)], turns(case.trace), most)]
+    for words, places, off in asked:
+        answer = run(program, "--list", *words, str(case.file))
+        lines = answer.out.decode().splitlines()
+        found = [told_of(case.trace, line) for line in lines]
+        wanted = sorted(crash for place in places for crash in near(case.trace, place, off))
+        if (answer.status, answer.faults) != (0, b"") or sorted(found) != wanted or [place for place, _ in found] != sorted(place for place, _ in found):
+            complaints.append(f"image --list {words} {case.file.name}: {faulty.short(answer)}; wanted {wanted}")
+    for line, (_, done) in list(zip(lines, found))[:: max(1, len(lines) // 4)]:
+        words = [*line.split(), *case.words, str(case.file)]
+        compare(complaints, words, run(program, *words), Answer(0, case.after(done)))
+    return complaints
+
+
 def every_refusal(program, case, place):
     """Each line, and one that the trace does not have, with counts that no run ends with there."""
     complaints = []
@@ -194,8 +244,46 @@ def words_and_files(program):
             ["--at", "5", "--pool", "base", trace],
             ["--at", "5", "--origin", "0x1000", trace],
             ["--at", "5", "--pool", "base", "--origin", "0x1000000000000", trace],
+            ["--at", "5", "--off", "1", trace],
+            ["--at", "1-5", trace],
         ):
             judge(words, Answer(2, b"", b"error: "), None)
+    return complaints
+
+
+def lists(program, library):
+    """A list by hand, wrong words, places past the end, and lists that can't be written or have no memory."""
+    complaints = []
+    with tempfile.TemporaryDirectory() as name:
+        folder = pathlib.Path(name)
+        trace = small(folder, b"")
+        out = folder / "out.pool"
+        judge = partial(judge_file, program, complaints, out)
+        two, both = "--line 0x1040:1", "--line 0x1040:2"
+        right = f"--at 1\n--at 1 --line 0x1000:1\n--at 3\n--at 5\n--at 5 {two}\n--at 5 {both}\n".encode()
+        judge(["--list", trace], Answer(0, right), None)
+        judge(["--list"], Answer(0, right), None, TRACE)
+        judge(["--list", "--off", "0", trace], Answer(0, b"--at 1\n--at 1 --all\n--at 3\n--at 5\n--at 5 --all\n"), None)
+        judge(["--list", "--at", "4,3-4", "--off", "18446744073709551615", trace], Answer(0, f"--at 3\n--at 4\n--at 4 {two}\n".encode()), None)
+        judge(["--list"], Answer(0, b"--at 0\n"), None, b"pmtrace 1\n")
+        judge(["--list", "--at", "6", trace], Answer(2, b"", b"place past end 5\n"), None)
+        judge(["--list", "--at", "0-18446744073709551615", trace], Answer(2, b"", b"place past end 5\n"), None)
+        judge(["--list"], Answer(3, b"", b"trace line 2"), None, b"pmtrace 1\nstore 0\n")
+        judge(["--list", "/dev/null/none"], Answer(4, b"", b"cannot open /dev/null/none: "), None)
+        others = (["--all"], ["--failure", "1"], ["--line", "0x1000:1"], ["--pool", trace], ["--origin", "0x0"], ["--out", str(out)])
+        places = ("", ",", "1,", ",1", "1,,2", "-", "1-", "1-2-3", "5-3", "01", "1 2", "0x1", "1,x", "18446744073709551616")
+        for words in (*others, *(["--at", word] for word in places), *(["--off", word] for word in ("", "01", "x", "1.5", "18446744073709551616"))):
+            judge(["--list", *words, trace], Answer(2, b"", b"error: "), None)
+        for kind in ("memory", "write", "nothing_taken"):
+            for at in range(1, 2000):
+                answer, failed = faulty.run(library, program, ["image", "--list", trace], fault=kind, fault_at=at, fault_piece=1)
+                if failed == 0:
+                    break
+                status = 5 if kind == "memory" else 4
+                if (answer.status, answer.out) != (0, right) and (answer.status != status or not right.startswith(answer.out) or answer.out == right):
+                    complaints.append(f"list, {kind} {at}: {faulty.short(answer)}")
+            if at < 4 or (answer.status, answer.out) != (0, right):
+                complaints.append(f"list, {kind}: after {at} calls {faulty.short(answer)}")
     return complaints
 
 
@@ -288,11 +376,11 @@ def main():
     with tempfile.TemporaryDirectory() as name, faulty.library() as library:
         folder = pathlib.Path(name)
         cases = [Case(folder, number) for number in range(TRACES)]
-        judgements = [partial(words_and_files, program), partial(large_pool, program), partial(refused_memory, program, library)]
+        judgements = [partial(words_and_files, program), partial(large_pool, program), partial(refused_memory, program, library), partial(lists, program, library)]
         for kind in ("read", "write", "nothing_taken"):
             judgements += [partial(devices, program, library, kind, to_file) for to_file in (False, True)]
         for case in cases:
-            judgements.append(partial(every_failure, program, case))
+            judgements += [partial(every_failure, program, case), partial(every_list, program, case)]
             for place in range(len(case.trace.events) + 1):
                 judgements += [partial(every_image, program, case, place), partial(every_refusal, program, case, place)]
         faulty.judge(judgements)

@@ -93,7 +93,7 @@ class FaultTests(Runs):
             ([trace, "--", "sh", "-c", "true"], 2, "has {}"),
             ([trace, "--", "no-such-checker", "{}"], 2, "no-such-checker: there is no such program"),
             ([trace], 2, "no checker is given"),
-            (["--at", "3-5", trace, *always], 2, "lies past the end: small.trace has 4 events"),
+            (["--at", "3-5", trace, *always], 2, "pmtrim image: place past end 4"),
             (["--at", "5-3", trace, *always], 2, "is no place"),
             (["--off", "65", trace, *always], 2, "65 is no number from 0 to 64"),
             (["--frob", trace, *always], 2, "unrecognized arguments: --frob"),

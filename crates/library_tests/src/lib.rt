@@ -11,6 +11,8 @@ mod causes;
 #[cfg(test)]
 mod explain;
 #[cfg(test)]
+mod image;
+#[cfg(test)]
 mod lines;
 #[cfg(test)]
 mod sweep;

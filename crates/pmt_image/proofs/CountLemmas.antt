@@ -43,7 +43,7 @@ counts-listed entry v (k ∷ ks) l own =
     go (inr other) b = rw (own k, ne_eqb k l other) refl
 
 -- a line among others
-has_line-append : (l : ℕ) (xs ys : List ℕ) → has_line l (xs ++ ys) ≡ has_line l xs || has_line l ys
+pub has_line-append : (l : ℕ) (xs ys : List ℕ) → has_line l (xs ++ ys) ≡ has_line l xs || has_line l ys
 has_line-append l [] ys = refl
 has_line-append l (x ∷ xs) ys = go (x == l) (has_line-append l xs ys)
   where
@@ -52,7 +52,7 @@ has_line-append l (x ∷ xs) ys = go (x == l) (has_line-append l xs ys)
     go false rest = rest
 
 -- what is added is among them
-added : (k : ℕ) (lines : List ℕ) → has_line k (with_line k lines) ≡ true
+pub added : (k : ℕ) (lines : List ℕ) → has_line k (with_line k lines) ≡ true
 added k lines = go (has_line k lines) refl
   where
     either : (b : Bool) → b || ((k == k) || false) ≡ true

@@ -5,3 +5,6 @@ pub mod CountLemmas
 pub mod ChoiceLemmas
 pub mod NearLemmas
 pub mod StoreLemmas
+pub mod SpanLemmas
+pub mod WalkLemmas
+pub mod ListingLemmas

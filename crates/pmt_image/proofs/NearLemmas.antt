@@ -1,22 +1,19 @@
 -- The crashes near what is safe, and near all that was stored.
-use Rattle.std.proofs.Common.{◌≡◌, ℕ, suc, ◌+◌, ◌-◌, ◌<◌, ◌≤◌, ◌⊎◌, ◌==◌, inl, inr, Bool, true, false, List, [], ◌∷◌, ◌++◌, length, map, get_or, take, drop, None, refl, sym, ap, subst, ◌∙◌, append_assoc, arith, ltb-true, true≢false}
+use Rattle.std.proofs.Common.{◌≡◌, ℕ, suc, ◌+◌, ◌-◌, ◌<◌, ◌≤◌, ◌⊎◌, ◌==◌, inl, inr, Bool, true, false, List, [], ◌∷◌, ◌++◌, length, map, get_or, take, drop, refl, sym, ap, subst, ◌∙◌, append_assoc, arith, ltb-true, true≢false}
 use Rattle.std.specs.Prelude.{if◌then◌else◌, ◌||◌, nat_lt}
 use Rattle.std.specs.List.{Any, AllByRecursion, filter, flat_map}
 use Rattle.std.proofs.lemmas.Bool.{cases_eq, eq-eqb, ne_eqb, eqb-true, ltb-false}
 use Rattle.std.proofs.lemmas.List.{length-map, drop_more, take_more, flat_map_more, map-append, map_push}
-use Rattle.pmt_model.specs.Machine.{Act, Stores, Flushes, Clflushes, Fences, Asserts}
-use Rattle.pmt_model.specs.Traces.{Recording, history, count_at, has_line, with_line, lines_of}
+use Rattle.pmt_model.specs.Traces.{Recording, history, count_at, has_line, with_line}
 use Rattle.pmt_model.specs.Fronts.{front_at}
 use Rattle.pmt_model.specs.Boxes.{InBox}
 use Rattle.pmt_laws.proofs.BoxLemmas.{vectors_are_a_box}
 use Rattle.pmt_laws.proofs.Histories.{front-le-count}
 use Rattle.pmt_explain.specs.declared.lines.LineCount.{LineCount}
-use Rattle.pmt_explain.specs.Crashes.{line_count}
 use Rattle.pmt_image.specs.declared.crash.LineStores.{LineStores}
 use Rattle.pmt_image.specs.Counts.{with_counts}
 use Rattle.pmt_image.specs.Near.{IsOffBy, IsNear, AreSame, AllDiffer, AreNear, left_by}
-use Rattle.pmt_image.specs.Choosing.{set_to, open_at, low_of, grown, chosen, fronts_off}
-use Rattle.pmt_image.proofs.CountLemmas.{no_line-count}
+use Rattle.pmt_image.specs.Choosing.{set_to, low_of, grown, chosen, fronts_off}
 use Rattle.pmt_image.proofs.ChoiceLemmas.{all-append, Has, has-left, has-right, without, without-shorter, without-others, lines_in, or-first, or-second, IsChoice, AreApart, AllApart, Leaves, AreChoices, IsSpan, choices-none, choices-more, other-line}
 
 -- ---- The lines with a store that a crash can lose
@@ -35,11 +32,11 @@ abbrev pub done_after : List ℕ → List LineCount → List ℕ
 done_after done [] = done
 done_after done (x ∷ xs) = done_after (x.line ∷ done) xs
 
-or-both : (b c : Bool) → b ≡ false → c ≡ false → b || c ≡ false
+pub or-both : (b c : Bool) → b ≡ false → c ≡ false → b || c ≡ false
 or-both true c first second = first
 or-both false c first second = second
 
-or-true : (b c : Bool) → c ≡ true → b || c ≡ true
+pub or-true : (b c : Bool) → c ≡ true → b || c ≡ true
 or-true true c h = refl
 or-true false c h = h
 
@@ -48,87 +45,28 @@ new-push l [] done new absent none = (absent, tt)
 new-push l (k ∷ ks) done new absent none =
     (new.0, new-push l ks (k ∷ done) new.1 (or-both (k == l) (has_line l done) (or-first (k == l) (has_line l ks) none) absent) (or-second (k == l) (has_line l ks) none))
 
-new-with_line : (l : ℕ) (ks : List ℕ) → AreNewLines [] ks → AreNewLines [] (with_line l ks)
+pub new-with_line : (l : ℕ) (ks : List ℕ) → AreNewLines [] ks → AreNewLines [] (with_line l ks)
 new-with_line l ks new = go (has_line l ks) refl
   where
     go : (b : Bool) → has_line l ks ≡ b → AreNewLines [] (if b then ks else ks ++ l ∷ [])
     go true has = new
     go false none = new-push l ks [] new refl none
 
-pub new-lines_of : (h : List Act) → AreNewLines [] (lines_of h)
-new-lines_of [] = tt
-new-lines_of (Stores l w ∷ h) = new-with_line l (lines_of h) (new-lines_of h)
-new-lines_of (Flushes t l ∷ h) = new-with_line l (lines_of h) (new-lines_of h)
-new-lines_of (Clflushes l ∷ h) = new-with_line l (lines_of h) (new-lines_of h)
-new-lines_of (Fences t ∷ h) = new-lines_of h
-new-lines_of (Asserts ∷ h) = new-lines_of h
-
-new-fewer : (ks done more : List ℕ) → ((l : ℕ) → has_line l more ≡ false → has_line l done ≡ false) → AreNewLines more ks → AreNewLines done ks
-new-fewer [] done more fewer new = tt
-new-fewer (k ∷ ks) done more fewer new =
-    (fewer k new.0, new-fewer ks (k ∷ done) (k ∷ more) (λ l none. or-both (k == l) (has_line l done) (or-first (k == l) (has_line l more) none) (fewer l (or-second (k == l) (has_line l more) none))) new.1)
-
--- the lines that are open of these
-abbrev pub open_of : Recording → ℕ → List ℕ → List LineCount
-open_of T n ks = filter (λ (x : LineCount). nat_lt x.persisted x.stores) (map (line_count T n None) ks)
-
-pub new-open : (T : Recording) (n : ℕ) (ks done : List ℕ) → AreNewLines done ks → AreNew done (open_of T n ks)
-new-open T n [] done new = tt
-new-open T n (k ∷ ks) done new =
-    go (nat_lt (front_at T k n) (count_at T k n)) (new-open T n ks (k ∷ done) new.1) (new-open T n ks done (new-fewer ks done (k ∷ done) (λ l none. or-second (k == l) (has_line l done) none) new.1))
-  where
-    go : (b : Bool) → AreNew (k ∷ done) (open_of T n ks) → AreNew done (open_of T n ks) → AreNew done (if b then line_count T n None k ∷ open_of T n ks else open_of T n ks)
-    go true after before = (new.0, after)
-    go false after before = before
-
 -- what was looked at stays so
-done-kept : (l : ℕ) (xs : List LineCount) (done : List ℕ) → has_line l done ≡ true → has_line l (done_after done xs) ≡ true
+pub done-kept : (l : ℕ) (xs : List LineCount) (done : List ℕ) → has_line l done ≡ true → has_line l (done_after done xs) ≡ true
 done-kept l [] done has = has
 done-kept l (x ∷ xs) done has = done-kept l xs (x.line ∷ done) (or-true (x.line == l) (has_line l done) has)
-
--- a line that is not among the open ones has as many stores safe as there are
-closed : (T : Recording) (n l : ℕ) (ks done : List ℕ) → has_line l ks ≡ true → has_line l (done_after done (open_of T n ks)) ≡ false → front_at T l n ≡ count_at T l n
-closed T n l [] done has none = absurd (true≢false (sym has))
-closed T n l (k ∷ ks) done has none = go (nat_lt (front_at T k n) (count_at T k n)) refl none (cases_eq k l) (closed T n l ks (k ∷ done)) (closed T n l ks done)
-  where
-    later : (k ≡ l → ⊥) → has_line l ks ≡ true
-    later other = sym (ap (λ (b : Bool). b || has_line l ks) (ne_eqb k l other)) ∙ has
-
-    go : (b : Bool) → nat_lt (front_at T k n) (count_at T k n) ≡ b → has_line l (done_after done (if b then line_count T n None k ∷ open_of T n ks else open_of T n ks)) ≡ false → (k ≡ l) ⊎ (k ≡ l → ⊥) →
-        (has_line l ks ≡ true → has_line l (done_after (k ∷ done) (open_of T n ks)) ≡ false → front_at T l n ≡ count_at T l n) →
-        (has_line l ks ≡ true → has_line l (done_after done (open_of T n ks)) ≡ false → front_at T l n ≡ count_at T l n) → front_at T l n ≡ count_at T l n
-    go true is out (inl same) after before = absurd (true≢false (sym (done-kept l (open_of T n ks) (k ∷ done) (ap (λ (b : Bool). b || has_line l done) (eq-eqb k l same))) ∙ out))
-    go true is out (inr other) after before = after (later other) out
-    go false is out (inl same) after before =
-        let P : ℕ → Type 0 = λ j. front_at T j n ≡ count_at T j n in
-        let few = front-le-count k (history T n) in
-        let many = ltb-false (front_at T k n) (count_at T k n) is in
-        let both : front_at T k n ≡ count_at T k n = omega arith in
-        subst P same both
-    go false is out (inr other) after before = before (later other) out
-
-pub closed-all : (T : Recording) (n l : ℕ) → has_line l (done_after [] (open_at T n)) ≡ false → front_at T l n ≡ count_at T l n
-closed-all T n l none = go (has_line l (lines_of (history T n))) refl
-  where
-    go : (b : Bool) → has_line l (lines_of (history T n)) ≡ b → front_at T l n ≡ count_at T l n
-    go true has = closed T n l (lines_of (history T n)) [] has none
-    go false out =
-        let stores : count_at T l n ≡ 0 = no_line-count l (history T n) out in
-        let few = front-le-count l (history T n) in
-        omega arith
 
 -- the numbers of an open line are those of the place
 pub record IsBound (T : Recording) (n : ℕ) (x : LineCount) : Type 0 where
   pub least : x.persisted ≡ front_at T x.line n
   pub greatest : x.stores ≡ count_at T x.line n
 
-pub bound-open : (T : Recording) (n : ℕ) (ks : List ℕ) → AllByRecursion (IsBound T n) (open_of T n ks)
-bound-open T n [] = tt
-bound-open T n (k ∷ ks) = go (nat_lt (front_at T k n) (count_at T k n)) (bound-open T n ks)
-  where
-    go : (b : Bool) → AllByRecursion (IsBound T n) (open_of T n ks) → AllByRecursion (IsBound T n) (if b then line_count T n None k ∷ open_of T n ks else open_of T n ks)
-    go true rest = (record { least = refl; greatest = refl }, rest)
-    go false rest = rest
+-- these are the open lines of the place, and maybe more
+pub record AreOpen (T : Recording) (n : ℕ) (xs : List LineCount) : Type 0 where
+  pub new : AreNew [] xs
+  pub bounds : AllByRecursion (IsBound T n) xs
+  pub closed : (l : ℕ) → has_line l (done_after [] xs) ≡ false → front_at T l n ≡ count_at T l n
 
 -- ---- All choices
 
@@ -163,10 +101,8 @@ chosen-more T n all most (y ∷ ys) done choices new bounds x =
     chosen-more T n all most ys (y.line ∷ done) (grown all most y choices) new.1 bounds.1
     (choices-more (λ l. front_at T l n) (λ l. count_at T l n) (λ l. base_of T n all l) most y.line (low_of all y) (y.stores - y.persisted) done choices new.0 (span-of T n all y bounds.0) (base-inside T n all) x)
 
-pub chosen-all : (T : Recording) (n : ℕ) (all : Bool) (most : ℕ) → ChoicesAt T n all most (done_after [] (open_at T n)) (chosen all most (open_at T n) ([] ∷ []))
-chosen-all T n all most =
-    chosen-more T n all most (open_at T n) [] ([] ∷ []) (new-open T n (lines_of (history T n)) [] (new-lines_of (history T n))) (bound-open T n (lines_of (history T n)))
-    (choices-none (λ l. front_at T l n) (λ l. count_at T l n) (λ l. base_of T n all l) most (base-inside T n all))
+pub chosen-all : (T : Recording) (n : ℕ) (xs : List LineCount) → AreOpen T n xs → (all : Bool) (most : ℕ) → ChoicesAt T n all most (done_after [] xs) (chosen all most xs ([] ∷ []))
+chosen-all T n xs o all most = chosen-more T n all most xs [] ([] ∷ []) o.new o.bounds (choices-none (λ l. front_at T l n) (λ l. count_at T l n) (λ l. base_of T n all l) most (base-inside T n all))
 
 -- ---- Choices off the counts that are choices off the fronts too
 
@@ -210,18 +146,18 @@ off_lines-others T n l (x ∷ xs) done choice bounds none out has =
     go false is rest (inr other) later = later (or-second (x.line == l) (has_line l (off_lines xs choice)) rest) (or-both (x.line == l) (has_line l done) (ne_eqb x.line l other) out) has
 
 -- few of the lines are off
-pub off-few : (T : Recording) (n most : ℕ) (choice : List LineStores) → IsChoice (λ l. front_at T l n) (λ l. count_at T l n) (λ l. base_of T n true l) most (done_after [] (open_at T n)) choice →
-    nat_lt most (fronts_off (open_at T n) choice) ≡ false → IsOffBy most (λ l. front_at T l n) (λ l. with_counts choice (λ k. base_of T n true k) l)
-off-few T n most choice x few = record {
-  lines = off_lines (open_at T n) choice;
-  few = let size = off_lines-length (open_at T n) choice in let small = ltb-false most (fronts_off (open_at T n) choice) few in omega arith;
-  others = λ l none. go l none (has_line l (done_after [] (open_at T n))) refl;
+pub off-few : (T : Recording) (n : ℕ) (xs : List LineCount) → AreOpen T n xs → (most : ℕ) (choice : List LineStores) → IsChoice (λ l. front_at T l n) (λ l. count_at T l n) (λ l. base_of T n true l) most (done_after [] xs) choice →
+    nat_lt most (fronts_off xs choice) ≡ false → IsOffBy most (λ l. front_at T l n) (λ l. with_counts choice (λ k. base_of T n true k) l)
+off-few T n xs o most choice x few = record {
+  lines = off_lines xs choice;
+  few = let size = off_lines-length xs choice in let small = ltb-false most (fronts_off xs choice) few in omega arith;
+  others = λ l none. go l none (has_line l (done_after [] xs)) refl;
 }
   where
-    go : (l : ℕ) → has_line l (off_lines (open_at T n) choice) ≡ false → (b : Bool) → has_line l (done_after [] (open_at T n)) ≡ b → with_counts choice (λ k. base_of T n true k) l ≡ front_at T l n
-    go l none true has = off_lines-others T n l (open_at T n) [] choice (bound-open T n (lines_of (history T n))) none refl has
+    go : (l : ℕ) → has_line l (off_lines xs choice) ≡ false → (b : Bool) → has_line l (done_after [] xs) ≡ b → with_counts choice (λ k. base_of T n true k) l ≡ front_at T l n
+    go l none true has = off_lines-others T n l xs [] choice o.bounds none refl has
     go l none false out =
-        let same : front_at T l n ≡ count_at T l n = closed-all T n l out in
+        let same : front_at T l n ≡ count_at T l n = o.closed l out in
         let low = (x.within l).0 in
         let high = (x.within l).1 in
         omega arith
@@ -244,11 +180,11 @@ off-told T n choice (x ∷ xs) done lines new bounds covers =
         (λ l out off. without-others x.line l lines (other-line x.line l (or-first (x.line == l) (has_line l done) out)) ∙ covers l (or-second (x.line == l) (has_line l done) out) off) in
         omega arith
 
-pub off-more : (T : Recording) (n most : ℕ) (choice : List LineStores) → nat_lt most (fronts_off (open_at T n) choice) ≡ true → IsOffBy most (λ l. front_at T l n) (λ l. with_counts choice (λ k. base_of T n true k) l) → ⊥
-off-more T n most choice more x =
+pub off-more : (T : Recording) (n : ℕ) (xs : List LineCount) → AreOpen T n xs → (most : ℕ) (choice : List LineStores) → nat_lt most (fronts_off xs choice) ≡ true → IsOffBy most (λ l. front_at T l n) (λ l. with_counts choice (λ k. base_of T n true k) l) → ⊥
+off-more T n xs o most choice more x =
     let few = x.few in
-    let many = ltb-true most (fronts_off (open_at T n) choice) more in
-    let bound = off-told T n choice (open_at T n) [] x.lines (new-open T n (lines_of (history T n)) [] (new-lines_of (history T n))) (bound-open T n (lines_of (history T n))) (λ l _ off. go l off (has_line l x.lines) refl) in
+    let many = ltb-true most (fronts_off xs choice) more in
+    let bound = off-told T n choice xs [] x.lines o.new o.bounds (λ l _ off. go l off (has_line l x.lines) refl) in
     omega arith
   where
     go : (l : ℕ) → (with_counts choice (λ k. base_of T n true k) l ≡ front_at T l n → ⊥) → (b : Bool) → has_line l x.lines ≡ b → has_line l x.lines ≡ true
@@ -261,24 +197,24 @@ off-more T n most choice more x =
 abbrev pub numbers : Recording → ℕ → Bool → List LineStores → ℕ → ℕ
 numbers T n all choice l = with_counts choice (λ k. if all then count_at T k n else front_at T k n) l
 
-near-choice : (T : Recording) (n most : ℕ) (all : Bool) (choice : List LineStores) → IsChoice (λ l. front_at T l n) (λ l. count_at T l n) (λ l. base_of T n all l) most (done_after [] (open_at T n)) choice → IsNear T n most (numbers T n all choice)
-near-choice T n most true choice x = record {
+near-choice : (T : Recording) (n : ℕ) (xs : List LineCount) → AreOpen T n xs → (most : ℕ) (all : Bool) (choice : List LineStores) → IsChoice (λ l. front_at T l n) (λ l. count_at T l n) (λ l. base_of T n all l) most (done_after [] xs) choice → IsNear T n most (numbers T n all choice)
+near-choice T n xs o most true choice x = record {
   may = (vectors_are_a_box (history T n) (numbers T n true choice)).1 x.within;
   near = inr (record { lines = lines_in choice; few = let size = length-map choice (λ (y : LineStores). y.line) in let few = x.few in omega arith; others = x.off });
 }
-near-choice T n most false choice x = record {
+near-choice T n xs o most false choice x = record {
   may = (vectors_are_a_box (history T n) (numbers T n false choice)).1 x.within;
   near = inl (record { lines = lines_in choice; few = let size = length-map choice (λ (y : LineStores). y.line) in let few = x.few in omega arith; others = x.off });
 }
 
-all-near : (T : Recording) (n most : ℕ) (all : Bool) (choices : List (List LineStores)) → AllByRecursion (IsChoice (λ l. front_at T l n) (λ l. count_at T l n) (λ l. base_of T n all l) most (done_after [] (open_at T n))) choices →
+all-near : (T : Recording) (n : ℕ) (xs : List LineCount) → AreOpen T n xs → (most : ℕ) (all : Bool) (choices : List (List LineStores)) → AllByRecursion (IsChoice (λ l. front_at T l n) (λ l. count_at T l n) (λ l. base_of T n all l) most (done_after [] xs)) choices →
     AllByRecursion (IsNear T n most) (left_by T n all choices)
-all-near T n most all [] each = tt
-all-near T n most all (c ∷ cs) each = (near-choice T n most all c each.0, all-near T n most all cs each.1)
+all-near T n xs o most all [] each = tt
+all-near T n xs o most all (c ∷ cs) each = (near-choice T n xs o most all c each.0, all-near T n xs o most all cs each.1)
 
 -- those that pass a test
-abbrev pub farther : Recording → ℕ → ℕ → List LineStores → Bool
-farther T n most choice = nat_lt most (fronts_off (open_at T n) choice)
+abbrev pub farther : List LineCount → ℕ → List LineStores → Bool
+farther xs most choice = nat_lt most (fronts_off xs choice)
 
 all-kept : {X : Type 0} (P : X → Type 0) (test : X → Bool) (xs : List X) → AllByRecursion P xs → AllByRecursion P (filter test xs)
 all-kept P test [] all = tt
@@ -305,30 +241,30 @@ apart-kept base test (c ∷ cs) once = go (test c) (apart-kept base test cs once
     go false rest = rest
 
 -- a choice that is farther off, and one off the fronts
-far-apart : (T : Recording) (n most : ℕ) (c d : List LineStores) → IsChoice (λ l. front_at T l n) (λ l. count_at T l n) (λ l. base_of T n false l) most (done_after [] (open_at T n)) c → farther T n most d ≡ true →
+far-apart : (T : Recording) (n : ℕ) (xs : List LineCount) → AreOpen T n xs → (most : ℕ) (c d : List LineStores) → IsChoice (λ l. front_at T l n) (λ l. count_at T l n) (λ l. base_of T n false l) most (done_after [] xs) c → farther xs most d ≡ true →
     ¬ AreSame (numbers T n false c) (numbers T n true d)
-far-apart T n most c d x far same =
-    off-more T n most d far (record { lines = lines_in c; few = let size = length-map c (λ (y : LineStores). y.line) in let few = x.few in omega arith; others = λ l none. sym (same l) ∙ x.off l none })
+far-apart T n xs o most c d x far same =
+    off-more T n xs o most d far (record { lines = lines_in c; few = let size = length-map c (λ (y : LineStores). y.line) in let few = x.few in omega arith; others = λ l none. sym (same l) ∙ x.off l none })
 
 differ-ones : (T : Recording) (n : ℕ) (all : Bool) (c : List LineStores) (ds : List (List LineStores)) → AllByRecursion (AreApart (λ l. base_of T n all l) c) ds → AllByRecursion (λ w. ¬ AreSame (numbers T n all c) w) (left_by T n all ds)
 differ-ones T n all c [] apart = tt
 differ-ones T n all c (d ∷ ds) apart = (apart.0, differ-ones T n all c ds apart.1)
 
-differ-far : (T : Recording) (n most : ℕ) (c : List LineStores) (ds : List (List LineStores)) → IsChoice (λ l. front_at T l n) (λ l. count_at T l n) (λ l. base_of T n false l) most (done_after [] (open_at T n)) c →
-    AllByRecursion (λ d. farther T n most d ≡ true) ds → AllByRecursion (λ w. ¬ AreSame (numbers T n false c) w) (left_by T n true ds)
-differ-far T n most c [] x far = tt
-differ-far T n most c (d ∷ ds) x far = (far-apart T n most c d x far.0, differ-far T n most c ds x far.1)
+differ-far : (T : Recording) (n : ℕ) (xs : List LineCount) → AreOpen T n xs → (most : ℕ) (c : List LineStores) (ds : List (List LineStores)) → IsChoice (λ l. front_at T l n) (λ l. count_at T l n) (λ l. base_of T n false l) most (done_after [] xs) c →
+    AllByRecursion (λ d. farther xs most d ≡ true) ds → AllByRecursion (λ w. ¬ AreSame (numbers T n false c) w) (left_by T n true ds)
+differ-far T n xs o most c [] x far = tt
+differ-far T n xs o most c (d ∷ ds) x far = (far-apart T n xs o most c d x far.0, differ-far T n xs o most c ds x far.1)
 
 differ-all : (T : Recording) (n : ℕ) (all : Bool) (cs : List (List LineStores)) → AllApart (λ l. base_of T n all l) cs → AllDiffer (left_by T n all cs)
 differ-all T n all [] once = tt
 differ-all T n all (c ∷ cs) once = (differ-ones T n all c cs once.0, differ-all T n all cs once.1)
 
-differ-both : (T : Recording) (n most : ℕ) (cs ds : List (List LineStores)) → AllByRecursion (IsChoice (λ l. front_at T l n) (λ l. count_at T l n) (λ l. base_of T n false l) most (done_after [] (open_at T n))) cs → AllApart (λ l. base_of T n false l) cs →
-    AllByRecursion (λ d. farther T n most d ≡ true) ds → AllApart (λ l. base_of T n true l) ds → AllDiffer (left_by T n false cs ++ left_by T n true ds)
-differ-both T n most [] ds each once far later = differ-all T n true ds later
-differ-both T n most (c ∷ cs) ds each once far later = (
-  all-append (λ w. ¬ AreSame (numbers T n false c) w) (left_by T n false cs) (left_by T n true ds) (differ-ones T n false c cs once.0) (differ-far T n most c ds each.0 far),
-  differ-both T n most cs ds each.1 once.1 far later,
+differ-both : (T : Recording) (n : ℕ) (xs : List LineCount) → AreOpen T n xs → (most : ℕ) (cs ds : List (List LineStores)) → AllByRecursion (IsChoice (λ l. front_at T l n) (λ l. count_at T l n) (λ l. base_of T n false l) most (done_after [] xs)) cs → AllApart (λ l. base_of T n false l) cs →
+    AllByRecursion (λ d. farther xs most d ≡ true) ds → AllApart (λ l. base_of T n true l) ds → AllDiffer (left_by T n false cs ++ left_by T n true ds)
+differ-both T n xs o most [] ds each once far later = differ-all T n true ds later
+differ-both T n xs o most (c ∷ cs) ds each once far later = (
+  all-append (λ w. ¬ AreSame (numbers T n false c) w) (left_by T n false cs) (left_by T n true ds) (differ-ones T n false c cs once.0) (differ-far T n xs o most c ds each.0 far),
+  differ-both T n xs o most cs ds each.1 once.1 far later,
 )
 
 -- one of them leaves the numbers
@@ -346,64 +282,64 @@ any-has P (v ∷ vs) (inr later) =
     (suc x.0, x.1, omega arith, x.3, x.4)
 
 -- a choice off the counts was kept, or it is few lines off the fronts
-kept-or-near : (T : Recording) (n most j : ℕ) (v : ℕ → ℕ) (ds : List (List LineStores)) → AllByRecursion (IsChoice (λ l. front_at T l n) (λ l. count_at T l n) (λ l. base_of T n true l) most (done_after [] (open_at T n))) ds →
-    Has (Leaves (λ l. base_of T n true l) j v) ds → Has (Leaves (λ l. base_of T n true l) j v) (filter (farther T n most) ds) ⊎ IsOffBy most (λ l. front_at T l n) v
-kept-or-near T n most j v [] each h = absurd h
-kept-or-near T n most j v (d ∷ ds) each (inl here) = go (farther T n most d) refl
+kept-or-near : (T : Recording) (n : ℕ) (xs : List LineCount) → AreOpen T n xs → (most j : ℕ) (v : ℕ → ℕ) (ds : List (List LineStores)) → AllByRecursion (IsChoice (λ l. front_at T l n) (λ l. count_at T l n) (λ l. base_of T n true l) most (done_after [] xs)) ds →
+    Has (Leaves (λ l. base_of T n true l) j v) ds → Has (Leaves (λ l. base_of T n true l) j v) (filter (farther xs most) ds) ⊎ IsOffBy most (λ l. front_at T l n) v
+kept-or-near T n xs o most j v [] each h = absurd h
+kept-or-near T n xs o most j v (d ∷ ds) each (inl here) = go (farther xs most d) refl
   where
-    go : (b : Bool) → farther T n most d ≡ b → Has (Leaves (λ l. base_of T n true l) j v) (if b then d ∷ filter (farther T n most) ds else filter (farther T n most) ds) ⊎ IsOffBy most (λ l. front_at T l n) v
+    go : (b : Bool) → farther xs most d ≡ b → Has (Leaves (λ l. base_of T n true l) j v) (if b then d ∷ filter (farther xs most) ds else filter (farther xs most) ds) ⊎ IsOffBy most (λ l. front_at T l n) v
     go true is = inl (inl here)
-    go false is = let x = off-few T n most d each.0 is in inr (record { lines = x.lines; few = x.few; others = λ l none. sym (here.1 l) ∙ x.others l none })
-kept-or-near T n most j v (d ∷ ds) each (inr later) = go (farther T n most d) (kept-or-near T n most j v ds each.1 later)
+    go false is = let x = off-few T n xs o most d each.0 is in inr (record { lines = x.lines; few = x.few; others = λ l none. sym (here.1 l) ∙ x.others l none })
+kept-or-near T n xs o most j v (d ∷ ds) each (inr later) = go (farther xs most d) (kept-or-near T n xs o most j v ds each.1 later)
   where
-    go : (b : Bool) → Has (Leaves (λ l. base_of T n true l) j v) (filter (farther T n most) ds) ⊎ IsOffBy most (λ l. front_at T l n) v → Has (Leaves (λ l. base_of T n true l) j v) (if b then d ∷ filter (farther T n most) ds else filter (farther T n most) ds) ⊎ IsOffBy most (λ l. front_at T l n) v
+    go : (b : Bool) → Has (Leaves (λ l. base_of T n true l) j v) (filter (farther xs most) ds) ⊎ IsOffBy most (λ l. front_at T l n) v → Has (Leaves (λ l. base_of T n true l) j v) (if b then d ∷ filter (farther xs most) ds else filter (farther xs most) ds) ⊎ IsOffBy most (λ l. front_at T l n) v
     go b (inr near) = inr near
     go true (inl has) = inl (inr has)
     go false (inl has) = inl has
 
 -- numbers that a crash may leave are the base's at each line that is not open
-at-base : (T : Recording) (n : ℕ) (all : Bool) (v : ℕ → ℕ) → InBox (history T n) v → (l : ℕ) → has_line l (done_after [] (open_at T n)) ≡ false → v l ≡ base_of T n all l
-at-base T n true v box l out =
-    let same : front_at T l n ≡ count_at T l n = closed-all T n l out in
+at-base : (T : Recording) (n : ℕ) (xs : List LineCount) → AreOpen T n xs → (all : Bool) (v : ℕ → ℕ) → InBox (history T n) v → (l : ℕ) → has_line l (done_after [] xs) ≡ false → v l ≡ base_of T n all l
+at-base T n xs o true v box l out =
+    let same : front_at T l n ≡ count_at T l n = o.closed l out in
     let low = (box l).0 in
     let high = (box l).1 in
     omega arith
-at-base T n false v box l out =
-    let same : front_at T l n ≡ count_at T l n = closed-all T n l out in
+at-base T n xs o false v box l out =
+    let same : front_at T l n ≡ count_at T l n = o.closed l out in
     let low = (box l).0 in
     let high = (box l).1 in
     omega arith
 
-near-both : (T : Recording) (n most : ℕ) (cs ds : List (List LineStores)) → ChoicesAt T n false most (done_after [] (open_at T n)) cs → ChoicesAt T n true most (done_after [] (open_at T n)) ds →
-    AreNear T n most (left_by T n false cs ++ left_by T n true (filter (farther T n most) ds))
-near-both T n most cs ds x z = record {
-  each = all-append (IsNear T n most) (left_by T n false cs) (left_by T n true (filter (farther T n most) ds)) (all-near T n most false cs x.each)
-      (all-near T n most true (filter (farther T n most) ds) (all-kept (IsChoice (λ l. front_at T l n) (λ l. count_at T l n) (λ l. base_of T n true l) most (done_after [] (open_at T n))) (farther T n most) ds z.each));
-  whole = λ v near. any-has (λ w. AreSame w v) (left_by T n false cs ++ left_by T n true (filter (farther T n most) ds)) (go v ((vectors_are_a_box (history T n) v).0 near.may) near.near);
-  once = differ-both T n most cs (filter (farther T n most) ds) x.each x.once (all-pass (farther T n most) ds) (apart-kept (λ l. base_of T n true l) (farther T n most) ds z.once);
+near-both : (T : Recording) (n : ℕ) (xs : List LineCount) → AreOpen T n xs → (most : ℕ) (cs ds : List (List LineStores)) → ChoicesAt T n false most (done_after [] xs) cs → ChoicesAt T n true most (done_after [] xs) ds →
+    AreNear T n most (left_by T n false cs ++ left_by T n true (filter (farther xs most) ds))
+near-both T n xs o most cs ds x z = record {
+  each = all-append (IsNear T n most) (left_by T n false cs) (left_by T n true (filter (farther xs most) ds)) (all-near T n xs o most false cs x.each)
+      (all-near T n xs o most true (filter (farther xs most) ds) (all-kept (IsChoice (λ l. front_at T l n) (λ l. count_at T l n) (λ l. base_of T n true l) most (done_after [] xs)) (farther xs most) ds z.each));
+  whole = λ v near. any-has (λ w. AreSame w v) (left_by T n false cs ++ left_by T n true (filter (farther xs most) ds)) (go v ((vectors_are_a_box (history T n) v).0 near.may) near.near);
+  once = differ-both T n xs o most cs (filter (farther xs most) ds) x.each x.once (all-pass (farther xs most) ds) (apart-kept (λ l. base_of T n true l) (farther xs most) ds z.once);
 }
   where
-    by-fronts : (v : ℕ → ℕ) → InBox (history T n) v → IsOffBy most (λ l. front_at T l n) v → Has (λ w. AreSame w v) (left_by T n false cs ++ left_by T n true (filter (farther T n most) ds))
+    by-fronts : (v : ℕ → ℕ) → InBox (history T n) v → IsOffBy most (λ l. front_at T l n) v → Has (λ w. AreSame w v) (left_by T n false cs ++ left_by T n true (filter (farther xs most) ds))
     by-fronts v box off =
-        has-left (λ w. AreSame w v) (left_by T n false cs) (left_by T n true (filter (farther T n most) ds))
-        (has-left_by T n false most v cs (x.whole v most (omega arith) box (at-base T n false v box) (record { lines = off.lines; few = off.few; others = off.others })))
+        has-left (λ w. AreSame w v) (left_by T n false cs) (left_by T n true (filter (farther xs most) ds))
+        (has-left_by T n false most v cs (x.whole v most (omega arith) box (at-base T n xs o false v box) (record { lines = off.lines; few = off.few; others = off.others })))
 
-    by-counts : (v : ℕ → ℕ) → InBox (history T n) v → Has (Leaves (λ l. base_of T n true l) most v) (filter (farther T n most) ds) ⊎ IsOffBy most (λ l. front_at T l n) v →
-        Has (λ w. AreSame w v) (left_by T n false cs ++ left_by T n true (filter (farther T n most) ds))
-    by-counts v box (inl has) = has-right (λ w. AreSame w v) (left_by T n false cs) (left_by T n true (filter (farther T n most) ds)) (has-left_by T n true most v (filter (farther T n most) ds) has)
+    by-counts : (v : ℕ → ℕ) → InBox (history T n) v → Has (Leaves (λ l. base_of T n true l) most v) (filter (farther xs most) ds) ⊎ IsOffBy most (λ l. front_at T l n) v →
+        Has (λ w. AreSame w v) (left_by T n false cs ++ left_by T n true (filter (farther xs most) ds))
+    by-counts v box (inl has) = has-right (λ w. AreSame w v) (left_by T n false cs) (left_by T n true (filter (farther xs most) ds)) (has-left_by T n true most v (filter (farther xs most) ds) has)
     by-counts v box (inr off) = by-fronts v box off
 
-    go : (v : ℕ → ℕ) → InBox (history T n) v → IsOffBy most (λ l. front_at T l n) v ⊎ IsOffBy most (λ l. count_at T l n) v → Has (λ w. AreSame w v) (left_by T n false cs ++ left_by T n true (filter (farther T n most) ds))
+    go : (v : ℕ → ℕ) → InBox (history T n) v → IsOffBy most (λ l. front_at T l n) v ⊎ IsOffBy most (λ l. count_at T l n) v → Has (λ w. AreSame w v) (left_by T n false cs ++ left_by T n true (filter (farther xs most) ds))
     go v box (inl off) = by-fronts v box off
     go v box (inr off) =
-        by-counts v box (kept-or-near T n most most v ds z.each (z.whole v most (omega arith) box (at-base T n true v box) (record { lines = off.lines; few = off.few; others = off.others })))
+        by-counts v box (kept-or-near T n xs o most most v ds z.each (z.whole v most (omega arith) box (at-base T n xs o true v box) (record { lines = off.lines; few = off.few; others = off.others })))
 
-pub near-all : (T : Recording) (n most : ℕ) (cs ds : List (List LineStores)) → cs ≡ chosen false most (open_at T n) ([] ∷ []) → ds ≡ filter (farther T n most) (chosen true most (open_at T n) ([] ∷ [])) →
+pub near-all : (T : Recording) (n : ℕ) (xs : List LineCount) → AreOpen T n xs → (most : ℕ) (cs ds : List (List LineStores)) → cs ≡ chosen false most xs ([] ∷ []) → ds ≡ filter (farther xs most) (chosen true most xs ([] ∷ [])) →
     AreNear T n most (left_by T n false cs ++ left_by T n true ds)
-near-all T n most cs ds first later =
-    subst (λ (xs : List (List LineStores)). AreNear T n most (left_by T n false xs ++ left_by T n true ds)) (sym first)
-    (subst (λ (xs : List (List LineStores)). AreNear T n most (left_by T n false (chosen false most (open_at T n) ([] ∷ [])) ++ left_by T n true xs)) (sym later)
-    (near-both T n most (chosen false most (open_at T n) ([] ∷ [])) (chosen true most (open_at T n) ([] ∷ [])) (chosen-all T n false most) (chosen-all T n true most)))
+near-all T n xs o most cs ds first later =
+    subst (λ (ys : List (List LineStores)). AreNear T n most (left_by T n false ys ++ left_by T n true ds)) (sym first)
+    (subst (λ (ys : List (List LineStores)). AreNear T n most (left_by T n false (chosen false most xs ([] ∷ [])) ++ left_by T n true ys)) (sym later)
+    (near-both T n xs o most (chosen false most xs ([] ∷ [])) (chosen true most xs ([] ∷ [])) (chosen-all T n xs o false most) (chosen-all T n xs o true most)))
 
 -- ---- Steps of loops
 

@@ -1,15 +1,9 @@
 -- Ways to give a few lines other numbers of stores.
-use Rattle.std.specs.Prelude.{ℕ, zero, suc, ◌+◌, ◌-◌, ◌==◌, nat_lt, Bool, if◌then◌else◌, List, [], ◌∷◌, ◌++◌, length, map, None}
-use Rattle.std.specs.List.{filter, flat_map}
-use Rattle.pmt_model.specs.Traces.{Recording, history, lines_of}
-use Rattle.pmt_explain.specs.Crashes.{line_count}
+use Rattle.std.specs.Prelude.{ℕ, zero, suc, ◌+◌, ◌-◌, ◌==◌, nat_lt, Bool, if◌then◌else◌, List, [], ◌∷◌, ◌++◌, length}
+use Rattle.std.specs.List.{flat_map}
 use Rattle.pmt_explain.specs.declared.lines.LineCount.{LineCount}
 use Rattle.pmt_image.specs.declared.crash.LineStores.{LineStores}
 use Rattle.pmt_image.specs.Counts.{with_counts}
-
--- The lines that have a store that a crash can lose.
-abbrev pub open_at : Recording → ℕ → List LineCount
-open_at T n = filter (λ (x : LineCount). nat_lt x.persisted x.stores) (map (line_count T n None) (lines_of (history T n)))
 
 -- The choice, with line l beside it: n numbers of it, from `low` on.
 abbrev pub set_to : List LineStores → ℕ → ℕ → ℕ → List (List LineStores)

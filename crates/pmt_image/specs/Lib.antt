@@ -2,6 +2,9 @@ pub mod Counts
 pub mod Crashes
 pub mod Near
 pub mod Choosing
+pub mod Spans
+pub mod Walking
+pub mod Listing
 pub mod Pools
 pub mod Persisting
 pub mod Outsiders

@@ -2,12 +2,11 @@
 ghost use Rattle.std.specs.Prelude.{◌≡◌, ◌+◌, ◌-◌, ◌<◌, ◌++◌, ◌∷◌, ℕ, true, false, [], nat_lt, length, map, IfOk, OnOk};
 ghost use Rattle.std.specs.List.{filter, flat_map};
 ghost use Rattle.pmt_image.specs.Counts.{with_counts};
-ghost use Rattle.pmt_image.specs.Near.{AreNear, left_by_all};
-ghost use Rattle.pmt_image.specs.Choosing.{chosen, grown, fronts_off, low_of, open_at, settings};
+ghost use Rattle.pmt_image.specs.Choosing.{chosen, grown, fronts_off, low_of, settings};
 
-use crate::crash::{LineStores, least_lines};
+use crate::crash::LineStores;
 use pmt_explain::LineCount;
-use pmt_model::{OutOfMemory, Trace};
+use pmt_model::OutOfMemory;
 use std::alloc::Global;
 
 /// Crashes at a place, each told by a few lines and how many of their stores are persisted, as `crash_at` takes them.
@@ -19,48 +18,12 @@ pub struct NearCrashes {
     pub off_counts: Vec<Vec<LineStores>>,
 }
 
-/// All crashes after the first `place` events that leave each cache line but at most `most` the stores that no crash can lose, and all
-/// that leave each but at most `most` all its stores so far. A crash may leave each of them, and no two leave the same numbers. A place
-/// past the last event counts as that of the last event.
-///
-/// All are held at once. Where n lines have s stores each that a crash can lose, there are some (n * s) ^ `most`.
-///
-/// # Errors
-/// Where memory was refused.
-pub fn near_crashes(
+// The ways to give at most so many of the open lines other numbers than their fronts, or than their counts, each once.
+pub(crate) fn near_choices(
     alloc: Global,
-    trace: &Trace,
-    place: u64,
+    lines: &[LineCount],
     most: u64,
 ) -> Result<NearCrashes, OutOfMemory>
-    ensures { IfOk result (λ crashes. AreNear trace.now place most (left_by_all trace.now place crashes)) }
-{
-    let lines = open_lines(alloc, trace, place)?;
-    let crashes = near_choices(alloc, lines.as_slice(), most)?;
-    Ok(crashes)
-}
-
-// The lines that have a store that a crash can lose, with what no crash can lose as persisted.
-fn open_lines(alloc: Global, trace: &Trace, place: u64) -> Result<Vec<LineCount>, OutOfMemory>
-    ensures { IfOk result (λ lines. lines.items ≡ open_at trace.now place) }
-{
-    let lines = least_lines(alloc, trace, place)?;
-    losing_lines(alloc, lines.as_slice())
-}
-
-// Those of the lines that have such a store.
-fn losing_lines(alloc: Global, lines: &[LineCount]) -> Result<Vec<LineCount>, OutOfMemory>
-    ensures { IfOk result (λ losing. losing.items ≡ filter (λ x. nat_lt x.persisted x.stores) lines.now) }
-{
-    lines
-        .iter()
-        .copied()
-        .filter(|line| line.persisted < line.stores)
-        .collect(alloc)
-}
-
-// The ways to give at most so many of the open lines other numbers than their fronts, or than their counts, each once.
-fn near_choices(alloc: Global, lines: &[LineCount], most: u64) -> Result<NearCrashes, OutOfMemory>
     ensures fronts { IfOk result (λ crashes. map (λ x. x.items) crashes.off_fronts.items ≡ chosen false most lines.now ([] ∷ [])) }
     ensures counts { IfOk result (λ crashes. map (λ x. x.items) crashes.off_counts.items ≡ filter (λ x. nat_lt most (fronts_off lines.now x)) (chosen true most lines.now ([] ∷ []))) }
 {

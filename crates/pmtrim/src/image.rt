@@ -191,8 +191,13 @@ where
     }
 }
 
-// The trace of the file or of `input`.
-fn trace_of<O, I>(alloc: Global, file: Option<&str>, files: &O, input: I) -> Result<Trace, Fault>
+/// The trace of the file or of `input`.
+pub fn trace_of<O, I>(
+    alloc: Global,
+    file: Option<&str>,
+    files: &O,
+    input: I,
+) -> Result<Trace, Fault>
 where
     O: Opener,
     I: Read + Drop,

@@ -1,5 +1,6 @@
 //! The words of `image`.
 use crate::fault::Fault;
+use crate::image_list_words::{ListWords, list_words};
 use clap::{Arg, ArgAction, ArgMatches, Command};
 use pmt_model::Addr;
 use pmt_text::number::{read_address, read_number};
@@ -46,14 +47,29 @@ pub struct ImageWords<'a> {
 pub fn image_command<'a>(alloc: Global) -> Result<Command<'a>, AllocError> {
     let command = Command::new(alloc, "image")
         .override_usage(
-            "pmtrim image (--failure N | --at PLACE [--all] [--line A:K]..) [--pool BASE --origin A] [--out FILE] [FILE]",
+            "pmtrim image (--failure N | --at PLACE [--all] [--line A:K]..) [--pool BASE --origin A] [--out FILE] [FILE]\n       pmtrim image --list [--at PLACES] [--off K] [FILE]",
         )
-        .about("Writes the pool's file as a crash leaves it.")
+        .about("Writes the pool's file as a crash leaves it, or lists crashes.")
         .after_help(
-            "A crash at a place leaves each line the stores that no crash can lose, with --all all its stores, and the line of address A its first K. Without --pool and --origin the pool is FILE.base, and FILE.origin has the address of its first byte.{n}Statuses: 0 done; 2 wrong words, or no crash leaves so many stores; 3 trace or pool refused; 4 file fault; 5 out of memory{n}Example: pmtrim image --failure 1 --out crashed.pool run.trace",
+            "A crash at a place leaves each line the stores that no crash can lose, with --all all its stores, and the line of address A its first K. Without --pool and --origin the pool is FILE.base, and FILE.origin has the address of its first byte.{n}The list has the crashes at each place that leave all lines but K the stores that no crash can lose, and those that leave all but K all their stores: a line each, of the words that image takes. Without --at the places are those after a fence or a clflush, and those after a store, or at the beginning, with no store coming next.{n}Statuses: 0 done; 2 wrong words, or no crash leaves so many stores; 3 trace or pool refused; 4 file fault; 5 out of memory{n}Example: pmtrim image --failure 1 --out crashed.pool run.trace",
         );
-    let asked = with_crash(alloc, command)?;
+    let listing = with_list(alloc, command)?;
+    let asked = with_crash(alloc, listing)?;
     with_files(alloc, asked)
+}
+
+// Which list.
+fn with_list<'a>(alloc: Global, command: Command<'a>) -> Result<Command<'a>, AllocError> {
+    let list = Arg::new(alloc, "list")
+        .long("list")
+        .action(ArgAction::SetTrue)
+        .help("List the crashes near places, and write no pool");
+    command.arg(list)?.arg(value(
+        alloc,
+        "off",
+        "K",
+        "With --list: how many lines may be off (1)",
+    ))
 }
 
 // Which crash.
@@ -76,7 +92,12 @@ fn with_crash<'a>(alloc: Global, command: Command<'a>) -> Result<Command<'a>, Al
             "N",
             "The crash that violates the Nth assertion that fails, as explain tells it",
         ))?
-        .arg(value(alloc, "at", "PLACE", "A crash after PLACE events"))?
+        .arg(value(
+            alloc,
+            "at",
+            "PLACE",
+            "A crash after PLACE events; with --list places, as 12,40-60",
+        ))?
         .arg(all)?
         .arg(line)
 }
@@ -112,11 +133,31 @@ fn value<'a>(alloc: Global, name: &'a str, shown: &'a str, help: &'a str) -> Arg
         .help(help)
 }
 
+/// A list of crashes, or the pool of one.
+#[derive(Drop)]
+pub enum ImageRequest<'a> {
+    /// A list.
+    List(ListWords<'a>),
+    /// The pool.
+    Pool(ImageWords<'a>),
+}
+
 /// What these words ask for.
 ///
 /// # Errors
 /// A usage fault, or `OutOfMemory`.
-pub fn image_words<'a>(alloc: Global, given: &ArgMatches<'a>) -> Result<ImageWords<'a>, Fault> {
+pub fn image_request<'a>(alloc: Global, given: &ArgMatches<'a>) -> Result<ImageRequest<'a>, Fault> {
+    if given.get_flag("list") {
+        return Ok(ImageRequest::List(list_words(alloc, given)?));
+    }
+    if given.get_str("off").is_some() {
+        return Err(Fault::usage(alloc, "'--off' stands with '--list'")?);
+    }
+    Ok(ImageRequest::Pool(image_words(alloc, given)?))
+}
+
+// The words of one pool.
+fn image_words<'a>(alloc: Global, given: &ArgMatches<'a>) -> Result<ImageWords<'a>, Fault> {
     let crash = crash_of(alloc, given)?;
     let words = ImageWords {
         crash,

@@ -3,7 +3,8 @@ use crate::command::commands;
 use crate::draw_words::{Drawing, drawing_of};
 use crate::explain_words::{ExplainWords, explain_words};
 use crate::fault::Fault;
-use crate::image_words::{ImageWords, image_words};
+use crate::image_list_words::ListWords;
+use crate::image_words::{ImageRequest, ImageWords, image_request};
 use clap::error::ErrorKind;
 use clap::{ArgMatches, Error};
 use std::alloc::{AllocError, Global};
@@ -36,6 +37,8 @@ pub enum Request<'a> {
     Draw(Drawing<'a>),
     /// The pool's file as a crash leaves it.
     Image(ImageWords<'a>),
+    /// The crashes near some places.
+    ImageList(ListWords<'a>),
     /// The trace that these scripts record.
     Record {
         scripts: Vec<&'a str>,
@@ -50,6 +53,7 @@ impl Request<'_> {
             Request::Explain(words) => words.file.is_none(),
             Request::Draw(drawing) => drawing.file.is_none(),
             Request::Image(words) => words.file.is_none(),
+            Request::ImageList(words) => words.file.is_none(),
             Request::Show(_) | Request::Fronts { .. } | Request::Record { .. } => false,
         }
     }
@@ -84,7 +88,7 @@ fn asked<'a>(alloc: Global, matches: &ArgMatches<'a>) -> Result<Request<'a>, Fau
         Some(("explain", given)) => Ok(Request::Explain(explain_words(alloc, given)?)),
         Some(("fronts", given)) => fronts(alloc, given),
         Some(("record", given)) => record(alloc, given),
-        Some(("image", given)) => Ok(Request::Image(image_words(alloc, given)?)),
+        Some(("image", given)) => image(alloc, given),
         Some(("draw", given)) => Ok(Request::Draw(drawing_of(alloc, given)?)),
         Some((_, given)) => Ok(trim(given)),
         None => Ok(Request::Trim {
@@ -107,6 +111,13 @@ fn trim<'a>(given: &ArgMatches<'a>) -> Request<'a> {
         workers: workers_of(given),
         stream: given.get_flag("stream"),
         file: given.get_str("FILE"),
+    }
+}
+
+fn image<'a>(alloc: Global, given: &ArgMatches<'a>) -> Result<Request<'a>, Fault> {
+    match image_request(alloc, given)? {
+        ImageRequest::List(words) => Ok(Request::ImageList(words)),
+        ImageRequest::Pool(words) => Ok(Request::Image(words)),
     }
 }
 

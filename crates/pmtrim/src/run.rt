@@ -5,6 +5,7 @@ use crate::draw::draw;
 use crate::explain::run_explain;
 use crate::fault::Fault;
 use crate::image::run_image;
+use crate::image_list::run_list;
 use crate::opener::Opener;
 use crate::record::record;
 use crate::request::{Request, request_of};
@@ -78,6 +79,7 @@ where
         } => trim(rt, workers, file, files, input, out),
         Request::Draw(drawing) => draw(rt, &drawing, files, input, out),
         Request::Image(words) => run_image(rt, &words, files, input, out),
+        Request::ImageList(words) => run_list(rt.alloc(), &words, files, input, out),
         Request::Record { scripts } => record(rt, files, scripts.as_slice(), out),
     }
 }

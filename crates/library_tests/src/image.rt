@@ -1,0 +1,2 @@
+//! Tests of crashes on small traces.
+mod near;
