@@ -18,6 +18,7 @@ BLOCKS = {
     "columns": DATA,
     "explained": DATA,
     "labels": DATA,
+    "sources": DATA,
 }
 
 HEAD = """\

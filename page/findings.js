@@ -19,6 +19,24 @@ function eventsOf(entry) {
   return events.filter(Boolean).map((event) => event.event);
 }
 
+// The events that a finding stands for, by which explain's words choose it too: an assertion, a flush or a fence, the stores to one
+// cache line that are never persisted for one cause, or a pair of stores.
+function membersOf(trace, entry) {
+  if (entry.kind === 'overwritten') return [entry.earlier.event, entry.later.event];
+  if (entry.kind !== 'never_persisted') return [entry.event.event];
+  const { starts, list } = trace.storesOf;
+  const line = trace.lineAt(Number(entry.cache_line));
+  const from = firstAbove(list, starts[line], starts[line + 1], entry.first.event - 1);
+  const to = firstAbove(list, from, starts[line + 1], entry.last.event);
+  return list.subarray(from, to).filter((number) => trace.safe[number] === NEVER);
+}
+
+// Whether a finding stands for an event that has one of these bytes; of stores that are overwritten, whether their cache line does.
+function hasByte(trace, entry, asked) {
+  if (entry.kind !== 'never_persisted') return spansOf(trace, entry).some((own) => overlap(own, asked));
+  return membersOf(trace, entry).some((number) => overlap({ address: trace.address[number], length: trace.length[number] }, asked));
+}
+
 // The bytes that a finding speaks of.
 function spansOf(trace, entry) {
   const line = (address) => [{ address: Math.floor(address / trace.lineSize) * trace.lineSize, length: trace.lineSize }];
@@ -116,10 +134,9 @@ class Findings {
     const { trace } = this;
     const { entry } = finding;
     if (asked.kind && finding.kind !== asked.kind) return false;
-    if (asked.thread !== undefined && !eventsOf(entry).some((number) => trace.thread[number] === asked.thread)) return false;
-    for (const span of [asked.line, asked.range]) {
-      if (span && !spansOf(trace, entry).some((own) => overlap(own, span))) return false;
-    }
+    if (asked.thread !== undefined && !membersOf(trace, entry).some((number) => trace.thread[number] === asked.thread)) return false;
+    if (asked.line && !spansOf(trace, entry).some((own) => overlap(own, asked.line))) return false;
+    if (asked.range && !hasByte(trace, entry, asked.range)) return false;
     return !asked.text || this.searched(finding).includes(asked.text);
   }
 

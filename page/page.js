@@ -13,6 +13,7 @@ class Page {
     this.strip = new Strip(this.trace, byId('strip'), (from, to) => this.stretch(from, to));
     this.crash = new Crash(this.trace, this.strip.unsafe);
     this.sheet = new Sheet(this.trace, byId('sheet'), (place) => this.goTo(place), (from, to) => this.stretch(from, to));
+    this.source = new Source(this.trace, readBlock('sources'));
     this.view = { from: 1, to: 1, place: 0, finding: null, own: null, mattering: null };
     Object.assign(this.view, { focus: focusOf(this.trace, null), most: MOST_FOCUS_LINES });
     this.groupLimit = MOST_GROUPS;
@@ -24,6 +25,7 @@ class Page {
     byId('page').hidden = false;
     this.writeHead();
     this.writeSigns();
+    byId('source').hidden = !this.source.has;
     this.listen();
     this.writeGroups();
     this.readAddress(true);
@@ -137,6 +139,7 @@ class Page {
     byId('own-crash').hidden = view.finding?.kind !== 'failure';
     byId('own-crash').disabled = view.own !== null;
     if (byId('list').open) this.writeList();
+    this.writeSource();
     this.writeAddress();
   }
 
@@ -173,6 +176,7 @@ class Page {
     const more = Object.entries(summary.more ?? {}).filter(([, left]) => left > 0);
     const kinds = more.map(([kind, left]) => `${grouped(left)} of ${KIND_WORDS[kind] ?? kind}`).join(', ');
     if (more.length > 0) found.push([`Not on this page, by its limit: ${kinds} (--limit says how many)`]);
+    if (!this.source.isWhole) found.push(['Not all source lines that labels name are here: a page has at most two million bytes of them']);
     if (!about.values) found.push(['The bytes of stores are left out for size, but for those of the failures']);
     return found;
   }
@@ -224,6 +228,11 @@ class Page {
     byId('more-lines').hidden = rows.moreLines === 0 || view.mattering !== null;
     const lines = count(rows.moreLines, 'further cache line');
     byId('more-lines').textContent = view.most < MOST_LINES ? `Show more of ${lines}` : `${lines} folded away; show fewer`;
+  }
+
+  // The source lines of what is chosen, where they are asked for.
+  writeSource() {
+    if (byId('source').open) this.source.write(byId('source-places'), this.view);
   }
 
   writeGroups() {
@@ -329,6 +338,7 @@ class Page {
       this.drawAll();
     });
     on('list', 'toggle', () => this.writeList());
+    on('source', 'toggle', () => this.writeSource());
     on('filters', 'input', () => this.filter());
     on('filters', 'submit', (event) => event.preventDefault());
     on('filters', 'reset', () => setTimeout(() => this.filter()));
@@ -357,7 +367,7 @@ class Page {
     const option = (value, text) => make('option', { value }, text);
     byId('filter-kind').replaceChildren(option('', 'all'), ...kinds.map((kind) => option(kind, KIND_WORDS[kind])));
     const threads = new Set();
-    for (const finding of this.findings.all) for (const number of eventsOf(finding.entry)) threads.add(this.trace.thread[number]);
+    for (const finding of this.findings.all) for (const number of membersOf(this.trace, finding.entry)) threads.add(this.trace.thread[number]);
     const rising = [...threads].sort((a, b) => a - b);
     byId('filter-thread').replaceChildren(option('', 'all'), ...rising.map((thread) => option(thread, String(thread))));
   }
@@ -388,6 +398,7 @@ class Page {
     else if (event.key === 'P') this.stepCause(-1);
     else if (event.key === 'p') this.step(-1);
     else if (event.key === 'c') byId('slider').focus();
+    else if (event.key === 's') byId('source').open = this.source.has && !byId('source').open;
     else if (event.key === '/') {
       event.preventDefault();
       byId('filter-text').focus();

@@ -34,12 +34,16 @@ function foreign(text, most = SHORT) {
   return told;
 }
 
-// Of a chain of calls the first one tells most, of anything else the end.
+// Of a chain of calls the first one tells most, and of a place with words behind it the place; of anything else the end.
 function cut(text, most) {
   if (text.length <= most) return text;
-  const call = text.split(' < ', 1)[0];
-  if (call.length < text.length && call.length + 2 <= most) return `${call} …`;
-  return `…${text.slice(text.length - most + 1)}`;
+  const [call] = text.split(' < ', 1);
+  const [word] = text.split(' ', 1);
+  for (const part of /:[0-9]+$/.test(word) ? [call, word] : [call]) {
+    if (part.length < text.length && part.length + 2 <= most) return `${part} …`;
+  }
+  const told = /:[0-9]+$/.test(word) ? word : text;
+  return told.length <= most ? told : `…${told.slice(told.length - most + 1)}`;
 }
 
 // A text for a picture, where nothing can be set apart from what stands beside it.

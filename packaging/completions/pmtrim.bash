@@ -14,7 +14,7 @@ _pmtrim() {
   elif [[ $word == -* ]]; then
     case $command in
       check) mapfile -t COMPREPLY < <(compgen -W '--workers --help' -- "$word") ;;
-      explain) mapfile -t COMPREPLY < <(compgen -W '--ignore --ignore-file --limit --only --thread --range --from --to --label --failure --labels --json --html --help' -- "$word") ;;
+      explain) mapfile -t COMPREPLY < <(compgen -W '--ignore --ignore-file --limit --only --thread --range --from --to --label --failure --labels --json --html --source --help' -- "$word") ;;
       trim) mapfile -t COMPREPLY < <(compgen -W '--workers --stream --help' -- "$word") ;;
       draw) mapfile -t COMPREPLY < <(compgen -W '--failure --around --from --to --line --labels --help' -- "$word") ;;
       image) mapfile -t COMPREPLY < <(compgen -W '--failure --at --all --line --list --off --pool --origin --out --help' -- "$word") ;;

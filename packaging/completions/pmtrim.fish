@@ -24,6 +24,7 @@ complete -c pmtrim -n "__fish_seen_subcommand_from explain" -l failure -x -d 'On
 complete -c pmtrim -n "__fish_seen_subcommand_from explain" -l labels -r -d 'What to call the events'
 complete -c pmtrim -n "__fish_seen_subcommand_from explain" -l json -d 'Write a JSON object a line'
 complete -c pmtrim -n "__fish_seen_subcommand_from explain" -l html -d 'Write one page of HTML'
+complete -c pmtrim -n "__fish_seen_subcommand_from explain" -l source -r -d 'Show lines of source files below this folder'
 complete -c pmtrim -n "__fish_seen_subcommand_from trim" -l stream -d 'Write the trace as it is read'
 complete -c pmtrim -n "__fish_seen_subcommand_from help" -f -a 'check explain trim fronts record draw image'
 complete -c pmtrim -n "__fish_seen_subcommand_from draw" -l failure -x -d 'An assertion that fails'

@@ -11,6 +11,7 @@ import tempfile
 import page_large
 import page_looks
 import page_machine
+import page_sources
 import page_walk
 from browser import Browser
 from examples import Counts
@@ -21,7 +22,7 @@ def main():
     counts = Counts()
     with tempfile.TemporaryDirectory() as folder, Browser() as browser:
         pages = Pages(sys.argv[1], pathlib.Path(folder), browser)
-        for part in (page_machine, page_walk, page_looks, page_large):
+        for part in (page_machine, page_walk, page_sources, page_looks, page_large):
             for what, wrong in part.cases(pages):
                 counts.expect(what, not wrong, wrong)
     print(f"{counts.passed} passed, {counts.failed} failed")

@@ -3,7 +3,7 @@ import json
 import re
 import subprocess
 
-BLOCKS = ("about", "columns", "explained", "labels")
+BLOCKS = ("about", "columns", "explained", "labels", "sources")
 KINDS = ("failure", "never_persisted", "dropped", "overwritten", "unwritten")
 NAMED_BY = {"never_persisted": "first", "overwritten": "earlier"}
 

@@ -3,6 +3,8 @@ use Rattle.std.specs.Prelude.{◌≡◌, ℕ, ◌-◌, ◌==◌, Bool, if◌then
 use Rattle.std.specs.List.{flat_map}
 use Rattle.pmt_text.specs.Spelling.{numeral, hex_bytes}
 use Rattle.pmt_page.specs.declared.labels.Label.{Label}
+use Rattle.pmt_page.specs.declared.sources.SourceFile.{SourceFile}
+use Rattle.pmt_page.specs.declared.sources.SourcePart.{SourcePart}
 use Rattle.pmt_page.specs.Escapes.{quoted}
 use Rattle.pmt_page.specs.Numbers.{listed}
 
@@ -45,3 +47,23 @@ abbrev pub IsLabelsBlock : List Label → List ℕ → Type 0
 IsLabelsBlock labels block =
     (texts : List (List ℕ)) × (places : List ℕ) × AreTexts labels texts places
     × (block ≡ labels_block labels texts places)
+
+-- A source file, with why none of its lines are here.
+abbrev pub source_file : SourceFile → List ℕ
+source_file f = codes "{\"name\":" ++ quoted f.name.now ++ codes ",\"why\":" ++ quoted f.why.now ++ codes "}"
+
+-- Lines of the file at this place, from 0, the first of which has this number.
+abbrev pub source_part : SourcePart → List ℕ
+source_part p =
+    codes "{\"file\":" ++ numeral 10 p.file
+    ++ codes ",\"first\":" ++ numeral 10 p.first
+    ++ codes ",\"lines\":" ++ quoted p.lines.now
+    ++ codes "}"
+
+-- Files and lines of them, and whether these are all that labels name.
+abbrev pub sources_block : List SourceFile → List SourcePart → Bool → List ℕ
+sources_block files parts is_all =
+    codes "{\"all\":" ++ (if is_all then codes "true" else codes "false")
+    ++ codes ",\"files\":[" ++ listed source_file files
+    ++ codes "],\"parts\":[" ++ listed source_part parts
+    ++ codes "]}"

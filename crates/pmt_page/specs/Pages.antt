@@ -1,7 +1,7 @@
 -- The page: the parts of its template, with a block between each two.
 use Rattle.std.specs.Prelude.{ℕ, List, ◌++◌}
 use Rattle.pmt_page.specs.declared.page.Blocks.{Blocks}
-use Rattle.pmt_page.specs.declared.parts.TheConstants.{BEFORE_TEXT, BEFORE_PICTURE, BEFORE_ABOUT, BEFORE_COLUMNS, BEFORE_EXPLAINED, BEFORE_LABELS, AFTER_LABELS}
+use Rattle.pmt_page.specs.declared.parts.TheConstants.{BEFORE_TEXT, BEFORE_PICTURE, BEFORE_ABOUT, BEFORE_COLUMNS, BEFORE_EXPLAINED, BEFORE_LABELS, BEFORE_SOURCES, AFTER_SOURCES}
 use Rattle.pmt_page.specs.declared.template.Template.{Template}
 use Rattle.pmt_page.specs.Escapes.{embedded, html}
 
@@ -13,7 +13,8 @@ pub record Parts : Type 0 where
   pub before_columns : List ℕ
   pub before_explained : List ℕ
   pub before_labels : List ℕ
-  pub after_labels : List ℕ
+  pub before_sources : List ℕ
+  pub after_sources : List ℕ
 
 -- What stands in the place of the script where none runs.
 abbrev pub without_script : Parts → Blocks → List ℕ
@@ -23,9 +24,13 @@ without_script p b = p.before_text ++ html b.text.now ++ p.before_picture ++ b.p
 abbrev pub trace_data : Parts → Blocks → List ℕ
 trace_data p b = p.before_about ++ embedded b.about.now ++ p.before_columns ++ embedded b.columns.now
 
+-- Lines of source files, and the script.
+abbrev pub source_data : Parts → Blocks → List ℕ
+source_data p b = p.before_sources ++ embedded b.sources.now ++ p.after_sources
+
 -- What is told of it, and the script.
 abbrev pub told_data : Parts → Blocks → List ℕ
-told_data p b = p.before_explained ++ embedded b.explained.now ++ p.before_labels ++ embedded b.labels.now ++ p.after_labels
+told_data p b = p.before_explained ++ embedded b.explained.now ++ p.before_labels ++ embedded b.labels.now ++ source_data p b
 
 unfoldable pub filled : Parts → Blocks → List ℕ
 filled p b = without_script p b ++ trace_data p b ++ told_data p b
@@ -38,7 +43,8 @@ parts_of t = record {
   before_columns = t.before_columns.now;
   before_explained = t.before_explained.now;
   before_labels = t.before_labels.now;
-  after_labels = t.after_labels.now;
+  before_sources = t.before_sources.now;
+  after_sources = t.after_sources.now;
 }
 
 -- The template in the folder page/.
@@ -50,7 +56,8 @@ parts = record {
   before_columns = BEFORE_COLUMNS.now;
   before_explained = BEFORE_EXPLAINED.now;
   before_labels = BEFORE_LABELS.now;
-  after_labels = AFTER_LABELS.now;
+  before_sources = BEFORE_SOURCES.now;
+  after_sources = AFTER_SOURCES.now;
 }
 
 unfoldable pub page : Blocks → List ℕ

@@ -56,7 +56,7 @@ pub fn about_text(alloc: Global, page: About<'_>) -> Result<Vec<u8>, OutOfMemory
 }
 
 // Adds the words and the number.
-fn push_count(text: &mut Vec<u8>, words: &[u8], number: u64) -> Result<(), OutOfMemory>
+pub(crate) fn push_count(text: &mut Vec<u8>, words: &[u8], number: u64) -> Result<(), OutOfMemory>
     ensures { OnOk result (text.new.items ≡ text.old.items ++ words.now ++ numeral 10 number) }
 {
     text.extend_from_slice(words)?;
@@ -64,7 +64,7 @@ fn push_count(text: &mut Vec<u8>, words: &[u8], number: u64) -> Result<(), OutOf
 }
 
 // Adds the words and the string.
-fn push_string(text: &mut Vec<u8>, words: &[u8], string: &str) -> Result<(), OutOfMemory>
+pub(crate) fn push_string(text: &mut Vec<u8>, words: &[u8], string: &str) -> Result<(), OutOfMemory>
     ensures { OnOk result (text.new.items ≡ text.old.items ++ words.now ++ quoted string.now) }
 {
     text.extend_from_slice(words)?;

@@ -16,6 +16,7 @@ pub mod labels;
 pub mod laws;
 pub mod page;
 mod parts;
+pub mod sources;
 mod template;
 
 pub use crate::about::{About, about_text, digest_of};
@@ -25,3 +26,4 @@ pub use crate::explained::explained_text;
 pub use crate::known::{Dropped, Found, SafePlace, Why};
 pub use crate::labels::{Label, labels_text};
 pub use crate::page::{Blocks, page_text};
+pub use crate::sources::{SourceFile, SourcePart, sources_text};

@@ -1,6 +1,6 @@
 //! The page, laid together of its parts.
 ghost use Rattle.std.specs.Prelude.{◌≡◌, ◌++◌, IfOk, OnOk};
-ghost use Rattle.pmt_page.specs.Pages.{page, parts_of, told_data, trace_data, without_script};
+ghost use Rattle.pmt_page.specs.Pages.{page, parts_of, source_data, told_data, trace_data, without_script};
 ghost use Rattle.pmt_page.specs.Pages.{filled as filled_with};
 
 use crate::escapes::{push_embedded, push_html};
@@ -21,8 +21,10 @@ pub struct Blocks<'a> {
     pub columns: &'a [u8],
     /// what `explain` tells,
     pub explained: &'a [u8],
-    /// and what the events are called.
+    /// what the events are called,
     pub labels: &'a [u8],
+    /// and lines of source files.
+    pub sources: &'a [u8],
 }
 
 /// The page with these blocks, which needs nothing else. No data ends the element that it stands in: each `<` of it is written
@@ -87,5 +89,18 @@ fn push_told_data(
     push_embedded(text, blocks.explained)?;
     text.extend_from_slice(template.before_labels.as_bytes())?;
     push_embedded(text, blocks.labels)?;
-    text.extend_from_slice(template.after_labels.as_bytes())
+    push_source_data(text, template, blocks)
+}
+
+// Adds the lines of source files, and the end of the page, with the script.
+fn push_source_data(
+    text: &mut Vec<u8>,
+    template: Template<'_>,
+    blocks: Blocks<'_>,
+) -> Result<(), OutOfMemory>
+    ensures { OnOk result (text.new.items ≡ text.old.items ++ source_data (parts_of template.entry) blocks.entry) }
+{
+    text.extend_from_slice(template.before_sources.as_bytes())?;
+    push_embedded(text, blocks.sources)?;
+    text.extend_from_slice(template.after_sources.as_bytes())
 }

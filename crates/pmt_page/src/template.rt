@@ -1,8 +1,8 @@
 //! The template of the page: what stands before its blocks, between them and after them.
 
 use crate::parts::{
-    AFTER_LABELS, BEFORE_ABOUT, BEFORE_COLUMNS, BEFORE_EXPLAINED, BEFORE_LABELS, BEFORE_PICTURE,
-    BEFORE_TEXT,
+    AFTER_SOURCES, BEFORE_ABOUT, BEFORE_COLUMNS, BEFORE_EXPLAINED, BEFORE_LABELS, BEFORE_PICTURE,
+    BEFORE_SOURCES, BEFORE_TEXT,
 };
 
 /// The parts of a template, in the order in which they stand on the page. Each but the last is named after the block that follows.
@@ -14,7 +14,8 @@ pub struct Template<'a> {
     pub before_columns: &'a str,
     pub before_explained: &'a str,
     pub before_labels: &'a str,
-    pub after_labels: &'a str,
+    pub before_sources: &'a str,
+    pub after_sources: &'a str,
 }
 
 /// The template in `page/`.
@@ -25,5 +26,6 @@ pub const TEMPLATE: Template<'static> = Template {
     before_columns: BEFORE_COLUMNS,
     before_explained: BEFORE_EXPLAINED,
     before_labels: BEFORE_LABELS,
-    after_labels: AFTER_LABELS,
+    before_sources: BEFORE_SOURCES,
+    after_sources: AFTER_SOURCES,
 };

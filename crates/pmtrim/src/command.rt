@@ -43,7 +43,7 @@ fn program<'a>(alloc: Global) -> Result<Command<'a>, AllocError> {
     Ok(
         command
             .override_usage(
-                "pmtrim < TRACE\n       pmtrim check [--workers N] [FILE]\n       pmtrim explain [--ignore A:N].. [--limit N] [--only KIND] .. [--labels FILE] [--json | --html] [FILE]\n       pmtrim trim [--workers N] [--stream] [FILE]\n       pmtrim fronts FILE PLACE\n       pmtrim record SCRIPT..\n       pmtrim draw [--failure N | --around I | --from I --to J] [--line A].. [--labels FILE] [FILE]\n       pmtrim image (--failure N | --at PLACE [--all] [--line A:K]..) [--pool BASE --origin A] [--out FILE] [FILE]\n       pmtrim image --list [--at PLACES] [--off K] [FILE]",
+                "pmtrim < TRACE\n       pmtrim check [--workers N] [FILE]\n       pmtrim explain [--ignore A:N].. [--limit N] [--only KIND] .. [--labels FILE] [--json | --html [--source DIR]] [FILE]\n       pmtrim trim [--workers N] [--stream] [FILE]\n       pmtrim fronts FILE PLACE\n       pmtrim record SCRIPT..\n       pmtrim draw [--failure N | --around I | --from I --to J] [--line A].. [--labels FILE] [FILE]\n       pmtrim image (--failure N | --at PLACE [--all] [--line A:K]..) [--pool BASE --origin A] [--out FILE] [FILE]\n       pmtrim image --list [--at PLACES] [--off K] [FILE]",
             )
             .about(
                 "Checks traces of persistent memory events, and trims the flushes and fences that no crash can show.{n}With no words it trims the trace on standard input.",

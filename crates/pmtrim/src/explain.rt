@@ -21,15 +21,15 @@ use std::thread::Threads;
 // The lines of a text where the words don't say how many entries are shown.
 const ROWS: usize = 60;
 
-// What a person calls the input that has no name.
-const STANDARD_INPUT: &str = "standard input";
+/// What a person calls the input that has no name.
+pub const STANDARD_INPUT: &str = "standard input";
 
 /// Explains the trace of the file or of `input`, and writes what is asked for to `out`. The files of ranges and of labels are read and
 /// judged first. The status is 1 where an assertion fails, or a store is never persisted that is not ignored.
 ///
 /// # Errors
 /// The fault of a file of ranges, of the labels, of the trace, that no failed assertion is where one was asked for, the fault of the
-/// write: the first of them. Each names the file and says why.
+/// folder of the source files, that of the write: the first of them. Each names the file and says why.
 pub fn run_explain<T, O, I, W>(
     rt: &T,
     mut words: ExplainWords<'_>,
@@ -58,7 +58,7 @@ where
     let explanation = explained(rt, &words, bytes.as_slice(), &labels)?;
     judge_failure(alloc, &explanation, words.failure)?;
     let status = if has_failed(&explanation) { 1 } else { 0 };
-    let answer = answer_of(alloc, explanation, &labels, words, bytes)?;
+    let answer = answer_of(alloc, files, explanation, &labels, words, bytes)?;
     write_out(alloc, answer.as_slice(), out)?;
     Ok(status)
 }
@@ -86,8 +86,11 @@ pub fn name_of<'a>(words: &ExplainWords<'a>) -> &'a str {
     words.file.unwrap_or(STANDARD_INPUT)
 }
 
-// The bytes of the file, or those of `input` where none is named.
-fn bytes_of<O: Opener, I: Read + Drop>(
+/// The bytes of the trace of the file, or those of `input` where none is named.
+///
+/// # Errors
+/// The fault of the file or of the read, which names it; `OutOfMemory`.
+pub fn bytes_of<O: Opener, I: Read + Drop>(
     alloc: Global,
     file: Option<&str>,
     files: &O,
@@ -140,8 +143,11 @@ fn explained<T: AllocGlobal + Threads + Sync>(
     }
 }
 
-// The fault of the trace with this text, where its source told this.
-fn source_fault(
+/// The fault of the trace with this text, where its source told this: of a refused line its place, its text, and what is allowed there.
+///
+/// # Errors
+/// `OutOfMemory`.
+pub fn source_fault(
     alloc: Global,
     name: &str,
     text: &[u8],
@@ -183,8 +189,9 @@ fn write_out<W: Write>(alloc: Global, answer: &[u8], out: &mut W) -> Result<(), 
 }
 
 // What is asked for of the trace with this text.
-fn answer_of(
+fn answer_of<O: Opener>(
     alloc: Global,
+    files: &O,
     explanation: Explanation,
     labels: &Labels,
     words: ExplainWords<'_>,
@@ -193,7 +200,7 @@ fn answer_of(
     match words.form {
         Form::Text => Ok(people_text(alloc, &explanation, labels, &words)?),
         Form::Json => Ok(json_text(alloc, &explanation, labels, &words.options.choice)?),
-        Form::Page => page_of(alloc, explanation, labels, words, bytes.as_slice()),
+        Form::Page => page_of(alloc, files, explanation, labels, words, bytes.as_slice()),
     }
 }
 

@@ -6,7 +6,7 @@ use std::alloc::{AllocError, Global};
 
 /// How `explain` is used.
 pub const USAGE: &str =
-    "pmtrim explain [--ignore A:N].. [--ignore-file FILE].. [--limit N] [--only KIND] [--thread T] [--range A:N] [--from I] [--to J] [--label TEXT] [--failure N] [--labels FILE] [--json | --html] [FILE]";
+    "pmtrim explain [--ignore A:N].. [--ignore-file FILE].. [--limit N] [--only KIND] [--thread T] [--range A:N] [--from I] [--to J] [--label TEXT] [--failure N] [--labels FILE] [--json | --html [--source DIR]] [FILE]";
 
 /// The words of `explain`.
 pub fn explain_command<'a>(alloc: Global) -> Result<Command<'a>, AllocError> {
@@ -100,6 +100,12 @@ fn with_files<'a>(alloc: Global, command: Command<'a>) -> Result<Command<'a>, Al
         ))?
         .arg(json)?
         .arg(html)?
+        .arg(value(
+            alloc,
+            "source",
+            "DIR",
+            "Put the source lines that labels name into the page, from files below this folder; wants --html and --labels",
+        ))?
         .arg(Arg::new(alloc, "FILE").help("The trace; standard input, if none is given"))
 }
 

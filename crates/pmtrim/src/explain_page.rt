@@ -5,7 +5,10 @@ use crate::draw::first_picture;
 use crate::explain::{name_of, people_text};
 use crate::explain_words::ExplainWords;
 use crate::fault::Fault;
+use crate::opener::Opener;
+use crate::page_labels::page_labels;
 use crate::safe_places::safe_places;
+use crate::sources::sources_of;
 use pmt_explain::Dropped as Reasoned;
 use pmt_explanation::{Explanation, Labels, Options, explanation_of, json_text};
 use pmt_model::OutOfMemory;
@@ -16,25 +19,32 @@ use pmt_page::{
 use pmt_reasons::Reason;
 use std::alloc::Global;
 
+// About as many bytes as what is told has at most, where the words name no number of entries.
+const MOST_TOLD: usize = 8_000_000;
+
 /// The page of the explained trace that has these bytes as its text.
 ///
 /// # Errors
-/// `OutOfMemory`.
-pub fn page_of(
+/// The fault of the folder of the source files; `OutOfMemory`.
+pub fn page_of<O: Opener>(
     alloc: Global,
+    files: &O,
     explanation: Explanation,
     labels: &Labels,
     mut words: ExplainWords<'_>,
     bytes: &[u8],
 ) -> Result<Vec<u8>, Fault> {
     let text = people_text(alloc, &explanation, labels, &words)?;
-    words.options.limit = words.page_limit;
+    words.options.limit = limit_of(alloc, &explanation, labels, &words)?;
     let explanation = explained_again(alloc, explanation, labels, &words.options)?;
     let picture = first_picture(alloc, &explanation.analysis, labels)?;
     let columns = columns(alloc, &explanation)?;
     let about = about(alloc, &explanation, &words, bytes, columns.has_values)?;
     let told = told(alloc, &explanation, labels, &words)?;
-    let named = named(alloc, &explanation, labels)?;
+    let events = explanation.analysis.trace().len() as u64;
+    let named = page_labels(alloc, labels, events)?;
+    let sources = sources(alloc, files, words.source, named.as_slice())?;
+    let labelled = labels_text(alloc, named.as_slice())?;
     Ok(page_text(
         alloc,
         Blocks {
@@ -43,9 +53,33 @@ pub fn page_of(
             about: about.as_slice(),
             columns: columns.text.as_slice(),
             explained: told.as_slice(),
-            labels: named.as_slice(),
+            labels: labelled.as_slice(),
+            sources: sources.as_slice(),
         },
     )?)
+}
+
+// How many entries of a kind the page has, by the length of those that the explanation has, at most ten.
+fn limit_of(
+    alloc: Global,
+    explanation: &Explanation,
+    labels: &Labels,
+    words: &ExplainWords<'_>,
+) -> Result<usize, OutOfMemory> {
+    if words.is_limited {
+        return Ok(words.page_limit);
+    }
+    let few = told(alloc, explanation, labels, words)?.len();
+    for (limit, most) in [
+        (words.page_limit, MOST_TOLD / 100),
+        (100, MOST_TOLD / 10),
+        (10, MOST_TOLD),
+    ] {
+        if few <= most {
+            return Ok(limit);
+        }
+    }
+    Ok(1)
 }
 
 // The explanation of the same trace with these options.
@@ -134,21 +168,19 @@ fn told(
     explained_text(alloc, lines.as_slice())
 }
 
-// What the events of the trace are called.
-fn named(
+// The lines of source files; null, where no folder is named.
+fn sources<O: Opener>(
     alloc: Global,
-    explanation: &Explanation,
-    labels: &Labels,
-) -> Result<Vec<u8>, OutOfMemory> {
-    let events = explanation.analysis.trace().len() as u64;
-    let mut named = Vec::new(alloc);
-    for (event, text) in labels.texts.iter() {
-        if *event <= events {
-            named.push(Label {
-                event: *event,
-                text: text.as_str(),
-            })?;
+    files: &O,
+    folder: Option<&str>,
+    labels: &[Label<'_>],
+) -> Result<Vec<u8>, Fault> {
+    match folder {
+        Some(folder) => sources_of(alloc, files, folder, labels),
+        None => {
+            let mut none = Vec::new(alloc);
+            none.extend_from_slice(b"null")?;
+            Ok(none)
         }
     }
-    labels_text(alloc, named.as_slice())
 }

@@ -43,6 +43,8 @@ pub struct ExplainWords<'a> {
     pub labels: Option<&'a str>,
     /// What is written.
     pub form: Form,
+    /// The folder of the source files whose lines a page shows.
+    pub source: Option<&'a str>,
     /// The most entries of a kind that a page has.
     pub page_limit: usize,
     /// The trace; standard input, if none is given.
@@ -66,6 +68,7 @@ pub fn explain_words<'a>(alloc: Global, given: &ArgMatches<'a>) -> Result<Explai
         failure,
         labels: given.get_str("labels"),
         form: form_of(given),
+        source: source_of(alloc, given)?,
         page_limit: asked_limit(alloc, given.get_str("limit"), MANY)?,
         file: given.get_str("FILE"),
     })
@@ -80,6 +83,22 @@ fn form_of(given: &ArgMatches<'_>) -> Form {
     } else {
         Form::Text
     }
+}
+
+// The folder of the source files: lines of them stand on a page alone, and labels say which.
+fn source_of<'a>(alloc: Global, given: &ArgMatches<'a>) -> Result<Option<&'a str>, Fault> {
+    let Some(folder) = given.get_str("source") else {
+        return Ok(None);
+    };
+    if !given.get_flag("html") {
+        let message = "'--source' wants '--html', the page that shows lines of source files";
+        return Err(Fault::usage(alloc, message)?);
+    }
+    if given.get_str("labels").is_none() {
+        let message = "'--source' wants '--labels', the file that names the source lines of events";
+        return Err(Fault::usage(alloc, message)?);
+    }
+    Ok(Some(folder))
 }
 
 // The files that name bytes to ignore.

@@ -1,4 +1,5 @@
 //! Opening named files.
+use std::alloc::Global;
 use std::fs;
 use std::io::{self, ErrorKind, Read, Write};
 use std::os::unix::fs::MetadataExt;
@@ -32,6 +33,12 @@ pub trait Opener {
     /// # Errors
     /// `System` where it can't be asked, `OutOfMemory`.
     fn size(&self, name: &str) -> Result<Option<u64>, OpenError>;
+
+    /// The absolute name of what has this name, with no symbolic link in it.
+    ///
+    /// # Errors
+    /// `System` where there is nothing with this name, or it can't be asked; `OutOfMemory`.
+    fn real_name(&self, alloc: Global, name: &str) -> Result<String, OpenError>;
 
     /// The writer of the file with this name, which is empty then.
     ///
@@ -72,6 +79,13 @@ impl<R: Files> Opener for SystemFiles<'_, R> {
         match fs::metadata(self.rt, name) {
             Ok(found) if found.is_file() => Ok(Some(found.len())),
             Ok(_) => Ok(None),
+            Err(e) => Err(open_error(e)),
+        }
+    }
+
+    fn real_name(&self, alloc: Global, name: &str) -> Result<String, OpenError> {
+        match self.rt.canonicalize(alloc, name) {
+            Ok(path) => Ok(path.into_string()),
             Err(e) => Err(open_error(e)),
         }
     }

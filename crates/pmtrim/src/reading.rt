@@ -29,13 +29,25 @@ pub fn system_fault(
     what: &str,
     error: io::Error,
 ) -> Result<Fault, Fault> {
-    if error.kind() == ErrorKind::OutOfMemory {
-        return Ok(Fault::OutOfMemory);
-    }
-    let whole = format!(in alloc; "{error}")?;
-    let reason = reason_of(whole.as_str());
+    let reason = match reason(alloc, error) {
+        Ok(reason) => reason,
+        Err(fault) => return Ok(fault),
+    };
+    let reason = reason.as_str();
     let line = format!(in alloc; "{action} {what}: {reason}\n")?;
     Ok(Fault::System(line))
+}
+
+/// The system's reason.
+///
+/// # Errors
+/// `OutOfMemory`, also where that is the reason.
+pub fn reason(alloc: Global, error: io::Error) -> Result<String, Fault> {
+    if error.kind() == ErrorKind::OutOfMemory {
+        return Err(Fault::OutOfMemory);
+    }
+    let whole = format!(in alloc; "{error}")?;
+    Ok(String::from_str(alloc, reason_of(whole.as_str()))?)
 }
 
 // The system's reason without its number.

@@ -1,0 +1,54 @@
+"""The source lines of a page: which are read below the folder of --source, and which are not."""
+import os
+import subprocess
+
+TRACE = b"pmtrace 1\n" + b"".join(b"store 0 0x%x 01\n" % (0x1000 + 64 * at) for at in range(7))
+
+# Labels of events 1 to 7, as a hostile file may have them.
+LABELS = ("near.c:8 < caller.c:2", "../outside.c:1", "/etc/passwd:1", "link.c:1", "binary.c:1", "gone.c:1", "near.c:99")
+
+
+def folder_of(top):
+    """A folder with source files, one of them a link to a file outside of it."""
+    sources = top / "sources"
+    sources.mkdir()
+    (top / "outside.c").write_text("secret\n")
+    (sources / "near.c").write_text("".join(f"line {number}\n" for number in range(1, 21)))
+    (sources / "caller.c").write_text("first\n</script><script>alert(1)</script>\n")
+    (sources / "binary.c").write_bytes(b"a\0b\n")
+    os.symlink(top / "outside.c", sources / "link.c")
+    return sources
+
+
+def wrong_of(found):
+    """What is wrong with the block of the sources."""
+    why = {file["name"]: file["why"] for file in found["files"]}
+    lines = {found["files"][part["file"]]["name"]: (part["first"], part["lines"].split("\n")) for part in found["parts"]}
+    wanted = {
+        "near.c": (3, [f"line {number}" for number in range(3, 14)]),
+        "caller.c": (1, ["first", "</script><script>alert(1)</script>"]),
+    }
+    wrong = [f"{name}: {lines.get(name)}" for name, text in wanted.items() if lines.get(name) != text or why.get(name) != ""]
+    wrong += [f"{name} is shown" for name in lines if name not in wanted]
+    wrong += [f"{name} without a reason" for name in ("../outside.c", "/etc/passwd", "link.c", "binary.c", "gone.c") if not why.get(name)]
+    return "; ".join(wrong)
+
+
+def cases(pages):
+    """What is asked, and what is wrong about the answer."""
+    sources = folder_of(pages.folder)
+    trace = pages.folder / "sources.trace"
+    labels = pages.folder / "sources.labels"
+    trace.write_bytes(TRACE)
+    labels.write_text("".join(f"{number} {text}\n" for number, text in enumerate(LABELS, 1)))
+    page, blocks = pages.make(trace, "--labels", labels, "--source", sources, name="sources")
+    yield "source lines", wrong_of(blocks["sources"])
+    pages.open(page, "#never_persisted=1")
+    pages.press("s")
+    shown = pages.browser.run("document.getElementById('source').innerText")
+    yield "source lines in sight", "" if "line 8" in shown and "</script>" in shown else shown[:200]
+    yield "no faults", "; ".join(pages.faults(page))
+    for words in (["--source", sources], ["--html", "--source", sources], ["--html", "--labels", labels, "--source", pages.folder / "none"]):
+        done = subprocess.run([pages.program, "explain", *words, trace], capture_output=True, timeout=60)
+        wanted = 4 if "none" in str(words[-1]) else 2
+        yield f"refused {words[:-1]}", "" if done.returncode == wanted and done.stdout == b"" else f"{done.returncode} {done.stderr[:200]}"
