@@ -273,7 +273,9 @@ def judge_words(program):
     program.refused("event 1 lies past the end", "--from", 1, "--to", 2)
     program.judge("no file", program.run(program.file.with_name("none")).returncode == 4)
     program.file.write_bytes(b"pmtrace 1\nfoo\n")
-    program.judge("a refused trace", program.run(program.file).returncode == 3)
+    done = program.run(program.file)
+    wanted = f"{program.file}:2: ".encode()
+    program.judge(f"a refused trace: {done}", done.returncode == 3 and done.stderr.startswith(wanted) and b"\n    foo\n" in done.stderr)
 
 
 def judge_documents(program):

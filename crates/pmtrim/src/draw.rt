@@ -2,7 +2,7 @@
 ghost use Rattle.std.specs.Prelude.{◌≡◌, IfOk};
 
 use crate::draw_words::Drawing;
-use crate::explain::labels_of;
+use crate::explain::{STANDARD_INPUT, bytes_of, labels_of, source_fault};
 use crate::fault::Fault;
 use crate::opener::Opener;
 use crate::writing::write_whole;
@@ -13,10 +13,10 @@ use pmt_explanation::Labels;
 use pmt_explanation::failures::failing_events;
 use pmt_explanation::ignoring::{lost_stores, overwritings};
 use pmt_model::OutOfMemory;
-use pmt_report::analysed;
-use pmt_text::Counted;
+use pmt_report::{RunError, analysed};
+use pmt_text::{Counted, SourceError};
 use std::alloc::{AllocError, Global};
-use std::io::{Read, Write};
+use std::io::{Cursor, Read, Write};
 use std::sync::Wait;
 use std::thread::Threads;
 
@@ -53,32 +53,26 @@ where
     O: Opener,
     I: Read + Drop,
 {
-    let analysis = asked(rt, drawing.file, files, input)?;
-    picture(rt.alloc(), &analysis, &drawing.view)
+    let alloc = rt.alloc();
+    let bytes = bytes_of(alloc, drawing.file, files, input)?;
+    let name = drawing.file.unwrap_or(STANDARD_INPUT);
+    let analysis = analysis_of(rt, name, bytes.as_slice())?;
+    picture(alloc, &analysis, &drawing.view)
 }
 
-// The analysis of the trace of the file or of `input`.
-fn asked<T, O, I>(rt: &T, file: Option<&str>, files: &O, input: I) -> Result<Analysis, Fault>
+// The analysis of the trace with this text and name.
+fn analysis_of<T>(rt: &T, name: &str, bytes: &[u8]) -> Result<Analysis, Fault>
 where
     T: AllocGlobal + Threads + Wait + Sync,
-    O: Opener,
-    I: Read + Drop,
 {
-    match file {
-        Some(name) => analysis_of(rt, files.open(name)?),
-        None => analysis_of(rt, input),
-    }
-}
-
-// The analysis of the trace that the reader gives.
-fn analysis_of<T, R>(rt: &T, reader: R) -> Result<Analysis, Fault>
-where
-    T: AllocGlobal + Threads + Wait + Sync,
-    R: Read + Drop,
-{
-    let (_reader, found) = analysed(rt, rt.alloc(), 1, Counted::new(reader));
+    let alloc = rt.alloc();
+    let (_reader, found) = analysed(rt, alloc, 1, Counted::new(Cursor::new(bytes)));
     match found {
         Ok(analysis) => Ok(analysis),
+        Err(RunError::Text(fault)) => {
+            Err(source_fault(alloc, name, bytes, SourceError::Text(fault))?)
+        }
+        Err(RunError::TooMany) => Err(source_fault(alloc, name, bytes, SourceError::TooMany)?),
         Err(error) => Err(Fault::Run(error)),
     }
 }
