@@ -268,11 +268,12 @@ def lists(program, library):
         judge(["--list"], Answer(0, b"--at 0\n"), None, b"pmtrace 1\n")
         judge(["--list", "--at", "6", trace], Answer(2, b"", b"place past end 5\n"), None)
         judge(["--list", "--at", "0-18446744073709551615", trace], Answer(2, b"", b"place past end 5\n"), None)
+        judge(["--list", "--at", "18446744073709551616", trace], Answer(2, b"", b"place past end 5\n"), None)
         judge(["--list"], Answer(3, b"", b"trace line 2"), None, b"pmtrace 1\nstore 0\n")
         judge(["--list", "/dev/null/none"], Answer(4, b"", b"cannot open /dev/null/none: "), None)
         others = (["--all"], ["--failure", "1"], ["--line", "0x1000:1"], ["--pool", trace], ["--origin", "0x0"], ["--out", str(out)])
-        places = ("", ",", "1,", ",1", "1,,2", "-", "1-", "1-2-3", "5-3", "01", "1 2", "0x1", "1,x", "18446744073709551616")
-        for words in (*others, *(["--at", word] for word in places), *(["--off", word] for word in ("", "01", "x", "1.5", "18446744073709551616"))):
+        places = ("", ",", "1,", ",1", "1,,2", "-", "1-", "1-2-3", "5-3", "01", "1 2", "0x1", "1,x")
+        for words in (*others, *(["--at", word] for word in places), *(["--off", word] for word in ("", "01", "x", "1.5"))):
             judge(["--list", *words, trace], Answer(2, b"", b"error: "), None)
         for kind in ("memory", "write", "nothing_taken"):
             for at in range(1, 2000):

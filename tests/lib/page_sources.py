@@ -45,7 +45,7 @@ def cases(pages):
     yield "source lines", wrong_of(blocks["sources"])
     pages.open(page, "#never_persisted=1")
     pages.press("s")
-    shown = pages.browser.run("document.getElementById('source').innerText")
+    shown = pages.browser.run("document.getElementById('source').textContent")
     yield "source lines in sight", "" if "line 8" in shown and "</script>" in shown else shown[:200]
     yield "no faults", "; ".join(pages.faults(page))
     for words in (["--source", sources], ["--html", "--source", sources], ["--html", "--labels", labels, "--source", pages.folder / "none"]):
