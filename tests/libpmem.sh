@@ -4,9 +4,11 @@
 set -u
 cd "$(dirname "$0")/.." || exit 1
 . tests/lib/program.sh
+# shellcheck source=tests/lib/shared.sh
+. tests/lib/shared.sh
 examples=/usr/share/doc
 if ! [ -e $examples/libpmem-dev/examples/simple_copy.c ] || ! [ -e $examples/libpmem2-dev/examples/redo/redo.c ] ||
   ! [ -e $examples/libpmemobj-dev/examples/string_store/writer.c ]; then
-  { apt-get update && apt-get install -y --no-install-recommends libpmem-dev libpmem2-dev libpmemobj-dev; } > /dev/null 2>&1
+  alone install_packages libpmem-dev libpmem2-dev libpmemobj-dev
 fi
 exec python3 tests/lib/libpmem.py "$program"

@@ -5,8 +5,10 @@ set -u
 cd "$(dirname "$0")/.." || exit 1
 # shellcheck source=tests/lib/program.sh
 . tests/lib/program.sh
+# shellcheck source=tests/lib/shared.sh
+. tests/lib/shared.sh
 if ! command -v chromium > /dev/null; then
-  { apt-get update && apt-get install -y --no-install-recommends chromium; } > /dev/null 2>&1
+  alone install_packages chromium
 fi
 if ! command -v chromium > /dev/null; then
   echo "there is no browser; it needs: apt-get install chromium"

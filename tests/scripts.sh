@@ -1,12 +1,14 @@
 #!/usr/bin/env bash
 # Runs shellcheck, which is installed where it may be, over every shell script of the project, and asks whether the program has the
-# page's template as it is. Last line: 'N passed, M failed'.
+# page's template as it is, and whether the documents keep to their width. Last line: 'N passed, M failed'.
 set -u
 cd "$(dirname "$0")/.." || exit 1
 . tests/lib/cases.sh
+# shellcheck source=tests/lib/shared.sh
+. tests/lib/shared.sh
 
 if ! command -v shellcheck > /dev/null; then
-  { apt-get update && apt-get install -y --no-install-recommends shellcheck; } > /dev/null 2>&1
+  alone install_packages shellcheck
 fi
 if ! command -v shellcheck > /dev/null; then
   echo "the scripts are not checked; that needs: apt-get install shellcheck"
@@ -31,6 +33,13 @@ done < <(git ls-files -z)
 
 # The page's template stands in the program as it stands in page/.
 if python3 page/embed.py --check; then
+  passed=$((passed + 1))
+else
+  failed=$((failed + 1))
+fi
+
+# A line of a document has at most 120 characters, outside of code and tables.
+if git ls-files -z '*.md' | xargs -0 python3 tests/lib/widths.py; then
   passed=$((passed + 1))
 else
   failed=$((failed + 1))
