@@ -300,6 +300,7 @@ class Tests:
         trace, _, told, faults = self.record("pmdk", [program, pool], "--pmdk")
         self.expect("--pmdk answers", told == "1 2 1\n", told)
         self.expect("--pmdk", text_of(ignore) == "0x40:24\n0x100:8\n", text_of(ignore))
+        self.expect("--pmdk: the next command", f"--ignore-file {ignore} {trace}\n" in faults, faults)
         words = [f"--ignore {line}" for line in text_of(ignore).splitlines()]
         status, told, _ = run([self.program, "explain", *" ".join(words).split(), trace])
         self.expect("what is ignored", status == 1 and "never persisted" in told, told[:300])
@@ -444,6 +445,20 @@ class Tests:
         _, _, told = run([RECORD, "--trace", self.folder / "none.trace", "--pool", self.folder / "other", program, "saves", pool])
         self.expect("no pool", "no file was mapped that counts as a pool: see --pool" in told, told)
 
+    def yes_or_no(self):
+        shown = re.findall(r"^  (--[a-z-]+)(\[=yes\|no\]| yes\|no)", run([RECORD, "--help"])[1], re.M)
+        self.expect("options that take yes or no", len(shown) == 6, shown)
+        for name, word in shown:
+            bare = word.startswith("[")
+            for words, wanted, fault in (
+                ([name, "yes", "true"], 2 if bare else 0, f"write {name}=yes and not {name} yes" if bare else ""),
+                ([name, "true"], 0 if bare else 2, "" if bare else f"{name} takes yes or no, not true"),
+                ([f"{name}=no", "true"], 0, ""),
+                ([f"{name}=on", "true"], 2, f"{name} takes yes or no, not on"),
+            ):
+                status, _, told = run([RECORD, "--trace", self.folder / "words.trace", *words])
+                self.expect(f"{' '.join(words)}, as the help has it", status == wanted and fault in told, f"{status} {told}")
+
 
 def installed(tests):
     """Below another folder it finds its tool, and needs neither root nor this one."""
@@ -467,7 +482,8 @@ def page(tests):
 def main():
     with tempfile.TemporaryDirectory() as name:
         tests = Tests(sys.argv[1], pathlib.Path(name).resolve())
-        for part in (tests.stores, tests.flushes, tests.mappings, tests.system, tests.claims, tests.pmdk, tests.ends, tests.labels, tests.examples, tests.words):
+        parts = [tests.stores, tests.flushes, tests.mappings, tests.system, tests.claims, tests.pmdk, tests.ends, tests.labels]
+        for part in (*parts, tests.examples, tests.words, tests.yes_or_no):
             part()
         installed(tests)
         page(tests)

@@ -63,7 +63,8 @@ static const HChar *recorder_name(void) {
     return "pmtrim-record: ";
 }
 
-static void add_next(void) {
+/* The command that explains the trace, without the ranges that are ignored, if there are such. */
+static void add_next(ULong ignored) {
     if (event_counts.events == 0) {
         add(had_pools() ? "; no store, flush or fence of a pool came in the window"
                         : "; no file was mapped that counts as a pool: see --pool");
@@ -72,6 +73,8 @@ static void add_next(void) {
     add("; next: pmtrim explain ");
     if (options.labels)
         add("--labels %s.labels ", trace_path());
+    if (ignored > 0)
+        add("--ignore-file %s.ignore ", trace_path());
     add("%s", trace_path());
 }
 
@@ -100,7 +103,7 @@ void print_summary(void) {
     add("%s%llu events of %d thread%s in %s", recorder_name(), event_counts.events, thread_count(), thread_count() == 1 ? "" : "s",
         trace_path());
     add_all_missing();
-    add_next();
+    add_next(ignored);
     VG_(printf)("%s\n", text);
     if (unknown_instruction != 0)
         VG_(printf)("%sthe program came to %s: if it ended there, build it with -march=x86-64-v3, or without that instruction\n",
