@@ -5,10 +5,12 @@ set -u
 cd "$(dirname "$0")/.." || exit 1
 # shellcheck source=tests/lib/program.sh
 . tests/lib/program.sh
+# shellcheck source=tests/lib/shared.sh
+. tests/lib/shared.sh
 if ! [ -e /usr/include/valgrind/pub_tool_basics.h ] || ! command -v valgrind > /dev/null; then
-  { apt-get update && apt-get install -y --no-install-recommends valgrind; } > /dev/null 2>&1
+  alone install_packages valgrind
 fi
-if ! make -s -C recorders/valgrind || ! make -s -C recorders/libpmem; then
+if ! alone make -s -C recorders/valgrind || ! alone make -s -C recorders/libpmem; then
   echo "a recorder is not built; they need: apt-get install gcc make valgrind"
   echo "0 passed, 1 failed"
   exit 1

@@ -96,18 +96,19 @@ class Memory:
         """What the lines that are not safe hold after a crash at this place: their addresses and bytes."""
         return [(self.lines[number].address, self.lines[number].content(stores)) for number, stores in crash.persisted(self.open).items()]
 
-    def lost_stores(self, crash):
-        """The numbers of the stores that the crash loses, rising. Each open line's stores are those of the trace, in their order."""
+    def divided_stores(self, crash):
+        """The numbers of the stores that a crash at this place can lose: those that this one loses, and those that it keeps, rising. Each
+        open line's stores are those of the trace, in their order."""
         persisted = crash.persisted(self.open)
-        missing = {number: self.open[number][1] - stores for number, stores in persisted.items() if stores < self.open[number][1]}
-        lost, number = [], self.place
-        while missing:
+        ranks = {number: count for number, (_, count) in self.open.items()}
+        lost, kept, number = [], [], self.place
+        while ranks:
             store = self.trace.store(number)
             line = store[0] // self.trace.line_size if store else None
-            if line in missing:
-                lost.append(number)
-                missing[line] -= 1
-                if missing[line] == 0:
-                    del missing[line]
+            if line in ranks:
+                (lost if ranks[line] > persisted[line] else kept).append(number)
+                ranks[line] -= 1
+                if ranks[line] == self.open[line][0]:
+                    del ranks[line]
             number -= 1
-        return lost[::-1]
+        return lost[::-1], kept[::-1]

@@ -134,8 +134,10 @@ class Replay:
                 self.counts.known += 1
                 self.note(name, self.results.known[name])
             return
-        contents, lost = memory.open_contents(crash), memory.lost_stores(crash)
+        contents, (lost, kept) = memory.open_contents(crash), memory.divided_stores(crash)
         result.update(lost=lost[:MOST_STORES], losses=len(lost), made_by=self.made_by(crash))
+        if len(kept) < len(lost):
+            result.update(kept=kept[:MOST_STORES], keeps=len(kept))
         while not room.acquire(timeout=0.5):
             self.go_on()
         self.go_on()

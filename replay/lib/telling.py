@@ -44,18 +44,25 @@ def shorten(things, most, thing):
     return things[:most] + [f"and {counted(len(things) - most, f'more {thing}')}"] * (len(things) > most)
 
 
+def stores_of(trace, verb, numbers, count):
+    """What a crash does to so many stores, of which these are the first."""
+    more = count - len(numbers)
+    return [f"{verb} {trace.describe(number)}" for number in numbers] + [f"{verb} {more} more"] * (more > 0)
+
+
 def row_of(trace, result):
-    """A failed image: its number, its place, the event there, the checker's status; what it loses; and what the checker wrote last."""
-    rows = [f"{result['number']:>6} {result['place']:>6}  {trace.describe(result['place'])}", f"{'':15}checker: {result['status']}"]
-    lost = [trace.describe(number) for number in result["lost"][:MOST_STORES]]
-    more = result["losses"] - len(lost)
-    rows += [f"{'':15}loses {store}" for store in lost] + [f"{'':15}loses {more} more"] * (more > 0) + [f"{'':15}loses nothing"] * (not result["losses"])
-    return rows + [f"{'':15}| {line}" for line in result["tail"]]
+    """A failed image: its number, its place, the event there, the checker's status; of the stores that a crash there can lose those that
+    this one keeps, if they are the fewer, and those that it loses; and what the checker wrote last."""
+    rows = [f"{result['number']:>6} {result['place']:>6}  {trace.describe(result['place'])}"]
+    told = [f"checker: {result['status']}"]
+    told += stores_of(trace, "keeps", result.get("kept", []), result.get("keeps", 0))
+    told += stores_of(trace, "loses", result["lost"], result["losses"]) or ["loses nothing"]
+    return rows + [f"{'':15}{words}" for words in [*told, *(f"| {line}" for line in result["tail"])]]
 
 
 def table(trace, failures):
     """The failed images, by number."""
-    rows = [" image  place  event, and what the crash loses"]
+    rows = [" image  place  event, and what the crash keeps and loses"]
     for result in failures[:MOST_FAILURES]:
         rows += row_of(trace, result)
     if len(failures) > MOST_FAILURES:
@@ -67,8 +74,9 @@ def next_words(trace, result):
     """How to look at the first failure."""
     path = shlex.quote(trace.path)
     labels = f"--labels {shlex.quote(trace.path + '.labels')} " if trace.labels else ""
-    lines = sorted({trace.store(number)[0] // trace.line_size * trace.line_size for number in result["lost"]})
-    shown = "".join(f"--line {line:#x} " for line in lines[:MOST_LINES])
+    told = [*result.get("kept", []), *result["lost"]]
+    lines = dict.fromkeys(trace.store(number)[0] // trace.line_size * trace.line_size for number in told)
+    shown = "".join(f"--line {line:#x} " for line in sorted(list(lines)[:MOST_LINES]))
     return [
         "next, of the first one:",
         *(f"  {words}" for words in result["made_by"]),

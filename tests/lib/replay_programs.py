@@ -8,6 +8,7 @@ LIBPMEM = TOP / "recorders/libpmem/out"
 BY_HEADER = ["gcc", "-Wall", "-Wextra", "-Werror", "-pthread", "-I", TOP / "recorders/c"]
 BY_LIBPMEM = ["gcc", "-g", "-Wall", "-Wextra", "-Werror", "-I", LIBPMEM / "include"]
 PLAIN = ["gcc", "-O1", "-g", "-mclwb", "-Wall", "-Wextra", "-Werror"]
+FIRST_FAILURE = ["keeps event 25", "loses event 9", "loses event 19"]
 
 
 class ProgramTests(Runs):
@@ -116,3 +117,6 @@ class ProgramTests(Runs):
                 self.expect_file(f"examples/undo_log.{ending}", f"undo_log.{ending}", (TOP / f"examples/undo_log.{ending}").read_bytes())
             done = self.replay(["undo_log.trace", "--", program, "recover", "{}"])
             self.expect(f"undo_log {words}", done[0] == status and ("add up to" in done[1]) == bool(status), done)
+        told = [" ".join(row.split()[:3]) for row in done[1].split("\n")]
+        self.expect("what a crash keeps, where that is less, and what it loses", told[6:9] == FIRST_FAILURE, told)
+        self.expect("a crash that loses nothing", told[12] == "loses nothing", told)
