@@ -12,8 +12,8 @@ PARTS = PAGE.parent / "crates/pmt_page/src/parts.rt"
 # The blocks in the order in which they stand on the page, with the tags around each.
 DATA = '<script type="application/json" id="{}">', "</script>"
 BLOCKS = {
-    "text": ("<pre>", "</pre>"),
     "picture": ("", ""),
+    "text": ("<pre>", "</pre>"),
     "about": DATA,
     "columns": DATA,
     "explained": DATA,

@@ -100,10 +100,19 @@ const COMMON = {
   }),
 };
 
+// How many findings of each kind are not on the page. A cause counts all its failed assertions, of which the page has the first ones of
+// all; of causes that are left out there is at least one each.
+function leftOut(more, explained) {
+  const failures = explained.filter((entry) => entry.kind === 'failure').length;
+  const failing = explained.filter((entry) => entry.kind === 'cause').reduce((sum, entry) => sum + entry.count, more.cause ?? 0);
+  return Object.fromEntries(KINDS.map((kind) => [kind, kind === 'failure' ? Math.max(0, failing - failures) : more[kind] ?? 0]));
+}
+
 class Findings {
   constructor(trace, explained) {
     this.trace = trace;
-    this.summary = explained.find((entry) => entry.kind === 'summary') ?? { more: {} };
+    const { more = {}, ...summary } = explained.find((entry) => entry.kind === 'summary') ?? {};
+    this.summary = { ...summary, more: leftOut(more, explained) };
     this.all = explained.filter((entry) => KINDS.includes(entry.kind)).map((entry) => this.finding(entry));
     this.filter({});
   }

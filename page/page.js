@@ -4,10 +4,11 @@
 
 const MOST_GROUPS = 150;
 const ADDRESS_WAIT = 200;
+// Of a longer trace the browser first paints the picture that stands there without script.
+const SHOWN_AT_ONCE = 50_000;
 
 class Page {
   constructor() {
-    const began = performance.now();
     this.trace = new Trace(readBlock('about'), readBlock('columns'), readBlock('labels'));
     this.findings = new Findings(this.trace, readEntries());
     this.strip = new Strip(this.trace, byId('strip'), (from, to) => this.stretch(from, to));
@@ -17,11 +18,10 @@ class Page {
     this.view = { from: 1, to: 1, place: 0, finding: null, own: null, mattering: null };
     Object.assign(this.view, { focus: focusOf(this.trace, null), most: MOST_FOCUS_LINES });
     this.groupLimit = MOST_GROUPS;
-    this.began = began;
   }
 
   start() {
-    document.body.classList.add('script');
+    byId('still').remove();
     byId('page').hidden = false;
     this.writeHead();
     this.writeSigns();
@@ -176,7 +176,11 @@ class Page {
     const more = Object.entries(summary.more ?? {}).filter(([, left]) => left > 0);
     const kinds = more.map(([kind, left]) => `${grouped(left)} of ${KIND_WORDS[kind] ?? kind}`).join(', ');
     if (more.length > 0) found.push([`Not on this page, by its limit: ${kinds} (--limit says how many)`]);
+    if (summary.assertions === 0) found.push(['The trace has no assertion: what is saved too late is not found without one']);
     if (!this.source.isWhole) found.push(['Not all source lines that labels name are here: a page has at most two million bytes of them']);
+    const labels = this.trace.labelsLeftOut();
+    if (labels > 0) found.push([`The labels of ${count(labels, 'event')} are left out for size; … stands for each`]);
+    if (this.trace.labelsCut()) found.push([`Labels are cut at ${grouped(MOST_LABEL)} bytes`]);
     if (!about.values) found.push(['The bytes of stores are left out for size, but for those of the failures']);
     return found;
   }
@@ -243,7 +247,9 @@ class Page {
       const own = groups.filter((group) => group.kind === kind);
       if (own.length === 0) continue;
       const total = own.reduce((sum, group) => sum + group.stands, 0);
-      nodes.push(make('h3', { class: kind }, `${KIND_SIGNS[kind]} ${KIND_WORDS[kind]} `, make('span', { class: 'soft' }, grouped(total))));
+      const left = this.findings.summary.more?.[kind] ?? 0;
+      const told = left > 0 ? `${grouped(total)}, and ${grouped(left)} not on this page` : grouped(total);
+      nodes.push(make('h3', { class: kind }, `${KIND_SIGNS[kind]} ${KIND_WORDS[kind]} `, make('span', { class: 'soft' }, told)));
       nodes.push(make('ul', {}, ...own.slice(0, this.groupLimit).map((group) => make('li', {}, this.groupButton(group)))));
       if (own.length > this.groupLimit) nodes.push(this.moreGroups(own.length - this.groupLimit));
     }
@@ -463,5 +469,12 @@ class Page {
   }
 }
 
-const page = new Page();
-page.start();
+let page = null;
+
+function begin() {
+  page = new Page();
+  page.start();
+}
+
+if (document.hidden || readBlock('about').events <= SHOWN_AT_ONCE) begin();
+else requestAnimationFrame(() => setTimeout(begin));

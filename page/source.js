@@ -15,12 +15,14 @@ function placesOf(label) {
   return found;
 }
 
-// The events of whose places lines are shown: those that a finding names and where its mend goes, else the last one before the crash.
-function sourceEvents(view) {
+// The events of whose places lines are shown: those that a finding names and where its mend goes, and the last flush of its lines,
+// which may have missed one; else the last event before the crash.
+function sourceEvents(trace, view) {
   if (view.finding === null) return view.place === 0 ? [] : [view.place];
   const { entry } = view.finding;
   const found = [...eventsOf(entry), entry.mend?.after, entry.mend?.before, entry.mend?.store, entry.cause?.flush?.event];
-  return [...new Set(found.filter(Number.isInteger))];
+  const flushes = view.focus.lines.map((line) => trace.lastFlush(line, view.place));
+  return [...new Set([...found, Math.max(0, ...flushes)])].filter((number) => Number.isInteger(number) && number > 0);
 }
 
 function eventList(numbers) {
@@ -64,7 +66,7 @@ class Source {
   }
 
   write(box, view) {
-    const places = this.placesOf(sourceEvents(view));
+    const places = this.placesOf(sourceEvents(this.trace, view));
     const nodes = places.slice(0, MOST_SHOWN_PLACES).map((place) => this.placeNode(place));
     const more = places.length - nodes.length;
     if (places.length === 0) nodes.push(make('p', {}, 'The labels of these events name no source line, as list.c:57 does.'));

@@ -23,14 +23,15 @@ class Strip {
     const { trace } = this;
     const bins = Math.max(1, Math.min(MOST_BINS, Math.floor(this.width / 2), trace.events));
     const found = { bins, stores: new Uint32Array(bins), unsafe: new Uint32Array(bins), fails: new Uint32Array(bins) };
-    const scale = bins / Math.max(1, trace.events);
-    for (let number = 1; number <= trace.events; number += 1) {
-      const bin = Math.min(bins - 1, Math.floor((number - 1) * scale));
-      if (this.unsafe[number] > found.unsafe[bin]) found.unsafe[bin] = this.unsafe[number];
-    }
-    for (const number of trace.stores) found.stores[Math.min(bins - 1, Math.floor((number - 1) * scale))] += 1;
-    for (const number of trace.assertions) {
-      if (trace.fails[number]) found.fails[Math.min(bins - 1, Math.floor((number - 1) * scale))] += 1;
+    for (let bin = 0; bin < bins; bin += 1) {
+      const end = Math.floor(((bin + 1) * trace.events) / bins);
+      let most = 0;
+      for (let number = Math.floor((bin * trace.events) / bins) + 1; number <= end; number += 1) {
+        if (this.unsafe[number] > most) most = this.unsafe[number];
+        if (trace.kinds[number] === STORE) found.stores[bin] += 1;
+        if (trace.fails[number]) found.fails[bin] += 1;
+      }
+      found.unsafe[bin] = most;
     }
     return found;
   }

@@ -3,4 +3,4 @@
 set -u
 cd "$(dirname "$0")/.." || exit 1
 . tests/lib/program.sh
-exec python3 tests/lib/machine.py "$program"
+exec python3 tests/lib/machine_answers.py "$program"

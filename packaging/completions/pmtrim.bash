@@ -6,7 +6,7 @@ _pmtrim() {
   elif [ "$before" = --workers ]; then
     mapfile -t COMPREPLY < <(compgen -W '1 2 4 8 16' -- "$word")
   elif [ "$before" = --only ]; then
-    mapfile -t COMPREPLY < <(compgen -W 'failure never_persisted dropped overwritten unwritten' -- "$word")
+    mapfile -t COMPREPLY < <(compgen -W 'failure never_persisted dropped overwritten unwritten late' -- "$word")
   elif [[ $before =~ ^--(ignore|limit|thread|range|label|failure|around|from|to|line|at|origin)$ ]]; then
     COMPREPLY=()
   elif [ "$command" = help ]; then

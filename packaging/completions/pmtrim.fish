@@ -14,7 +14,7 @@ complete -c pmtrim -n "__fish_seen_subcommand_from check trim" -l workers -x -a 
 complete -c pmtrim -n "__fish_seen_subcommand_from explain" -l ignore -x -d 'Leave out the N bytes from A on, as A:N'
 complete -c pmtrim -n "__fish_seen_subcommand_from explain" -l ignore-file -r -d 'Leave out the ranges of a file'
 complete -c pmtrim -n "__fish_seen_subcommand_from explain" -l limit -x -a 'all' -d 'How many entries of a kind'
-complete -c pmtrim -n "__fish_seen_subcommand_from explain" -l only -x -a 'failure never_persisted dropped overwritten unwritten' -d 'One kind of findings'
+complete -c pmtrim -n "__fish_seen_subcommand_from explain" -l only -x -a 'failure never_persisted dropped overwritten unwritten late' -d 'One kind of findings'
 complete -c pmtrim -n "__fish_seen_subcommand_from explain" -l thread -x -d 'Of one thread'
 complete -c pmtrim -n "__fish_seen_subcommand_from explain" -l range -x -d 'Of the N bytes from A on, as A:N'
 complete -c pmtrim -n "__fish_seen_subcommand_from explain" -l from -x -d 'From an event on'

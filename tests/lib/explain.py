@@ -14,7 +14,7 @@ import tempfile
 from examples import Counts
 from explained import KINDS, Explained, judged
 from explain_faults import faults
-from explained_text import wrong_screen, wrong_text
+from explained_text import SCREEN, wrong_screen, wrong_text
 from machine import FENCES, FLUSHES, Trace, spelled, text_of
 
 TOP = pathlib.Path(__file__).resolve().parents[2]
@@ -47,7 +47,8 @@ def random_words(choose, trace):
     """Ranges to ignore, labels and a limit."""
     addresses = [event[2] for event in trace.events if event[0] == "store"]
     ignored = [(choose.choice(addresses) + choose.choice((-1, 0)), choose.choice((1, 2, 8, 300))) for _ in range(choose.randrange(3)) if addresses]
-    labels = {number: f"file.c:{choose.randrange(1, 99)} call" for number in trace.numbers if choose.random() < 0.5}
+    lines = choose.choice((3, 99))
+    labels = {number: f"file.c:{choose.randrange(1, 1 + lines)} call" for number in trace.numbers if choose.random() < 0.5}
     return ignored, labels, choose.choice((0, 1, 2, 10, 10))
 
 
@@ -129,19 +130,21 @@ NEVER_STORED = (
 )
 ALL_IN_PARTS = ["--ignore", "0x1003:281474976706557", "--ignore", "0xfff:3", "--ignore", "0x1001:2"]
 
+TABLES = ("thread", "label")
+
 # A trace, words, the status, how many stores are ignored, and the kinds of what is told, each with the numbers of the events in it.
 WORKED = (
     (TWO_LOST, [], 1, 0, [("never_persisted", [1, 2])]),
     (TWO_LOST, ["--ignore", "0x1000:3"], 1, 1, [("never_persisted", [2, 2])]),
     (TWO_LOST, ALL_IN_PARTS, 0, 2, []),
-    (NEVER_STORED, [], 1, 0, [("failure", [4]), ("unwritten", [1]), ("unwritten", [3]), ("unwritten", [5])]),
+    (NEVER_STORED, [], 1, 0, [("cause", [4]), ("failure", [4]), ("unwritten", [1]), ("unwritten", [3]), ("unwritten", [5])]),
     (NEVER_STORED, ["--limit", "0"], 1, 0, []),
 )
 
 
 def events_of(entry):
     """The numbers of the events that an entry of the JSON is about."""
-    return [entry[word]["event"] for word in ("event", "first", "last") if word in entry]
+    return entry["events"] if "events" in entry else [entry[word]["event"] for word in ("event", "first", "last") if word in entry]
 
 
 def worked(program, folder, counts):
@@ -151,9 +154,38 @@ def worked(program, folder, counts):
         file.write_text(text)
         done = subprocess.run([program, "explain", *words, "--json", file], capture_output=True, timeout=120)
         summary, *entries = map(json.loads, done.stdout.splitlines())
-        told = [(entry["kind"], events_of(entry)) for entry in entries]
+        told = [(entry["kind"], events_of(entry)) for entry in entries if entry["kind"] not in TABLES]
         right = (done.returncode, summary["ignored_never_persisted"], told) == (status, ignored, wanted)
         counts.expect(f"{words} of\n{text}", right, f"status {done.returncode}, {done.stdout.decode()}")
+
+
+# Assertions that fail for one cause, and two lines that the text has of them.
+LOOP = "pmtrace 1\nstore 0 0x1000 01\n" + 13 * "isPersist 0 0x1000 1\n"
+LOOP_HEAD = "error: a crash can violate the assertion of event 2; 13 assertions fail for this cause"
+LOOP_OTHERS = "  also:   events 3 4 5 6 7 8 9 10 11 12 and 2 more"
+
+
+def many_failures():
+    """A trace with 300 assertions that fail, of 4096 bytes each, whose 512 stores are never flushed."""
+    stores = "".join(f"store 0 {0x1000 + 8 * word:#x} 0102030405060708\n" for word in range(512))
+    claims = "".join(f"isPersist {thread} 0x1000 4096\n" for thread in range(100)) * 3
+    return f"pmtrace 1\n{stores}{claims}"
+
+
+def groups(program, folder, counts):
+    """A cause with more members than are named; and how much is told where much fails."""
+    file = folder / "groups"
+
+    def told(text, *words):
+        file.write_text(text)
+        return subprocess.run([program, "explain", *words, file], capture_output=True, timeout=120).stdout.decode()
+
+    lines = told(LOOP).splitlines()
+    counts.expect("a loop", [line for line in lines if line in (LOOP_HEAD, LOOP_OTHERS)] == [LOOP_HEAD, LOOP_OTHERS], "\n".join(lines))
+    count = len(told(many_failures()).splitlines())
+    counts.expect("the text of 300 failures", count <= SCREEN, f"{count} lines")
+    size = len(told(many_failures(), "--json"))
+    counts.expect("the JSON of 300 failures", size < 2_000_000, f"{size} bytes")
 
 
 def main():
@@ -163,6 +195,7 @@ def main():
         random_traces(program, pathlib.Path(name), counts)
         examples(program, counts)
         worked(program, pathlib.Path(name), counts)
+        groups(program, pathlib.Path(name), counts)
         faults(program, pathlib.Path(name), counts)
     print(f"{counts.passed} passed, {counts.failed} failed")
     return 1 if counts.failed else 0

@@ -3,12 +3,14 @@
 The crash of a failed assertion is a state of the machine that violates it, causes and reasons are the ones there are, and what is told
 to mend a loss does so where it is put into the trace. No front and no other closed form is used.
 """
+import functools
 import itertools
 import json
 
+import grouped
 from machine import FENCES, FLUSHES, Trace, entries_at, is_empty_fence, is_kept, least, spelled
 
-KINDS = ("failure", "never_persisted", "dropped", "overwritten", "unwritten")
+KINDS = ("failure", "never_persisted", "dropped", "overwritten", "unwritten", "late")
 ANY_FLUSH = ("clflush", *FLUSHES)
 
 
@@ -73,6 +75,16 @@ class Explained:
 
     def failures(self):
         return [self.failure(number) for number in self.failing() if self.is_asked("failure", number)]
+
+    @functools.cached_property
+    def causes(self):
+        """The key and the members of each cause."""
+        return grouped.causes(self)
+
+    def cause_entry(self, key, members):
+        assertion, why, part, (origin, name) = key
+        named = {"label": None, "thread": None, origin: name}
+        return {"kind": "cause", "assertion": assertion, "why": why, "part": part, "count": len(members), "events": members, **named}
 
     def byte_stores(self, span, place):
         """The last store to each byte of the range, the first by number and then by byte first."""
@@ -243,10 +255,31 @@ class Explained:
                     found.append({"kind": "unwritten", "event": self.event(number), "ranges": empty})
         return found
 
+    # Late stores and tables
+
+    def late_entry(self, key, stores):
+        where = {"cache_line": None, "label": None, "cache_line" if key[0] == "line" else "label": key[1]}
+        return {"kind": "late", "count": len(stores), "first": self.event(stores[0]), **where}
+
+    def row_entry(self, kind, key, row):
+        counts = dict(zip(("stores", "flushes", "fences", "dropped"), row))
+        return {"kind": kind, kind: key, **counts}
+
     # The whole
 
     def all_entries(self):
-        return {kind: getattr(self, {"failure": "failures"}.get(kind, kind))() for kind in KINDS}
+        """The entries of each kind; of a cause its first member is told in full."""
+        return {
+            "cause": [self.cause_entry(*cause) for cause in self.causes],
+            "failure": [self.failure(members[0]) for _, members in self.causes],
+            "never_persisted": self.never_persisted(),
+            "dropped": self.dropped(),
+            "overwritten": self.overwritten(),
+            "unwritten": self.unwritten(),
+            "late": [self.late_entry(*group) for group in grouped.late(self)],
+            "thread": [self.row_entry("thread", *row) for row in grouped.thread_rows(self.trace)],
+            "label": [self.row_entry("label", *row) for row in grouped.label_rows(self)],
+        }
 
     def summary(self, limit, entries):
         trace = self.trace

@@ -1,12 +1,20 @@
-"""What the text of `explain` must say of a trace in the parts that count: useless flushes and fences, overwritten stores, lost bytes.
+"""What the text of `explain` must say of a trace in the parts that count: causes, lost bytes, useless flushes and fences, overwritten and
+late stores, tables.
 
-The findings are those of explained.py; they are put into groups here anew.
+The findings are those of explained.py, groups and tables those of grouped.py.
 """
+import grouped
+from explained import NOTHING
 from machine import FENCES, FLUSHES, spelled
 
 SCREEN = 60
 DROPPED = "note: flushes and fences that do nothing, most first:"
 OVERWRITTEN = "note: stores overwritten before any flush of their cache line, those with other bytes first:"
+LATE = "note: stores that two fences or more of their own thread left unsafe, most first:"
+THREADS = "table: what each thread makes, and how many of its flushes and fences do nothing:"
+LABELS = "table: what is made at each source place, those first where most does nothing:"
+GUESSES = "guess: if a crash may lose these, as locks or statistics, this leaves them out:"
+COLUMNS = "   stores  flushes   fences  do nothing"
 REASONS = {
     "safe": "its line has no store that is not safe already",
     "unfenced": "its thread makes no fence after it; keep it, and add that fence",
@@ -33,16 +41,61 @@ def title(explained, number):
 
 def dropped_lines(explained):
     """A line for all events of one title and reason, most first."""
-    groups = {}
-    for entry in explained.dropped():
-        key = title(explained, entry["event"]["event"]), entry["reason"]["reason"]
-        groups.setdefault(key, []).append(entry)
+    reasons = {entry["event"]["event"]: entry["reason"] for entry in explained.dropped()}
+    groups = grouped.grouped(((title(explained, number), reason["reason"]), number) for number, reason in reasons.items())
     lines = []
-    for (what, reason), entries in sorted(groups.items(), key=lambda group: -len(group[1])):
-        by = entries[0]["reason"]["by"]
+    for (what, reason), numbers in groups:
+        by = reasons[numbers[0]]["by"]
         behind = f" (event {by['event']})" if by else ""
-        lines.append(f"  {times(len(entries))} {what}, first event {entries[0]['event']['event']}: {REASONS[reason]}{behind}")
+        lines.append(f"  {times(len(numbers))} {what}, first event {numbers[0]}: {REASONS[reason]}{behind}")
     return lines
+
+
+def late_lines(explained):
+    """A line for all late stores of one place, most first."""
+    lines = []
+    for (kind, where), stores in grouped.late(explained):
+        spot = f"at {where}" if kind == "label" else f"to cache line {where}"
+        waits = [grouped.fences_waited(explained.trace, store) for store in stores]
+        most = f", and {max(waits)} another one" if max(waits) > waits[0] else ""
+        count = "1 store" if len(stores) == 1 else f"{len(stores)} stores"
+        lines.append(f"  {count} {spot}, first event {stores[0]}: {waits[0]} fences of its thread left it unsafe{most}")
+    return lines
+
+
+def asserted_lines(explained):
+    """The lines with a byte of a range of a failed assertion."""
+    return {byte // explained.trace.size for number in explained.failing() for byte in explained.bytes_of(number)}
+
+
+def guess_lines(explained):
+    """At most three lines that nothing flushes and no failed assertion names, and three with the same bytes stored again."""
+    trace, asserted = explained.trace, asserted_lines(explained)
+    quiet, again = [], []
+    for group in explained.never_persisted():
+        line = int(group["cache_line"], 16) // trace.size
+        if line not in asserted and not any(trace.is_flush_of(number, line, ("clflush", *FLUSHES)) for number in trace.numbers):
+            count = "1 store" if group["count"] == 1 else f"{group['count']} stores"
+            quiet.append(f"  --ignore {group['cache_line']}:{trace.size}  {count}, and no flush of the line in the whole trace")
+    for group in explained.overwritten():
+        if group["same"] == group["count"]:
+            length = len(trace.event(group["earlier"]["event"])[3])
+            again.append(f"  --ignore {group['earlier']['address']}:{length}  the same bytes are stored again, {times(group['count'])} in this line")
+    return [*quiet[:3], *again[:3]]
+
+
+def table_lines(rows):
+    """The columns and a line for each of these rows."""
+    told = [f"{stores:9}{flushes:9}{fences:9}{dropped:12}  {name}" for name, (stores, flushes, fences, dropped) in rows]
+    return [COLUMNS, *told] if told else []
+
+
+def tables(explained):
+    """The tables by thread, where there are several, and by label; none where something is asked for."""
+    rows = grouped.thread_rows(explained.trace)
+    threads = [(f"thread {thread}", counts) for thread, counts in rows] if len(rows) > 1 else []
+    labels = [(f"at {text}", counts) for text, counts in grouped.label_rows(explained)]
+    return [(THREADS, table_lines(threads)), (LABELS, table_lines(labels))] if explained.asked == NOTHING else [(THREADS, []), (LABELS, [])]
 
 
 def placed(event):
@@ -110,44 +163,39 @@ def below(lines, heading):
     return rest[: rest.index("")] if "" in rest else rest
 
 
-def cause_key(explained, failure):
-    """What failed assertions of one cause share."""
-    size, start = explained.trace.size, int(failure["ranges"][0]["address"], 16)
-    first, last = start // size, (start + failure["ranges"][0]["length"] - 1) // size
-    lost = int(failure["lost"]["byte"], 16) // size
-    label = failure["event"]["label"]
-    return failure["event"]["words"].split()[0], failure["cause"]["cause"], lost == first, lost == last, label or failure["event"]["thread"]
+def named(explained, number):
+    """An event as the text names it."""
+    event = explained.event(number)
+    label = f" at {event['label']}" if event["label"] else ""
+    return f"event {number} (line {event['line']}, thread {event['thread']}){label}: {event['words']}"
 
 
-def causes(explained):
-    """The failed assertions by cause, most first."""
-    groups = {}
-    for failure in explained.failures():
-        groups.setdefault(cause_key(explained, failure), []).append(failure)
-    return sorted(groups.values(), key=lambda group: -len(group))
-
-
-def cause_heads(group):
-    """The head of a group, and the line that names its other members."""
-    first, *others = [failure["event"]["event"] for failure in group]
-    head = f"error: a crash can violate the assertion of event {first}"
-    if not others:
-        return [head]
-    named = " ".join(map(str, others[:10])) + (f" and {len(others) - 10} more" if len(others) > 10 else "")
-    return [head, f"  also:   {len(others)} more with this cause: event{'s' if len(others) > 1 else ''} {named}"]
+def cause_lines(explained, key, members):
+    """Of the entry of a cause those lines that tell the group and what its members have in common."""
+    first, *others = members
+    size = f"; {len(members)} assertions fail for this cause" if others else ""
+    yield f"error: a crash can violate the assertion of event {first}{size}"
+    yield f"  claim:  {named(explained, first)}"
+    if others:
+        more = f" and {len(others) - 10} more" if len(others) > 10 else ""
+        yield f"  also:   event{'s' if len(others) > 1 else ''} {' '.join(map(str, others[:10]))}{more}"
+    store, byte = explained.violation(first)[3]
+    yield f"  loses:  byte {byte:#x}, in the {key[2]} cache line of its range, of {named(explained, store)}"
 
 
 def wrong_text(explained, told):
     """What is wrong with the text that shows all."""
     lines = told.decode().splitlines()
-    for heading, wanted in ((DROPPED, dropped_lines(explained)), (OVERWRITTEN, overwritten_lines(explained))):
+    sections = [(DROPPED, dropped_lines), (OVERWRITTEN, overwritten_lines), (LATE, late_lines), (GUESSES, guess_lines)]
+    for heading, wanted in (*((heading, of(explained)) for heading, of in sections), *tables(explained)):
         if below(lines, heading) != wanted:
             return f"{heading} wanted {wanted}, in\n{told.decode()}"
-    heads = [line for line in lines if line.startswith(("error: a crash", "  also: "))]
-    groups = causes(explained)
-    if heads != [head for group in groups for head in cause_heads(group)]:
-        return f"causes: wanted {list(map(cause_heads, groups))}, in\n{told.decode()}"
-    for failure in (group[0] for group in groups):
+    causes = explained.causes
+    heads = [line for line in lines if line.startswith(("error: a crash", "  claim: ", "  also: ", "  loses: "))]
+    wanted = [line for key, members in causes for line in cause_lines(explained, key, members)]
+    if heads != wanted:
+        return f"causes: wanted {wanted}, in\n{told.decode()}"
+    for failure in (explained.failure(members[0]) for _, members in causes):
         by_line, by_byte = range_lines(explained, failure), list(lost_bytes(explained, failure))
         wanted = [*(by_line if len(by_line) <= 8 else []), *by_byte[:8]]
         if not by_byte or not all(row in lines for row in wanted):
@@ -160,7 +208,14 @@ def wrong_screen(explained, told):
     lines = told.decode().splitlines()
     if len(lines) > SCREEN:
         return f"{len(lines)} lines:\n{told.decode()}"
-    for found, named in ((explained.failures(), "assertion"), (explained.never_persisted(), "never persisted"), (explained.dropped(), "do nothing")):
-        if found and not any(named in line for line in lines[5:]):
+    found = {
+        "assertion": explained.causes,
+        "never persisted": explained.never_persisted(),
+        "do nothing": explained.dropped(),
+        "overwritten": explained.overwritten(),
+        "left unsafe": grouped.late(explained),
+    }
+    for named, entries in found.items():
+        if entries and not any(named in line for line in lines[5:]):
             return f"nothing of what {named}:\n{told.decode()}"
     return None

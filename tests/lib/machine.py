@@ -1,17 +1,8 @@
-#!/usr/bin/env python3
-"""Compares a program with the machine of docs/MODEL.md on small random traces: machine.py PROGRAM. Last line: 'N passed, M failed'.
+"""The machine of docs/MODEL.md, for small traces, and what its definitions say of them.
 
 Each state that a run can reach is listed, and every answer is taken from these lists by the words of the definitions. No front and no
-other closed form is used. The traces are the same each time.
+other closed form is used.
 """
-import itertools
-import pathlib
-import random
-import subprocess
-import sys
-import tempfile
-
-TRACES = 400
 FLUSHES = ("clwb", "clflushopt")
 FENCES = ("sfence", "mfence")
 
@@ -226,72 +217,3 @@ def random_trace(choose):
 
 def text_of(lines):
     return "".join(line + "\n" for line in lines).encode()
-
-
-def answers(head, trace):
-    """What each command must write, with its status; the place of fronts is the middle."""
-    kept = [number for number in trace.numbers if is_kept(trace, number)]
-    entries = list(itertools.chain.from_iterable(entries_at(trace, number) for number in trace.numbers))
-    bad = any(entry.endswith("fail") or entry.startswith("never") for entry in entries)
-    first = f"events {len(trace.events)} lines {len(trace.lines(len(trace.events)))}"
-    last = f"kept {len(kept)} dropped {len(trace.events) - len(kept)}"
-    place = len(trace.events) // 2
-    lines = trace.lines(place)
-    fronts = [f"place {place} lines {len(lines)}"]
-    fronts += [f"line {line * trace.size:#x} front {least(trace, line, place)} count {len(trace.stores(line, place))}" for line in lines]
-    yield ["check"], (int(bad), text_of([first, *entries, last]))
-    trimmed = (0, text_of([head, *(spelled(trace.event(number)) for number in kept)]))
-    yield ["trim"], trimmed
-    yield ["trim", "--stream"], trimmed
-    yield ["fronts", str(place)], (0, text_of(fronts))
-
-
-def is_open(trace, number):
-    """A flush whose thread has not fenced since."""
-    word, thread = trace.event(number)[:2]
-    later = (trace.event(other)[:2] for other in range(number + 1, len(trace.events) + 1))
-    return word in FLUSHES and not any(other == thread and fence in FENCES for fence, other in later)
-
-
-def streamed(head, trace):
-    """What is out of the stream after these events: what is kept of them before the oldest open flush."""
-    settled = itertools.takewhile(lambda number: not is_open(trace, number), trace.numbers)
-    return text_of([head, *(spelled(trace.event(number)) for number in settled if is_kept(trace, number))])
-
-
-def stream_is_right(program, head, trace):
-    """At every place a faulty line shows what is out there."""
-    for place in range(len(trace.events) + 1):
-        before = Trace(trace.size, trace.events[:place])
-        text = text_of([head, *map(spelled, before.events), "faulty"])
-        done = subprocess.run([program, "trim", "--stream"], input=text, capture_output=True, timeout=120)
-        fault = f"trace line {place + 2}: bad-word\n".encode()
-        if (done.returncode, done.stdout, done.stderr) != (3, streamed(head, before), fault):
-            return False
-    return True
-
-
-def main():
-    passed = failed = 0
-    choose = random.Random(20)
-    with tempfile.TemporaryDirectory() as folder:
-        file = pathlib.Path(folder, "trace")
-        for _ in range(TRACES):
-            head, trace = random_trace(choose)
-            file.write_bytes(text_of([head, *map(spelled, trace.events)]))
-            kept = [number for number in trace.numbers if is_kept(trace, number)]
-            told = [("the selection", is_faithful(trace, kept) and none_can_go(trace, kept))]
-            told.append(("the stream", stream_is_right(sys.argv[1], head, trace)))
-            for (command, *words), wanted in answers(head, trace):
-                done = subprocess.run([sys.argv[1], command, file, *words], capture_output=True, timeout=120)
-                told.append((command, (done.returncode, done.stdout) == wanted))
-            for what, right in told:
-                passed, failed = passed + right, failed + (not right)
-                if not right:
-                    print(f"{what} of\n{file.read_text()}")
-    print(f"{passed} passed, {failed} failed")
-    return 1 if failed else 0
-
-
-if __name__ == "__main__":
-    sys.exit(main())

@@ -8,6 +8,7 @@ import pathlib
 import sys
 import tempfile
 
+import page_hostile
 import page_large
 import page_looks
 import page_machine
@@ -22,7 +23,7 @@ def main():
     counts = Counts()
     with tempfile.TemporaryDirectory() as folder, Browser() as browser:
         pages = Pages(sys.argv[1], pathlib.Path(folder), browser)
-        for part in (page_machine, page_walk, page_sources, page_looks, page_large):
+        for part in (page_machine, page_walk, page_sources, page_looks, page_large, page_hostile):
             for what, wrong in part.cases(pages):
                 counts.expect(what, not wrong, wrong)
     print(f"{counts.passed} passed, {counts.failed} failed")

@@ -7,6 +7,12 @@ BLOCKS = ("about", "columns", "explained", "labels", "sources")
 KINDS = ("failure", "never_persisted", "dropped", "overwritten", "unwritten")
 NAMED_BY = {"never_persisted": "first", "overwritten": "earlier"}
 
+# Until the page can be used.
+READY = """new Promise((done) => {
+  const look = () => { if (document.documentElement.dataset.ready) done(true); else setTimeout(look, 5); };
+  look();
+})"""
+
 # What the page shows, as its user sees it.
 SHOWN = """(() => {
   const text = (id) => document.getElementById(id).textContent;
@@ -60,8 +66,11 @@ class Pages:
         page.write_bytes(self.explain("--html", *words, file=trace))
         return page, blocks_of(page.read_text())
 
-    def open(self, page, at=""):
+    def open(self, page, at="", has_script=True):
+        """Opens a page, and waits until it can be used: of a long trace it first shows a still picture."""
         self.browser.open(page.as_uri() + at)
+        if has_script:
+            self.browser.run(READY)
 
     def shown(self):
         return self.browser.run(SHOWN)

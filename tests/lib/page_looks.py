@@ -1,6 +1,7 @@
 """How pages look and what they do with hostile texts: labels and names, without script, dark and print, for the keyboard and for readers."""
 import json
 import pathlib
+import re
 
 TOP = pathlib.Path(__file__).resolve().parents[2]
 
@@ -32,6 +33,12 @@ CONTRAST = """(() => {
     return 0.2126 * r + 0.7152 * g + 0.0722 * b;
   };
   return PAIRS.map(([ink, paper]) => [ink, paper, (Math.max(light(ink), light(paper)) + 0.05) / (Math.min(light(ink), light(paper)) + 0.05)]);
+})()"""
+
+# What is cut at the right: the page itself, a column of it, or a table in the box of the crash.
+CUT = """(() => {
+  const boxes = [document.documentElement, ...document.querySelectorAll('#causes, main, #finding, .halves > div')];
+  return boxes.filter((box) => box.scrollWidth > box.clientWidth + 1).map((box) => `${box.id || box.className || box.tagName} ${box.scrollWidth} of ${box.clientWidth}`);
 })()"""
 
 # Elements that reach out of the page to the right, but for those in boxes that scroll by themselves.
@@ -71,18 +78,46 @@ def hostile(pages):
     yield "console of the hostile page", pages.faults(page)
 
 
+# How each element of a picture looks.
+LOOKS = """(() => [...document.querySelector(PICTURE).querySelectorAll('*')].map((element) => {
+  const { fill, stroke, strokeWidth, strokeDasharray, fontSize, fontWeight, opacity } = getComputedStyle(element);
+  return [element.tagName, element.getAttribute('class'), fill, stroke, strokeWidth, strokeDasharray, fontSize, fontWeight, opacity].join(' ');
+}))()"""
+
+
+def still_picture(pages):
+    """The picture on a page without script looks as it does by itself: no rule of the page reaches it."""
+    page, _ = pages.make(TOP / "examples/mark_too_early.trace", name="still")
+    alone = pages.folder / "still.svg"
+    text = page.read_text()
+    start = text.index("<svg xmlns")
+    alone.write_text(text[start : text.index("</svg>", start) + len("</svg>")])
+    pages.browser.send("Emulation.setScriptExecutionDisabled", value=True)
+    try:
+        pages.open(page, has_script=False)
+        found = pages.browser.run(LOOKS.replace("PICTURE", "'#still svg'"))
+        pages.open(alone, has_script=False)
+        wanted = pages.browser.run(LOOKS.replace("PICTURE", "'svg'"))
+    finally:
+        pages.browser.send("Emulation.setScriptExecutionDisabled", value=False)
+    wrong = [pair for pair in zip(found, wanted) if pair[0] != pair[1]]
+    yield "the still picture looks as by itself", wrong[:3] if len(found) == len(wanted) > 50 else f"{len(found)} elements, and not {len(wanted)}"
+
+
 def without_script(pages):
     page, _ = pages.make(TOP / "examples/mark_too_early.trace", name="plain")
     pages.browser.send("Emulation.setScriptExecutionDisabled", value=True)
     try:
-        pages.open(page)
+        pages.open(page, has_script=False)
         found = pages.browser.run(
-            "({text: document.querySelector('noscript pre')?.offsetHeight ?? 0, picture: document.querySelector('noscript svg')?.getBoundingClientRect().height ?? 0,"
+            "({text: document.querySelector('#still pre')?.offsetHeight ?? 0, picture: document.querySelector('#still svg')?.getBoundingClientRect().height ?? 0,"
             " page: document.getElementById('page').offsetHeight})"
         )
     finally:
         pages.browser.send("Emulation.setScriptExecutionDisabled", value=False)
     yield "text and picture without script", "" if found["text"] > 0 and found["picture"] > 100 and found["page"] == 0 else found
+    pages.open(page)
+    yield "they go where a script runs", "" if pages.browser.run("document.getElementById('still') === null") else "they are still there"
 
 
 def colours(pages):
@@ -104,6 +139,24 @@ def colours(pages):
         pages.browser.send("Emulation.setDeviceMetricsOverride", width=width, height=900, deviceScaleFactor=1, mobile=False)
         pages.open(page)
         yield f"{width} pixels are enough", "" if not pages.browser.run(TOO_WIDE) else "they are not"
+    pages.browser.send("Emulation.setDeviceMetricsOverride", width=1400, height=1000, deviceScaleFactor=1, mobile=False)
+
+
+def widths(pages):
+    """At each width nothing is cut, with labels and without, and where addresses are as long as those of a process."""
+    labels = ["--labels", TOP / "examples/undo_log.trace.labels"]
+    high = pages.folder / "high.trace"
+    high.write_text(re.sub("0x[0-9a-f]+", lambda found: hex(int(found[0], 16) + 0x7F1234560000), (TOP / "examples/append_log.trace").read_text()))
+    for name, trace, words in (("undo_log", TOP / "examples/undo_log.trace", labels), ("append_log at high addresses", high, [])):
+        page, _ = pages.make(trace, *words, name="widths")
+        for width in (1160, 1280, 1400, 1640, 1900):
+            pages.browser.send("Emulation.setDeviceMetricsOverride", width=width, height=900, deviceScaleFactor=1, mobile=False)
+            pages.open(page)
+            cut, number = [], 0
+            while not cut and number < 12 and not pages.shown()["atEnd"]:
+                cut, number = pages.browser.run(CUT), number + 1
+                pages.press("n")
+            yield f"no column of {name} is cut at {width} pixels", f"finding {number}: {cut}" if cut else ""
     pages.browser.send("Emulation.setDeviceMetricsOverride", width=1400, height=1000, deviceScaleFactor=1, mobile=False)
 
 
@@ -147,6 +200,8 @@ def fetching(pages):
 def cases(pages):
     yield from hostile(pages)
     yield from without_script(pages)
+    yield from still_picture(pages)
     yield from colours(pages)
+    yield from widths(pages)
     yield from reading(pages)
     yield from fetching(pages)

@@ -146,7 +146,66 @@ def filtered(pages, fields):
             pages.browser.click(f"#filter-{name}")
             pages.browser.write_text(value)
             pages.browser.key("Escape")
+    return left_by_filters(pages)
+
+
+def left_by_filters(pages):
     return {tuple(found) for found in pages.browser.run("page.findings.shown.map((f) => [f.kind, f.number])")}
+
+
+def filtered_by_keys(pages, fields):
+    """Puts in filters by keys alone: / leads to the first field, tab from each to the next."""
+    pages.browser.click("#filter-clear")
+    pages.browser.run("new Promise((done) => setTimeout(done, 20))")
+    pages.browser.run("document.activeElement.blur()")
+    pages.browser.key("/")
+    for name in ("text", "kind", "thread", "line", "range"):
+        wanted = fields.get(name, "")
+        if name in ("kind", "thread"):
+            for _ in range(8):
+                if pages.browser.run("document.activeElement.value") == wanted:
+                    break
+                pages.browser.key("ArrowDown")
+        elif wanted:
+            pages.browser.write_text(wanted)
+        if pages.browser.run("document.activeElement.id") != f"filter-{name}":
+            return f"the tab key does not lead to filter-{name}"
+        if name != "range":
+            pages.browser.key("Tab")
+    pages.browser.key("Escape")
+    return ""
+
+
+def stepped(pages, back, on):
+    """The findings that are met from the first one to the last, by what leads back and what leads on."""
+    for _ in range(20):
+        if pages.browser.run("document.getElementById('previous').disabled"):
+            break
+        back()
+    found = []
+    for _ in range(20):
+        if current(pages) in left_by_filters(pages):
+            found.append(current(pages))
+        if pages.browser.run("document.getElementById('next').disabled"):
+            break
+        on()
+    return found
+
+
+def filtered_walks(pages):
+    """Each row of filters that names a thread or a range, walked from end to end by keys and by mouse."""
+    for fields, wanted in FILTERS:
+        if not {"thread", "range"} & set(fields):
+            continue
+        wrong = filtered_by_keys(pages, fields)
+        found = stepped(pages, lambda: pages.browser.key("p"), lambda: pages.browser.key("n"))
+        yield f"filter {fields} walked by keys", wrong or ("" if sorted(found) == sorted(wanted) else f"{found}, and not {sorted(wanted)}")
+        filtered(pages, fields)
+        groups = pages.browser.run("[...document.querySelectorAll('#groups button.group')].map((b) => [b.dataset.kind, b.dataset.number])")
+        if groups:
+            pages.browser.click(f"#groups button[data-kind='{groups[0][0]}'][data-number='{groups[0][1]}']")
+        found = stepped(pages, lambda: pages.browser.click("#previous"), lambda: pages.browser.click("#next"))
+        yield f"filter {fields} walked by mouse", "" if sorted(found) == sorted(wanted) else f"{found}, and not {sorted(wanted)}"
 
 
 def filters(pages):
@@ -159,6 +218,7 @@ def filters(pages):
         found = filtered(pages, fields)
         counted = int(pages.shown()["found"].split(" ")[0])
         yield f"filter {fields}", "" if found == wanted and counted == len(wanted) else f"{sorted(found)}, counted {counted}, and not {sorted(wanted)}"
+    yield from filtered_walks(pages)
     filtered(pages, {"range": "12:1"})
     yield "a wrong range is told", "" if pages.browser.run("document.getElementById('filter-range').getAttribute('aria-invalid')") == "true" else "it is not"
     filtered(pages, {})

@@ -79,8 +79,7 @@ def answers_of_examples():
         status = 1 if b" fail\n" in report or b"never-persisted" in report else 0
         trimmed = trimmed_of(trace).read_bytes()
         for workers in ("1", "2"):
-            threads = workers != "1"
-            yield Case(["check", "--workers", workers, trace], {Answer(status, report)}, threads)
+            yield Case(["check", "--workers", workers, trace], {Answer(status, report)})
             yield Case(["trim", "--workers", workers, trace], {Answer(0, trimmed)})
 
 

@@ -1,8 +1,8 @@
 //! The stores of a line, and when each of them changes its state.
 use crate::numbered::{count_before, is_listed};
-use pmt_lines::{LineResult, Raise, SmallStep, StepKind};
-use pmt_model::OutOfMemory;
-use pmt_reach::first_reach;
+use crate::spans::line_of_op;
+use crate::waiting::{is_fence, is_flush};
+use pmt_model::{OutOfMemory, Trace};
 use std::alloc::Global;
 
 /// The most lanes of a row.
@@ -87,153 +87,128 @@ impl Row {
 /// Which events are drawn, and after which of them crashes come.
 #[derive(Clone, Copy)]
 pub struct Drawn<'a> {
+    /// The trace.
+    pub trace: &'a Trace,
+    /// Of each of its events that is a store, the place from which on no crash loses it.
+    pub safe: &'a [u64],
     /// The events' numbers, rising.
     pub columns: &'a [u64],
     /// The crashes' places, rising. Stores before one share no bar with stores after it.
     pub places: &'a [u64],
 }
 
-// The front after the event before this one.
-fn front_before(raises: &[Raise], number: u64) -> u64 {
-    let mut front = 0;
-    for raise in raises {
-        if (raise.place as u64) < number {
-            front = raise.front as u64;
-        }
+impl Drawn<'_> {
+    // The last event that is drawn.
+    fn last(&self) -> u64 {
+        self.columns.last().copied().unwrap_or(0)
     }
-    front
+
+    // The place from which on no crash loses the store.
+    fn safe_place(&self, store: u64) -> u64 {
+        let index = store.saturating_sub(1) as usize;
+        self.safe.get(index).copied().unwrap_or(u64::MAX)
+    }
 }
 
-// The stores of a line that are left out between two events that are drawn.
-#[derive(Clone, Copy)]
-struct Hidden {
-    // How many events that are drawn stand before them.
-    gap: usize,
-    // The rank of the first of them.
-    first: u64,
-    // The rank of the last of them, and its number.
-    rank: u64,
-    store: u64,
-}
-
-/// The row of a line, where these events are drawn.
+/// The row of the line with this number.
 ///
 /// # Errors
 /// Where memory was refused.
-pub fn row_of(alloc: Global, found: &LineResult, drawn: Drawn<'_>) -> Result<Row, OutOfMemory> {
-    let columns = drawn.columns;
-    let mut row = Row::new(alloc, found.job().line());
-    let last = columns.last().copied().unwrap_or(0);
-    let mut rank: u64 = 0;
-    let mut hidden = None;
-    for small in found.job().steps() {
-        let step = small.step();
-        if step.number > last {
-            break;
+pub fn row_of(alloc: Global, drawn: Drawn<'_>, line: u64) -> Result<Row, OutOfMemory> {
+    let events = events_of(alloc, drawn, line)?;
+    let mut row = Row::new(alloc, line);
+    let mut from = 0;
+    for column in drawn.columns {
+        if let Some(bar) = hidden_bar(drawn, &events, from, *column) {
+            push_bar(&mut row, drawn, bar)?;
         }
-        match step.kind {
-            StepKind::Store { .. } => {
-                rank = rank.saturating_add(1);
-                hidden = push_store(&mut row, found, drawn, hidden, step.number, rank)?;
-            }
-            StepKind::Flush | StepKind::Clflush => {
-                if is_listed(columns, step.number) {
-                    row.flushes.push(Flush {
-                        number: step.number,
-                        thread: step.thread,
-                    })?;
-                }
-            }
-            StepKind::Fence => {}
+        if is_listed(events.stores.as_slice(), *column) {
+            push_bar(&mut row, drawn, bar_of(drawn, &events, *column))?;
+        }
+        from = count_before(events.stores.as_slice(), column.saturating_add(1));
+    }
+    for flush in &events.flushes {
+        if is_listed(drawn.columns, flush.number) {
+            row.flushes.push(*flush)?;
         }
     }
-    push_hidden(&mut row, found, drawn, hidden)?;
     Ok(row)
 }
 
-// Adds the bar of a store, if it is drawn, and answers the stores that are left out since the last event that is drawn.
-fn push_store(
-    row: &mut Row,
-    found: &LineResult,
-    drawn: Drawn<'_>,
-    hidden: Option<Hidden>,
-    store: u64,
-    rank: u64,
-) -> Result<Option<Hidden>, OutOfMemory> {
-    if is_listed(drawn.columns, store) {
-        push_hidden(row, found, drawn, hidden)?;
-        let bar = bar_of(found, drawn, store, rank);
-        push_bar(row, drawn, bar)?;
-        return Ok(None);
-    }
-    let gap = count_before(drawn.columns, store);
-    if let Some(
-        Hidden {
-            gap: same,
-            first,
-            rank: _,
-            store: _,
-        },
-    ) = hidden
-    {
-        if same == gap {
-            return Ok(Some(Hidden {
-                gap,
-                first,
-                rank,
-                store,
-            }));
-        }
-        push_hidden(row, found, drawn, hidden)?;
-    }
-    Ok(Some(Hidden {
-        gap,
-        first: rank,
-        rank,
-        store,
-    }))
+// The stores and the flushes of a line up to the last event that is drawn.
+#[derive(Drop)]
+struct LineEvents {
+    // The numbers of the stores, rising.
+    stores: Vec<u64>,
+    // The flushes, by rising number.
+    flushes: Vec<Flush>,
 }
 
-// Adds the bar of stores that are left out, if one of them is not safe when the next event comes that is drawn.
-fn push_hidden(
-    row: &mut Row,
-    found: &LineResult,
-    drawn: Drawn<'_>,
-    hidden: Option<Hidden>,
-) -> Result<(), OutOfMemory> {
-    let Some(hidden) = hidden else {
-        return Ok(());
-    };
-    let Some(next) = drawn.columns.get(hidden.gap).copied() else {
-        return Ok(());
-    };
-    let front = front_before(found.raises(), next);
-    if hidden.rank <= front {
-        return Ok(());
+// Those of the line with this number.
+fn events_of(alloc: Global, drawn: Drawn<'_>, line: u64) -> Result<LineEvents, OutOfMemory> {
+    let format = drawn.trace.format();
+    let mut stores = Vec::new(alloc);
+    let mut flushes = Vec::new(alloc);
+    let end = drawn.last() as usize;
+    for (index, event) in drawn.trace.events().iter().enumerate().take(end) {
+        let number = (index as u64).saturating_add(1);
+        let op = event.op;
+        if line_of_op(format, op) != Some(line) {
+            continue;
+        }
+        if is_flush(&op) {
+            flushes.push(Flush {
+                number,
+                thread: event.thread,
+            })?;
+        } else {
+            stores.push(number)?;
+        }
     }
-    let first = hidden.first.max(front.saturating_add(1));
-    let mut bar = bar_of(found, drawn, hidden.store, hidden.rank);
+    Ok(LineEvents { stores, flushes })
+}
+
+// The bar of the stores from this index on that are left out before the event `next`, those that are not safe when it comes.
+fn hidden_bar(drawn: Drawn<'_>, events: &LineEvents, from: usize, next: u64) -> Option<Bar> {
+    let mut waiting: u64 = 0;
+    let mut last = 0;
+    for store in events.stores.iter().skip(from) {
+        if next <= *store {
+            break;
+        }
+        if next <= drawn.safe_place(*store) {
+            waiting = waiting.saturating_add(1);
+            last = *store;
+        }
+    }
+    if waiting == 0 {
+        return None;
+    }
+    let mut bar = bar_of(drawn, events, last);
     bar.drawn = 0;
-    bar.older = hidden.rank.saturating_sub(first);
-    push_bar(row, drawn, bar)
+    bar.older = waiting - 1;
+    Some(bar)
 }
 
 // The bar of the store alone, with no lane yet.
-fn bar_of(found: &LineResult, drawn: Drawn<'_>, store: u64, rank: u64) -> Bar {
-    let last = drawn.columns.last().copied().unwrap_or(0);
-    let steps = found.job().steps();
-    let safe = match first_reach(found.raises(), rank) {
-        Some(place) if place <= last => Some(place),
-        _ => None,
+fn bar_of(drawn: Drawn<'_>, events: &LineEvents, store: u64) -> Bar {
+    let place = drawn.safe_place(store);
+    let safe = if place <= drawn.last() {
+        Some(place)
+    } else {
+        None
     };
+    let later = events
+        .flushes
+        .partition_point(|flush| flush.number <= store);
     Bar {
         store,
         last: store,
         drawn: 1,
         older: 0,
-        flush: first_flush(steps, store, last),
+        flush: events.flushes.get(later).copied(),
         safe,
-        saver: safe.and_then(|place| saver_of(steps, place)),
+        saver: safe.and_then(|place| saver_of(drawn.trace, place)),
         lane: 0,
         until: None,
     }
@@ -276,50 +251,13 @@ fn joins(bars: &mut [Bar], places: &[u64], bar: &Bar) -> bool {
     true
 }
 
-// What the step with this number is that makes stores safe, if there is one.
-fn saver_of(steps: &[SmallStep], number: u64) -> Option<Saver> {
-    let at = steps.partition_point(|step| step.number() < number);
-    let step = steps.get(at)?.step();
-    if step.number != number {
-        return None;
-    }
-    match step.kind {
-        StepKind::Fence => Some(Saver {
-            thread: step.thread,
-            is_fence: true,
-        }),
-        StepKind::Clflush => Some(Saver {
-            thread: step.thread,
-            is_fence: false,
-        }),
-        StepKind::Store { .. } | StepKind::Flush => None,
-    }
-}
-
-// The first flush after the store, up to the event with number `last`.
-fn first_flush(steps: &[SmallStep], store: u64, last: u64) -> Option<Flush> {
-    let from = steps.partition_point(|step| step.number() <= store);
-    for small in steps.iter().skip(from) {
-        let step = small.step();
-        if step.number > last {
-            return None;
-        }
-        if is_flush(step.kind) {
-            return Some(Flush {
-                number: step.number,
-                thread: step.thread,
-            });
-        }
-    }
-    None
-}
-
-// Whether the step flushes its line.
-fn is_flush(kind: StepKind) -> bool {
-    match kind {
-        StepKind::Flush | StepKind::Clflush => true,
-        StepKind::Store { .. } | StepKind::Fence => false,
-    }
+// What the event with this number is, which makes stores safe.
+fn saver_of(trace: &Trace, number: u64) -> Option<Saver> {
+    let event = trace.get(number)?;
+    Some(Saver {
+        thread: event.thread,
+        is_fence: is_fence(&event.op),
+    })
 }
 
 // The first lane whose bar is safe before the store comes, or else a new one. That bar ends at the store.

@@ -1,8 +1,8 @@
 //! The crashes that are drawn.
 use crate::known::Known;
 use crate::spans::line_of_op;
-use pmt_explain::{LostGroup, cause, crash_bytes, failure};
-use pmt_model::{Op, OutOfMemory, Range, Trace, WordStore};
+use pmt_explain::{LostGroup, cause, failure, lost_in_range};
+use pmt_model::{Op, OutOfMemory, Trace};
 use pmt_reasons::{ByteStore, Cause, Failure};
 use std::alloc::Global;
 
@@ -61,7 +61,7 @@ pub fn crash_of(alloc: Global, trace: &Trace, number: u64) -> Result<Option<Cras
         assertion: Some(Assertion { number, ordered }),
         failure,
         cause: cause(trace, failure.lost.store, failure.place),
-        lost: lost_of(alloc, trace, &failure, range, number)?,
+        lost: lost_in_range(alloc, trace, &failure, range, number)?,
     }))
 }
 
@@ -107,48 +107,5 @@ fn address_of_store(trace: &Trace, number: u64) -> u64 {
     match op {
         Op::Store(written) => written.addr().get(),
         _ => 0,
-    }
-}
-
-// The last stores to bytes of the range by event `at` that the crash does not keep, rising and each once.
-fn lost_of(
-    alloc: Global,
-    trace: &Trace,
-    failure: &Failure,
-    range: Range,
-    at: u64,
-) -> Result<Vec<u64>, OutOfMemory> {
-    let first = range.addr().get();
-    let left = crash_bytes(alloc, trace, failure, range)?;
-    let mut last = vec![in alloc; 0; left.len()]?;
-    for (index, event) in trace.events().iter().enumerate().take(at as usize) {
-        let op = event.op;
-        if let Op::Store(written) = op {
-            let number = (index as u64).saturating_add(1);
-            note_store(last.as_mut_slice(), first, &written, number);
-        }
-    }
-    let mut lost = Vec::new(alloc);
-    for (byte, store) in left.iter().zip(&last) {
-        let is_kept = byte.last.map(|stored| stored.store) == Some(*store);
-        if *store > 0 && !is_kept {
-            lost.push(*store)?;
-        }
-    }
-    lost.sort_unstable();
-    lost.dedup();
-    Ok(lost)
-}
-
-// Notes the store at each of its bytes among those from `first` on.
-fn note_store(last: &mut [u64], first: u64, written: &WordStore, number: u64) {
-    let start = written.addr().get();
-    for at in 0..written.bytes().len() as u64 {
-        let byte = start.saturating_add(at);
-        if first <= byte {
-            if let Some(place) = last.get_mut(byte.saturating_sub(first) as usize) {
-                *place = number;
-            }
-        }
     }
 }

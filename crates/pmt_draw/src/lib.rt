@@ -1,7 +1,7 @@
 //! A picture of what is safe when: which events of a trace are drawn, what they do to the stores of their lines, and the SVG of it.
 //!
-//! What the picture tells of a trace is given by its caller, or comes from the calls of pmt_lines, pmt_explain and pmt_reach; where it stands on the
-//! page is tested.
+//! What the picture tells of a trace is given by its caller, or comes from the calls of pmt_explain; where it stands on the page is
+//! tested.
 #![tactic(auto)]
 
 mod asserted;

@@ -9,11 +9,10 @@ use crate::story::{Story, lines_in_focus, story_of};
 use crate::subject::{Subject, subject_of};
 use crate::view::{MOST_ROWS, Span, View};
 use crate::waiting::{is_fence, waits_for_fence};
-use pmt_lines::{Jobs, run_line, split};
+use pmt_explain::safe_places;
 use pmt_model::{Event, Format, OutOfMemory, Trace};
 use pmt_reasons::Reason;
-use pmt_text::ListSource;
-use std::alloc::{AllocError, Global};
+use std::alloc::Global;
 
 /// The most crashes that a picture shows.
 pub const MOST_CRASHES: usize = 12;
@@ -302,21 +301,6 @@ fn chosen_lines(alloc: Global, touched: &[u64]) -> Result<Vec<u64>, OutOfMemory>
     Ok(lines)
 }
 
-// The events up to the last of these.
-fn first_events(alloc: Global, trace: &Trace, numbers: &[u64]) -> Result<Trace, OutOfMemory> {
-    let mut first = Trace::new_with(alloc, trace.format());
-    let Some(last) = numbers.last() else {
-        return Ok(first);
-    };
-    for event in trace.events().iter().take(*last as usize) {
-        let Event { thread, op } = *event;
-        if first.push(Event { thread, op }).is_err() {
-            return Err(AllocError);
-        }
-    }
-    Ok(first)
-}
-
 // The places of these crashes, rising and each once.
 fn places_of(alloc: Global, crashes: &[Crash]) -> Result<Vec<u64>, OutOfMemory> {
     let mut places = Vec::with_capacity(alloc, crashes.len())?;
@@ -336,41 +320,17 @@ fn rows_of(
     numbers: &[u64],
     crashes: &[Crash],
 ) -> Result<Vec<Row>, OutOfMemory> {
-    let first = first_events(alloc, trace, numbers)?;
+    let safe = safe_places(alloc, trace)?;
     let places = places_of(alloc, crashes)?;
     let drawn = Drawn {
+        trace,
+        safe: safe.as_slice(),
         columns: numbers,
         places: places.as_slice(),
     };
-    let mut source = ListSource::new(&first);
-    let Ok(
-        Jobs {
-            trace: _,
-            lines: jobs,
-            fences: _,
-        },
-    ) = split(alloc, &mut source)
-    else {
-        return Err(AllocError);
-    };
-    let mut rows: Vec<Row> = Vec::with_capacity(alloc, lines.len())?;
-    for job in jobs {
-        if is_listed(lines, job.line()) {
-            let found = run_line(alloc, job)?;
-            rows.push(row_of(alloc, &found, drawn)?)?;
-        }
-    }
-    push_empty_rows(alloc, &mut rows, lines)?;
-    rows.sort_by_key(|row| row.line)?;
-    Ok(rows)
-}
-
-// Adds a row with no bar for each of the lines that has none.
-fn push_empty_rows(alloc: Global, rows: &mut Vec<Row>, lines: &[u64]) -> Result<(), OutOfMemory> {
+    let mut rows = Vec::with_capacity(alloc, lines.len())?;
     for line in lines {
-        if !rows.iter().any(|row| row.line == *line) {
-            rows.push(Row::new(alloc, *line))?;
-        }
+        rows.push(row_of(alloc, drawn, *line)?)?;
     }
-    Ok(())
+    Ok(rows)
 }

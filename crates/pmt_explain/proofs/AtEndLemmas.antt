@@ -1,17 +1,14 @@
 -- The causes of all stores at the end of a trace, kept event by event from there back, are their causes.
-use Rattle.std.proofs.Common.{◌≡◌, ◌≢◌, ◌↔◌, ℕ, suc, ◌<◌, ◌≤◌, ◌⊎◌, inl, inr, ◌==◌, Bool, true, false, List, length, Option, None, Some, refl, sym, ap, subst, subst₂, ◌∙◌, arith, get_or, set, get_or-set_same, get_or-set_other, eq-eqb, eqb-true}
+use Rattle.std.proofs.Common.{◌≡◌, ◌≢◌, ◌↔◌, ℕ, suc, ◌<◌, ◌≤◌, ◌⊎◌, inl, inr, ◌==◌, Bool, true, false, List, length, Option, None, Some, refl, sym, ap, subst, ◌∙◌, arith, get_or, set, get_or-set_same, get_or-set_other, eq-eqb, eqb-true}
 use Rattle.std.specs.Prelude.{slice_get, MatchOption, if◌then◌else◌}
 use Rattle.std.proofs.Math.ListN.{length-set, replicate}
 use Rattle.std.proofs.lemmas.List.{length-replicate, get_or-replicate}
 use Rattle.std.proofs.lemmas.Bool.{cases_lt, cases_eq, false≢true}
-use Rattle.std.proofs.lemmas.Option.{same_Some, slice_get_within, slice_get-get_or, get_or_from_slice_get}
-use Rattle.std.proofs.lemmas.List.Elements.{All-from_recursion}
+use Rattle.std.proofs.lemmas.Option.{slice_get_within}
 use Rattle.pmt_model.specs.declared.event.Event.{Event}
-use Rattle.pmt_model.specs.declared.event.Op.{Op}
-use Rattle.pmt_model.specs.declared.event.Op.TheVariants.{Store, Clwb, ClflushOpt, Clflush, Sfence, Mfence, IsPersist, IsOrderedBefore}
 use Rattle.pmt_model.specs.Values.{Layout}
 use Rattle.pmt_model.specs.Machine.{Act, Stores, Flushes, Clflushes, Fences, Asserts}
-use Rattle.pmt_model.specs.Traces.{Recording, IsTrace, IsEventIn, IsAct, act_of, act, count_at}
+use Rattle.pmt_model.specs.Traces.{Recording, IsTrace, IsAct, act, count_at}
 use Rattle.pmt_model.specs.Fronts.{front_at}
 use Rattle.pmt_model.specs.Findings.{IsFlushOf, ByFlush, ByClflush}
 use Rattle.pmt_laws.proofs.Histories.{act-unique, count-mono}
@@ -20,10 +17,12 @@ use Rattle.pmt_reasons.specs.declared.cause.Cause.TheVariants.{Later, Unflushed,
 use Rattle.pmt_reasons.specs.Causes.{IsFirstFence, IsUnfenced, IsCause}
 use Rattle.pmt_reasons.proofs.CauseLemmas.{safe-clflush, safe-fence}
 use Rattle.pmt_reasons.proofs.CauseLaws.{no_flush_of, no_fence}
-use Rattle.pmt_reasons.proofs.ScanLemmas.{IsThreadFit}
+use Rattle.pmt_reasons.proofs.ScanLemmas.{IsThreadFit, thread-fits, each-at}
 use Rattle.pmt_explain.specs.CauseOf.{IsCauseOf}
 use Rattle.pmt_explain.proofs.CauseOfLemmas.{cause-found}
-use Rattle.pmt_explain.specs.AtEnd.{before_flush, cause_before, fenced_before, fence_before, cause_told}
+use Rattle.pmt_explain.proofs.FollowingLemmas.{told-set}
+use Rattle.pmt_explain.specs.AtEnd.{before_flush, cause_before, fence_before, cause_told}
+use Rattle.pmt_explain.specs.Completed.{fenced_before}
 
 -- the cause at place n of a store to the line at place i, or none where it would be safe
 abbrev pub IsCauseAfter : Recording → ℕ → ℕ → ℕ → Option Cause → Type 0
@@ -210,23 +209,6 @@ told-cause T n i (Clflushes k) causes is why = λ l w at. let same = act-unique 
 told-cause T n i (Fences t) causes is why = λ l w at. let same = act-unique T i (Fences t) (Stores l w) is at in cc
 told-cause T n i Asserts causes is why = λ l w at. let same = act-unique T i Asserts (Stores l w) is at in cc
 
--- the thread of an event is below 256
-thread-fits : (f : Layout) (t : ℕ) (op : Op) → t < 256 → IsThreadFit (act_of f t op)
-thread-fits f t (Store w) h = tt
-thread-fits f t (Clwb a) h = h
-thread-fits f t (ClflushOpt a) h = h
-thread-fits f t (Clflush a) h = tt
-thread-fits f t Sfence h = h
-thread-fits f t Mfence h = h
-thread-fits f t (IsPersist r) h = tt
-thread-fits f t (IsOrderedBefore r q) h = tt
-
--- as that of each event of a trace is
-pub small-thread : (T : Recording) (j : ℕ) (e : Event) → IsTrace T → slice_get T.events j ≡ Some e → e.thread < 256
-small-thread T j e trace at =
-    let is : IsEventIn T.format (get_or T.events j e) = All-from_recursion (IsEventIn T.format) T.events trace.each j e (slice_get_within T.events j e at) in
-    (subst (IsEventIn T.format) (get_or_from_slice_get T.events j e e at) is).event.thread
-
 -- what comes after place i, and the causes of the events after it
 pub record IsBack (T : Recording) (i : ℕ) (fenced : List Bool) (fence : Option ℕ) (causes : ℕ → Option Cause) (told : List (Option Cause)) : Type 0 where
   pub ahead : IsAhead T (length T.events) i fenced fence causes
@@ -243,10 +225,10 @@ back-end T n fenced fence causes told end start none unflushed size = subst (λ 
 
 -- back over one more event
 pub back-event : (T : Recording) (f : Layout) (es : List Event) (i j number : ℕ) (e : Event) (fenced marked : List Bool) (fence first : Option ℕ) (causes before : ℕ → Option Cause)
-    (told : List (Option Cause)) (o : Option Cause) → f ≡ T.format → es ≡ T.events → i ≡ suc j → number ≡ suc j → slice_get es j ≡ Some e → e.thread < 256 →
+    (told : List (Option Cause)) (o : Option Cause) → f ≡ T.format → es ≡ T.events → i ≡ suc j → number ≡ suc j → slice_get es j ≡ Some e → IsTrace T →
     marked ≡ fenced_before (act f e) fenced → first ≡ fence_before (act f e) number fence → ((l : ℕ) → before l ≡ cause_before (act f e) number fenced fence causes l) →
     o ≡ cause_told (act f e) causes → IsBack T i fenced fence causes told → IsBack T j marked first before (set told j o)
-back-event T f es i j number e fenced marked fence first causes before told o format events place numbered at small marks fences lines tells s = record {
+back-event T f es i j number e fenced marked fence first causes before told o format events place numbered at trace marks fences lines tells s = record {
   ahead = record {
     size = ap (λ bs. length bs) marks ∙ next.size;
     threads = subst (λ bs. (t : ℕ) → t < 256 → (get_or bs t false ≡ true) ↔ IsFencedAfter T j n t) (sym marks) next.threads;
@@ -254,16 +236,9 @@ back-event T f es i j number e fenced marked fence first causes before told o fo
     why = λ l. subst (IsCauseAfter T l n j) (sym (lines l ∙ ap (λ m. cause_before a m fenced fence causes l) numbered)) (next.why l);
   };
   size = length-set told j o ∙ s.size;
-  each = λ k p past here. elim (cases_eq k j) [
-    | inl same ↦
-        let own : slice_get (set told j o) j ≡ Some o = slice_get-get_or (set told j o) j o (omega (arith, length-set told j o, s.size, within)) ∙ ap Some (get_or-set_same told j o o (omega (arith, s.size, within))) in
-        let q : o ≡ p = same_Some o p (sym own ∙ ap (λ m. slice_get (set told j o) m) (sym same) ∙ here) in
-        subst₂ (λ m r. IsCauseOf T n (suc m) r) (sym same) (sym tells ∙ q) (told-cause T n (suc j) a causes is now.why)
-    | inr apart ↦
-        let fits = slice_get_within (set told j o) k p here in
-        let kept : slice_get told k ≡ Some p = slice_get-get_or told k p (omega (arith, length-set told j o, fits)) ∙ ap Some (sym (get_or-set_other told j k o p apart)) ∙ sym (slice_get-get_or (set told j o) k p fits) ∙ here in
-        s.each k p (omega arith) kept
-  ];
+  each = λ k p past here.
+      told-set (IsCauseOf T n) told j k o p (omega (arith, s.size, within)) (subst (IsCauseOf T n (suc j)) (sym tells) (told-cause T n (suc j) a causes is now.why))
+      (λ m q later there. s.each m q (omega arith) there) past here;
 }
   where
     n : ℕ
@@ -285,4 +260,4 @@ back-event T f es i j number e fenced marked fence first causes before told o fo
     now = subst (λ m. IsAhead T n m fenced fence causes) place s.ahead
 
     next : IsAhead T n j (fenced_before a fenced) (fence_before a (suc j) fence) (cause_before a (suc j) fenced fence causes)
-    next = ahead-act T n j a fenced fence causes is (thread-fits f e.thread e.op small) (omega (arith, within)) now
+    next = ahead-act T n j a fenced fence causes is (thread-fits f e.thread e.op (each-at T.format T.events j e trace.each there).event.thread) (omega (arith, within)) now

@@ -23,7 +23,7 @@ crash-new T n full flushes within lasts = record {
 }
 
 -- a place after the last event has the history of that of the last event
-history-min : (T : Recording) (n : ℕ) → history T (min n (length T.events)) ≡ history T n
+pub history-min : (T : Recording) (n : ℕ) → history T (min n (length T.events)) ≡ history T n
 history-min T n = go (cases_lt (length T.events) n)
   where
     go : (length T.events < n) ⊎ (n ≤ length T.events) → history T (min n (length T.events)) ≡ history T n
@@ -33,7 +33,7 @@ history-min T n = go (cases_lt (length T.events) n)
     go (inr within) = let e : min n (length T.events) ≡ n = omega arith in ap (history T) e
 
 -- with the same history the same stores are persisted
-persisted-same : (T : Recording) (m n l : ℕ) (full : Option ℕ) → history T m ≡ history T n → persisted_at T m full l ≡ persisted_at T n full l
+pub persisted-same : (T : Recording) (m n l : ℕ) (full : Option ℕ) → history T m ≡ history T n → persisted_at T m full l ≡ persisted_at T n full l
 persisted-same T m n l None e = ap (front l) e
 persisted-same T m n l (Some k) e = ap (λ h. if l == k then count l h else front l h) e
 

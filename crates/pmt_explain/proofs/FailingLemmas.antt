@@ -16,13 +16,13 @@ use Rattle.pmt_explain.specs.Losing.{IsFirstWith, IsFirstOption, IsFirstOf}
 use Rattle.pmt_explain.specs.Keeping.{KeepsWithout, IsCrashAfter, IsFirstCrash}
 
 -- where a last store to a byte of A stands in the list
-record IsIndexed (A : Span) (last : List ℕ) (z : ByteStore) : Type 0 where
-  index : ℕ
-  below : index < length last
-  byte : z.byte ≡ A.addr + index
-  store : get_or last index 0 ≡ z.store
+pub record IsIndexed (A : Span) (last : List ℕ) (z : ByteStore) : Type 0 where
+  pub index : ℕ
+  pub below : index < length last
+  pub byte : z.byte ≡ A.addr + index
+  pub store : get_or last index 0 ≡ z.store
 
-indexed : (T : Recording) (i : ℕ) (A : Span) (last : List ℕ) (z : ByteStore) → AreLastIn T i A last → IsLastIn T i A z → IsIndexed A last z
+pub indexed : (T : Recording) (i : ℕ) (A : Span) (last : List ℕ) (z : ByteStore) → AreLastIn T i A last → IsLastIn T i A z → IsIndexed A last z
 indexed T i A last z all x =
     let j = z.byte - A.addr in
     let byte : A.addr + j ≡ z.byte = omega (arith, x.inside.0) in
@@ -39,14 +39,14 @@ told : (o : Option ℕ) (x : ℕ) → unwrap_or o 0 ≡ x → 1 ≤ x → o ≡ 
 told None x e some = absurd (omega arith)
 told (Some y) x e some = ap Some e
 
-from-index : (T : Recording) (i : ℕ) (A : Span) (last : List ℕ) (j : ℕ) (z : ByteStore) → AreLastIn T i A last → j < length last → get_or last j 0 ≡ z.store → z.byte ≡ A.addr + j → 1 ≤ z.store → IsLastIn T i A z
+pub from-index : (T : Recording) (i : ℕ) (A : Span) (last : List ℕ) (j : ℕ) (z : ByteStore) → AreLastIn T i A last → j < length last → get_or last j 0 ≡ z.store → z.byte ≡ A.addr + j → 1 ≤ z.store → IsLastIn T i A z
 from-index T i A last j z all below store byte some = record {
   inside = (omega arith, omega (arith, all.size));
   last = ap (λ (b : ℕ). last_store_number b (history T i)) byte ∙ told (last_store_number (A.addr + j) (history T i)) z.store (sym (all.each j below) ∙ store) some;
 }
 
 -- a lost store is an event
-lost-some : (T : Recording) (n x : ℕ) (full : Option ℕ) → IsLost T n full x → 1 ≤ x
+pub lost-some : (T : Recording) (n x : ℕ) (full : Option ℕ) → IsLost T n full x → 1 ≤ x
 lost-some T n x full lost = (act-within T x (Stores lost.line lost.what) lost.is_store).0
 
 -- the first one of the list is the first one of A

@@ -13,7 +13,7 @@ use Rattle.pmt_laws.proofs.Histories.{act-unique, act-within}
 use Rattle.pmt_explain.specs.declared.following.Ahead.{Ahead}
 use Rattle.pmt_explain.specs.declared.following.Following.{Following}
 use Rattle.pmt_explain.specs.Numbers.{Numbers, number_at, Puts}
-use Rattle.pmt_explain.specs.Following.{IsFirst, past_of, IsFenceAfter, IsFlushAfter, IsCompleteBy, ByFence, ByItself, IsCompletedAfter, pair_of, IsAhead, TellsFollowing}
+use Rattle.pmt_explain.specs.Following.{IsFirst, past_of, IsFenceAfter, IsFlushAfter, IsCompleteBy, ByFence, ByItself, IsCompletedAfter, pair_of, IsAhead}
 use Rattle.pmt_explain.proofs.FirstLemmas.{first-same, first-either, first-none, first-here, first-over}
 
 -- what flushes a line
@@ -209,10 +209,10 @@ pub event-at : (T : Recording) (f : Layout) (es : List Event) (i : ℕ) (e : Eve
 event-at T f es i e format events within is =
     (e, ap (λ xs. slice_get xs i) (sym events) ∙ slice_get-get_or es i e within ∙ ap Some (sym is), ap (λ g. act_of g e.thread e.op) (sym format))
 
--- one more of what follows
-pub following-set : (T : Recording) (list : List Following) (i n : ℕ) (x f : Following) → i < length list → TellsFollowing T (suc i) x →
-    ((m : ℕ) (g : Following) → suc i ≤ m → slice_get list m ≡ Some g → TellsFollowing T (suc m) g) → i ≤ n → slice_get (set list i x) n ≡ Some f → TellsFollowing T (suc n) f
-following-set T list i n x f within tells rest from is = go (cases_eq n i)
+-- what a list tells of each event, the first one being event 1, with one more
+pub told-set : {A : Type 0} (Tells : ℕ → A → Type 0) (list : List A) (i n : ℕ) (x f : A) → i < length list → Tells (suc i) x →
+    ((m : ℕ) (g : A) → suc i ≤ m → slice_get list m ≡ Some g → Tells (suc m) g) → i ≤ n → slice_get (set list i x) n ≡ Some f → Tells (suc n) f
+told-set Tells list i n x f within tells rest from is = go (cases_eq n i)
   where
     value : get_or (set list i x) n x ≡ f
     value = get_or_from_slice_get (set list i x) n f x is
@@ -220,8 +220,8 @@ following-set T list i n x f within tells rest from is = go (cases_eq n i)
     inside : n < length list
     inside = omega (arith, slice_get_within (set list i x) n f is, length-set list i x)
 
-    go : (n ≡ i) ⊎ (n ≢ i) → TellsFollowing T (suc n) f
+    go : (n ≡ i) ⊎ (n ≢ i) → Tells (suc n) f
     go (inl e) =
         let found : x ≡ f = sym (get_or-set_same list i x x within) ∙ ap (λ k. get_or (set list i x) k x) (sym e) ∙ value in
-        subst (λ k. TellsFollowing T (suc k) f) (sym e) (subst (TellsFollowing T (suc i)) found tells)
+        subst (λ k. Tells (suc k) f) (sym e) (subst (Tells (suc i)) found tells)
     go (inr apart) = rest n f (omega arith) (slice_get-get_or list n x inside ∙ ap Some (sym (get_or-set_other list i n x x apart) ∙ value))

@@ -1,6 +1,7 @@
 pub mod CauseOfLemmas
 pub mod LastStoreLemmas
 pub mod LosingLemmas
+pub mod LostInLemmas
 pub mod FailingLemmas
 pub mod GroupingLemmas
 pub mod AtEndLemmas

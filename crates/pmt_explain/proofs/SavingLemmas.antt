@@ -1,9 +1,8 @@
 -- From which place on stores are safe, and which of them a crash loses.
-use Rattle.std.proofs.Common.{◌≡◌, ◌≢◌, ◌↔◌, ℕ, zero, suc, ◌-◌, ◌<◌, ◌≤◌, ◌==◌, ◌⊎◌, inl, inr, Bool, true, false, List, length, Option, None, Some, refl, sym, ap, subst, ◌∙◌, arith, get_or, set, get_or-set_same, get_or-set_other}
-use Rattle.std.specs.Prelude.{slice_get, IsTrue, nat_lt, if◌then◌else◌}
-use Rattle.std.proofs.lemmas.Bool.{cases_lt, cases_eq, ltb-true, lt-ltb}
-use Rattle.std.proofs.lemmas.List.{length-set}
-use Rattle.std.proofs.lemmas.Option.{slice_get-get_or, get_or_from_slice_get, slice_get_within}
+use Rattle.std.proofs.Common.{◌≡◌, ◌↔◌, ℕ, zero, suc, ◌-◌, ◌<◌, ◌≤◌, ◌==◌, inl, inr, Bool, true, false, List, length, Option, None, Some, refl, sym, subst, arith, get_or}
+use Rattle.std.specs.Prelude.{IsTrue, nat_lt, if◌then◌else◌}
+use Rattle.std.proofs.lemmas.Bool.{cases_lt, ltb-true, lt-ltb}
+use Rattle.std.proofs.lemmas.Option.{slice_get-get_or}
 use Rattle.pmt_model.specs.Values.{Written}
 use Rattle.pmt_model.specs.Machine.{Act, Stores, Flushes, Clflushes, Fences, Asserts}
 use Rattle.pmt_model.specs.Traces.{Recording, IsAct, count_at}
@@ -59,23 +58,6 @@ safe-told T n (Flushes t k) ahead is x l w at = let same = act-unique T (suc n) 
 safe-told T n (Clflushes k) ahead is x l w at = let same = act-unique T (suc n) (Clflushes k) (Stores l w) is at in absurd (cc)
 safe-told T n (Fences t) ahead is x l w at = let same = act-unique T (suc n) (Fences t) (Stores l w) is at in absurd (cc)
 safe-told T n Asserts ahead is x l w at = let same = act-unique T (suc n) Asserts (Stores l w) is at in absurd (cc)
-
--- one more safe place
-pub safe-set : (T : Recording) (list : List ℕ) (i n x p : ℕ) → i < length list → TellsSafe T (suc i) x →
-    ((m q : ℕ) → suc i ≤ m → slice_get list m ≡ Some q → TellsSafe T (suc m) q) → i ≤ n → slice_get (set list i x) n ≡ Some p → TellsSafe T (suc n) p
-safe-set T list i n x p within tells rest from is = go (cases_eq n i)
-  where
-    value : get_or (set list i x) n x ≡ p
-    value = get_or_from_slice_get (set list i x) n p x is
-
-    inside : n < length list
-    inside = omega (arith, slice_get_within (set list i x) n p is, length-set list i x)
-
-    go : (n ≡ i) ⊎ (n ≢ i) → TellsSafe T (suc n) p
-    go (inl e) =
-        let found : x ≡ p = sym (get_or-set_same list i x x within) ∙ ap (λ k. get_or (set list i x) k x) (sym e) ∙ value in
-        subst (λ k. TellsSafe T (suc k) p) (sym e) (subst (TellsSafe T (suc i)) found tells)
-    go (inr apart) = rest n p (omega arith) (slice_get-get_or list n x inside ∙ ap Some (sym (get_or-set_other list i n x x apart) ∙ value))
 
 -- a store is missing exactly before its safe place
 pub pending-before : (T : Recording) (l n i s : ℕ) → n ≤ length T.events → IsSafePlace T l i s → (n < s) ↔ (front_at T l n < count_at T l i)

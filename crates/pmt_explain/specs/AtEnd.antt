@@ -1,5 +1,5 @@
 -- The causes of all events at the end of a trace, event by event from there back.
-use Rattle.std.specs.Prelude.{◌≡◌, ℕ, suc, Bool, true, false, if◌then◌else◌, ◌==◌, List, Option, None, Some, length, slice_get, slice_index_or, slice_set, unwrap_or, nat_eq}
+use Rattle.std.specs.Prelude.{◌≡◌, ℕ, suc, Bool, false, if◌then◌else◌, ◌==◌, List, Option, None, Some, length, slice_get, slice_index_or, unwrap_or, nat_eq}
 use Rattle.std.specs.declared.hash.FoldHasher.{FoldHasher}
 use Rattle.std.specs.declared.hash.BuildHasherDefault.{BuildHasherDefault}
 use Rattle.indexmap.specs.IndexMap.{IndexMap, get}
@@ -35,14 +35,6 @@ cause_before (Flushes t k) number fenced fence causes line = if k == line then b
 cause_before (Clflushes k) number fenced fence causes line = if k == line then None else causes line
 cause_before (Fences t) number fenced fence causes line = causes line
 cause_before Asserts number fenced fence causes line = causes line
-
--- The threads that fence, with one more event.
-abbrev pub fenced_before : Act → List Bool → List Bool
-fenced_before (Stores k w) fenced = fenced
-fenced_before (Flushes t k) fenced = fenced
-fenced_before (Clflushes k) fenced = fenced
-fenced_before (Fences t) fenced = slice_set fenced t true
-fenced_before Asserts fenced = fenced
 
 -- The first fence, with one more event, which has this number.
 abbrev pub fence_before : Act → ℕ → Option ℕ → Option ℕ

@@ -1,8 +1,10 @@
--- The first store that a crash loses.
-use Rattle.std.specs.Prelude.{◌≡◌, ℕ, ◌+◌, ◌<◌, ◌≤◌, ◌⊎◌, Bool, true, nat_lt, IsTrue, List, Option, None, Some, slice_index}
+-- The stores that a crash loses, and the first of them.
+use Rattle.std.specs.Prelude.{◌≡◌, ◌↔◌, ℕ, ◌+◌, ◌<◌, ◌≤◌, ◌⊎◌, Bool, true, nat_lt, IsTrue, List, Contains, Option, None, Some, slice_index}
+use Rattle.std.specs.List.Sorted.{IsStrictlyIncreasing}
+use Rattle.pmt_model.specs.Values.{Span}
 use Rattle.pmt_model.specs.Traces.{Recording}
 use Rattle.pmt_reasons.specs.declared.failure.ByteStore.{ByteStore}
-use Rattle.pmt_reasons.specs.Failures.{IsLost}
+use Rattle.pmt_reasons.specs.Failures.{IsLost, IsLastIn}
 
 -- The store comes before the first one so far.
 abbrev pub comes_before : ℕ → Option ByteStore → Bool
@@ -30,3 +32,25 @@ IsFirstOption P low last k (Some x) = IsFirstWith P low last k x
 -- The first one that the crash at place n loses.
 abbrev pub IsFirstOf : Recording → ℕ → List ℕ → ℕ → Option ℕ → ℕ → Option ByteStore → Type 0
 IsFirstOf T low last n full k o = IsFirstOption (IsLost T n full) low last k o
+
+-- The crash at place n loses store x, which stands below index k of the list.
+pub record IsLostAmong (T : Recording) (n : ℕ) (full : Option ℕ) (last : List ℕ) (k x : ℕ) : Type 0 where
+  pub index : ℕ
+  pub below : index < k
+  pub store : slice_index last index ≡ x
+  pub is_lost : IsLost T n full x
+
+-- All such stores.
+abbrev pub AreLostAmong : Recording → ℕ → Option ℕ → List ℕ → ℕ → List ℕ → Type 0
+AreLostAmong T n full last k lost = (x : ℕ) → Contains lost x ↔ IsLostAmong T n full last k x
+
+-- The crash at place n loses store x, which is the last one of the first i events to some byte of A.
+pub record IsLostIn (T : Recording) (i : ℕ) (A : Span) (n : ℕ) (full : Option ℕ) (x : ℕ) : Type 0 where
+  pub byte : ℕ
+  pub is_last : IsLastIn T i A (record { store = x; byte = byte })
+  pub is_lost : IsLost T n full x
+
+-- All such stores, by rising number and each once.
+pub record AreLostIn (T : Recording) (i : ℕ) (A : Span) (n : ℕ) (full : Option ℕ) (stores : List ℕ) : Type 0 where
+  pub rising : IsStrictlyIncreasing stores
+  pub each : (x : ℕ) → Contains stores x ↔ IsLostIn T i A n full x

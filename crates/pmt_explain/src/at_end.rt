@@ -2,7 +2,8 @@
 
 ghost use Rattle.std.specs.Prelude.{◌≡◌, ℕ, false, replicate, None, Some, IfOk, OnOk};
 ghost use Rattle.pmt_model.specs.Traces.{act_of};
-ghost use Rattle.pmt_explain.specs.AtEnd.{AreCausesAtEnd, cause_in, before_flush, cause_before, fenced_before, fence_before, cause_told};
+ghost use Rattle.pmt_explain.specs.AtEnd.{AreCausesAtEnd, cause_in, before_flush, cause_before, fence_before, cause_told};
+ghost use Rattle.pmt_explain.specs.Completed.{fenced_before};
 
 use indexmap::IndexMap;
 use pmt_model::{Format, Op, OutOfMemory, Trace, line_of};

@@ -58,7 +58,7 @@ impl Crash {
 }
 
 // The line of the kept store, if one is kept.
-fn full_line_of(trace: &Trace, kept: Option<ByteStore>) -> Option<u64>
+pub(crate) fn full_line_of(trace: &Trace, kept: Option<ByteStore>) -> Option<u64>
     ensures { result ≡ full_line trace.now kept }
 {
     let store = kept?.store;

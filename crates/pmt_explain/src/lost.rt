@@ -35,7 +35,13 @@ fn loses(safe: &[u64], place: u64, full: Option<u64>, line: u64, store: u64) -> 
 }
 
 // Whether that crash loses the store.
-fn is_lost(trace: &Trace, safe: &[u64], place: u64, full: Option<u64>, store: u64) -> bool
+pub(crate) fn is_lost(
+    trace: &Trace,
+    safe: &[u64],
+    place: u64,
+    full: Option<u64>,
+    store: u64,
+) -> bool
     requires safe { AreSafePlaces trace.now safe.now }
     requires place { place ≤ length trace.now.events }
     ensures { IsTrue result ↔ IsLost trace.now place full store }

@@ -1,3 +1,4 @@
+pub mod CausingLemmas
 pub mod CountingLemmas
 pub mod IgnoringLemmas
 pub mod LabellingLemmas

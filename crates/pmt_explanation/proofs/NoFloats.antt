@@ -16,6 +16,11 @@ use Rattle.pmt_explain.specs.declared.bytes.CrashByte.{CrashByte}
 use Rattle.pmt_explain.specs.declared.dropped_event.Dropped.{Dropped}
 use Rattle.pmt_explain.specs.declared.lost_grouping.LostGroup.{LostGroup}
 use Rattle.pmt_explain.specs.declared.overwritten_grouping.OverwrittenGroup.{OverwrittenGroup}
+use Rattle.pmt_causes.specs.declared.failure_keys.FailureKey.{FailureKey}
+use Rattle.pmt_causes.specs.declared.grouping.Group.{Group}
+use Rattle.pmt_causes.specs.declared.late.LateSpot.{LateSpot}
+use Rattle.pmt_causes.specs.declared.tables.Row.{Row}
+use Rattle.pmt_causes.specs.Groups.{first_in}
 use Rattle.pmt_explanation.specs.declared.explaining.Explanation.{Explanation}
 use Rattle.pmt_explanation.specs.declared.failures.RangeAfter.{RangeAfter}
 use Rattle.pmt_explanation.specs.declared.failures.ShownFailure.{ShownFailure}
@@ -26,8 +31,10 @@ use Rattle.pmt_explanation.specs.declared.summary.Summary.{Summary}
 use Rattle.pmt_explanation.specs.declared.unwritten.Unwritten.{Unwritten}
 use Rattle.pmt_explanation.specs.Labelling.{label_of}
 use Rattle.pmt_reasons.specs.Mends.{mend_of}
-use Rattle.pmt_explanation.specs.Parts.{or_null, count_data, address_data, address_of, known_event_data, event_data, byte_store_data, range_data, cause_data, by_of, reason_data, mend_data}
+use Rattle.pmt_explanation.specs.Parts.{or_null, count_data, address_data, address_of, known_event_data, event_data, line_data, byte_store_data, range_data, cause_data, by_of, reason_data, mend_data}
 use Rattle.pmt_explanation.specs.Entries.{line_count_data, byte_store, byte_value, range_after_data, failure_data, lost_data, dropped_data, overwritten_data, ranges_of, unwritten_data}
+use Rattle.pmt_explanation.specs.Groups.{cause_group_data, origin_label, origin_thread}
+use Rattle.pmt_explanation.specs.Tables.{label_row_data, late_data, spot_label, spot_line}
 use Rattle.pmt_explanation.specs.declared.choosing.Choice.{Choice}
 use Rattle.pmt_explanation.specs.declared.choosing.Kind.{Kind}
 use Rattle.pmt_explanation.specs.declared.ignoring.ByteRange.{ByteRange}
@@ -131,6 +138,24 @@ unwritten-float T labels u =
     both (has_float (event_data T labels u.event)) _ (event-float T labels u.event)
     (both (items_have_float (items_of (map range_data (ranges_of u.first ++ ranges_of u.second)))) false
     (array-float range_data (λ r. refl) (ranges_of u.first ++ ranges_of u.second)) refl)
+
+pub cause_group-float : (labels : Labels) (g : Group FailureKey) → has_float (cause_group_data labels g) ≡ false
+cause_group-float labels g =
+    both (items_have_float (items_of (map count_data g.members.items))) _ (array-float count_data (λ n. refl) g.members.items)
+    (both (has_float (or_null string (origin_label labels g.key.origin))) _ (label-float (origin_label labels g.key.origin))
+    (both (has_float (or_null count_data (origin_thread g.key.origin))) false (count-float (origin_thread g.key.origin)) refl))
+
+line-float : (T : Recording) (o : Option ℕ) → has_float (or_null (line_data T) o) ≡ false
+line-float T o = or_null-float (line_data T) (λ l. refl) o
+
+pub late-float : (T : Recording) (labels : Labels) (g : Group LateSpot) → has_float (late_data T labels g) ≡ false
+late-float T labels g =
+    both (has_float (or_null (line_data T) (spot_line g.key))) _ (line-float T (spot_line g.key))
+    (both (has_float (event_data T labels (first_in g))) _ (event-float T labels (first_in g))
+    (both (has_float (or_null string (spot_label labels g.key))) false (label-float (spot_label labels g.key)) refl))
+
+pub label_row-float : (labels : Labels) (r : Row ℕ) → has_float (label_row_data labels r) ≡ false
+label_row-float labels r = both (has_float (or_null string (label_of labels r.key))) false (label-float (label_of labels r.key)) refl
 
 label_text-float : (o : Option (String Global)) → has_float (or_null (λ s. string (string_bytes s)) o) ≡ false
 label_text-float o = or_null-float (λ s. string (string_bytes s)) (λ s. refl) o

@@ -1,6 +1,6 @@
 -- The failures that are shown are those of the events, in order.
-use Rattle.std.proofs.Common.{◌≡◌, ℕ, zero, suc, inl, inr, ◌<◌, ◌≤◌, ◌==◌, Bool, true, false, List, [], ◌∷◌, ◌++◌, take, map, if◌then◌else◌, Option, None, Some, refl, sym, ap, subst, ◌∙◌, arith, true≢false}
-use Rattle.std.specs.Prelude.{MatchOption, filter}
+use Rattle.std.proofs.Common.{◌≡◌, ℕ, zero, suc, inl, inr, ◌<◌, ◌≤◌, ◌==◌, Bool, true, false, List, [], ◌∷◌, ◌++◌, take, map, Option, None, Some, sym, ap, subst, ◌∙◌, arith, true≢false}
+use Rattle.std.specs.Prelude.{MatchOption}
 use Rattle.std.specs.List.{All, AllByRecursion}
 use Rattle.std.proofs.lemmas.List.{map-append}
 use Rattle.std.proofs.lemmas.List.Elements.{All-push}
@@ -8,10 +8,8 @@ use Rattle.std.proofs.lemmas.Bool.{cond_both}
 use Rattle.pmt_model.specs.declared.event.Event.{Event}
 use Rattle.pmt_model.specs.declared.event.Op.{Op}
 use Rattle.pmt_model.specs.declared.event.Op.TheVariants.{Store, Clwb, ClflushOpt, Clflush, Sfence, Mfence, IsPersist, IsOrderedBefore}
-use Rattle.pmt_model.specs.declared.finding.Verdict.{Verdict}
 use Rattle.pmt_model.specs.Traces.{Recording, event, history, count_at}
 use Rattle.pmt_model.specs.Fronts.{front_at}
-use Rattle.pmt_model.specs.Analyses.{IsVerdictOf, OfPersist, OfOrdered, HasVerdict, IsVerdicts}
 use Rattle.pmt_laws.proofs.Histories.{front-le-count}
 use Rattle.pmt_reasons.specs.declared.failure.Failure.{Failure}
 use Rattle.pmt_reasons.specs.Failures.{persisted_at, IsLost, IsFailureOf, IsFailureAt}
@@ -21,7 +19,6 @@ use Rattle.pmt_explain.specs.CauseOf.{IsCauseOf}
 use Rattle.pmt_explain.specs.Grouping.{Picks}
 use Rattle.pmt_explain.proofs.GroupingLemmas.{picks-more, picks-other}
 use Rattle.pmt_explanation.specs.declared.failures.ShownFailure.{ShownFailure}
-use Rattle.pmt_explanation.specs.Failing.{failing_events}
 use Rattle.pmt_explanation.specs.Showing.{IsShown, Fails, AreShown}
 
 -- ---- What has a failure fails
@@ -48,12 +45,12 @@ event-fails : (T : Recording) (i : ℕ) (o : Option Event) (f : Failure) → Mat
 event-fails T i None f h none = some-none f h
 event-fails T i (Some e) f h none = op-fails T i e.op f h none
 
-failure-fails : (T : Recording) (i : ℕ) (f : Failure) → IsFailureAt T i (Some f) → Fails T i
+pub failure-fails : (T : Recording) (i : ℕ) (f : Failure) → IsFailureAt T i (Some f) → Fails T i
 failure-fails T i f h = event-fails T i (event T i) f h
 
 -- ---- The list, one event more
 
-abbrev number_of : ShownFailure → ℕ
+abbrev pub number_of : ShownFailure → ℕ
 number_of s = s.event
 
 pub shown-more : (T : Recording) (numbers : List ℕ) (shown new : List ShownFailure) (n : ℕ) (s : ShownFailure) →
@@ -103,48 +100,14 @@ has-cause T i (Some e) f h = let lost = lost-of_op T i e.op f h in no-cause T f.
 pub failure-has_cause : (T : Recording) (i : ℕ) (f : Failure) → IsFailureAt T i (Some f) → ¬ IsCauseOf T f.place f.lost.store None
 failure-has_cause T i f h = has-cause T i (event T i) f h
 
--- ---- What the verdicts tell as failed fails
+-- ---- Lists whose numbers all have a property
 
-passes-of : (T : Recording) (i : ℕ) (e : Event) → event T i ≡ Some e → IsFailureAt T i None → IsFailureOf T i e.op None
-passes-of T i e is h = subst (λ (o : Option Event). MatchOption o (◌≡◌ {A = Option Failure} None None) (λ (x : Event). IsFailureOf T i x.op None)) is h
-
-verdict-fails : (T : Recording) (v : Verdict) → IsVerdictOf T v → v.pass ≡ false → Fails T v.event
-verdict-fails T v (OfPersist e is r op ordered passes) fails none =
-    true≢false (sym (passes.1 (subst (λ (o : Op). IsFailureOf T v.event o None) op (passes-of T v.event e is none))) ∙ fails)
-verdict-fails T v (OfOrdered e is r q op ordered passes) fails none =
-    true≢false (sym (passes.1 (subst (λ (o : Op). IsFailureOf T v.event o None) op (passes-of T v.event e is none))) ∙ fails)
-
-fails-cons : (T : Recording) (v : Verdict) (vs : List Verdict) (b : Bool) → v.pass ≡ b → (b ≡ false → Fails T v.event) → AllByRecursion (Fails T) (failing_events vs) →
-    AllByRecursion (Fails T) (failing_events (v ∷ vs))
-fails-cons T v vs true e f rest = rw e rest
-fails-cons T v vs false e f rest = rw e (f refl, rest)
-
-all-fail : (T : Recording) (vs : List Verdict) → ((v : Verdict) → HasVerdict vs v → IsVerdictOf T v) → AllByRecursion (Fails T) (failing_events vs)
-all-fail T [] h = tt
-all-fail T (v ∷ vs) h = fails-cons T v vs v.pass refl (λ e. verdict-fails T v (h v (inl refl)) e) (all-fail T vs (λ w within. h w (inr within)))
-
-all-take : (P : ℕ → Type 0) (n : ℕ) (xs : List ℕ) → AllByRecursion P xs → AllByRecursion P (take n xs)
+pub all-take : (P : ℕ → Type 0) (n : ℕ) (xs : List ℕ) → AllByRecursion P xs → AllByRecursion P (take n xs)
 all-take P zero xs h = tt
 all-take P (suc n) [] h = tt
 all-take P (suc n) (x ∷ xs) h = (h.0, all-take P n xs h.1)
 
-all-picked : (P : ℕ → Type 0) (xs ys : List ℕ) → Picks P xs ys → AllByRecursion P xs → ys ≡ xs
+pub all-picked : (P : ℕ → Type 0) (xs ys : List ℕ) → Picks P xs ys → AllByRecursion P xs → ys ≡ xs
 all-picked P [] ys none h = none
 all-picked P (x ∷ xs) ys (inl (own, (zs, is, rest))) h = is ∙ ap (λ (ws : List ℕ). x ∷ ws) (all-picked P xs zs rest h.1)
 all-picked P (x ∷ xs) ys (inr (other, rest)) h = absurd (other h.0)
-
-all-kept : (P : ℕ → Type 0) (x : ℕ) (kept : List ℕ) (b : Bool) → P x → AllByRecursion P kept → AllByRecursion P (if b then x ∷ kept else kept)
-all-kept P x kept true one rest = (one, rest)
-all-kept P x kept false one rest = rest
-
-all-filter : (P : ℕ → Type 0) (f : ℕ → Bool) (xs : List ℕ) → AllByRecursion P xs → AllByRecursion P (filter f xs)
-all-filter P f [] h = tt
-all-filter P f (x ∷ xs) h = all-kept P x (filter f xs) (f x) h.0 (all-filter P f xs h.1)
-
--- Of those that fail the first ones that are asked for are shown, all of them.
-pub shown-all : (T : Recording) (verdicts : List Verdict) (f : ℕ → Bool) (limit : ℕ) (shown : List ShownFailure) → IsVerdicts T verdicts →
-    AreShown T (take limit (filter f (failing_events verdicts))) shown → map (λ (s : ShownFailure). s.event) shown ≡ take limit (filter f (failing_events verdicts))
-shown-all T verdicts f limit shown right told =
-    let fail = all-fail T verdicts (λ v within. (right.just v).0 within) in
-    let few : List ℕ = take limit (filter f (failing_events verdicts)) in
-    all-picked (Fails T) few (map number_of shown) told.picked (all-take (Fails T) limit (filter f (failing_events verdicts)) (all-filter (Fails T) f (failing_events verdicts) fail))

@@ -1,19 +1,25 @@
 -- What an explanation has of each kind.
-use Rattle.std.specs.Prelude.{◌≡◌, ◌-◌, ◌==◌, ◌||◌, Bool, not, List, length, map, take, count_by, is_some}
-use Rattle.std.specs.List.{All}
+use Rattle.std.specs.Prelude.{◌≡◌, ◌-◌, ◌==◌, ◌||◌, Bool, not, length, map, take, count_by, is_some}
+use Rattle.std.specs.List.{All, filter_map}
 use Rattle.pmt_model.specs.declared.finding.Finding.{Finding}
 use Rattle.pmt_explain.specs.Dropping.{AreDropped}
 use Rattle.pmt_explain.specs.LostGroups.{AreLostGroups}
 use Rattle.pmt_explain.specs.OverwrittenGroups.{AreOverwrittenGroups}
+use Rattle.pmt_causes.specs.Dropped.{dropped_item}
+use Rattle.pmt_causes.specs.FailureKeys.{AreFailureGroups}
+use Rattle.pmt_causes.specs.Groups.{AreGrouped}
+use Rattle.pmt_causes.specs.Tables.{AreLabelRows, AreThreadRows}
 use Rattle.pmt_analysis.specs.Analysing.{Analysed}
 use Rattle.pmt_explanation.specs.declared.explaining.Explanation.{Explanation}
 use Rattle.pmt_explanation.specs.declared.failures.ShownFailure.{ShownFailure}
 use Rattle.pmt_explanation.specs.declared.explaining.Options.{Options}
 use Rattle.pmt_explanation.specs.declared.choosing.Kind.TheVariants as kinds
 use Rattle.pmt_explanation.specs.declared.labels.Labels.{Labels}
-use Rattle.pmt_explanation.specs.Asking.{asked_dropped, asked_numbers, asked_pairs, asked_unwritten}
+use Rattle.pmt_explanation.specs.Asking.{asked_dropped, asked_numbers, asked_pairs, asked_unwritten, is_asked_for}
+use Rattle.pmt_explanation.specs.Causing.{AreAskedLate, first_members}
 use Rattle.pmt_explanation.specs.Failing.{failing_events}
 use Rattle.pmt_explanation.specs.Ignoring.{lost_store, told_stores, overwriting, told_pairs}
+use Rattle.pmt_explanation.specs.Numbering.{AreLabelNumbers}
 use Rattle.pmt_explanation.specs.Showing.{IsShown}
 use Rattle.pmt_explanation.specs.Unwriting.{unwritten_of}
 
@@ -21,12 +27,18 @@ use Rattle.pmt_explanation.specs.Unwriting.{unwritten_of}
 pub record IsExplanation (a : Analysed) (labels : Labels) (o : Options) (x : Explanation) : Type 0 where
   pub failing : x.failing.items ≡ failing_events a.verdicts
   pub asked_failing : x.asked_failing.items ≡ asked_numbers a.trace labels o.choice kinds.Failure x.failing.items
+  pub label_numbers : AreLabelNumbers labels (length a.trace.events) x.label_numbers.items
+  pub causes : AreFailureGroups a.trace x.label_numbers.items x.asked_failing.items x.causes.items
   pub failures : All (IsShown a.trace) x.failures.items
-  pub shown : map (λ (s : ShownFailure). s.event) x.failures.items ≡ take x.limit x.asked_failing.items
+  pub shown : map (λ (s : ShownFailure). s.event) x.failures.items ≡ take x.limit (first_members x.causes.items)
   pub stores : x.stores.items ≡ told_stores a.trace o.ignored.items a.findings
   pub lost : AreLostGroups a.trace (asked_numbers a.trace labels o.choice kinds.NeverPersisted x.stores.items) x.lost.items
   pub dropped : AreDropped a.trace x.dropped.items
   pub asked_dropped : x.asked_dropped.items ≡ asked_dropped a.trace labels o.choice x.dropped.items
+  pub dropped_groups : AreGrouped (filter_map (dropped_item a.trace x.label_numbers.items) x.asked_dropped.items) x.dropped_groups.items
+  pub late : AreAskedLate a.trace x.label_numbers.items (is_asked_for a.trace labels o.choice kinds.Late) x.late.items
+  pub threads : AreThreadRows a.trace x.dropped.items x.threads.items
+  pub labelled : AreLabelRows a.trace x.label_numbers.items x.dropped.items x.labelled.items
   pub overwritten : AreOverwrittenGroups a.trace (asked_pairs a.trace labels o.choice (told_pairs a.trace o.ignored.items a.findings)) x.overwritten.items
   pub unwritten : x.unwritten.items ≡ asked_unwritten a.trace labels o.choice (unwritten_of a.trace)
   pub ignored_stores : x.ignored_never_persisted ≡ count_by (λ (f : Finding). is_some (lost_store f)) a.findings - length x.stores.items

@@ -5,7 +5,6 @@ use Rattle.serde_json.specs.Data.{Data, string}
 use Rattle.pmt_model.specs.declared.event.Event.{Event}
 use Rattle.pmt_explain.specs.declared.dropped_event.Dropped.{Dropped}
 use Rattle.pmt_explanation.specs.declared.choosing.Choice.{Choice}
-use Rattle.pmt_explanation.specs.declared.choosing.Kind.{Kind}
 use Rattle.pmt_explanation.specs.Choosing.{kind_name}
 use Rattle.pmt_explanation.specs.declared.explaining.Explanation.{Explanation}
 use Rattle.pmt_explanation.specs.declared.ignoring.ByteRange.{ByteRange}
@@ -13,6 +12,8 @@ use Rattle.pmt_explanation.specs.declared.labels.Labels.{Labels}
 use Rattle.pmt_explanation.specs.declared.summary.Summary.{Summary}
 use Rattle.pmt_explanation.specs.Counting.{is_store, is_flush, is_fence, is_reason_of_fence, per_cent, threads_of}
 use Rattle.pmt_explanation.specs.Parts.{json_line, object_of, count_data, address_data, or_null}
+use Rattle.pmt_explanation.specs.Groups.{cause_line}
+use Rattle.pmt_explanation.specs.Tables.{table_lines}
 use Rattle.pmt_explanation.specs.Entries.{failure_line, lost_line, dropped_line, overwritten_line, unwritten_line}
 
 -- How many fences are dropped.
@@ -38,10 +39,14 @@ pub record IsSummary (x : Explanation) (s : Summary) : Type 0 where
 -- How many entries are not shown.
 abbrev pub more_data : Explanation → Data
 more_data x = object_of
-    ((codes "dropped", count_data (length x.asked_dropped.items - x.limit))
-    ∷ (codes "failure", count_data (length x.asked_failing.items - x.limit))
+    ((codes "cause", count_data (length x.causes.items - x.limit))
+    ∷ (codes "dropped", count_data (length x.asked_dropped.items - x.limit))
+    ∷ (codes "failure", count_data (length x.causes.items - x.limit))
+    ∷ (codes "label", count_data (length x.labelled.items - x.limit))
+    ∷ (codes "late", count_data (length x.late.items - x.limit))
     ∷ (codes "never_persisted", count_data (length x.lost.items - x.limit))
     ∷ (codes "overwritten", count_data (length x.overwritten.items - x.limit))
+    ∷ (codes "thread", count_data (length x.threads.items - x.limit))
     ∷ (codes "unwritten", count_data (length x.unwritten.items - x.limit))
     ∷ [])
 
@@ -91,11 +96,13 @@ summary_line x c s = json_line (summary_data s x.limit c (more_data x))
 unfoldable pub json_lines : Explanation → Choice → Summary → Labels → List ℕ
 json_lines x c s labels =
     summary_line x c s
+    ++ flat_map (cause_line labels) (take x.limit x.causes.items)
     ++ flat_map (failure_line x.analysis.trace labels) x.failures.items
     ++ flat_map (lost_line x.analysis.trace labels) (take x.limit x.lost.items)
     ++ flat_map (dropped_line x.analysis.trace labels) (take x.limit x.asked_dropped.items)
     ++ flat_map (overwritten_line x.analysis.trace labels) (take x.limit x.overwritten.items)
     ++ flat_map (unwritten_line x.analysis.trace labels) (take x.limit x.unwritten.items)
+    ++ table_lines x labels
 
 -- The text is the explanation's, with its counts and with what was asked for.
 abbrev pub IsJsonText : Explanation → Labels → Choice → List ℕ → Type 0

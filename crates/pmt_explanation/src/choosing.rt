@@ -19,6 +19,8 @@ pub enum Kind {
     Overwritten,
     /// Assertions on bytes that no store has written.
     Unwritten,
+    /// Stores that are persisted late.
+    Late,
 }
 
 impl Kind {
@@ -32,6 +34,7 @@ impl Kind {
             Kind::Dropped => "dropped",
             Kind::Overwritten => "overwritten",
             Kind::Unwritten => "unwritten",
+            Kind::Late => "late",
         }
     }
 }
@@ -73,6 +76,7 @@ fn is_same_kind(only: Kind, kind: Kind) -> bool
         Kind::Dropped => matches!(kind, Kind::Dropped),
         Kind::Overwritten => matches!(kind, Kind::Overwritten),
         Kind::Unwritten => matches!(kind, Kind::Unwritten),
+        Kind::Late => matches!(kind, Kind::Late),
     }
 }
 

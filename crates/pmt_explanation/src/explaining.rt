@@ -9,12 +9,17 @@ ghost use Rattle.pmt_explanation.specs.Explaining.{IsExplanation, has_failed as 
 ghost use Rattle.pmt_explanation.specs.Ignoring.{lost_store as lost_of, overwriting as overwriting_of};
 
 use crate::asking::{asked_drops, asked_numbers, asked_pairs, asked_unwrittens};
+use crate::causing::{asked_late, causes_of, first_members};
 use crate::choosing::{Choice, Kind};
 use crate::failures::{ShownFailure, failing_events, shown_failures};
 use crate::ignoring::{ByteRange, lost_store, lost_stores, overwriting, overwritings};
 use crate::labels::Labels;
+use crate::numbering::label_numbers;
 use crate::unwritten::{Unwritten, unwritten_assertions};
 use pmt_analysis::Analysis;
+use pmt_causes::{
+    DroppedKey, FailureKey, Group, LateSpot, Row, dropped_groups, label_table, thread_table,
+};
 use pmt_explain::{
     Dropped, LostGroup, Overwriting, OverwrittenGroup, dropped, lost_groups, overwritten_groups,
 };
@@ -43,7 +48,11 @@ pub struct Explanation {
     pub failing: Vec<u64>,
     /// Those of them that are asked for.
     pub asked_failing: Vec<u64>,
-    /// The first ones of those in full, at most `limit`.
+    /// Of each event, in order, the number of its label: that of the first event with it.
+    pub label_numbers: Vec<Option<u64>>,
+    /// Those of `asked_failing`, by cause.
+    pub causes: Vec<Group<FailureKey>>,
+    /// The first failure of each of the first `limit` causes in full, in the order of the causes.
     pub failures: Vec<ShownFailure>,
     /// The stores that are never persisted, by rising event number, without those that are ignored.
     pub stores: Vec<u64>,
@@ -55,6 +64,14 @@ pub struct Explanation {
     pub dropped: Vec<Dropped>,
     /// Those of them that are asked for.
     pub asked_dropped: Vec<Dropped>,
+    /// Those in groups by place, word and reason.
+    pub dropped_groups: Vec<Group<DroppedKey>>,
+    /// The late stores that are asked for, by place.
+    pub late: Vec<Group<LateSpot>>,
+    /// What each thread has in the trace.
+    pub threads: Vec<Row<u8>>,
+    /// What each label has in the trace, by its number.
+    pub labelled: Vec<Row<u64>>,
     /// What is overwritten and asked for, by line, without what is ignored.
     pub overwritten: Vec<OverwrittenGroup>,
     /// How many pairs of an overwritten and an overwriting store are ignored.
@@ -90,13 +107,21 @@ pub fn explanation_of(
         Kind::Failure,
         failing.as_slice(),
     )?;
-    let failures = shown_failures(alloc, trace, asked_failing.as_slice(), options.limit)?;
+    let label_numbers = label_numbers(alloc, labels, trace.len())?;
+    let numbers = label_numbers.as_slice();
+    let causes = causes_of(alloc, trace, numbers, asked_failing.as_slice())?;
+    let firsts = first_members(alloc, causes.as_slice())?;
+    let failures = shown_failures(alloc, trace, firsts.as_slice(), options.limit)?;
     let stores = lost_stores(alloc, trace, findings, ranges)?;
     let lost = asked_losses(alloc, trace, labels, choice, stores.as_slice())?;
     let pairs = overwritings(alloc, trace, findings, ranges)?;
     let overwritten = asked_overwritten(alloc, trace, labels, choice, pairs.as_slice())?;
     let dropped = dropped(alloc, trace)?;
     let asked_dropped = asked_drops(alloc, trace, labels, choice, dropped.as_slice())?;
+    let dropped_groups = dropped_groups(alloc, trace, numbers, asked_dropped.as_slice())?;
+    let late = asked_late(alloc, trace, labels, numbers, choice)?;
+    let threads = thread_table(alloc, trace, dropped.as_slice())?;
+    let labelled = label_table(alloc, trace, numbers, dropped.as_slice())?;
     let unwritten = unwritten_asked(alloc, trace, labels, choice)?;
     let ignored_never_persisted = count_lost(findings).saturating_sub(stores.len()) as u64;
     let ignored_overwritten = count_overwritten(findings).saturating_sub(pairs.len()) as u64;
@@ -105,12 +130,18 @@ pub fn explanation_of(
         limit: options.limit,
         failing,
         asked_failing,
+        label_numbers,
+        causes,
         failures,
         stores,
         ignored_never_persisted,
         lost,
         dropped,
         asked_dropped,
+        dropped_groups,
+        late,
+        threads,
+        labelled,
         overwritten,
         ignored_overwritten,
         unwritten,

@@ -5,18 +5,22 @@ ghost use Rattle.serde_json.specs.View.{view};
 ghost use Rattle.serde_json.specs.Written.{has_float};
 ghost use Rattle.pmt_explanation.specs.Parts.{json_line};
 ghost use Rattle.pmt_explanation.specs.Entries.{dropped_line, failure_line, lost_line, overwritten_line, unwritten_line};
+ghost use Rattle.pmt_explanation.specs.Groups.{cause_line};
 ghost use Rattle.pmt_explanation.specs.Summing.{IsJsonText, summary_line};
 
 use crate::choosing::Choice;
 use crate::counting::first;
 use crate::explaining::Explanation;
 use crate::failures::ShownFailure;
+use crate::json_causes::cause_group_value;
 use crate::json_entries::{dropped_value, lost_value, overwritten_value, unwritten_value};
 use crate::json_failures::failure_value;
 use crate::json_summary::{more_value, summary_value};
+use crate::json_tables::push_tables;
 use crate::labels::Labels;
 use crate::summary::{Summary, summary_of};
 use crate::unwritten::Unwritten;
+use pmt_causes::{FailureKey, Group};
 use pmt_explain::{Dropped, LostGroup, OverwrittenGroup};
 use pmt_model::{OutOfMemory, Trace};
 use serde_json::Value;
@@ -37,6 +41,7 @@ pub fn json_text(
 {
     let trace = explanation.analysis.trace();
     let limit = explanation.limit;
+    let causes = first(explanation.causes.as_slice(), limit);
     let failures = explanation.failures.as_slice();
     let lost = first(explanation.lost.as_slice(), limit);
     let dropped = first(explanation.asked_dropped.as_slice(), limit);
@@ -45,16 +50,22 @@ pub fn json_text(
     let counts = summary_of(explanation);
     let mut text = Vec::new(alloc);
     push_summary(alloc, &mut text, explanation, choice, &counts)?;
+    push_causes(alloc, &mut text, labels, causes)?;
     push_failures(alloc, &mut text, trace, labels, failures)?;
     push_losses(alloc, &mut text, trace, labels, lost)?;
     push_drops(alloc, &mut text, trace, labels, dropped)?;
     push_overwritings(alloc, &mut text, trace, labels, overwritten)?;
     push_unwrittens(alloc, &mut text, trace, labels, unwritten)?;
+    push_tables(alloc, &mut text, explanation, labels)?;
     Ok(text)
 }
 
 // Adds the value and an LF.
-fn push_value(alloc: Global, text: &mut Vec<u8>, value: &Value) -> Result<(), OutOfMemory>
+pub(crate) fn push_value(
+    alloc: Global,
+    text: &mut Vec<u8>,
+    value: &Value,
+) -> Result<(), OutOfMemory>
     requires { has_float (view value.now) ≡ false }
     ensures { OnOk result (text.new.items ≡ text.old.items ++ json_line (view value.now)) }
 {
@@ -79,7 +90,35 @@ fn push_summary(
     push_value(alloc, text, &value)
 }
 
-// Adds the failed assertions.
+// Adds the causes of failed assertions.
+fn push_causes(
+    alloc: Global,
+    text: &mut Vec<u8>,
+    labels: &Labels,
+    groups: &[Group<FailureKey>],
+) -> Result<(), OutOfMemory>
+    ensures { OnOk result (text.new.items ≡ text.old.items ++ flat_map (cause_line labels.now) groups.now) }
+{
+    for group in groups {
+        push_cause(alloc, text, labels, group)?;
+    }
+    Ok(())
+}
+
+// Adds the cause, with the failed assertions that have it.
+fn push_cause(
+    alloc: Global,
+    text: &mut Vec<u8>,
+    labels: &Labels,
+    group: &Group<FailureKey>,
+) -> Result<(), OutOfMemory>
+    ensures { OnOk result (text.new.items ≡ text.old.items ++ cause_line labels.now group.now) }
+{
+    let value = cause_group_value(alloc, labels, group)?;
+    push_value(alloc, text, &value)
+}
+
+// Adds the failed assertions in full.
 fn push_failures(
     alloc: Global,
     text: &mut Vec<u8>,

@@ -67,7 +67,7 @@ fn address_value(alloc: Global, addr: Option<u64>) -> Result<Value, OutOfMemory>
 }
 
 // The label of the event, if it has one.
-fn label_value(alloc: Global, labels: &Labels, number: u64) -> Result<Value, OutOfMemory>
+pub(crate) fn label_value(alloc: Global, labels: &Labels, number: u64) -> Result<Value, OutOfMemory>
     ensures { IfOk result (λ v. view v ≡ or_null string (label_of labels.now number)) }
 {
     match labels.get(number) {

@@ -70,12 +70,24 @@ pub(crate) fn more_value(alloc: Global, explanation: &Explanation) -> Result<Val
     let limit = explanation.limit;
     let fields = vec![in alloc;
         (
+            "cause",
+            Value::from(explanation.causes.len().saturating_sub(limit))
+        ),
+        (
             "dropped",
             Value::from(explanation.asked_dropped.len().saturating_sub(limit))
         ),
         (
             "failure",
-            Value::from(explanation.asked_failing.len().saturating_sub(limit))
+            Value::from(explanation.causes.len().saturating_sub(limit))
+        ),
+        (
+            "label",
+            Value::from(explanation.labelled.len().saturating_sub(limit))
+        ),
+        (
+            "late",
+            Value::from(explanation.late.len().saturating_sub(limit))
         ),
         (
             "never_persisted",
@@ -84,6 +96,10 @@ pub(crate) fn more_value(alloc: Global, explanation: &Explanation) -> Result<Val
         (
             "overwritten",
             Value::from(explanation.overwritten.len().saturating_sub(limit))
+        ),
+        (
+            "thread",
+            Value::from(explanation.threads.len().saturating_sub(limit))
         ),
         (
             "unwritten",

@@ -4,31 +4,37 @@
 #![tactic(auto)]
 
 mod asking;
+mod causing;
 pub mod choosing;
 mod commands;
 pub mod counting;
 pub mod explaining;
 pub mod failures;
 pub mod ignoring;
+mod json_causes;
 mod json_entries;
 mod json_failures;
 mod json_lines;
 mod json_objects;
 mod json_parts;
 mod json_summary;
+mod json_tables;
 pub mod labels;
 pub mod mending;
+mod numbering;
 mod people;
 mod people_causes;
 mod people_dropped;
 mod people_entries;
 mod people_failures;
 mod people_guesses;
+mod people_late;
 mod people_memory;
 mod people_overwritten;
 mod people_parts;
 mod people_ranges;
 mod people_summary;
+mod people_tables;
 mod screen;
 pub mod summary;
 pub mod telling;

@@ -6,8 +6,10 @@ use crate::people_dropped::dropped_section;
 use crate::people_entries::{lost_section, unwritten_section};
 use crate::people_failures::failures_section;
 use crate::people_guesses::guesses_section;
+use crate::people_late::late_section;
 use crate::people_overwritten::overwritten_section;
 use crate::people_summary::push_summary;
+use crate::people_tables::{labels_section, threads_section};
 use crate::screen::push_sections;
 use crate::telling::{Screen, Telling};
 use pmt_model::OutOfMemory;
@@ -33,13 +35,16 @@ pub fn text(
     };
     let mut out = String::new(alloc);
     push_summary(&mut out, &told)?;
-    let mut sections = Vec::with_capacity(alloc, 6)?;
+    let mut sections = Vec::with_capacity(alloc, 9)?;
     sections.push(failures_section(&told)?)?;
     sections.push(lost_section(&told)?)?;
     sections.push(dropped_section(&told)?)?;
     sections.push(overwritten_section(&told)?)?;
+    sections.push(late_section(&told)?)?;
     sections.push(unwritten_section(&told)?)?;
     sections.push(guesses_section(&told)?)?;
+    sections.push(threads_section(&told)?)?;
+    sections.push(labels_section(&told)?)?;
     push_sections(alloc, &mut out, sections.as_slice(), screen.rows)?;
     Vec::from_slice(alloc, out.as_bytes())
 }

@@ -2,34 +2,20 @@
 
 use crate::counting::first;
 use crate::json_parts::line_address;
-use crate::people_parts::plural;
+use crate::people_parts::{first_member, plural, push_label};
 use crate::screen::Section;
 use crate::telling::Telling;
-use pmt_explain::Dropped;
-use pmt_model::{Addr, Op, OutOfMemory, line_of};
+use pmt_causes::{DropWord, DroppedKey, Group, ReasonKind, Spot};
+use pmt_model::OutOfMemory;
 use pmt_reasons::Reason;
-use std::collections::BTreeMap;
-
-// Dropped events of one place, word and reason.
-#[derive(Drop)]
-struct Useless {
-    // What and where they are.
-    title: String,
-    // Why they are dropped.
-    reason: Reason,
-    // How many there are.
-    count: u64,
-    // The first of them.
-    first: u64,
-}
 
 // What does nothing.
 pub(crate) fn dropped_section(told: &Telling<'_>) -> Result<Section, OutOfMemory> {
-    let groups = useless_groups(told)?;
+    let groups = told.explanation.dropped_groups.as_slice();
     let mut entries = Vec::new(told.alloc);
-    for group in first(groups.as_slice(), told.explanation.limit) {
+    for group in first(groups, told.explanation.limit) {
         let mut entry = String::new(told.alloc);
-        push_useless(&mut entry, group)?;
+        push_dropped(&mut entry, told, group)?;
         entries.push(entry)?;
     }
     Ok(Section {
@@ -44,123 +30,80 @@ pub(crate) fn dropped_section(told: &Telling<'_>) -> Result<Section, OutOfMemory
     })
 }
 
-// The dropped events in groups, the greatest first.
-fn useless_groups(told: &Telling<'_>) -> Result<Vec<Useless>, OutOfMemory> {
-    let mut groups = Vec::new(told.alloc);
-    let mut places = BTreeMap::new(told.alloc);
-    for entry in told.explanation.asked_dropped.as_slice() {
-        add_dropped(told, &mut groups, &mut places, *entry)?;
-    }
-    groups.sort_by_key(|group| u64::MAX - group.count)?;
-    Ok(groups)
-}
-
-// Adds the event to its group.
-fn add_dropped(
-    told: &Telling<'_>,
-    groups: &mut Vec<Useless>,
-    places: &mut BTreeMap<String, usize>,
-    entry: Dropped,
-) -> Result<(), OutOfMemory> {
-    let title = title_of(told, entry)?;
-    let key = format!(in told.alloc; "{title} {}", reason_words(entry.reason))?;
-    if let Some(place) = places.get(key.as_str()) {
-        if let Some(group) = groups.get_mut(*place) {
-            group.count = group.count.saturating_add(1);
-        }
-        return Ok(());
-    }
-    places.insert(key, groups.len())?;
-    groups.push(Useless {
-        title,
-        reason: entry.reason,
-        count: 1,
-        first: entry.event,
-    })?;
-    Ok(())
-}
-
-// What the event is, and where it is made.
-fn title_of(told: &Telling<'_>, entry: Dropped) -> Result<String, OutOfMemory> {
-    let Some(event) = told.trace.get(entry.event) else {
-        return Ok(String::new(told.alloc));
-    };
-    let thread = event.thread;
-    let op = event.op;
-    match told.labels.get(entry.event) {
-        Some(label) => labelled(told, op, label.as_str()),
-        None => placed(told, op, thread),
-    }
-}
-
-// What the op is, with its label.
-fn labelled(told: &Telling<'_>, op: Op, label: &str) -> Result<String, OutOfMemory> {
-    let word = word_of(op);
-    format!(in told.alloc; "{word} at {label}")
-}
-
-// What the op is, with its thread and cache line.
-fn placed(told: &Telling<'_>, op: Op, thread: u8) -> Result<String, OutOfMemory> {
-    match op {
-        Op::Clwb(addr) => of_line(told, "clwb", addr, thread),
-        Op::ClflushOpt(addr) => of_line(told, "clflushopt", addr, thread),
-        Op::Clflush(addr) => of_line(told, "clflush", addr, thread),
-        Op::Sfence => format!(in told.alloc; "sfence by thread {thread}"),
-        Op::Mfence => format!(in told.alloc; "mfence by thread {thread}"),
-        Op::Store(_) | Op::IsPersist(_) | Op::IsOrderedBefore(_, _) => {
-            Ok(String::new(told.alloc))
-        }
-    }
-}
-
-fn of_line(told: &Telling<'_>, word: &str, addr: Addr, thread: u8) -> Result<String, OutOfMemory> {
-    let line = line_address(told.trace, line_of(told.trace.format(), addr));
-    format!(in told.alloc; "{word} of {line:#x} by thread {thread}")
-}
-
-// The word of a flush or fence.
-fn word_of(op: Op) -> &'static str {
-    match op {
-        Op::Clwb(_) => "clwb",
-        Op::ClflushOpt(_) => "clflushopt",
-        Op::Clflush(_) => "clflush",
-        Op::Sfence => "sfence",
-        Op::Mfence => "mfence",
-        Op::Store(_) | Op::IsPersist(_) | Op::IsOrderedBefore(_, _) => "",
-    }
-}
-
 // Adds the group.
-fn push_useless(out: &mut String, group: &Useless) -> Result<(), OutOfMemory> {
-    let count = group.count;
-    let title = group.title.as_str();
-    let number = group.first;
-    let reason = reason_words(group.reason);
-    write!(
-        out,
-        "  {count} time{} {title}, first event {number}: {reason}",
-        plural(count)
-    )?;
-    push_by(out, group.reason)?;
+fn push_dropped(
+    out: &mut String,
+    told: &Telling<'_>,
+    group: &Group<DroppedKey>,
+) -> Result<(), OutOfMemory> {
+    let count = group.members.len() as u64;
+    let word = drop_word(group.key.word);
+    write!(out, "  {count} time{} {word}", plural(count))?;
+    push_spot(out, told, group.key.spot)?;
+    let number = first_member(group);
+    let reason = reason_words(group.key.reason);
+    write!(out, ", first event {number}: {reason}")?;
+    push_by(out, told, number)?;
     out.push_str("\n")
 }
 
-// Adds the event in whose favour the first one is dropped.
-fn push_by(out: &mut String, reason: Reason) -> Result<(), OutOfMemory> {
-    match reason {
-        Reason::Repeated { by } | Reason::Overtaken { by } => write!(out, " (event {by})"),
-        Reason::Safe | Reason::Unfenced | Reason::Empty | Reason::Useless => Ok(()),
+// Adds where the events of a group stand.
+fn push_spot(out: &mut String, told: &Telling<'_>, spot: Spot) -> Result<(), OutOfMemory> {
+    match spot {
+        Spot::Label(label) => push_label(out, told, label),
+        Spot::Line { thread, line } => {
+            let line = line_address(told.trace, line);
+            write!(out, " of {line:#x} by thread {thread}")
+        }
+        Spot::Thread(thread) => write!(out, " by thread {thread}"),
     }
 }
 
-// Why an event is dropped.
-fn reason_words(reason: Reason) -> &'static str {
+// Adds the event in whose favour this one is dropped, if there is one.
+fn push_by(out: &mut String, told: &Telling<'_>, number: u64) -> Result<(), OutOfMemory> {
+    match reason_at(told, number) {
+        Some(Reason::Repeated { by }) | Some(Reason::Overtaken { by }) => {
+            write!(out, " (event {by})")
+        }
+        Some(Reason::Safe)
+        | Some(Reason::Unfenced)
+        | Some(Reason::Empty)
+        | Some(Reason::Useless)
+        | None => Ok(()),
+    }
+}
+
+// Why the event is dropped, if it is.
+fn reason_at(told: &Telling<'_>, number: u64) -> Option<Reason> {
+    let dropped = told.explanation.asked_dropped.as_slice();
+    match dropped.binary_search_by_key(&number, |entry| entry.event) {
+        Ok(place) => match dropped.get(place) {
+            Some(entry) => Some(entry.reason),
+            None => None,
+        },
+        Err(_) => None,
+    }
+}
+
+// The word of a flush or fence.
+fn drop_word(word: DropWord) -> &'static str {
+    match word {
+        DropWord::Clwb => "clwb",
+        DropWord::ClflushOpt => "clflushopt",
+        DropWord::Clflush => "clflush",
+        DropWord::Sfence => "sfence",
+        DropWord::Mfence => "mfence",
+    }
+}
+
+// Why the events of a group are dropped.
+fn reason_words(reason: ReasonKind) -> &'static str {
     match reason {
-        Reason::Safe => "its line has no store that is not safe already",
-        Reason::Unfenced => "its thread makes no fence after it; keep it, and add that fence",
-        Reason::Repeated { by: _ } => "its thread flushes the line again before its fence",
-        Reason::Overtaken { by: _ } => "another flush saves its stores before its fence",
-        Reason::Empty => "no flush of its thread waits for it",
-        Reason::Useless => "all that it completes is safe already",
+        ReasonKind::Safe => "its line has no store that is not safe already",
+        ReasonKind::Unfenced => "its thread makes no fence after it; keep it, and add that fence",
+        ReasonKind::Repeated => "its thread flushes the line again before its fence",
+        ReasonKind::Overtaken => "another flush saves its stores before its fence",
+        ReasonKind::Empty => "no flush of its thread waits for it",
+        ReasonKind::Useless => "all that it completes is safe already",
     }
 }

@@ -3,11 +3,12 @@
 use crate::commands::push_draw;
 use crate::failures::{ShownFailure, line_of_store};
 use crate::json_parts::line_address;
-use crate::people_causes::{CauseGroup, cause_groups, part_of, push_others};
+use crate::people_causes::{part_word, push_head, push_others};
 use crate::people_parts::{plural, push_cause, push_event, push_mend};
 use crate::people_ranges::push_range;
 use crate::screen::Section;
 use crate::telling::Telling;
+use pmt_causes::{FailureKey, Group};
 use pmt_model::OutOfMemory;
 
 // The most cache lines that are named.
@@ -16,25 +17,18 @@ const FEW: usize = 3;
 // The failed assertions, each cause once.
 pub(crate) fn failures_section(told: &Telling<'_>) -> Result<Section, OutOfMemory> {
     let failures = told.explanation.failures.as_slice();
-    let groups = cause_groups(told)?;
+    let causes = told.explanation.causes.as_slice();
     let mut entries = Vec::new(told.alloc);
-    for group in groups.as_slice() {
+    for (shown, group) in failures.iter().zip(causes.iter()) {
         let mut entry = String::new(told.alloc);
-        if let Some(shown) = failures.get(group.first) {
-            push_failure(&mut entry, told, shown, group)?;
-        }
+        push_failure(&mut entry, told, shown, group)?;
         entries.push(entry)?;
     }
-    let left = told
-        .explanation
-        .asked_failing
-        .len()
-        .saturating_sub(failures.len());
     Ok(Section {
         heading: String::new(told.alloc),
         entries,
-        total: groups.len().saturating_add(left),
-        what: "causes of failed assertions, or assertions not looked at",
+        total: causes.len(),
+        what: "causes of failed assertions",
         words: "--only failure --limit all",
     })
 }
@@ -44,16 +38,14 @@ fn push_failure(
     out: &mut String,
     told: &Telling<'_>,
     shown: &ShownFailure,
-    group: &CauseGroup,
+    group: &Group<FailureKey>,
 ) -> Result<(), OutOfMemory> {
     let event = shown.event;
     let place = shown.failure.place;
-    writeln!(
-        out,
-        "error: a crash can violate the assertion of event {event}"
-    )?;
+    push_head(out, group, event)?;
     out.push_str("  claim:  ")?;
     push_event(out, told, event)?;
+    push_others(out, group)?;
     writeln!(out, "  crash:  right after event {place}")?;
     if let Some(kept) = shown.failure.kept {
         let byte = kept.byte;
@@ -62,7 +54,7 @@ fn push_failure(
     }
     let lost = shown.failure.lost;
     let byte = lost.byte;
-    let part = part_of(told.trace, shown);
+    let part = part_word(group.key.part);
     write!(
         out,
         "  loses:  byte {byte:#x}, in the {part} cache line of its range, of "
@@ -75,7 +67,6 @@ fn push_failure(
     push_mend(out, told, shown.mend)?;
     push_range(out, told, shown)?;
     push_lines(out, told, shown)?;
-    push_others(out, group)?;
     push_draw(out, told, "--failure", event)
 }
 

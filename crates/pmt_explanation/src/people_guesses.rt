@@ -1,16 +1,18 @@
 //! Guesses at what is noise: what could be left out.
 
-use crate::failures::line_of_store;
 use crate::json_parts::line_address;
 use crate::people_parts::{is_unflushed, plural};
 use crate::screen::Section;
 use crate::telling::Telling;
 use pmt_explain::OverwrittenGroup;
-use pmt_model::{Op, OutOfMemory, Trace, line_of};
+use pmt_model::{Op, OutOfMemory, Range, Trace, line_of};
 use std::collections::HashMap;
 
 // The most guesses of each kind.
 const FEW: usize = 3;
+
+// The most bytes of an assertion's range.
+const LONGEST: u64 = 4096;
 
 // What looks like noise: stores to a line that no event flushes, and stores that always write the same bytes again.
 pub(crate) fn guesses_section(told: &Telling<'_>) -> Result<Section, OutOfMemory> {
@@ -30,17 +32,18 @@ pub(crate) fn guesses_section(told: &Telling<'_>) -> Result<Section, OutOfMemory
     })
 }
 
-// Adds the first lines of never persisted stores that no event flushes.
+// Adds the first lines of never persisted stores that no event flushes and no failed assertion names.
 fn push_unflushed(told: &Telling<'_>, entries: &mut Vec<String>) -> Result<(), OutOfMemory> {
     if told.explanation.lost.is_empty() {
         return Ok(());
     }
     let flushed = flushed_lines(told)?;
+    let claimed = claimed_lines(told)?;
     let size = told.trace.format().line_size();
     let mut guesses = 0usize;
     for group in told.explanation.lost.as_slice() {
         let is_quiet = is_unflushed(group.cause) && !flushed.contains_key(&group.line);
-        if guesses < FEW && is_quiet && !is_claimed(told, group.line) {
+        if guesses < FEW && is_quiet && !is_claimed(told.trace, &claimed, group.line) {
             let line = line_address(told.trace, group.line);
             let count = group.count;
             entries.push(format!(in told.alloc;
@@ -53,10 +56,52 @@ fn push_unflushed(told: &Telling<'_>, entries: &mut Vec<String>) -> Result<(), O
     Ok(())
 }
 
-// Whether a failed assertion that is told loses a store to the line.
-fn is_claimed(told: &Telling<'_>, line: u64) -> bool {
-    let failures = told.explanation.failures.as_slice();
-    failures.iter().any(|shown| line_of_store(told.trace, shown.failure.lost.store) == Some(line))
+// The ranges of failed assertions: of each line with which one begins the last line of the longest one.
+fn claimed_lines(told: &Telling<'_>) -> Result<HashMap<u64, u64>, OutOfMemory> {
+    let mut claimed = HashMap::new(told.alloc);
+    for number in told.explanation.failing.as_slice() {
+        let Some(event) = told.trace.get(*number) else {
+            continue;
+        };
+        let op = event.op;
+        match op {
+            Op::IsPersist(range) => note_range(told.trace, &mut claimed, range)?,
+            Op::IsOrderedBefore(first, second) => {
+                note_range(told.trace, &mut claimed, first)?;
+                note_range(told.trace, &mut claimed, second)?;
+            }
+            _ => {}
+        }
+    }
+    Ok(claimed)
+}
+
+// Notes the lines of the range.
+fn note_range(
+    trace: &Trace,
+    claimed: &mut HashMap<u64, u64>,
+    range: Range,
+) -> Result<(), OutOfMemory> {
+    let size = trace.format().line_size();
+    let start = range.addr().get();
+    let end = start.saturating_add(range.len());
+    let last = end.saturating_sub(1) / size;
+    let before = claimed.get(&(start / size)).copied().unwrap_or(0);
+    claimed.insert(start / size, last.max(before))?;
+    Ok(())
+}
+
+// Whether one of these ranges has the line.
+fn is_claimed(trace: &Trace, claimed: &HashMap<u64, u64>, line: u64) -> bool {
+    let most = LONGEST / trace.format().line_size();
+    for first in line.saturating_sub(most)..line.saturating_add(1) {
+        if let Some(last) = claimed.get(&first) {
+            if *last >= line {
+                return true;
+            }
+        }
+    }
+    false
 }
 
 // The lines that are flushed.

@@ -3,12 +3,21 @@
 use crate::json_parts::line_address;
 use crate::telling::Telling;
 use crate::words::words_of;
+use pmt_causes::Group;
 use pmt_model::OutOfMemory;
 use pmt_reasons::{Cause, Mend};
 
 // The ending of a noun for so many.
 pub(crate) fn plural(count: u64) -> &'static str {
     if count == 1 { "" } else { "s" }
+}
+
+// The first event of the group, or 0 of none.
+pub(crate) fn first_member<K>(group: &Group<K>) -> u64 {
+    match group.members.first() {
+        Some(number) => *number,
+        None => 0,
+    }
 }
 
 // Whether the cause is that no flush follows.

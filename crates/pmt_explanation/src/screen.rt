@@ -18,8 +18,8 @@ pub(crate) struct Section {
     pub(crate) words: &'static str,
 }
 
-// Adds the sections, in at most so many lines with those of `out`; with no such number, all entries that they have. Each section has
-// at least a line.
+// Adds the sections, in at most so many lines with those of `out`; with no such number, all entries that they have. Sections of
+// which no entry is shown stand last, a line each.
 pub(crate) fn push_sections(
     alloc: Global,
     out: &mut String,
@@ -38,7 +38,7 @@ pub(crate) fn push_sections(
         let count = counts.get(index).copied().unwrap_or(0);
         push_section(out, &sections[index], count)?;
     }
-    Ok(())
+    push_unshown(out, sections, counts.as_slice())
 }
 
 // As many entries of each section as it has.
@@ -52,7 +52,7 @@ fn all_of(alloc: Global, sections: &[Section]) -> Result<Vec<usize>, OutOfMemory
 // How many entries of each section fit into so many lines: first one of each, and then as many as there is room for.
 fn fitting(alloc: Global, sections: &[Section], rows: usize) -> Result<Vec<usize>, OutOfMemory> {
     let mut counts = vec![in alloc; 0usize; sections.len()]?;
-    let mut used = 0usize;
+    let mut used = 1usize;
     for section in sections {
         used = used.saturating_add(cost(section, 0));
     }
@@ -90,10 +90,10 @@ fn cost(section: &Section, count: usize) -> usize {
     if section.total == 0 {
         return 0;
     }
-    let mut lines = 1usize;
-    if count > 0 {
-        lines = lines.saturating_add(lines_of(section.heading.as_bytes()));
+    if count == 0 {
+        return 1;
     }
+    let mut lines = lines_of(section.heading.as_bytes()).saturating_add(1);
     for entry in section.entries.iter().take(count) {
         lines = lines.saturating_add(lines_of(entry.as_bytes()));
     }
@@ -108,28 +108,47 @@ fn lines_of(text: &[u8]) -> usize {
     text.iter().filter(|byte| **byte == b'\n').count()
 }
 
-// Adds so many entries of the section, and how many more there are.
+// Adds so many entries of the section, and how many more there are; nothing where no entry is shown.
 fn push_section(out: &mut String, section: &Section, count: usize) -> Result<(), OutOfMemory> {
-    if section.total == 0 {
+    if count == 0 {
         return Ok(());
     }
     out.push_str("\n")?;
-    if count > 0 {
-        out.push_str(section.heading.as_str())?;
-    }
+    out.push_str(section.heading.as_str())?;
     for entry in section.entries.iter().take(count) {
         out.push_str(entry.as_str())?;
     }
-    push_left(out, section, section.total.saturating_sub(count))
+    push_left(out, section, count)
 }
 
-// Adds how many entries are left out, if any are.
-fn push_left(out: &mut String, section: &Section, left: usize) -> Result<(), OutOfMemory> {
+// Adds how many entries there are of each section of which none is shown.
+fn push_unshown(
+    out: &mut String,
+    sections: &[Section],
+    counts: &[usize],
+) -> Result<(), OutOfMemory> {
+    let mut is_first = true;
+    for index in 0..sections.len() {
+        let section = &sections[index];
+        if section.total > 0 && counts.get(index).copied().unwrap_or(0) == 0 {
+            if is_first {
+                out.push_str("\n")?;
+                is_first = false;
+            }
+            push_left(out, section, 0)?;
+        }
+    }
+    Ok(())
+}
+
+// Adds how many entries are left out where so many are shown, if any are.
+fn push_left(out: &mut String, section: &Section, count: usize) -> Result<(), OutOfMemory> {
+    let left = section.total.saturating_sub(count);
     if left == 0 {
         return Ok(());
     }
     let what = section.what;
     let words = section.words;
-    let more = if left == section.total { "" } else { " more" };
+    let more = if count == 0 { "" } else { " more" };
     writeln!(out, "... {left}{more}: {what} ({words})")
 }

@@ -27,7 +27,7 @@ pub use crate::open::OpenFlushes;
 pub use crate::playing::last_state;
 pub use crate::raises::{LineResult, Raise, run_line};
 pub use crate::small_step::SmallStep;
-pub use crate::splitting::{Jobs, SplitError, split, split_first, split_source, split_trace};
+pub use crate::splitting::{Jobs, SplitError, split, split_first, split_trace};
 pub use crate::step::{Step, StepKind};
 pub use crate::taking::take_trace;
 pub use crate::thread_job::ThreadJob;

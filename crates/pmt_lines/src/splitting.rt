@@ -75,12 +75,8 @@ pub fn split<S: EventSource>(alloc: Global, source: &mut S) -> Result<Jobs, Sour
     }
 }
 
-/// As `split`, and it tells want of memory of its own from that of the source.
-///
-/// # Errors
-/// `Source` with the fault that the source told, or with `Failed` where it had told a fault before. `OutOfMemory` where memory
-/// was refused to the split itself; the source told nothing then. The source stands past the events that were taken.
-pub fn split_source<S: EventSource>(alloc: Global, source: &mut S) -> Result<Jobs, SplitError>
+// As `split`, and it tells want of memory of its own from that of the source.
+fn split_source<S: EventSource>(alloc: Global, source: &mut S) -> Result<Jobs, SplitError>
     ensures apart { IfOk result (λ jobs. IsSplit jobs.trace jobs.lines.items jobs.fences) }
     ensures whole { IfOk result (λ jobs. ComesWhole (S.coming source.old) jobs.trace) }
     ensures fault { IfErr (told_by result) (λ e. IfSome (S.coming source.old) (λ c. IsFaultOf c e)) }
@@ -92,10 +88,11 @@ pub fn split_source<S: EventSource>(alloc: Global, source: &mut S) -> Result<Job
     Ok(jobs)
 }
 
-/// As `split_source`, of the first events of the source alone, at most so many. Where it told no end, the next event is still to come.
+/// The jobs of the first events of the source alone, at most so many. Where it told no end, the next event is still to come.
 ///
 /// # Errors
-/// As `split_source`.
+/// `Source` with the fault that the source told, or with `Failed` where it had told a fault before. `OutOfMemory` where memory
+/// was refused to the split itself; the source told nothing then. The source stands past the events that were taken.
 pub fn split_first<S: EventSource>(
     alloc: Global,
     source: &mut S,

@@ -1,176 +1,93 @@
--- The marks of the threads: where a thread's mark stands, and what a write, a push and a removal leave.
-use Rattle.std.proofs.Common.{◌≡◌, ◌≢◌, ℕ, zero, suc, ◌<◌, ◌≤◌, Bool, true, false, List, [], ◌∷◌, ◌++◌, length, get_or, set, Option, Some, None, refl, sym, ap, ◌∙◌, arith}
-use Rattle.std.specs.Prelude.{◌==◌, nat_lt, remove, if◌then◌else◌, unwrap_or}
-use Rattle.std.specs.List.{position_or_len}
-use Rattle.std.proofs.lemmas.Bool.{eq-eqb, ne_eqb, eqb-true, eqb-false, ltb-false}
-use Rattle.std.proofs.lemmas.List.Sums.{fails_before_first}
-use Rattle.std.proofs.lemmas.List.Quantifiers.{position-Some}
+-- The marks of the threads: what a search finds among them, and what a write, an insert and a removal leave.
+use Rattle.std.proofs.Common.{◌≡◌, ◌≢◌, ℕ, zero, suc, ◌+◌, ◌-◌, ◌<◌, ◌≤◌, Bool, true, false, List, [], ◌∷◌, length, get_or, set, Option, Some, None, Result, Ok, Err, IfOk, IfErr, refl, sym, ap, subst, arith}
+use Rattle.std.specs.Prelude.{◌==◌, if◌then◌else◌, unwrap_or}
+use Rattle.std.specs.List.{insert, refill, remove}
+use Rattle.std.specs.List.Sorted.{IsSearchInRange, IsBinarySearchResult, IsNonDecreasingBy}
+use Rattle.std.specs.Ordering.{nat_cmp, ordering_index}
+use Rattle.std.proofs.lemmas.Bool.Decides.{nat_tests}
+use Rattle.std.proofs.lemmas.Cmp.{ranked}
+use Rattle.std.proofs.lemmas.Grind.{common_steps}
+use Rattle.std.proofs.lemmas.List.{append-nil, drop_all, take_all}
+use Rattle.std.proofs.lemmas.List.Edits.{length-insert, get_or-insert_below, get_or-insert_at, get_or-insert_above, length-remove, get_or-remove_below, get_or-remove_above}
+use Rattle.std.proofs.lemmas.List.Sorted.{IsNonDecreasingBy-from_default}
 use Rattle.pmt_marks.specs.declared.mark.Mark.{Mark}
-use Rattle.pmt_marks.specs.Lines.{mark_in, is_of, place_in, OnePerThread, NoneAbove, ChangesMark, KeepsMarks}
+use Rattle.pmt_marks.specs.Lines.{mark_in, thread_at, ThreadsRise, IsPlaceOf, IsGapFor, NoneAbove, ChangesMark, KeepsMarks}
 
--- The mark at this place is the thread's first.
-abbrev pub IsPlaceOf : ℕ → List Mark → ℕ → Type 0
-IsPlaceOf t [] place = ⊥
-IsPlaceOf t (m ∷ marks) zero = m.thread ≡ t
-IsPlaceOf t (m ∷ marks) (suc place) = (m.thread ≢ t) × IsPlaceOf t marks place
+abbrev pub unmarked : Mark
+unmarked = record { thread = 0; stores = 0 }
 
--- where each earlier mark is of another thread and this one is the thread's, it is its place
-place-from_tests : (t : ℕ) (marks : List Mark) (place : ℕ) (d : Mark) → place < length marks → is_of t (get_or marks place d) ≡ true → ((k : ℕ) → k < place → is_of t (get_or marks k d) ≡ false) → IsPlaceOf t marks place
-place-from_tests t [] place d within here before = absurd (omega arith)
-place-from_tests t (m ∷ marks) zero d within here before = eqb-true m.thread t here
-place-from_tests t (m ∷ marks) (suc place) d within here before =
-    (eqb-false m.thread t (before 0 (omega arith)), place-from_tests t marks place d (omega arith) here (λ k h. before (suc k) (omega arith)))
+-- what is written over all of a list is the list then
+pub refill-all : (old new : List Mark) → length new ≡ length old → refill (length old) old new ≡ new
+refill-all old new same = rw (drop_all (length new) old (omega arith), append-nil new) (take_all (length old) new (omega arith))
 
--- the first mark of the thread is at its place
-pub IsPlaceOf-from_place_in : (t : ℕ) (marks : List Mark) (place : ℕ) (d : Mark) → place_in t marks ≡ Some place → IsPlaceOf t marks place
-IsPlaceOf-from_place_in t marks place d e =
-    let facts = position-Some (is_of t) marks place d e in place-from_tests t marks place d facts.0 facts.1 facts.2
+-- no mark before this place is the thread's
+abbrev NoneBefore : ℕ → List Mark → ℕ → Type 0
+NoneBefore t marks place = (k : ℕ) → k < place → thread_at marks k ≢ t
 
--- marks that are all of other threads
-none-from_tests : (t : ℕ) (marks : List Mark) (d : Mark) → ((k : ℕ) → k < length marks → is_of t (get_or marks k d) ≡ false) → mark_in t marks ≡ None
-none-from_tests t [] d fails = refl
-none-from_tests t (m ∷ marks) d fails =
-    let other : (m.thread == t) ≡ false = fails 0 (omega arith) in
-    rw other (none-from_tests t marks d (λ k h. fails (suc k) (omega arith)))
+none_before-tail : (t : ℕ) (m : Mark) (marks : List Mark) (place : ℕ) → NoneBefore t (m ∷ marks) (suc place) → NoneBefore t marks place
+none_before-tail t m marks place none k h = none (suc k) (omega arith)
+
+-- the changes of one thread's mark, as one equation for every thread
+abbrev MarksAfter : List Mark → List Mark → ℕ → Option ℕ → Type 0
+MarksAfter old new t stores = (u : ℕ) → mark_in u new ≡ (if t == u then stores else mark_in u old)
+
+changes-from_marks : (old new : List Mark) (t : ℕ) (stores : Option ℕ) → MarksAfter old new t stores → ChangesMark t stores old new
+changes-from_marks old new t stores after = record { mark = grind (arith, nat_tests, after t); others = λ u other. grind (arith, nat_tests, after u) }
 
 -- a thread that no mark is of has none
-pub mark_in-from_no_place : (t : ℕ) (marks : List Mark) (d : Mark) → place_in t marks ≡ None → mark_in t marks ≡ None
-mark_in-from_no_place t marks d e = none-from_tests t marks d (λ k h. fails_before_first (is_of t) marks k d (omega (arith, past)))
-  where
-    go : (b : Bool) → (if b then Some (position_or_len (is_of t) marks) else None) ≡ None → b ≡ false
-    go true f = cc
-    go false f = refl
+mark_in-absent : (t : ℕ) (marks : List Mark) → NoneBefore t marks (length marks) → mark_in t marks ≡ None
+mark_in-absent t [] none = refl
+mark_in-absent t (m ∷ marks) none = grind (arith, nat_tests, none 0 (omega arith), mark_in-absent t marks (none_before-tail t m marks _ none))
 
-    past : length marks ≤ position_or_len (is_of t) marks
-    past = ltb-false (position_or_len (is_of t) marks) (length marks) (go (nat_lt (position_or_len (is_of t) marks) (length marks)) e)
+-- the first mark of the thread is its mark
+mark_in-present : (t : ℕ) (marks : List Mark) (place : ℕ) → IsPlaceOf t marks place → NoneBefore t marks place → mark_in t marks ≡ Some (get_or marks place unmarked).stores
+mark_in-present t [] place at none = absurd (omega (arith, at.within))
+mark_in-present t (m ∷ marks) zero at none = grind (arith, nat_tests, at.thread)
+mark_in-present t (m ∷ marks) (suc place) at none =
+    grind (arith, nat_tests, none 0 (omega arith), mark_in-present t marks place (record { within = omega (arith, at.within); thread = at.thread }) (none_before-tail t m marks place none))
 
--- a place is within the marks
-pub place-within : (t : ℕ) (marks : List Mark) (place : ℕ) → IsPlaceOf t marks place → place < length marks
-place-within t [] place at = absurd at
-place-within t (m ∷ marks) zero at = omega arith
-place-within t (m ∷ marks) (suc place) at = omega (arith, place-within t marks place at.1)
+-- a new mark over the first one of the thread
+mark_in-set : (marks : List Mark) (m : Mark) (place : ℕ) → IsPlaceOf m.thread marks place → NoneBefore m.thread marks place → MarksAfter marks (set marks place m) m.thread (Some m.stores)
+mark_in-set [] m place at none u = absurd (omega (arith, at.within))
+mark_in-set (x ∷ marks) m zero at none u = grind (arith, nat_tests, at.thread)
+mark_in-set (x ∷ marks) m (suc place) at none u =
+    grind (arith, nat_tests, none 0 (omega arith), mark_in-set marks m place (record { within = omega (arith, at.within); thread = at.thread }) (none_before-tail m.thread x marks place none) u)
 
--- the mark at a thread's place is its mark
-pub mark_in-at : (t : ℕ) (marks : List Mark) (place : ℕ) (d : Mark) → IsPlaceOf t marks place → mark_in t marks ≡ Some (get_or marks place d).stores
-mark_in-at t [] place d at = absurd at
-mark_in-at t (m ∷ marks) zero d at = rw (eq-eqb m.thread t at) refl
-mark_in-at t (m ∷ marks) (suc place) d at = rw (ne_eqb m.thread t at.0) (mark_in-at t marks place d at.1)
+-- a new mark before any of the thread
+mark_in-insert : (marks : List Mark) (m : Mark) (place : ℕ) → NoneBefore m.thread marks place → MarksAfter marks (insert marks place m) m.thread (Some m.stores)
+mark_in-insert marks m zero none u = refl
+mark_in-insert [] m (suc place) none u = refl
+mark_in-insert (x ∷ marks) m (suc place) none u =
+    grind (arith, nat_tests, none 0 (omega arith), mark_in-insert marks m place (none_before-tail m.thread x marks place none) u)
 
--- it is of the thread
-pub thread-at : (t : ℕ) (marks : List Mark) (place : ℕ) (d : Mark) → IsPlaceOf t marks place → (get_or marks place d).thread ≡ t
-thread-at t [] place d at = absurd at
-thread-at t (m ∷ marks) zero d at = at
-thread-at t (m ∷ marks) (suc place) d at = thread-at t marks place d at.1
+-- without a mark of the thread, what the other threads have
+mark_in-remove_other : (t : ℕ) (marks : List Mark) (place u : ℕ) → IsPlaceOf t marks place → u ≢ t → mark_in u (remove marks place) ≡ mark_in u marks
+mark_in-remove_other t [] place u at other = absurd (omega (arith, at.within))
+mark_in-remove_other t (x ∷ marks) zero u at other = grind (arith, nat_tests, at.thread)
+mark_in-remove_other t (x ∷ marks) (suc place) u at other =
+    ap (λ (rest : Option ℕ). if x.thread == u then Some x.stores else rest) (mark_in-remove_other t marks place u (record { within = omega (arith, at.within); thread = at.thread }) other)
 
--- it is within the limit of all marks
-pub stores-at : (limit t : ℕ) (marks : List Mark) (place : ℕ) (d : Mark) → NoneAbove limit marks → IsPlaceOf t marks place → (get_or marks place d).stores ≤ limit
-stores-at limit t [] place d none at = absurd at
-stores-at limit t (m ∷ marks) zero d none at = none.0
-stores-at limit t (m ∷ marks) (suc place) d none at = stores-at limit t marks place d none.1 at.1
+-- marks within a limit
+none_above-set : (limit : ℕ) (marks : List Mark) (place : ℕ) (m : Mark) → m.stores ≤ limit → NoneAbove limit marks → NoneAbove limit (set marks place m)
+none_above-set limit [] place m h none = tt
+none_above-set limit (x ∷ marks) zero m h none = (h, none.1)
+none_above-set limit (x ∷ marks) (suc place) m h none = (none.0, none_above-set limit marks place m h none.1)
+
+none_above-insert : (limit : ℕ) (marks : List Mark) (place : ℕ) (m : Mark) → m.stores ≤ limit → NoneAbove limit marks → NoneAbove limit (insert marks place m)
+none_above-insert limit marks zero m h none = (h, none)
+none_above-insert limit [] (suc place) m h none = (h, tt)
+none_above-insert limit (x ∷ marks) (suc place) m h none = (none.0, none_above-insert limit marks place m h none.1)
+
+none_above-remove : (limit : ℕ) (marks : List Mark) (place : ℕ) → NoneAbove limit marks → NoneAbove limit (remove marks place)
+none_above-remove limit [] zero none = tt
+none_above-remove limit [] (suc place) none = tt
+none_above-remove limit (x ∷ marks) zero none = none.1
+none_above-remove limit (x ∷ marks) (suc place) none = (none.0, none_above-remove limit marks place none.1)
 
 -- a higher limit holds too
 pub none_above-more : (low high : ℕ) (marks : List Mark) → low ≤ high → NoneAbove low marks → NoneAbove high marks
 none_above-more low high [] h none = tt
 none_above-more low high (m ∷ marks) h none = (omega (arith, none.0), none_above-more low high marks h none.1)
-
--- a new mark of the thread at its place
-pub mark_in-set : (t : ℕ) (marks : List Mark) (place : ℕ) (m : Mark) → IsPlaceOf t marks place → m.thread ≡ t → mark_in t (set marks place m) ≡ Some m.stores
-mark_in-set t [] place m at is = absurd at
-mark_in-set t (x ∷ marks) zero m at is = rw (eq-eqb m.thread t is) refl
-mark_in-set t (x ∷ marks) (suc place) m at is = rw (ne_eqb x.thread t at.0) (mark_in-set t marks place m at.1 is)
-
-pub mark_in-set_other : (t : ℕ) (marks : List Mark) (place : ℕ) (m : Mark) (u : ℕ) → IsPlaceOf t marks place → m.thread ≡ t → u ≢ t → mark_in u (set marks place m) ≡ mark_in u marks
-mark_in-set_other t [] place m u at is other = absurd at
-mark_in-set_other t (x ∷ marks) zero m u at is other =
-    let new : (m.thread == u) ≡ false = ne_eqb m.thread u (λ e. other (sym e ∙ is)) in
-    let old : (x.thread == u) ≡ false = ne_eqb x.thread u (λ e. other (sym e ∙ at)) in
-    rw (new, old) refl
-mark_in-set_other t (x ∷ marks) (suc place) m u at is other =
-    ap (λ (rest : Option ℕ). if x.thread == u then Some x.stores else rest) (mark_in-set_other t marks place m u at.1 is other)
-
-pub one_per_thread-set : (t : ℕ) (marks : List Mark) (place : ℕ) (m : Mark) → IsPlaceOf t marks place → m.thread ≡ t → OnePerThread marks → OnePerThread (set marks place m)
-one_per_thread-set t [] place m at is one = absurd at
-one_per_thread-set t (x ∷ marks) zero m at is one = (ap (λ u. mark_in u marks) (is ∙ sym at) ∙ one.0, one.1)
-one_per_thread-set t (x ∷ marks) (suc place) m at is one =
-    (mark_in-set_other t marks place m x.thread at.1 is at.0 ∙ one.0, one_per_thread-set t marks place m at.1 is one.1)
-
-pub none_above-set : (limit : ℕ) (marks : List Mark) (place : ℕ) (m : Mark) → m.stores ≤ limit → NoneAbove limit marks → NoneAbove limit (set marks place m)
-none_above-set limit [] place m h none = tt
-none_above-set limit (x ∷ marks) zero m h none = (h, none.1)
-none_above-set limit (x ∷ marks) (suc place) m h none = (none.0, none_above-set limit marks place m h none.1)
-
--- a first mark of the thread at the end
-pub mark_in-push : (t : ℕ) (marks : List Mark) (m : Mark) → mark_in t marks ≡ None → m.thread ≡ t → mark_in t (marks ++ m ∷ []) ≡ Some m.stores
-mark_in-push t [] m none is = rw (eq-eqb m.thread t is) refl
-mark_in-push t (x ∷ marks) m none is = go (x.thread == t) refl none (λ rest. mark_in-push t marks m rest is)
-  where
-    go : (b : Bool) → (x.thread == t) ≡ b → (if b then Some x.stores else mark_in t marks) ≡ None → (mark_in t marks ≡ None → mark_in t (marks ++ m ∷ []) ≡ Some m.stores) → mark_in t (x ∷ (marks ++ m ∷ [])) ≡ Some m.stores
-    go true e f later = cc
-    go false e f later = rw e (later f)
-
-pub mark_in-push_other : (marks : List Mark) (m : Mark) (u : ℕ) → m.thread ≢ u → mark_in u (marks ++ m ∷ []) ≡ mark_in u marks
-mark_in-push_other [] m u other = rw (ne_eqb m.thread u other) refl
-mark_in-push_other (x ∷ marks) m u other = ap (λ (rest : Option ℕ). if x.thread == u then Some x.stores else rest) (mark_in-push_other marks m u other)
-
-pub one_per_thread-push : (t : ℕ) (marks : List Mark) (m : Mark) → mark_in t marks ≡ None → m.thread ≡ t → OnePerThread marks → OnePerThread (marks ++ m ∷ [])
-one_per_thread-push t [] m none is one = (refl, tt)
-one_per_thread-push t (x ∷ marks) m none is one = go (x.thread == t) refl none (λ rest. one_per_thread-push t marks m rest is one.1)
-  where
-    go : (b : Bool) → (x.thread == t) ≡ b → (if b then Some x.stores else mark_in t marks) ≡ None → (mark_in t marks ≡ None → OnePerThread (marks ++ m ∷ [])) → OnePerThread (x ∷ (marks ++ m ∷ []))
-    go true e f later = cc
-    go false e f later = (mark_in-push_other marks m x.thread (λ same. eqb-false x.thread t e (sym same ∙ is)) ∙ one.0, later f)
-
-pub none_above-push : (limit : ℕ) (marks : List Mark) (m : Mark) → m.stores ≤ limit → NoneAbove limit marks → NoneAbove limit (marks ++ m ∷ [])
-none_above-push limit [] m h none = (h, tt)
-none_above-push limit (x ∷ marks) m h none = (none.0, none_above-push limit marks m h none.1)
-
--- without the mark at the thread's place
-pub mark_in-remove : (t : ℕ) (marks : List Mark) (place : ℕ) → IsPlaceOf t marks place → OnePerThread marks → mark_in t (remove marks place) ≡ None
-mark_in-remove t [] place at one = absurd at
-mark_in-remove t (x ∷ marks) zero at one = ap (λ u. mark_in u marks) (sym at) ∙ one.0
-mark_in-remove t (x ∷ marks) (suc place) at one = rw (ne_eqb x.thread t at.0) (mark_in-remove t marks place at.1 one.1)
-
-pub mark_in-remove_other : (t : ℕ) (marks : List Mark) (place u : ℕ) → IsPlaceOf t marks place → u ≢ t → mark_in u (remove marks place) ≡ mark_in u marks
-mark_in-remove_other t [] place u at other = absurd at
-mark_in-remove_other t (x ∷ marks) zero u at other = sym (rw (ne_eqb x.thread u (λ e. other (sym e ∙ at))) refl)
-mark_in-remove_other t (x ∷ marks) (suc place) u at other =
-    ap (λ (rest : Option ℕ). if x.thread == u then Some x.stores else rest) (mark_in-remove_other t marks place u at.1 other)
-
-pub one_per_thread-remove : (t : ℕ) (marks : List Mark) (place : ℕ) → IsPlaceOf t marks place → OnePerThread marks → OnePerThread (remove marks place)
-one_per_thread-remove t [] place at one = absurd at
-one_per_thread-remove t (x ∷ marks) zero at one = one.1
-one_per_thread-remove t (x ∷ marks) (suc place) at one =
-    (mark_in-remove_other t marks place x.thread at.1 at.0 ∙ one.0, one_per_thread-remove t marks place at.1 one.1)
-
-pub none_above-remove : (limit t : ℕ) (marks : List Mark) (place : ℕ) → IsPlaceOf t marks place → NoneAbove limit marks → NoneAbove limit (remove marks place)
-none_above-remove limit t [] place at none = absurd at
-none_above-remove limit t (x ∷ marks) zero at none = none.1
-none_above-remove limit t (x ∷ marks) (suc place) at none = (none.0, none_above-remove limit t marks place at.1 none.1)
-
--- what a write, a push and a removal do to the marks
-pub changes-set : (marks : List Mark) (place : ℕ) (m : Mark) → IsPlaceOf m.thread marks place → ChangesMark m.thread (Some m.stores) marks (set marks place m)
-changes-set marks place m at =
-    record { mark = mark_in-set m.thread marks place m at refl; others = λ u other. mark_in-set_other m.thread marks place m u at refl other }
-
-pub keeps-set : (limit : ℕ) (marks : List Mark) (place : ℕ) (m : Mark) → IsPlaceOf m.thread marks place → m.stores ≤ limit → KeepsMarks limit marks (set marks place m)
-keeps-set limit marks place m at h =
-    record { distinct = one_per_thread-set m.thread marks place m at refl; within = none_above-set limit marks place m h }
-
-pub changes-push : (marks : List Mark) (m : Mark) → mark_in m.thread marks ≡ None → ChangesMark m.thread (Some m.stores) marks (marks ++ m ∷ [])
-changes-push marks m none =
-    record { mark = mark_in-push m.thread marks m none refl; others = λ u other. mark_in-push_other marks m u (λ e. other (sym e)) }
-
-pub keeps-push : (limit : ℕ) (marks : List Mark) (m : Mark) → mark_in m.thread marks ≡ None → m.stores ≤ limit → KeepsMarks limit marks (marks ++ m ∷ [])
-keeps-push limit marks m none h =
-    record { distinct = one_per_thread-push m.thread marks m none refl; within = none_above-push limit marks m h }
-
-pub changes-remove : (t : ℕ) (marks : List Mark) (place : ℕ) → IsPlaceOf t marks place → OnePerThread marks → ChangesMark t None marks (remove marks place)
-changes-remove t marks place at one =
-    record { mark = mark_in-remove t marks place at one; others = λ u other. mark_in-remove_other t marks place u at other }
-
-pub keeps-remove : (limit t : ℕ) (marks : List Mark) (place : ℕ) → IsPlaceOf t marks place → KeepsMarks limit marks (remove marks place)
-keeps-remove limit t marks place at =
-    record { distinct = one_per_thread-remove t marks place at; within = none_above-remove limit t marks place at }
 
 -- a mark is within the limit of all marks
 pub mark_in-le : (limit t : ℕ) (marks : List Mark) → NoneAbove limit marks → unwrap_or (mark_in t marks) 0 ≤ limit
@@ -180,3 +97,88 @@ mark_in-le limit t (m ∷ marks) none = go (m.thread == t) (mark_in-le limit t m
     go : (b : Bool) → unwrap_or (mark_in t marks) 0 ≤ limit → unwrap_or (if b then Some m.stores else mark_in t marks) 0 ≤ limit
     go true h = none.0
     go false h = h
+
+module _ (t : ℕ) (marks : List Mark) (rise : ThreadsRise marks) where
+  -- the comparisons with the thread rise along the marks, as a binary search asks
+  comparisons-rise : IsNonDecreasingBy (λ (m : Mark). ordering_index (nat_cmp m.thread t)) marks
+  comparisons-rise = IsNonDecreasingBy-from_default (λ (m : Mark). ordering_index (nat_cmp m.thread t)) marks unmarked (λ i j le within.
+      let threads : thread_at marks i ≤ thread_at marks j = grind (arith, rise i j, λ (same : i ≡ j). ap (thread_at marks) same) in
+      grind (arith, nat_tests))
+
+  -- a binary search ends at the thread's mark, or in the gap for it
+  pub searched : (r : Result ℕ ℕ) → IsSearchInRange r (length marks) → IsBinarySearchResult (λ (m : Mark). nat_cmp m.thread t) marks r → record { found : IfOk r (IsPlaceOf t marks); absent : IfErr r (IsGapFor t marks) }
+  searched (Ok place) within equal = record { found = record { within = within; thread = ranked _ t _ (sym (equal unmarked)) }; absent = tt }
+  searched (Err place) within parted = record {
+    found = tt;
+    absent = record {
+      within = within;
+      smaller = λ k h. ranked _ t _ (sym ((parted comparisons-rise).0 k unmarked (omega arith) h));
+      greater = λ k from h. ranked _ t _ (sym ((parted comparisons-rise).1 k unmarked from h));
+    };
+  }
+
+module _ (t : ℕ) (marks : List Mark) (place : ℕ) (rise : ThreadsRise marks) (at : IsPlaceOf t marks place) where
+  -- the threads before the place are smaller
+  none_before-at : NoneBefore t marks place
+  none_before-at k h same = omega (arith, rise k place h at.within, at.thread)
+
+  -- the mark at the thread's place is its mark
+  pub mark_in-at : mark_in t marks ≡ Some (get_or marks place unmarked).stores
+  mark_in-at = mark_in-present t marks place at none_before-at
+
+  rise-remove : ThreadsRise (remove marks place)
+  rise-remove i j h within =
+      let new = remove marks place in
+      let thread = λ (m : Mark). m.thread in
+      let shorter = length-remove marks place at.within in
+      let below : (k : ℕ) → k < place → thread_at new k ≡ thread_at marks k = λ k to. ap thread (get_or-remove_below marks place unmarked k to at.within) in
+      let above : (k : ℕ) → place ≤ k → thread_at new k ≡ thread_at marks (k + 1) = λ k from. ap thread (get_or-remove_above marks place unmarked k from at.within) in
+      grind (arith, shorter, below i, above i, below j, above j, rise i j, rise i (j + 1), rise (i + 1) (j + 1))
+
+  -- no other mark is the thread's
+  none-left : NoneBefore t (remove marks place) (length (remove marks place))
+  none-left k h same =
+      let new = remove marks place in
+      let thread = λ (m : Mark). m.thread in
+      let shorter = length-remove marks place at.within in
+      let below : k < place → thread_at new k ≡ thread_at marks k = λ to. ap thread (get_or-remove_below marks place unmarked k to at.within) in
+      let above : place ≤ k → thread_at new k ≡ thread_at marks (k + 1) = λ from. ap thread (get_or-remove_above marks place unmarked k from at.within) in
+      grind (arith, shorter, same, at.thread, at.within, below, above, rise k place, rise place (k + 1))
+
+  pub changes-remove : ChangesMark t None marks (remove marks place)
+  changes-remove = record { mark = mark_in-absent t (remove marks place) none-left; others = λ u other. mark_in-remove_other t marks place u at other }
+
+module _ (m : Mark) (marks : List Mark) (place : ℕ) (rise : ThreadsRise marks) (at : IsPlaceOf m.thread marks place) where
+  pub changes-set : ChangesMark m.thread (Some m.stores) marks (set marks place m)
+  changes-set = changes-from_marks _ _ _ _ (mark_in-set marks m place at (none_before-at m.thread marks place rise at))
+
+  rise-set : ThreadsRise (set marks place m)
+  rise-set i j h within = grind (arith, common_steps, rise i j, rise i place, rise place j, at.within, at.thread)
+
+  pub keeps-set : (limit : ℕ) → m.stores ≤ limit → KeepsMarks limit marks (set marks place m)
+  keeps-set limit h = record { rising = λ _. rise-set; within = none_above-set limit marks place m h }
+
+-- a thread that has a gap has no mark
+pub mark_in-gap : (t : ℕ) (marks : List Mark) (place : ℕ) → IsGapFor t marks place → mark_in t marks ≡ None
+mark_in-gap t marks place gap = mark_in-absent t marks (λ k h same. grind (arith, same, gap.smaller k, gap.greater k))
+
+module _ (m : Mark) (marks : List Mark) (place : ℕ) (gap : IsGapFor m.thread marks place) where
+  pub changes-insert : ChangesMark m.thread (Some m.stores) marks (insert marks place m)
+  changes-insert = changes-from_marks _ _ _ _ (mark_in-insert marks m place (λ k h same. omega (arith, gap.smaller k h)))
+
+  -- each mark of the new list is an old one below the gap, the new one in it, or an old one moved up by one
+  rise-insert : ThreadsRise marks → ThreadsRise (insert marks place m)
+  rise-insert rise i j h within =
+      let new = insert marks place m in
+      let thread = λ (x : Mark). x.thread in
+      let longer = length-insert marks place m gap.within in
+      let below : (k : ℕ) → k < place → thread_at new k ≡ thread_at marks k = λ k to. ap thread (get_or-insert_below marks place m unmarked k to gap.within) in
+      let here : (k : ℕ) → k ≡ place → thread_at new k ≡ m.thread = λ k is. rw is (ap thread (get_or-insert_at marks place m unmarked gap.within)) in
+      let above : (k : ℕ) → place < k → thread_at new k ≡ thread_at marks (k - 1) = λ k from. subst (λ q. thread_at new q ≡ thread_at marks (k - 1)) {x = k - 1 + 1} (omega arith) (ap thread (get_or-insert_above marks place m unmarked (k - 1) (omega arith) gap.within)) in
+      grind (arith, below i, here i, above i, below j, here j, above j, rise i j, rise i (j - 1), rise (i - 1) (j - 1), gap.smaller i, gap.greater (j - 1))
+
+  pub keeps-insert : (limit : ℕ) → m.stores ≤ limit → KeepsMarks limit marks (insert marks place m)
+  keeps-insert limit h = record { rising = rise-insert; within = none_above-insert limit marks place m h }
+
+pub keeps-remove : (limit t : ℕ) (marks : List Mark) (place : ℕ) → IsPlaceOf t marks place → KeepsMarks limit marks (remove marks place)
+keeps-remove limit t marks place at = record { rising = λ rise. rise-remove t marks place rise at; within = none_above-remove limit marks place }

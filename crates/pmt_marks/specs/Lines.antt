@@ -1,5 +1,5 @@
 -- What is kept of one line, and when that is the line's state after a history.
-use Rattle.std.specs.Prelude.{◌≡◌, ◌≢◌, ℕ, ◌≤◌, Bool, ◌==◌, max, if◌then◌else◌, List, [], ◌∷◌, Option, Some, None, unwrap_or, position}
+use Rattle.std.specs.Prelude.{◌≡◌, ◌≢◌, ℕ, ◌<◌, ◌≤◌, ◌==◌, max, if◌then◌else◌, List, [], ◌∷◌, length, slice_index_or, Option, Some, None, unwrap_or}
 use Rattle.pmt_model.specs.Machine.{Act, count}
 use Rattle.pmt_model.specs.Traces.{event_limit}
 use Rattle.pmt_model.specs.Fronts.{front, open_mark}
@@ -16,17 +16,24 @@ abbrev pub mark_in : ℕ → List Mark → Option ℕ
 mark_in t [] = None
 mark_in t (m ∷ marks) = if m.thread == t then Some m.stores else mark_in t marks
 
-abbrev pub is_of : ℕ → Mark → Bool
-is_of t m = m.thread == t
+-- The thread of the mark at a place.
+abbrev pub thread_at : List Mark → ℕ → ℕ
+thread_at marks place = let mark = slice_index_or marks place (record { thread = 0; stores = 0 }) in mark.thread
 
--- The place of the thread's mark, if it has one.
-abbrev pub place_in : ℕ → List Mark → Option ℕ
-place_in t marks = position (is_of t) marks
+-- The threads of the marks rise, so none has two.
+abbrev pub ThreadsRise : List Mark → Type 0
+ThreadsRise marks = (i j : ℕ) → i < j → j < length marks → thread_at marks i < thread_at marks j
 
--- No thread has two marks.
-abbrev pub OnePerThread : List Mark → Type 0
-OnePerThread [] = Unit {0}
-OnePerThread (m ∷ marks) = (mark_in m.thread marks ≡ None) × OnePerThread marks
+-- The mark at this place is the thread's.
+pub record IsPlaceOf (t : ℕ) (marks : List Mark) (place : ℕ) : Type 0 where
+  pub within : place < length marks
+  pub thread : thread_at marks place ≡ t
+
+-- A mark of the thread would stand at this place: smaller threads before it, greater ones from it on.
+pub record IsGapFor (t : ℕ) (marks : List Mark) (place : ℕ) : Type 0 where
+  pub within : place ≤ length marks
+  pub smaller : (k : ℕ) → k < place → thread_at marks k < t
+  pub greater : (k : ℕ) → place ≤ k → k < length marks → t < thread_at marks k
 
 abbrev pub NoneAbove : ℕ → List Mark → Type 0
 NoneAbove limit [] = Unit {0}
@@ -37,9 +44,9 @@ pub record ChangesMark (t : ℕ) (stores : Option ℕ) (old new : List Mark) : T
   pub mark : mark_in t new ≡ stores
   pub others : (u : ℕ) → u ≢ t → mark_in u new ≡ mark_in u old
 
--- Marks within a limit, one for each thread, stay so.
+-- Marks of rising threads and within a limit stay so.
 pub record KeepsMarks (limit : ℕ) (old new : List Mark) : Type 0 where
-  pub distinct : OnePerThread old → OnePerThread new
+  pub rising : ThreadsRise old → ThreadsRise new
   pub within : NoneAbove limit old → NoneAbove limit new
 
 -- What every value of type LineState keeps.
@@ -47,7 +54,7 @@ pub record IsLine (line : Line) : Type 0 where
   pub few : line.count ≤ event_limit
   pub reached : line.front ≤ line.count
   pub marked : NoneAbove line.count line.marks
-  pub distinct : OnePerThread line.marks
+  pub rising : ThreadsRise line.marks
 
 -- The state is that of line l after the history.
 pub record Follows (l : ℕ) (history : List Act) (line : Line) : Type 0 where

@@ -6,7 +6,7 @@ use Rattle.pmt_page.specs.declared.labels.Label.{Label}
 use Rattle.pmt_page.specs.declared.sources.SourceFile.{SourceFile}
 use Rattle.pmt_page.specs.declared.sources.SourcePart.{SourcePart}
 use Rattle.pmt_page.specs.Escapes.{quoted}
-use Rattle.pmt_page.specs.Numbers.{listed}
+use Rattle.pmt_page.specs.Numbers.{fields, listed}
 
 -- What the page is of: a trace with this many events, this size of a cache line, this name and this digest.
 abbrev pub about : ℕ → ℕ → List ℕ → List ℕ → List ℕ → Bool → List ℕ
@@ -40,7 +40,7 @@ abbrev pub labels_block : List Label → List (List ℕ) → List ℕ → List �
 labels_block labels texts places =
     codes "{\"events\":\"" ++ listed event_field labels
     ++ codes "\",\"texts\":[" ++ listed quoted texts
-    ++ codes "],\"text\":\"" ++ listed (numeral 10) places
+    ++ codes "],\"text\":\"" ++ fields 10 places
     ++ codes "\"}"
 
 abbrev pub IsLabelsBlock : List Label → List ℕ → Type 0

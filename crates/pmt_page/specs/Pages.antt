@@ -1,14 +1,14 @@
 -- The page: the parts of its template, with a block between each two.
 use Rattle.std.specs.Prelude.{ℕ, List, ◌++◌}
 use Rattle.pmt_page.specs.declared.page.Blocks.{Blocks}
-use Rattle.pmt_page.specs.declared.parts.TheConstants.{BEFORE_TEXT, BEFORE_PICTURE, BEFORE_ABOUT, BEFORE_COLUMNS, BEFORE_EXPLAINED, BEFORE_LABELS, BEFORE_SOURCES, AFTER_SOURCES}
+use Rattle.pmt_page.specs.declared.parts.TheConstants.{BEFORE_PICTURE, BEFORE_TEXT, BEFORE_ABOUT, BEFORE_COLUMNS, BEFORE_EXPLAINED, BEFORE_LABELS, BEFORE_SOURCES, AFTER_SOURCES}
 use Rattle.pmt_page.specs.declared.template.Template.{Template}
 use Rattle.pmt_page.specs.Escapes.{embedded, html}
 
 -- The parts of a template. Each but the last is named after the block that follows.
 pub record Parts : Type 0 where
-  pub before_text : List ℕ
   pub before_picture : List ℕ
+  pub before_text : List ℕ
   pub before_about : List ℕ
   pub before_columns : List ℕ
   pub before_explained : List ℕ
@@ -16,9 +16,9 @@ pub record Parts : Type 0 where
   pub before_sources : List ℕ
   pub after_sources : List ℕ
 
--- What stands in the place of the script where none runs.
-abbrev pub without_script : Parts → Blocks → List ℕ
-without_script p b = p.before_text ++ html b.text.now ++ p.before_picture ++ b.picture.now
+-- What stands there until the script is ready, and stays where none runs.
+abbrev pub still : Parts → Blocks → List ℕ
+still p b = p.before_picture ++ b.picture.now ++ p.before_text ++ html b.text.now
 
 -- The data of the trace.
 abbrev pub trace_data : Parts → Blocks → List ℕ
@@ -33,12 +33,12 @@ abbrev pub told_data : Parts → Blocks → List ℕ
 told_data p b = p.before_explained ++ embedded b.explained.now ++ p.before_labels ++ embedded b.labels.now ++ source_data p b
 
 unfoldable pub filled : Parts → Blocks → List ℕ
-filled p b = without_script p b ++ trace_data p b ++ told_data p b
+filled p b = still p b ++ trace_data p b ++ told_data p b
 
 abbrev pub parts_of : Template → Parts
 parts_of t = record {
-  before_text = t.before_text.now;
   before_picture = t.before_picture.now;
+  before_text = t.before_text.now;
   before_about = t.before_about.now;
   before_columns = t.before_columns.now;
   before_explained = t.before_explained.now;
@@ -50,8 +50,8 @@ parts_of t = record {
 -- The template in the folder page/.
 abbrev pub parts : Parts
 parts = record {
-  before_text = BEFORE_TEXT.now;
   before_picture = BEFORE_PICTURE.now;
+  before_text = BEFORE_TEXT.now;
   before_about = BEFORE_ABOUT.now;
   before_columns = BEFORE_COLUMNS.now;
   before_explained = BEFORE_EXPLAINED.now;

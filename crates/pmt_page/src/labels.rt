@@ -7,6 +7,7 @@ ghost use Rattle.pmt_page.specs.Escapes.{quoted};
 ghost use Rattle.pmt_page.specs.Numbers.{listed};
 
 use crate::escapes::push_quoted;
+use crate::fields::push_fields;
 use indexmap::IndexSet;
 use pmt_model::OutOfMemory;
 use pmt_text::write::push_number;
@@ -42,7 +43,7 @@ pub fn labels_text(alloc: Global, labels: &[Label<'_>]) -> Result<Vec<u8>, OutOf
     text.extend_from_slice(b"\",\"texts\":[")?;
     push_texts(&mut text, found.texts.as_slice())?;
     text.extend_from_slice(b"],\"text\":\"")?;
-    push_numbers(&mut text, found.places.as_slice())?;
+    push_fields(&mut text, 10, found.places.as_slice())?;
     text.extend_from_slice(b"\"}")?;
     Ok(text)
 }
@@ -83,29 +84,6 @@ fn push_later_events(text: &mut Vec<u8>, labels: &[Label<'_>]) -> Result<(), Out
 {
     for label in labels {
         push_later_number(text, label.event)?;
-    }
-    Ok(())
-}
-
-// Adds the numbers with commas between them.
-fn push_numbers(text: &mut Vec<u8>, numbers: &[u64]) -> Result<(), OutOfMemory>
-    ensures { OnOk result (text.new.items ≡ text.old.items ++ listed (numeral 10) numbers.now) }
-{
-    match numbers {
-        [] => Ok(()),
-        [first, later @ ..] => {
-            push_number(text, 10, *first)?;
-            push_later_numbers(text, later)
-        }
-    }
-}
-
-// Adds the numbers, each behind a comma.
-fn push_later_numbers(text: &mut Vec<u8>, numbers: &[u64]) -> Result<(), OutOfMemory>
-    ensures { OnOk result (text.new.items ≡ text.old.items ++ flat_map (λ n. 44 ∷ numeral 10 n) numbers.now) }
-{
-    for number in numbers {
-        push_later_number(text, *number)?;
     }
     Ok(())
 }

@@ -1,6 +1,6 @@
 //! The page, laid together of its parts.
 ghost use Rattle.std.specs.Prelude.{◌≡◌, ◌++◌, IfOk, OnOk};
-ghost use Rattle.pmt_page.specs.Pages.{page, parts_of, source_data, told_data, trace_data, without_script};
+ghost use Rattle.pmt_page.specs.Pages.{page, parts_of, source_data, still, told_data, trace_data};
 ghost use Rattle.pmt_page.specs.Pages.{filled as filled_with};
 
 use crate::escapes::{push_embedded, push_html};
@@ -11,10 +11,10 @@ use std::alloc::Global;
 /// What a page shows.
 #[derive(Clone, Copy)]
 pub struct Blocks<'a> {
-    /// The text of `explain` for people, for who runs no script.
-    pub text: &'a [u8],
-    /// The first picture, as an element of SVG.
+    /// The first picture, as an element of SVG, which stands there until the script is ready,
     pub picture: &'a str,
+    /// and the text of `explain` for people.
+    pub text: &'a [u8],
     /// The data, as JSON: what the page is of,
     pub about: &'a [u8],
     /// the columns of the trace,
@@ -43,24 +43,24 @@ fn filled(alloc: Global, template: Template<'_>, blocks: Blocks<'_>) -> Result<V
     ensures { IfOk result (λ text. text.items ≡ filled_with (parts_of template.entry) blocks.entry) }
 {
     let mut text = Vec::new(alloc);
-    push_without_script(&mut text, template, blocks)?;
+    push_still(&mut text, template, blocks)?;
     push_trace_data(&mut text, template, blocks)?;
     push_told_data(&mut text, template, blocks)?;
     Ok(text)
 }
 
-// Adds the start of the page, and what stands in the place of the script where none runs.
-fn push_without_script(
+// Adds the start of the page, and what stands there until the script is ready.
+fn push_still(
     text: &mut Vec<u8>,
     template: Template<'_>,
     blocks: Blocks<'_>,
 ) -> Result<(), OutOfMemory>
-    ensures { OnOk result (text.new.items ≡ text.old.items ++ without_script (parts_of template.entry) blocks.entry) }
+    ensures { OnOk result (text.new.items ≡ text.old.items ++ still (parts_of template.entry) blocks.entry) }
 {
-    text.extend_from_slice(template.before_text.as_bytes())?;
-    push_html(text, blocks.text)?;
     text.extend_from_slice(template.before_picture.as_bytes())?;
-    text.extend_from_slice(blocks.picture.as_bytes())
+    text.extend_from_slice(blocks.picture.as_bytes())?;
+    text.extend_from_slice(template.before_text.as_bytes())?;
+    push_html(text, blocks.text)
 }
 
 // Adds the body of the page, and the data of the trace.

@@ -8,8 +8,8 @@ use crate::parts::{
 /// The parts of a template, in the order in which they stand on the page. Each but the last is named after the block that follows.
 #[derive(Clone, Copy)]
 pub struct Template<'a> {
-    pub before_text: &'a str,
     pub before_picture: &'a str,
+    pub before_text: &'a str,
     pub before_about: &'a str,
     pub before_columns: &'a str,
     pub before_explained: &'a str,
@@ -20,8 +20,8 @@ pub struct Template<'a> {
 
 /// The template in `page/`.
 pub const TEMPLATE: Template<'static> = Template {
-    before_text: BEFORE_TEXT,
     before_picture: BEFORE_PICTURE,
+    before_text: BEFORE_TEXT,
     before_about: BEFORE_ABOUT,
     before_columns: BEFORE_COLUMNS,
     before_explained: BEFORE_EXPLAINED,

@@ -6,3 +6,4 @@ pub mod TakingLemmas
 pub mod BoundLemmas
 pub mod LineLists
 pub mod RunLemmas
+pub mod BlockLemmas

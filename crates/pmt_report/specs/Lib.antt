@@ -4,6 +4,7 @@ pub mod Entries
 pub mod Listing
 pub mod Reports
 pub mod Taking
+pub mod Blocks
 pub mod Checks
 pub mod Runs
 pub mod Asking

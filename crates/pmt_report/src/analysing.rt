@@ -10,11 +10,11 @@ ghost use Rattle.pmt_workers.specs.Halving.{is_worker_count};
 ghost use Rattle.pmt_report.specs.Runs.{IsAnalysisFault, coming_from_reader, run_read_faults, tells_workers};
 
 use crate::fault::{RunError, run_error};
+use crate::overlapping::swept_beside;
 use crate::swept::swept;
 use pmt_analysis::Analysis;
-use pmt_model::NoGate;
 use pmt_text::{Counted, EventSource, TextSource};
-use pmt_workers::{AnalyseError, analyse_with};
+use pmt_workers::{AnalyseError, are_allowed};
 use std::alloc::Global;
 use std::io::Read;
 use std::sync::Wait;
@@ -50,8 +50,8 @@ pub fn analysed<T: Threads + Wait + Sync, R: Read>(
     }
 }
 
-/// The analysis of the trace whose events the source has still to give, by this many workers. One goes over the events, with no jobs,
-/// and more share them by lines: a trace has one analysis, so the answer is the same.
+/// The analysis of the trace whose events the source has still to give, by this many workers. One pass over the events makes it; where
+/// there are two workers or more, one of them reads the next events meanwhile.
 ///
 /// # Errors
 /// As `analyse_with`.
@@ -69,8 +69,11 @@ pub(crate) fn analysis_from<T: Threads + Sync, S: EventSource>(
     ensures told { TellsSource (S.state source.old) result (S.state source.new) }
     ensures failures { CountsReads (S.failures source.old) (told_by result) (S.failures source.new) }
 {
+    if !are_allowed(workers) {
+        return Err(AnalyseError::BadWorkers);
+    }
     if workers == 1 {
         return swept(alloc, source);
     }
-    analyse_with(rt, alloc, &NoGate, source, workers)
+    swept_beside(rt, alloc, source)
 }

@@ -11,6 +11,7 @@ mod fronts;
 pub mod fronts_run;
 pub mod listing;
 mod output;
+mod overlapping;
 pub mod record_fault;
 mod report;
 mod swept;

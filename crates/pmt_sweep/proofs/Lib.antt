@@ -22,3 +22,4 @@ pub mod VerdictsSoFar
 pub mod FindLemmas
 pub mod AnswerLemmas
 pub mod JudgingLemmas
+pub mod GrowingLemmas

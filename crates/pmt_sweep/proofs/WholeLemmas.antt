@@ -1,15 +1,17 @@
 -- What is remembered of all stores of a line, when one more comes and when the front rises.
-use Rattle.std.proofs.Common.{◌≡◌, ℕ, ◌^◌, ◌<◌, ◌≤◌, ◌⊎◌, inl, inr, Bool, true, false, List, [], ◌∷◌, length, map, get_or, Option, Some, None, refl, sym, ap, subst, ◌∙◌, eqb-true, arith}
+use Rattle.std.proofs.Common.{◌≡◌, ℕ, ◌^◌, ◌<◌, ◌≤◌, ◌⊎◌, inl, inr, Bool, true, false, List, [], ◌∷◌, ◌+◌, ◌-◌, length, map, get_or, Option, Some, None, refl, sym, ap, subst, ◌∙◌, eqb-true, arith}
 use Rattle.std.specs.Prelude.{Contains, ◌&&◌, ◌==◌, nat_le, if◌then◌else◌}
 use Rattle.std.specs.List.{AllWithin}
 use Rattle.std.proofs.lemmas.Bool.{leb-true}
-use Rattle.std.proofs.lemmas.List.{get_or-map, length-map}
+use Rattle.std.proofs.lemmas.List.{get_or-map, get_or_default, length-map}
 use Rattle.std.proofs.lemmas.List.Elements.{Contains-get_or, Contains-append_left, Contains-append_right, Contains-push}
 use Rattle.pmt_asserts.specs.declared.oldest.Oldest.{Oldest}
 use Rattle.pmt_sweep.specs.declared.writers.Whole.{Whole}
 use Rattle.pmt_sweep.specs.declared.writers.Writer.{Writer}
-use Rattle.pmt_sweep.specs.Writers.{settled, ArePending, Meets, IsRest, TakesOver, IsFirst, IsWhole}
+use Rattle.pmt_sweep.specs.Writers.{settled, ArePending, Meets, IsRest, IsSpaced, TakesOver, IsFirst, IsFirstOf, IsWhole}
+use Rattle.pmt_sweep.proofs.SpacingLemmas.{ends-rise}
 use Rattle.pmt_sweep.proofs.WriterLemmas.{IsSettled, settled-is}
+use Rattle.pmt_sweep.proofs.WriterListLemmas.{no_writer, each-more, each-within}
 
 -- those that are not yet persisted for sure
 
@@ -84,3 +86,54 @@ module _ (front n : ℕ) (ws : List Writer) where
     within = λ v has. let w = settled-from v has in let h = is.within w.0 w.1 in omega (arith, h, w.2.high);
     fits = is.fits;
   }
+
+-- the first of all stores
+
+-- Of the stores before this place none has a lesser rank, and a store has this one and this number.
+pub record IsLeast (ws : List Writer) (upto rank number : ℕ) : Type 0 where
+  pub reached : (w : Writer) × Contains ws w × (w.rank ≡ rank) × (w.number ≡ number)
+  pub least : AllWithin (λ w. rank ≤ w.rank) ws 0 upto
+
+pub least-here : (ws : List Writer) (i rank number : ℕ) → i < length ws → (get_or ws i no_writer).rank < rank → IsLeast ws i rank number → IsLeast ws (i + 1) (get_or ws i no_writer).rank (get_or ws i no_writer).number
+least-here ws i rank number within less is = record {
+  reached = (get_or ws i no_writer, Contains-get_or ws i no_writer within, refl, refl);
+  least = each-more (λ (w : Writer). (get_or ws i no_writer).rank ≤ w.rank) ws i within (λ k d from to. let h = is.least k d from to in omega (arith, h, less)) (omega arith);
+}
+
+pub least-kept : (ws : List Writer) (i rank number : ℕ) → i < length ws → rank ≤ (get_or ws i no_writer).rank → IsLeast ws i rank number → IsLeast ws (i + 1) rank number
+least-kept ws i rank number within more is = record {
+  reached = is.reached;
+  least = each-more (λ (w : Writer). rank ≤ w.rank) ws i within is.least more;
+}
+
+-- each store wrote a byte
+wrote-some : (ws : List Writer) → IsSpaced ws → (w : Writer) → Contains ws w → Meets 0 (2 ^ 16) w
+wrote-some ws is w at =
+    let some : w.low < w.high = subst (λ (v : Writer). v.low < v.high) at.2 (is.some at.0 w at.1) in
+    let fits : w.high < 2 ^ 16 = subst (λ (v : Writer). v.high < 2 ^ 16) at.2 (is.fits at.0 w at.1) in
+    (w.low, omega arith, omega (arith, some, fits), (omega arith, some))
+
+pub first-from_least : (ws : List Writer) (i rank number : ℕ) → IsSpaced ws → length ws ≤ i → IsLeast ws i rank number → IsFirstOf ws 0 (2 ^ 16) (record { rank = rank; number = number })
+first-from_least ws i rank number spaced all is = record {
+  reached = let r = is.reached in (r.0, r.1, wrote-some ws spaced r.0 r.1, r.2, r.3);
+  first = λ w at meets. each-within (λ (v : Writer). rank ≤ v.rank) ws i all is.least w at;
+}
+
+-- what is known of all stores, where there are none
+pub whole-none : (ws : List Writer) → length ws ≡ 0 → IsWhole ws (record { first = None; reach = 0 })
+whole-none ws none = record {
+  first_of_all = λ w at meets. absurd (omega (arith, at.1, none));
+  within = λ w at. absurd (omega (arith, at.1, none));
+  fits = omega arith;
+}
+
+-- the bytes of the last one end last
+pub whole-some : (ws : List Writer) (o : Oldest) → IsSpaced ws → 0 < length ws → IsFirstOf ws 0 (2 ^ 16) o → IsWhole ws (record { first = Some o; reach = (get_or ws (length ws - 1) no_writer).high })
+whole-some ws o spaced some first = record {
+  first_of_all = first;
+  within = λ w at.
+      let last = get_or_default ws (length ws - 1) w no_writer (omega (arith, some)) in
+      let end = ends-rise ws spaced at.0 (length ws - 1) w (omega (arith, at.1)) (omega (arith, some)) in
+      subst (λ (v : Writer). v.high ≤ (get_or ws (length ws - 1) no_writer).high) at.2 (subst (λ (v : Writer). (get_or ws at.0 w).high ≤ v.high) last end);
+  fits = let h = spaced.fits (length ws - 1) no_writer (omega (arith, some)) in omega (arith, h);
+}

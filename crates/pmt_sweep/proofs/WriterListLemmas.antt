@@ -88,10 +88,6 @@ whole-first ws whole low high is zero_low far = go whole.first is.first_of_all
       first = λ w at met. first.first w at (wide w at met);
     }
 
--- a greater reach is a reach too
-pub high-more : (ws : List Writer) (i low high : ℕ) → low ≤ high → AllWithin (λ w. w.high ≤ low) ws 0 i → AllWithin (λ w. w.high ≤ high) ws 0 i
-high-more ws i low high more within k d from to = let h = within k d from to in omega (arith, h, more)
-
 -- what holds at each place holds of each store
 pub each-within : (P : Writer → Type 0) (ws : List Writer) (i : ℕ) → length ws ≤ i → AllWithin P ws 0 i → (w : Writer) → Contains ws w → P w
 each-within P ws i all within w at = subst P at.2 (within at.0 w (omega arith) (omega (arith, at.1, all)))

@@ -15,3 +15,4 @@ pub mod Judging
 pub mod Distances
 pub mod OpenFlushes
 pub mod Flags
+pub mod Growing

@@ -27,7 +27,7 @@ pub(crate) struct Judging {
 
 impl Judging {
     // No events yet, and room for those of the trace.
-    fn new(alloc: Global, trace: &Trace) -> Result<Self, OutOfMemory>
+    pub(crate) fn new(alloc: Global, trace: &Trace) -> Result<Self, OutOfMemory>
         ensures { IfOk result (IsJudgingOf trace.now 0) }
     {
         Ok(Judging {
@@ -40,7 +40,7 @@ impl Judging {
 
     // Takes the next event of the trace.
     #[inline(always)]
-    fn take(&mut self, trace: &Trace, event: &Event) -> Result<(), OutOfMemory>
+    pub(crate) fn take(&mut self, trace: &Trace, event: &Event) -> Result<(), OutOfMemory>
         requires so_far { IsJudgingOf trace.now (taken self.old.progress) self.old }
         requires next { slice_get trace.now.events (taken self.old.progress) ≡ Some event.now }
         ensures { OnOk result (IsJudgingOf trace.now (suc (taken self.old.progress)) self.new) }

@@ -7,6 +7,7 @@ mod answers;
 mod byte_tables;
 mod chain;
 mod ending;
+pub mod growing;
 mod joining;
 mod judging;
 mod line_writers;
@@ -17,4 +18,5 @@ pub mod sweeping;
 mod taking_over;
 mod writers;
 
+pub use crate::growing::Sweeper;
 pub use crate::sweeping::{Swept, sweep};

@@ -13,6 +13,9 @@ use pmt_model::OutOfMemory;
 use std::alloc::Global;
 use std::marker::Model;
 
+// So many lines in a row are found with no look-up, in whatever order they came.
+const NEAR: usize = 512;
+
 /// A line, with its state, the number of the last flush or clflush of it, and that of the last store to it, or 0.
 #[derive(Drop)]
 pub(crate) struct LineRow {
@@ -29,6 +32,8 @@ pub(crate) struct Rows {
     lines: IndexSet<u64>,
     rows: Vec<LineRow>,
     last: usize,
+    // Where the last line of each remainder stands. Nothing is promised of it: `find` looks whose row it is.
+    near: [usize; NEAR],
 }
 
 impl Model for Rows {
@@ -52,6 +57,7 @@ impl Rows {
             lines: IndexSet::new(alloc),
             rows: Vec::new(alloc),
             last: 0,
+            near: [0; NEAR],
         }
     }
 
@@ -93,6 +99,7 @@ impl Rows {
             });
         }
         self.last = place;
+        self.near[line as usize % NEAR] = place;
         Ok(place)
     }
 
@@ -122,6 +129,10 @@ impl Rows {
         let guess = spot.line.wrapping_add(spot.shift) as usize;
         if guess < self.rows.len() && self.rows[guess].line == spot.line {
             return Some(guess);
+        }
+        let near = self.near[spot.line as usize % NEAR];
+        if near < self.rows.len() && self.rows[near].line == spot.line {
+            return Some(near);
         }
         self.lines.get_index_of(&spot.line)
     }

@@ -111,7 +111,7 @@ impl Progress {
 
     // Takes the next event of the trace.
     #[inline(always)]
-    fn take(&mut self, trace: &Trace, event: &Event) -> Result<(), OutOfMemory>
+    pub(crate) fn take(&mut self, trace: &Trace, event: &Event) -> Result<(), OutOfMemory>
         requires so_far { IsSweepOf trace.now self.old }
         requires next { slice_get trace.now.events (taken self.old) ≡ Some event.now }
         ensures so_far { OnOk result (IsSweepOf trace.now self.new) }

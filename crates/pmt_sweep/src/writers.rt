@@ -1,6 +1,6 @@
 //! Of a line, which store wrote each byte last, and since when that store is persisted for sure.
-ghost use Rattle.std.specs.Prelude.{Contains, ◌≡◌, ℕ, ◌<◌, ◌≤◌, ◌↔◌, List, [], ◌∷◌, ◌++◌, map, IsTrue, OnOk};
-ghost use Rattle.pmt_sweep.specs.Writers.{settled, AreAllSafe, ArePending, AreRankedBy, AreSafeBy, IsFirst, IsFirstOf, IsWhole, Meets, TakesOver};
+ghost use Rattle.std.specs.Prelude.{Contains, ◌≡◌, ℕ, ◌<◌, ◌≤◌, ◌^◌, ◌↔◌, List, [], ◌∷◌, ◌++◌, map, IsTrue, OnOk};
+ghost use Rattle.pmt_sweep.specs.Writers.{settled, AreAllSafe, ArePending, AreRankedBy, AreSafeBy, IsFirst, IsFirstOf, IsSpaced, IsWhole, Meets, TakesOver};
 
 use crate::taking_over::take_over;
 use pmt_asserts::Oldest;
@@ -231,11 +231,40 @@ fn older_of(oldest: Option<Oldest>, held: &Writer) -> Oldest
 
 // What is known of all these stores.
 fn whole_of(held: &[Writer]) -> Whole
+    requires { IsSpaced held.now }
     ensures { IsWhole held.now result }
 {
+    let count = held.len();
+    if count == 0 {
+        return Whole {
+            first: None,
+            reach: 0,
+        };
+    }
+    let last = held[count - 1];
     Whole {
-        first: oldest_of(held, 0, 1 << 16),
-        reach: reach_of(held),
+        first: Some(first_of(held, last)),
+        reach: last.high,
+    }
+}
+
+// The first of these stores, of which this is one.
+fn first_of(held: &[Writer], one: Writer) -> Oldest
+    requires spaced { IsSpaced held.now }
+    requires one { Contains held.now one }
+    ensures { IsFirstOf held.now 0 (2 ^ 16) result }
+{
+    let mut rank = one.rank;
+    let mut number = one.number;
+    for writer in held {
+        if writer.rank < rank {
+            rank = writer.rank;
+            number = writer.number;
+        }
+    }
+    Oldest {
+        rank: rank as u64,
+        number: number as u64,
     }
 }
 
@@ -250,15 +279,4 @@ fn oldest_of(held: &[Writer], low: u64, high: u64) -> Option<Oldest>
         }
     }
     oldest
-}
-
-// A distance from which on none of the stores wrote a byte.
-fn reach_of(held: &[Writer]) -> u16
-    ensures { (w : Writer) → Contains held.now w → w.high ≤ result }
-{
-    let mut reach = 0;
-    for writer in held {
-        reach = writer.high.max(reach);
-    }
-    reach
 }

@@ -9,7 +9,7 @@ pub mod laws;
 mod line_queue;
 mod line_table;
 mod open;
-pub mod pass;
+mod pass;
 pub mod shortest;
 mod stream;
 pub mod stream_error;
@@ -20,7 +20,6 @@ pub mod whole_text;
 
 pub use crate::join::{liveness, marked_numbers};
 pub use crate::kept::line_kept;
-pub use crate::pass::Pass;
 pub use crate::shortest::{all_events, shortest_selection};
 pub use crate::stream_error::StreamError;
 pub use crate::streaming::trim_stream;

@@ -33,7 +33,7 @@ pub(crate) enum Mark {
 /// It holds the count and the front of each line, the flushes of each thread since its last fence, and a byte for each event that
 /// was not given out. An event takes at most one look-up, and each flush one step more at its fence.
 #[derive(Drop)]
-pub struct Pass {
+pub(crate) struct Pass {
     format: Format,
     lines: LineTable,
     open_flushes: OpenFlushes,
@@ -46,7 +46,7 @@ impl Pass {
     ///
     /// # Errors
     /// Where memory was refused.
-    pub fn new(alloc: Global, format: Format) -> Result<Self, OutOfMemory>
+    pub(crate) fn new(alloc: Global, format: Format) -> Result<Self, OutOfMemory>
         ensures { IfOk result (IsPassOf (empty format)) }
     {
         Ok(Pass {
@@ -63,7 +63,7 @@ impl Pass {
     /// # Errors
     /// Where memory was refused. What the pass holds then is not told.
     #[inline(always)]
-    pub fn take(&mut self, event: &Event) -> Result<(), OutOfMemory>
+    pub(crate) fn take(&mut self, event: &Event) -> Result<(), OutOfMemory>
         requires passing { IsPassing self.old }
         requires room { taken self.old < event_limit }
         ensures follows { (T : Recording) → IsPassOf T self.old → OnOk result (IsPassOf (with_event T event.now) self.new) }
@@ -154,7 +154,7 @@ impl Pass {
 
     /// Gives out the oldest event that was not given out, if it is decided: whether it is kept. Where it is not, it is a flush
     /// whose thread has not fenced since.
-    pub fn next_settled(&mut self) -> Option<bool>
+    pub(crate) fn next_settled(&mut self) -> Option<bool>
         requires passing { IsPassing self.old }
         requires room { taken self.old ≤ event_limit }
         ensures passing { (T : Recording) → IsPassOf T self.old → IsPassOf T self.new }
@@ -174,7 +174,7 @@ impl Pass {
     ///
     /// # Errors
     /// Where memory was refused.
-    pub fn finish(self, alloc: Global) -> Result<Vec<bool>, OutOfMemory>
+    pub(crate) fn finish(self, alloc: Global) -> Result<Vec<bool>, OutOfMemory>
         ensures { IfOk result (λ flags. (T : Recording) → IsPassOf T self → AreFlags T self.settled flags.items) }
     {
         flags(alloc, &self.marks)

@@ -10,8 +10,8 @@ pub const VERSION: &str = "1.0.0";
 
 const WORKERS: &[&str] = &["1", "2", "4", "8", "16"];
 
-const SHARED: &str =
-    "How many threads share lines and verdicts; one takes a shorter way, and is mostly faster than more";
+const BESIDE: &str =
+    "How many threads to use; from 2 on events are read in one thread and judged in another";
 
 const UNUSED: &str =
     "Accepted as check has it, and changes nothing: trim is one pass in one thread";
@@ -61,7 +61,7 @@ fn check<'a>(alloc: Global) -> Result<Command<'a>, AllocError> {
         .after_help(
             "Writes the number of events and lines, an entry for each finding and each assertion, and how many events trim keeps.{n}Statuses: 0 done; 1 an assertion fails or a store is never persisted; 2 wrong words; 3 trace refused; 4 file fault; 5 out of memory{n}Example: pmtrim check --workers 4 run.trace",
         )
-        .arg(workers(alloc, SHARED))?
+        .arg(workers(alloc, BESIDE))?
         .arg(file(alloc))
 }
 

@@ -14,6 +14,7 @@ pub const KINDS: &[&str] = &[
     "dropped",
     "overwritten",
     "unwritten",
+    "late",
 ];
 
 /// Which findings are told.
@@ -79,6 +80,7 @@ fn kind_of(word: Option<&str>) -> Option<Kind> {
         "dropped" => Some(Kind::Dropped),
         "overwritten" => Some(Kind::Overwritten),
         "unwritten" => Some(Kind::Unwritten),
+        "late" => Some(Kind::Late),
         _ => None,
     }
 }

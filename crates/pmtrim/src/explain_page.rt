@@ -10,6 +10,7 @@ use crate::page_labels::page_labels;
 use crate::safe_places::safe_places;
 use crate::sources::sources_of;
 use pmt_explain::Dropped as Reasoned;
+use pmt_explanation::failures::shown_failures;
 use pmt_explanation::{Explanation, Labels, Options, explanation_of, json_text};
 use pmt_model::OutOfMemory;
 use pmt_page::{
@@ -35,6 +36,7 @@ pub fn page_of<O: Opener>(
     bytes: &[u8],
 ) -> Result<Vec<u8>, Fault> {
     let text = people_text(alloc, &explanation, labels, &words)?;
+    let explanation = with_each_failure(alloc, explanation)?;
     words.options.limit = limit_of(alloc, &explanation, labels, &words)?;
     let explanation = explained_again(alloc, explanation, labels, &words.options)?;
     let picture = first_picture(alloc, &explanation.analysis, labels)?;
@@ -82,6 +84,19 @@ fn limit_of(
     Ok(1)
 }
 
+// The explanation with each failed assertion that is asked for, up to its limit, in place of the first one of each cause: on the page
+// one goes from each to the next.
+fn with_each_failure(
+    alloc: Global,
+    mut explanation: Explanation,
+) -> Result<Explanation, OutOfMemory> {
+    let trace = explanation.analysis.trace();
+    let asked = explanation.asked_failing.as_slice();
+    let failures = shown_failures(alloc, trace, asked, explanation.limit)?;
+    explanation.failures = failures;
+    Ok(explanation)
+}
+
 // The explanation of the same trace with these options.
 fn explained_again(
     alloc: Global,
@@ -93,7 +108,8 @@ fn explained_again(
         return Ok(explanation);
     }
     let analysis = explanation.analysis;
-    explanation_of(alloc, analysis, labels, options)
+    let again = explanation_of(alloc, analysis, labels, options)?;
+    with_each_failure(alloc, again)
 }
 
 // The columns of the trace.

@@ -2,7 +2,7 @@ use Rattle.std.proofs.Common.{◌≡◌, ◌+◌, ◌-◌, ◌<◌, length, suc,
 use Rattle.std.specs.Prelude.{slice_get}
 use Rattle.std.proofs.lemmas.Option.{slice_get-get_or}
 use Rattle.pmt_explain.specs.AtEnd.{cause_in}
-use Rattle.pmt_explain.proofs.AtEndLemmas.{small-thread, back-end, back-event}
+use Rattle.pmt_explain.proofs.AtEndLemmas.{back-end, back-event}
 use Rattle.pmt_explain.proofs.at_end.causes_at_end.Goals as goal
 
 pub returns : goal.returns
@@ -26,4 +26,4 @@ loop-index-preserved c =
     let number : i - 1 + 1 ≡ suc (i - 1) = omega arith in
     back-event T c.format-format.result es i (i - 1) (i - 1 + 1) e c.loop-index.ahead.fenced c.go_back.new.self.fenced c.loop-index.ahead.fence c.go_back.new.self.fence
     (cause_in c.loop-index.ahead.lines) (cause_in c.go_back.new.self.lines) c.loop-index.causes.items c.in_ok-causes-2.field-0 c.format-format.ensures.value c.events-events.ensures.value place number at
-    (small-thread T (i - 1) e c.events-events.ensures.is_trace (ap (λ xs. slice_get xs (i - 1)) (sym c.events-events.ensures.value) ∙ at)) told.fenced told.fence told.lines told.told c.loop-index.invariant
+    c.events-events.ensures.is_trace told.fenced told.fence told.lines told.told c.loop-index.invariant

@@ -1,8 +1,8 @@
 use Rattle.std.proofs.Common.{◌≡◌, ◌-◌, suc, ◌<◌, length, subst, sym, ap, ◌∙◌, arith}
 use Rattle.std.proofs.lemmas.List.{length-set}
 use Rattle.std.proofs.lemmas.Option.{slice_get_within}
-use Rattle.pmt_explain.specs.Following.{IsAhead}
-use Rattle.pmt_explain.proofs.FollowingLemmas.{event-at, following-set}
+use Rattle.pmt_explain.specs.Following.{IsAhead, TellsFollowing}
+use Rattle.pmt_explain.proofs.FollowingLemmas.{event-at, told-set}
 use Rattle.pmt_explain.proofs.following.all_following.Goals as goal
 
 pub loop-index-init : goal.loop-index-init
@@ -28,7 +28,7 @@ loop-index-preserved c =
       size = length-set c.loop-index.list.items i c.in_ok-list-2.field-0 ∙ c.loop-index.invariant.size;
       ahead = c.in_ok-list-2.ensures.ahead T i is (omega arith) old;
       each = λ n f from at.
-          following-set T c.loop-index.list.items i n c.in_ok-list-2.field-0 f inside (c.in_ok-list-2.ensures.tells T i is (omega arith) old)
+          told-set (TellsFollowing T) c.loop-index.list.items i n c.in_ok-list-2.field-0 f inside (c.in_ok-list-2.ensures.tells T i is (omega arith) old)
           (λ m g later here. c.loop-index.invariant.each m g (omega arith) here) from at;
     }
 

@@ -4,8 +4,8 @@ use Rattle.std.proofs.lemmas.Option.{slice_get_within}
 use Rattle.pmt_model.specs.Traces.{act_of}
 use Rattle.pmt_explain.specs.Following.{IsAhead}
 use Rattle.pmt_explain.specs.Saving.{TellsSafe}
-use Rattle.pmt_explain.proofs.FollowingLemmas.{event-at}
-use Rattle.pmt_explain.proofs.SavingLemmas.{safe-told, safe-set}
+use Rattle.pmt_explain.proofs.FollowingLemmas.{event-at, told-set}
+use Rattle.pmt_explain.proofs.SavingLemmas.{safe-told}
 use Rattle.pmt_explain.proofs.saving.safe_places.Goals as goal
 
 pub loop-index-init : goal.loop-index-init
@@ -32,7 +32,7 @@ loop-index-preserved c =
     record {
       size = length-set c.loop-index.places.items i c.safe_place.result ∙ c.loop-index.invariant.size;
       ahead = c.in_ok-go_back.ensures.ahead T i is (omega arith) old;
-      each = λ n p from at. safe-set T c.loop-index.places.items i n c.safe_place.result p inside tells (λ m q later here. c.loop-index.invariant.each m q (omega arith) here) from at;
+      each = λ n p from at. told-set (TellsSafe T) c.loop-index.places.items i n c.safe_place.result p inside tells (λ m q later here. c.loop-index.invariant.each m q (omega arith) here) from at;
     }
 
 pub returns : goal.returns

@@ -1,40 +1,41 @@
-use Rattle.std.proofs.Common.{◌≡◌, Some, None, refl, sym, ap, ◌∙◌}
-use Rattle.std.proofs.lemmas.List.{get_or_read}
+use Rattle.std.proofs.Common.{◌≡◌, Some, refl, sym, ap, subst, ◌∙◌}
+use Rattle.std.proofs.lemmas.List.{get_or_default}
 use Rattle.pmt_marks.specs.declared.mark.Mark.{Mark}
-use Rattle.pmt_marks.specs.Lines.{place_in, mark_in, ChangesMark, KeepsMarks}
-use Rattle.pmt_marks.proofs.MarkLemmas.{IsPlaceOf, IsPlaceOf-from_place_in, mark_in-at, mark_in-from_no_place, changes-remove, keeps-remove}
+use Rattle.pmt_marks.specs.Lines.{IsPlaceOf, IsGapFor}
+use Rattle.pmt_marks.proofs.MarkLemmas.{unmarked, mark_in-at, mark_in-gap, changes-remove, keeps-remove}
 use Rattle.pmt_marks.proofs.mark.take_mark.Goals as goal
-use Rattle.pmt_marks.proofs.mark.take_mark.Goals.{In-Some, In-None}
-
-abbrev unmarked : Mark
-unmarked = record { thread = 0; stores = 0 }
+use Rattle.pmt_marks.proofs.mark.take_mark.Goals.{In-Ok, In-Err}
 
 -- the place that was found is the thread's
-at_place : (c : In-Some) → IsPlaceOf c.args.thread c.args.marks.now.items c.in-Some.place
+at_place : (c : In-Ok) → IsPlaceOf c.args.thread c.args.marks.now.items c.in-Ok.place
 at_place c =
-    let e : place_in c.args.thread c.args.marks.now.items ≡ Some c.in-Some.place = cc in
-    IsPlaceOf-from_place_in c.args.thread c.args.marks.now.items c.in-Some.place unmarked e
+    let read : c.as_slice.result.now ≡ c.args.marks.now.items = cc in
+    subst (λ marks. IsPlaceOf c.args.thread marks c.in-Ok.place) read c.in-Ok.ensures.found
 
--- where no place was found, the thread has no mark
-no_mark : (c : In-None) → mark_in c.args.thread c.args.marks.now.items ≡ None
-no_mark c =
-    let e : place_in c.args.thread c.args.marks.now.items ≡ None = cc in
-    mark_in-from_no_place c.args.thread c.args.marks.now.items unmarked e
+-- or the gap for its mark
+in_gap : (c : In-Err) → IsGapFor c.args.thread c.args.marks.now.items c.in-Err.field-0
+in_gap c =
+    let read : c.as_slice.result.now ≡ c.args.marks.now.items = cc in
+    subst (λ marks. IsGapFor c.args.thread marks c.in-Err.field-0) read c.in-Err.ensures.absent
 
-pub returns-in-Some-clause-value : goal.returns-in-Some-clause-value
-returns-in-Some-clause-value c =
-    sym (mark_in-at c.args.thread c.args.marks.now.items c.in-Some.place c.remove.result (at_place (goal.at.returns-in-Some-clause-value c).In-Some)
-    ∙ ap (λ (m : Mark). Some m.stores) (sym c.remove.ensures.value))
+pub returns-in-Ok-clause-value : goal.returns-in-Ok-clause-value
+returns-in-Ok-clause-value c =
+    let items = c.args.marks.now.items in
+    let at = at_place (goal.at.returns-in-Ok-clause-value c).In-Ok in
+    let read = get_or_default items c.in-Ok.place c.remove.result unmarked at.within in
+    sym (mark_in-at c.args.thread items c.in-Ok.place c.requires at ∙ ap (λ (m : Mark). Some m.stores) (sym read ∙ sym c.remove.ensures.value))
 
-pub returns-in-Some-clause-taken : goal.returns-in-Some-clause-taken
-returns-in-Some-clause-taken c =
-    rw c.remove.ensures.items (changes-remove c.args.thread c.args.marks.now.items c.in-Some.place (at_place (goal.at.returns-in-Some-clause-taken c).In-Some) c.requires)
+pub returns-in-Ok-clause-taken : goal.returns-in-Ok-clause-taken
+returns-in-Ok-clause-taken c =
+    rw c.remove.ensures.items (changes-remove c.args.thread c.args.marks.now.items c.in-Ok.place c.requires (at_place (goal.at.returns-in-Ok-clause-taken c).In-Ok))
 
-pub returns-in-Some-clause-kept : goal.returns-in-Some-clause-kept
-returns-in-Some-clause-kept c = λ limit. rw c.remove.ensures.items (keeps-remove limit c.args.thread c.args.marks.now.items c.in-Some.place (at_place (goal.at.returns-in-Some-clause-kept c).In-Some))
+pub returns-in-Ok-clause-kept : goal.returns-in-Ok-clause-kept
+returns-in-Ok-clause-kept c = λ limit.
+    rw c.remove.ensures.items (keeps-remove limit c.args.thread c.args.marks.now.items c.in-Ok.place (at_place (goal.at.returns-in-Ok-clause-kept c).In-Ok))
 
-pub returns-in-None-clause-value : goal.returns-in-None-clause-value
-returns-in-None-clause-value c = sym (no_mark c)
+pub returns-in-Err-clause-value : goal.returns-in-Err-clause-value
+returns-in-Err-clause-value c = sym (mark_in-gap c.args.thread c.args.marks.now.items _ (in_gap (goal.at.returns-in-Err-clause-value c).In-Err))
 
-pub returns-in-None-clause-taken : goal.returns-in-None-clause-taken
-returns-in-None-clause-taken c = record { mark = no_mark c; others = λ u other. refl }
+pub returns-in-Err-clause-taken : goal.returns-in-Err-clause-taken
+returns-in-Err-clause-taken c =
+    record { mark = mark_in-gap c.args.thread c.args.marks.now.items _ (in_gap (goal.at.returns-in-Err-clause-taken c).In-Err); others = λ u other. refl }

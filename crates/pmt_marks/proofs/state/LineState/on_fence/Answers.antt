@@ -1,6 +1,6 @@
-use Rattle.std.proofs.Common.{◌≡◌, ◌≤◌, arith, rules}
+use Rattle.std.proofs.Common.{◌≡◌, arith, rules}
 use Rattle.std.specs.Prelude.{unwrap_or, max}
-use Rattle.pmt_marks.specs.Lines.{mark_in, Completes}
+use Rattle.pmt_marks.specs.Lines.{mark_in}
 use Rattle.pmt_marks.proofs.MarkLemmas.{mark_in-le}
 use Rattle.pmt_marks.proofs.FollowLemmas.{follows-fence}
 use Rattle.pmt_marks.proofs.state.LineState.on_fence.Goals as goal
@@ -14,7 +14,7 @@ invariant_of-self c =
       few = c.self.invariant.few;
       reached = omega (arith, raised, mark, c.self.invariant.reached);
       marked = (c.take_mark.ensures.kept s.count).within c.self.invariant.marked;
-      distinct = (c.take_mark.ensures.kept s.count).distinct c.self.invariant.distinct;
+      rising = (c.take_mark.ensures.kept s.count).rising c.self.invariant.rising;
     }
 
 pub returns-clause-follows : goal.returns-clause-follows

@@ -1,4 +1,4 @@
-use Rattle.std.proofs.Common.{◌+◌, ◌<◌, ◌≤◌, arith}
+use Rattle.std.proofs.Common.{◌+◌, ◌<◌, arith}
 use Rattle.pmt_model.specs.Traces.{event_limit}
 use Rattle.pmt_marks.proofs.MarkLemmas.{none_above-more}
 use Rattle.pmt_marks.proofs.state.LineState.on_store.Goals as goal
@@ -11,5 +11,5 @@ invariant_of-self c =
       few = omega (arith, room);
       reached = omega (arith, c.self.invariant.reached);
       marked = none_above-more s.count (s.count + 1) s.marks.items (omega arith) c.self.invariant.marked;
-      distinct = c.self.invariant.distinct;
+      rising = c.self.invariant.rising;
     }

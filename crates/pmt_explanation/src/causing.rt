@@ -1,0 +1,101 @@
+//! Findings in groups, by what they have in common.
+ghost use Rattle.std.specs.Prelude.{◌≡◌, ◌++◌, IfOk, OnOk};
+ghost use Rattle.pmt_causes.specs.FailureKeys.{AreFailureGroups};
+ghost use Rattle.pmt_causes.specs.Groups.{first_in};
+ghost use Rattle.pmt_explanation.specs.Asking.{is_asked_for as asked_for};
+ghost use Rattle.pmt_explanation.specs.Causing.{AreAskedLate, asked_members, asked_of, first_members as first_members_of};
+ghost use Rattle.pmt_explanation.specs.declared.choosing.Kind.TheVariants.{Late};
+
+use crate::asking::asked_numbers;
+use crate::choosing::{Choice, Kind};
+use crate::labels::Labels;
+use pmt_causes::{FailureKey, Group, Keyed, LateSpot, failure_groups, groups, late_groups};
+use pmt_model::{OutOfMemory, Trace};
+use std::alloc::Global;
+
+// Those of these events that fail, by cause. The trace is looked at only where there are any.
+pub(crate) fn causes_of(
+    alloc: Global,
+    trace: &Trace,
+    label_numbers: &[Option<u64>],
+    failing: &[u64],
+) -> Result<Vec<Group<FailureKey>>, OutOfMemory>
+    ensures { IfOk result (λ causes. AreFailureGroups trace.now label_numbers.now failing.now causes.items) }
+{
+    if failing.is_empty() {
+        return Ok(Vec::new(alloc));
+    }
+    failure_groups(alloc, trace, label_numbers, failing)
+}
+
+// The first member of each of these groups.
+pub(crate) fn first_members<K>(alloc: Global, groups: &[Group<K>]) -> Result<Vec<u64>, OutOfMemory>
+    ensures { IfOk result (λ members. members.items ≡ first_members_of groups.now) }
+{
+    groups.iter().map(|group| first_of(group)).collect(alloc)
+}
+
+// The group's first member, or 0 of none.
+pub(crate) fn first_of<K>(group: &Group<K>) -> u64
+    ensures { result ≡ first_in group.now }
+{
+    match group.members.first() {
+        Some(number) => *number,
+        None => 0,
+    }
+}
+
+// The late stores that are asked for, by spot.
+pub(crate) fn asked_late(
+    alloc: Global,
+    trace: &Trace,
+    labels: &Labels,
+    label_numbers: &[Option<u64>],
+    choice: &Choice,
+) -> Result<Vec<Group<LateSpot>>, OutOfMemory>
+    ensures { IfOk result (λ late. AreAskedLate trace.now label_numbers.now (asked_for trace.now labels.now choice.now Late) late.items) }
+{
+    let all = late_groups(alloc, trace, label_numbers)?;
+    let asked = asked_stores(alloc, trace, labels, choice, all.as_slice())?;
+    groups(alloc, asked.as_slice())
+}
+
+// The members of these groups that are asked for, each with its spot.
+fn asked_stores(
+    alloc: Global,
+    trace: &Trace,
+    labels: &Labels,
+    choice: &Choice,
+    groups: &[Group<LateSpot>],
+) -> Result<Vec<Keyed<LateSpot>>, OutOfMemory>
+    ensures { IfOk result (λ items. items.items ≡ asked_of (asked_for trace.now labels.now choice.now Late) groups.now) }
+{
+    let mut items = Vec::new(alloc);
+    for group in groups {
+        push_asked(alloc, &mut items, trace, labels, choice, group)?;
+    }
+    Ok(items)
+}
+
+// Adds the members of the group that are asked for, each with its spot.
+fn push_asked(
+    alloc: Global,
+    items: &mut Vec<Keyed<LateSpot>>,
+    trace: &Trace,
+    labels: &Labels,
+    choice: &Choice,
+    group: &Group<LateSpot>,
+) -> Result<(), OutOfMemory>
+    ensures { OnOk result (items.new.items ≡ items.old.items ++ asked_members (asked_for trace.now labels.now choice.now Late) group.now) }
+{
+    let members = group.members.as_slice();
+    let asked = asked_numbers(alloc, trace, labels, choice, Kind::Late, members)?;
+    let numbers = asked.as_slice();
+    for number in numbers {
+        items.push(Keyed {
+            key: group.key,
+            number: *number,
+        })?;
+    }
+    Ok(())
+}

@@ -1,0 +1,269 @@
+-- What a source has told and given while its events are taken block by block.
+use Rattle.std.proofs.Common.{◌≡◌, ◌≢◌, ℕ, zero, suc, ◌+◌, ◌<◌, ◌≤◌, ◌⊎◌, inl, inr, ◌==◌, Bool, true, false, List, [], ◌∷◌, ◌++◌, length, get_or, take, Option, Some, None, IfSome, Result, Ok, Err, refl, sym, ap, subst, ◌∙◌, arith, eqb-true, append-nil, append_assoc}
+use Rattle.std.specs.Prelude.{if◌then◌else◌, IfErr}
+use Rattle.std.specs.List.{AllByRecursion}
+use Rattle.std.proofs.lemmas.Bool.{eqb-false}
+use Rattle.std.proofs.lemmas.List.{length-append, take_more, take_all}
+use Rattle.std.proofs.lemmas.Option.{same_Some}
+use Rattle.pmt_model.specs.declared.event.Event.{Event}
+use Rattle.pmt_model.specs.Values.{Layout}
+use Rattle.pmt_model.specs.Traces.{Recording, IsEventIn, event_limit}
+use Rattle.pmt_model.specs.Pushing.{with_event, empty}
+use Rattle.pmt_laws.specs.Passing.{with_events}
+use Rattle.pmt_text.specs.declared.kind.SourceError.{SourceError}
+use Rattle.pmt_text.specs.declared.kind.SourceError.TheVariants.{Text, TooMany, Read, OutOfMemory, Failed}
+use Rattle.pmt_text.specs.declared.source.SourceState.{SourceState}
+use Rattle.pmt_text.specs.declared.source.SourceState.TheVariants as states
+use Rattle.pmt_text.specs.Coming.{Coming, ComesWhole, whole}
+use Rattle.pmt_text.specs.Sources.{Gives, TakesNext, HasFormat, TakesFormat, TellsNext, TellsFormat, KeepsFormat, LeavesFewer, CountsReads}
+use Rattle.pmt_text.proofs.SourceLemmas.{Gives-trans, whole-parts}
+use Rattle.pmt_lines.specs.declared.splitting.SplitError.{SplitError}
+use Rattle.pmt_lines.specs.declared.splitting.SplitError.TheVariants as splits
+use Rattle.pmt_lines.specs.Sourcing.{IsFaultOf, TakesFirst, TellsEnd, TellsFault, TellsNothing, TellsRefusal, told_by}
+use Rattle.pmt_lines.proofs.SourceRunLemmas.{Shown, SoFar, SameReads, so_far-none, so_far-more, so_far-full, so_far-ended}
+use Rattle.pmt_report.specs.Blocks.{TakesBlock, TellsTaken}
+
+-- ---- One block
+
+-- what a source told that told no fault
+abbrev pub untold_fault : Result (Unit {0}) SourceError
+untold_fault = Ok tt
+
+-- after some events of a block were taken
+pub record BlockSoFar (most : ℕ) (first now : Shown) (B : Recording) : Type 0 where
+  pub so_far : SoFar first now B
+  pub few : length B.events ≤ most
+  pub roomy : length B.events + now.room ≤ first.room
+  pub same_format : (f : Layout) → first.format ≡ Some f → B.format ≡ f
+
+format-kept : (old new : Option Layout) (f g : Layout) → KeepsFormat old new → new ≡ Some f → old ≡ Some g → f ≡ g
+format-kept old new f g kept known was = same_Some f g (sym known ∙ subst (λ o. KeepsFormat o new) was kept)
+
+pub block-none : (most : ℕ) (first now : Shown) (f : Layout) → TakesFormat first.coming (Ok f) now.coming → TellsFormat first.state (Ok f) now.state → now.format ≡ Some f → KeepsFormat first.format now.format → CountsReads first.failures (Ok f) now.failures → now.room ≡ first.room → now.room ≤ event_limit →
+    BlockSoFar most first now (empty f)
+block-none most first now f takes tells known kept counts same few = record {
+  so_far = so_far-none first now f takes tells known counts few;
+  few = omega arith;
+  roomy = omega (arith, same);
+  same_format = λ g was. format-kept first.format now.format f g kept known was;
+}
+
+pub block-more : (most : ℕ) (first now next : Shown) (B : Recording) (e : Event) → length B.events < most → BlockSoFar most first now B → TakesNext now.coming (Ok (Some e)) next.coming → TellsNext now.state (Ok (Some e)) next.state → KeepsFormat now.format next.format → CountsReads now.failures (Ok (Some e)) next.failures → LeavesFewer now.room (Ok (Some e)) next.room →
+    BlockSoFar most first next (with_event B e)
+block-more most first now next B e within block takes tells kept counts fewer = record {
+  so_far = so_far-more first now next B e block.so_far takes tells kept counts fewer;
+  few = omega (arith, within, length-append B.events (e ∷ []));
+  roomy = omega (arith, block.roomy, fewer, length-append B.events (e ∷ []));
+  same_format = block.same_format;
+}
+
+pub block-full : (most : ℕ) (first now : Shown) (B : Recording) → length B.events ≡ most → BlockSoFar most first now B → TakesBlock most first now B
+block-full most first now B full block = record {
+  first = so_far-full most first now B block.so_far full;
+  known = block.so_far.in_format;
+  same_format = block.same_format;
+  roomy = block.roomy;
+}
+
+pub block-ended : (most : ℕ) (first now next : Shown) (B : Recording) → length B.events < most → BlockSoFar most first now B → TakesNext now.coming (Ok None) next.coming → TellsNext now.state (Ok None) next.state → KeepsFormat now.format next.format → next.room ≡ now.room →
+    TakesBlock most first next B
+block-ended most first now next B fewer block takes tells kept same = record {
+  first = so_far-ended most first now next B block.so_far fewer takes tells;
+  known = subst (λ o. KeepsFormat o next.format) block.so_far.in_format kept;
+  same_format = block.same_format;
+  roomy = omega (arith, block.roomy, same);
+}
+
+-- ---- Block after block
+
+-- all events were taken
+pub record IsTakenWhole (first now : Shown) (T : Recording) : Type 0 where
+  pub comes : ComesWhole first.coming T
+  pub told : TellsEnd first.state now.state
+  pub same_reads : SameReads first.failures now.failures
+
+-- T is the trace of the events that were taken; more says whether more may come
+pub record IsTakenSoFar (first now : Shown) (T : Recording) (more : Bool) : Type 0 where
+  pub on : more ≡ true → SoFar first now T
+  pub over : more ≡ false → IsTakenWhole first now T
+
+counted-same : {A : Type 0} (old new : Option ℕ) (x : A) → CountsReads old (Ok x) new → SameReads old new
+counted-same None new x counts = tt
+counted-same (Some n) new x counts = let e : n + 0 ≡ n = omega arith in counts ∙ ap (λ (k : ℕ). Some k) e
+
+same-counted : {A : Type 0} (old new : Option ℕ) (x : A) → SameReads old new → CountsReads old (Ok x) new
+same-counted None new x same = tt
+same-counted (Some n) new x same = let e : n ≡ n + 0 = omega arith in same ∙ ap (λ (k : ℕ). Some k) e
+
+reads-trans : (old mid new : Option ℕ) → SameReads old mid → SameReads mid new → SameReads old new
+reads-trans None mid new first second = tt
+reads-trans (Some n) mid new first second = subst (λ m. SameReads m new) first second
+
+reads-later : {A : Type 0} (old mid new : Option ℕ) (r : Result A SourceError) → SameReads old mid → CountsReads mid r new → CountsReads old r new
+reads-later None mid new r same counts = tt
+reads-later (Some n) mid new r same counts = subst (λ m. CountsReads m r new) same counts
+
+state-same : (old new : SourceState) → TellsNothing old new → new ≡ old
+state-same states.Open new tells = tells
+state-same states.Ended new tells = tells
+state-same (states.Failed told) new tells = absurd tells
+
+state-unfailed : (old new : SourceState) → TellsNothing old new → (told : SourceError) → old ≢ states.Failed told
+state-unfailed states.Open new tells told e = cc
+state-unfailed states.Ended new tells told e = cc
+state-unfailed (states.Failed was) new tells told e = tells
+
+nothing-told : (old new : SourceState) → new ≡ old → ((told : SourceError) → old ≢ states.Failed told) → TellsNothing old new
+nothing-told states.Open new same unfailed = same
+nothing-told states.Ended new same unfailed = same
+nothing-told (states.Failed told) new same unfailed = absurd (unfailed told refl)
+
+-- the first block
+pub first-block : (most : ℕ) (first now : Shown) (B : Recording) → first.room ≤ event_limit → TakesBlock most first now B → CountsReads first.failures untold_fault now.failures → IsTakenSoFar first now B (length B.events == most)
+first-block most first now B few block counts = record { on = λ full. on (eqb-true (length B.events) most full); over = λ short. over (eqb-false (length B.events) most short) }
+  where
+    on : length B.events ≡ most → SoFar first now B
+    on full = elim block.first.few [
+      | inl ended ↦ absurd (let h = ended.0 in omega (arith, h, full))
+      | inr going ↦ record {
+        given = block.first.events;
+        format = block.first.format;
+        in_format = block.known;
+        same_state = state-same first.state now.state going.1;
+        unfailed = state-unfailed first.state now.state going.1;
+        same_reads = counted-same {A = Unit {0}} first.failures now.failures tt counts;
+        roomy = omega (arith, block.roomy, few);
+      }
+    ]
+
+    over : length B.events ≢ most → IsTakenWhole first now B
+    over short = elim block.first.few [
+      | inl ended ↦ record { comes = ended.1; told = ended.2; same_reads = counted-same {A = Unit {0}} first.failures now.failures tt counts }
+      | inr going ↦ absurd (short going.0)
+    ]
+
+-- two parts of what comes, the second of which is the rest
+whole-joined : (old mid : Option Coming) (T B : Recording) → HasFormat old (Some T.format) → Gives old T.events mid → ComesWhole mid B → ComesWhole old (with_events T B.events)
+whole-joined None mid T B format given comes = tt
+whole-joined (Some c) mid T B format given comes =
+    let left : record { format = c.format; events = given.0; fault = c.fault } ≡ whole B = subst (λ o. ComesWhole o B) given.2 comes in
+    whole-parts c (with_events T B.events) format (given.1 ∙ ap (λ (d : Coming). T.events ++ d.events) left) (ap (λ (d : Coming). d.fault) left)
+
+-- one block more
+pub next-block : (most : ℕ) (first mid now : Shown) (T B : Recording) → SoFar first mid T → TakesBlock most mid now B → CountsReads mid.failures untold_fault now.failures → IsTakenSoFar first now (with_events T B.events) (length B.events == most)
+next-block most first mid now T B so_far block counts = record { on = λ full. on (eqb-true (length B.events) most full); over = λ short. over (eqb-false (length B.events) most short) }
+  where
+    same_reads : SameReads first.failures now.failures
+    same_reads = reads-trans first.failures mid.failures now.failures so_far.same_reads (counted-same {A = Unit {0}} mid.failures now.failures tt counts)
+
+    on : length B.events ≡ most → SoFar first now (with_events T B.events)
+    on full = elim block.first.few [
+      | inl ended ↦ absurd (let h = ended.0 in omega (arith, h, full))
+      | inr going ↦ record {
+        given = Gives-trans first.coming mid.coming now.coming T.events B.events so_far.given block.first.events;
+        format = so_far.format;
+        in_format = block.known ∙ ap (λ (f : Layout). Some f) (block.same_format T.format so_far.in_format);
+        same_state = state-same mid.state now.state going.1 ∙ so_far.same_state;
+        unfailed = so_far.unfailed;
+        same_reads = same_reads;
+        roomy = omega (arith, so_far.roomy, block.roomy, length-append T.events B.events);
+      }
+    ]
+
+    over : length B.events ≢ most → IsTakenWhole first now (with_events T B.events)
+    over short = elim block.first.few [
+      | inl ended ↦ record {
+        comes = whole-joined first.coming mid.coming T B so_far.format so_far.given ended.1;
+        told = subst (λ s. TellsEnd s now.state) so_far.same_state ended.2;
+        same_reads = same_reads;
+      }
+      | inr going ↦ absurd (short going.0)
+    ]
+
+-- no fault was told where memory was refused to what takes the events
+pub untold : {A : Type 0} (first now : Shown) (T : Recording) (more : Bool) (r : Result A SplitError) → r ≡ Err splits.OutOfMemory → IsTakenSoFar first now T more → TellsTaken first.state r now.state
+untold {A = A} first now T true r refused taken =
+    let so_far = taken.on refl in
+    subst (λ q. TellsTaken {A = A} first.state q now.state) (sym refused) (inl (nothing-told first.state now.state so_far.same_state so_far.unfailed))
+untold {A = A} first now T false r refused taken = subst (λ q. TellsTaken {A = A} first.state q now.state) (sym refused) (inr (taken.over refl).told)
+
+so_far-reads : (first now : Shown) (T : Recording) (more : Bool) → IsTakenSoFar first now T more → SameReads first.failures now.failures
+so_far-reads first now T true taken = (taken.on refl).same_reads
+so_far-reads first now T false taken = (taken.over refl).same_reads
+
+pub uncounted : {A : Type 0} (first now : Shown) (T : Recording) (more : Bool) (r : Result A SplitError) → r ≡ Err splits.OutOfMemory → IsTakenSoFar first now T more → CountsReads first.failures (told_by r) now.failures
+uncounted {A = A} first now T more r refused taken =
+    subst (λ q. CountsReads first.failures (told_by {A = A} q) now.failures) (sym refused) (same-counted {A = Unit {0}} first.failures now.failures tt (so_far-reads first now T more taken))
+
+-- ---- A fault after some blocks
+
+fault-part : (c d : Coming) (e : SourceError) → d.fault ≡ c.fault → IsFaultOf d e → IsFaultOf c e
+fault-part c d (Text f) same is = sym same ∙ is
+fault-part c d TooMany same is = sym same ∙ is
+fault-part c d Read same is = tt
+fault-part c d OutOfMemory same is = tt
+fault-part c d Failed same is = tt
+
+fault-before : (old mid : Option Coming) (taken : List Event) (e : SourceError) → Gives old taken mid → IfSome mid (λ c. IsFaultOf c e) → IfSome old (λ c. IsFaultOf c e)
+fault-before None mid taken e given fault = tt
+fault-before (Some c) mid taken e given fault =
+    fault-part c (record { format = c.format; events = given.0; fault = c.fault }) e refl (subst (λ o. IfSome o (λ d. IsFaultOf d e)) given.2 fault)
+
+module _ (A B : Type 0) (first mid now : Shown) (T : Recording) (e : SplitError) (r : Result B SplitError) (refused : r ≡ Err e) (so_far : SoFar first mid T) where
+  pub refused-fault : IfErr (told_by {A = A} (Err e)) (λ f. IfSome mid.coming (λ c. IsFaultOf c f)) → IfErr (told_by {A = B} r) (λ f. IfSome first.coming (λ c. IsFaultOf c f))
+  refused-fault fault = subst (λ q. IfErr (told_by {A = B} q) (λ f. IfSome first.coming (λ c. IsFaultOf c f))) (sym refused) (go e fault)
+    where
+      go : (x : SplitError) → IfErr (told_by {A = A} (Err x)) (λ f. IfSome mid.coming (λ c. IsFaultOf c f)) → IfErr (told_by {A = B} (Err x)) (λ f. IfSome first.coming (λ c. IsFaultOf c f))
+      go (splits.Source f) h = fault-before first.coming mid.coming T.events f so_far.given h
+      go splits.OutOfMemory h = tt
+
+  pub refused-told : TellsRefusal {A = A} mid.state (Err e) now.state → TellsTaken first.state r now.state
+  refused-told told = subst (λ q. TellsTaken {A = B} first.state q now.state) (sym refused) (go e told)
+    where
+      go : (x : SplitError) → TellsRefusal {A = A} mid.state (Err x) now.state → TellsTaken {A = B} first.state (Err x) now.state
+      go (splits.Source f) h = subst (λ s. TellsFault s f now.state) so_far.same_state h
+      go splits.OutOfMemory h = inl (subst (λ s. TellsNothing s now.state) so_far.same_state h)
+
+  pub refused-counted : CountsReads mid.failures (told_by {A = A} (Err e)) now.failures → CountsReads first.failures (told_by r) now.failures
+  refused-counted counts = subst (λ q. CountsReads first.failures (told_by {A = B} q) now.failures) (sym refused) (go e counts)
+    where
+      go : (x : SplitError) → CountsReads mid.failures (told_by {A = A} (Err x)) now.failures → CountsReads first.failures (told_by {A = B} (Err x)) now.failures
+      go (splits.Source f) h = reads-later first.failures mid.failures now.failures (Err f) so_far.same_reads h
+      go splits.OutOfMemory h = reads-later first.failures mid.failures now.failures untold_fault so_far.same_reads h
+
+-- ---- A block is added to a trace
+
+-- the trace with the first n events of the block
+abbrev pub with_first : Recording → List Event → ℕ → Recording
+with_first T es n = with_events T (take n es)
+
+pub with_first-none : (T : Recording) (es : List Event) → T ≡ with_first T es 0
+with_first-none T es = ap (λ (xs : List Event). let R : Recording = record { format = T.format; events = xs } in R) (sym (append-nil T.events))
+
+pub with_first-more : (T : Recording) (es : List Event) (n : ℕ) (e : Event) → n < length es → e ≡ get_or es n e → with_event (with_first T es n) e ≡ with_first T es (n + 1)
+with_first-more T es n e within at =
+    ap (λ (xs : List Event). let R : Recording = record { format = T.format; events = xs } in R)
+    (append_assoc T.events (take n es) (e ∷ []) ∙ ap (λ (xs : List Event). T.events ++ xs) (ap (λ x. take n es ++ x ∷ []) at ∙ sym (take_more es n e within)))
+
+pub with_first-all : (T : Recording) (es : List Event) (n : ℕ) → length es ≤ n → with_first T es n ≡ with_events T es
+with_first-all T es n past = ap (λ (xs : List Event). with_events T xs) (take_all n es past)
+
+-- each event of the block is of its format
+pub each-known : (f : Layout) (es : List Event) (n : ℕ) (e : Event) → AllByRecursion (IsEventIn f) es → n < length es → e ≡ get_or es n e → IsEventIn f e
+each-known f [] n e each within at = absurd (omega arith)
+each-known f (x ∷ es) zero e each within at = subst (IsEventIn f) (sym at) each.0
+each-known f (x ∷ es) (suc n) e each within at = each-known f es n e each.1 (omega arith) at
+
+-- ---- What is left to take
+
+-- a block that is full leaves less to come
+pub fewer-left : (most : ℕ) (mid now : Shown) (B : Recording) → 1 ≤ most → TakesBlock most mid now B → (if length B.events == most then suc now.room else 0) < suc mid.room
+fewer-left most mid now B some block = go (length B.events == most) refl
+  where
+    go : (b : Bool) → (length B.events == most) ≡ b → (if b then suc now.room else 0) < suc mid.room
+    go true full = let all : length B.events ≡ most = eqb-true (length B.events) most full in omega (arith, all, some, block.roomy)
+    go false short = omega arith
+
+-- want of memory is no fault of the source
+pub unfaulted : {A : Type 0} (coming : Option Coming) (r : Result A SplitError) → r ≡ Err splits.OutOfMemory → IfErr (told_by r) (λ f. IfSome coming (λ c. IsFaultOf c f))
+unfaulted {A = A} coming r refused = subst (λ q. IfErr (told_by {A = A} q) (λ f. IfSome coming (λ c. IsFaultOf c f))) (sym refused) tt

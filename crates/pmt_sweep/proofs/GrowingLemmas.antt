@@ -1,0 +1,290 @@
+-- What is known of the first events of a trace stays known where more events follow.
+use Rattle.std.proofs.Common.{◌≡◌, ℕ, suc, ◌+◌, ◌*◌, ◌-◌, ◌<◌, ◌≤◌, ◌⊎◌, inl, inr, Bool, true, false, List, ◌++◌, length, drop, get_or, map, refl, sym, ap, subst, ◌∙◌, true≢false, arith}
+use Rattle.std.specs.Prelude.{◌↔◌, IsTrue, slice_index, Contains, Result, Ok, Err, OnOk}
+use Rattle.std.specs.List.{list_any}
+use Rattle.std.proofs.lemmas.List.{length-append}
+use Rattle.pmt_model.specs.declared.event.Event.{Event}
+use Rattle.pmt_model.specs.declared.finding.Finding.{Finding}
+use Rattle.pmt_model.specs.declared.finding.Finding.TheVariants.{Overwritten, NeverPersisted, RedundantFlush, FenceWithoutFlush}
+use Rattle.pmt_model.specs.declared.finding.Verdict.{Verdict}
+use Rattle.pmt_model.specs.Values.{Written}
+use Rattle.pmt_model.specs.Machine.{Act, Stores, Flushes, Clflushes, Fences, State, Ends, count}
+use Rattle.pmt_model.specs.Traces.{Recording, IsAct, event, history}
+use Rattle.pmt_model.specs.Fronts.{front}
+use Rattle.pmt_model.specs.Assertions.{PersistPasses, OrderedPasses}
+use Rattle.pmt_model.specs.Findings.{IsFlushOf, ByFlush, ByClflush, IsSafe, IsCovered}
+use Rattle.pmt_model.specs.Analyses.{IsFinding, reported_at, IsVerdictOf, OfPersist, OfOrdered}
+use Rattle.pmt_model.specs.Keeping.{IsKept}
+use Rattle.pmt_model.specs.Selections.{Has}
+use Rattle.pmt_laws.specs.Passing.{with_events, open_flushes, IsOpenFlush, IsDecided}
+use Rattle.pmt_laws.proofs.DecidedLemmas.{IsSameTo, act-more, act-less, event-more, history-more, decided_stays, open-or_decided, open_is_dropped}
+use Rattle.pmt_laws.proofs.PassLemmas.{are_open}
+use Rattle.pmt_asserts.specs.Tables.{IsLastAt}
+use Rattle.pmt_asserts.specs.Judging.{event_asserts}
+use Rattle.pmt_sweep.specs.declared.rows.LineRow.{LineRow}
+use Rattle.pmt_sweep.specs.declared.byte_tables.ByteTable.{ByteTable}
+use Rattle.pmt_sweep.specs.declared.writers.Writer.{Writer}
+use Rattle.pmt_sweep.specs.declared.sweeping.Progress.{Progress}
+use Rattle.pmt_sweep.specs.declared.growing.Sweeper.{Sweeper}
+use Rattle.pmt_sweep.specs.Known.{is_known_late, AreKnownTo}
+use Rattle.pmt_sweep.specs.Rows.{IsPlaceOf, AreRows, last_line_store}
+use Rattle.pmt_sweep.specs.Chains.{AreChained}
+use Rattle.pmt_sweep.specs.ByteTables.{IsStoreTo, IsLastTo, IsTable, AreTables}
+use Rattle.pmt_sweep.specs.Ending.{StandAt}
+use Rattle.pmt_sweep.specs.OpenFlushes.{AreNumbered, number_in}
+use Rattle.pmt_sweep.specs.Flags.{IsOpenAt, AreFlagsTo}
+use Rattle.pmt_sweep.specs.Sweeping.{AreOpen, IsSweepOf, taken}
+use Rattle.pmt_sweep.specs.Writers.{IsWriter, AreWriters, IsSafe as IsSafeFrom, Wrote}
+use Rattle.pmt_sweep.specs.LineWriters.{AreLineWriters, writers_at}
+use Rattle.pmt_sweep.specs.VerdictsSoFar.{AreVerdictsTo}
+use Rattle.pmt_sweep.specs.Judging.{IsJudgingOf}
+use Rattle.pmt_sweep.proofs.VerdictsSoFar.{verdicts-rest}
+use Rattle.pmt_sweep.specs.Growing.{HasTaken, HasSwept, HasSweptFirst}
+
+-- ---- Findings of two traces with the same events up to place n
+
+module _ (n : ℕ) (T U : Recording) (same : IsSameTo n T U) where
+  safe-same : (l m j : ℕ) → m ≤ n → j ≤ n → IsSafe T l m j → IsSafe U l m j
+  safe-same l m j m_within j_within safe s ends =
+      subst (λ h. count l h ≤ s.persisted l) (sym (same.histories j j_within)) (safe s (subst (λ h. Ends h s) (same.histories m m_within) ends))
+
+  covered-same : (t l j i : ℕ) → i ≤ n → IsCovered T t l j i → IsCovered U t l j i
+  covered-same t l j i within c = record {
+    flush = c.flush;
+    is_flush = same.acts c.flush (Flushes t l) (omega (arith, c.before, within)) c.is_flush;
+    after = c.after;
+    before = c.before;
+    unfenced = λ k after before is. c.unfenced k after before (same.back k (Fences t) (omega (arith, before, within)) is);
+  }
+
+  flush_of-same : (l k : ℕ) → k ≤ n → IsFlushOf U l k → IsFlushOf T l k
+  flush_of-same l k within (ByFlush t is) = ByFlush t (same.back k (Flushes t l) within is)
+  flush_of-same l k within (ByClflush is) = ByClflush (same.back k (Clflushes l) within is)
+
+  finding-same : (f : Finding) → IsFinding T f → is_known_late f ≡ false → reported_at f ≤ n → IsFinding U f
+  finding-same (Overwritten j i) o early within = record {
+    line = o.line;
+    earlier = o.earlier;
+    later = o.later;
+    byte = o.byte;
+    is_earlier = same.acts j (Stores o.line o.earlier) (omega (arith, o.order, within)) o.is_earlier;
+    is_later = same.acts i (Stores o.line o.later) within o.is_later;
+    order = o.order;
+    writes_earlier = o.writes_earlier;
+    writes_later = o.writes_later;
+    last = λ k l w after before is. o.last k l w after before (same.back k (Stores l w) (omega (arith, before, within)) is);
+    unflushed = λ k after before flush. o.unflushed k after before (flush_of-same o.line k (omega (arith, before, within)) flush);
+  }
+  finding-same (NeverPersisted i flushed) o early within = absurd (true≢false early)
+  finding-same (RedundantFlush i) (inl x) early within = inl (
+    x.0,
+    x.1,
+    record {
+      is_flush = same.acts i (Flushes x.0 x.1) within x.2.is_flush;
+      nothing_new = λ j w before is. elim (x.2.nothing_new j w before (same.back j (Stores x.1 w) (omega (arith, before, within)) is)) [
+        | inl safe ↦ inl (safe-same x.1 (i - 1) j (omega (arith, within)) (omega (arith, before, within)) safe)
+        | inr covered ↦ inr (covered-same x.0 x.1 j i within covered)
+      ];
+    },
+  )
+  finding-same (RedundantFlush i) (inr x) early within = inr (
+    x.0,
+    record {
+      is_clflush = same.acts i (Clflushes x.0) within x.1.is_clflush;
+      nothing_new = λ j w before is.
+          safe-same x.0 (i - 1) j (omega (arith, within)) (omega (arith, before, within)) (x.1.nothing_new j w before (same.back j (Stores x.0 w) (omega (arith, before, within)) is));
+    },
+  )
+  finding-same (FenceWithoutFlush i) o early within = record {
+    thread = o.thread;
+    is_fence = same.acts i (Fences o.thread) within o.is_fence;
+    nothing = λ j l before is.
+        let k = o.nothing j l before (same.back j (Flushes o.thread l) (omega (arith, before, within)) is) in
+        let after = k.2 in
+        (k.0, k.1, k.2, same.acts k.0 (Fences o.thread) (omega (arith, after, within)) k.3);
+  }
+
+-- ---- A trace and the same trace with more events
+
+module _ (S : Recording) (more : List Event) where
+  abbrev grown : Recording
+  grown = with_events S more
+
+  there : IsSameTo (length S.events) S grown
+  there = record { acts = λ i a h is. act-more S more i a is; back = λ i a h is. act-less S more i a h is; histories = λ i h. history-more S more i h }
+
+  back : IsSameTo (length S.events) grown S
+  back = record { acts = λ i a h is. act-less S more i a h is; back = λ i a h is. act-more S more i a is; histories = λ i h. sym (history-more S more i h) }
+
+  known-more : (found : List Finding) → AreKnownTo S (length S.events) found → AreKnownTo grown (length S.events) found
+  known-more found known = record {
+    ordered = known.ordered;
+    just = λ f. (
+      (λ has. let x = (known.just f).0 has in (finding-same (length S.events) S grown there f x.0 x.1 x.2, x.1, x.2)),
+      (λ x. (known.just f).1 (finding-same (length S.events) grown S back f x.0 x.1 x.2, x.1, x.2)),
+    );
+  }
+
+  chained-more : (before : List ℕ) → length before ≤ length S.events → AreChained S before → AreChained grown before
+  chained-more before few chained i l w within is =
+      chained i l w within (act-less S more (suc i) (Stores l w) (omega (arith, within, few)) is) ∙ ap (last_line_store l) (sym (history-more S more i (omega (arith, within, few))))
+
+  standing-more : (rows : List LineRow) (places : List ℕ) → length places ≤ length S.events → StandAt S rows places → StandAt grown rows places
+  standing-more rows places few standing i l w within is = standing i l w within (act-less S more (suc i) (Stores l w) (omega (arith, within, few)) is)
+
+  last_to-more : (l n b number : ℕ) → n ≤ length S.events → IsLastTo S l n b number → IsLastTo grown l n b number
+  last_to-more l n b number few is = record {
+    store = elim is.store [ inl none ↦ inl none | inr x ↦ inr (x.0, act-more S more number (Stores l x.0) x.1, x.2) ];
+    by_now = is.by_now;
+    last = λ j w after before act. is.last j w after before (act-less S more j (Stores l w) (omega (arith, before, few)) act);
+  }
+
+  tables-more : (n : ℕ) (tables : List ByteTable) → n ≤ length S.events → AreTables S n tables → AreTables grown n tables
+  tables-more n tables few are k d within =
+      let t = get_or tables k d in
+      let is = are k d within in
+      record {
+        by_now = is.by_now;
+        just = record {
+          size = is.just.size;
+          each = λ o h. last_to-more t.line t.upto (t.line * S.format.line_size + o) (slice_index t.numbers.items o) (omega (arith, is.by_now, few)) (is.just.each o h);
+        };
+      }
+
+  open-more : (k : ℕ) → IsOpenAt S (length S.events) k → IsOpenAt grown (length S.events) k
+  open-more k o = (o.0, subst (λ h. Has (map number_in (open_flushes o.0 h)) k) (sym (history-more S more (length S.events) (omega arith))) o.1)
+
+  open-less : (k : ℕ) → IsOpenAt grown (length S.events) k → IsOpenAt S (length S.events) k
+  open-less k o = (o.0, subst (λ h. Has (map number_in (open_flushes o.0 h)) k) (history-more S more (length S.events) (omega arith)) o.1)
+
+  open-listed : (k : ℕ) → k ≤ length S.events → IsOpenFlush S k → IsOpenAt S (length S.events) k
+  open-listed k within o = (o.thread, (are_open S o.thread (length S.events)).all k o.line o.is_flush within (λ j after before. o.unfenced j after))
+
+  flags-more : (flags : List Bool) → AreFlagsTo S (length S.events) flags → AreFlagsTo grown (length S.events) flags
+  flags-more flags are = record {
+    all = are.all;
+    just = λ k. (
+      (λ e. let x = (are.just k).0 e in (x.0, kept-more k x.0 x.1, λ o. x.2 (open-less k o))),
+      (λ x. (are.just k).1 (x.0, kept-less k x.0 (λ o. x.2 (open-more k o)) x.1, λ o. x.2 (open-more k o))),
+    );
+  }
+    where
+      kept-more : (k : ℕ) → k ≤ length S.events → IsKept S k → IsKept grown k
+      kept-more k within kept = elim (open-or_decided S k within) [
+        | inl o ↦ absurd (open_is_dropped S k o kept)
+        | inr d ↦ (decided_stays S more k d).1.0 kept
+      ]
+
+      kept-less : (k : ℕ) → k ≤ length S.events → ¬ IsOpenAt S (length S.events) k → IsKept grown k → IsKept S k
+      kept-less k within shut kept = elim (open-or_decided S k within) [
+        | inl o ↦ absurd (shut (open-listed k within o))
+        | inr d ↦ (decided_stays S more k d).1.1 kept
+      ]
+
+  sweep-more : (s : Progress) → taken s ≡ length S.events → IsSweepOf S s → IsSweepOf grown s
+  sweep-more s all sweep =
+      let here : history S (taken s) ≡ history grown (taken s) = sym (history-more S more (taken s) sweep.within) in
+      record {
+        within = omega (arith, sweep.within, length-append S.events more);
+        rows = subst (λ h. AreRows h s.rows) here sweep.rows;
+        opens = subst (λ h. AreOpen h s.rows s.open_flushes) here sweep.opens;
+        chained = chained-more s.before.items sweep.within sweep.chained;
+        tables = tables-more (taken s) s.tables sweep.within sweep.tables;
+        all = sweep.all;
+        standing = standing-more s.rows s.places.items (omega (arith, sweep.all, sweep.within)) sweep.standing;
+        known = subst (λ n. AreKnownTo grown n s.found.items) (sym all) (known-more s.found.items (subst (λ n. AreKnownTo S n s.found.items) all sweep.known));
+        numbered = subst (λ h. AreNumbered h s.rows s.open_flushes s.open_numbers) here sweep.numbered;
+        flags = subst (λ n. AreFlagsTo grown n s.kept.items) (sym all) (flags-more s.kept.items (subst (λ n. AreFlagsTo S n s.kept.items) all sweep.flags));
+      }
+
+  -- ---- Who wrote the bytes, and verdicts
+
+  last_at-more : (i l rank place b : ℕ) → i ≤ length S.events → IsLastAt S i l rank place b → IsLastAt grown i l rank place b
+  last_at-more i l rank place b few is = record {
+    store = rw (history-more S more i few) is.store;
+    past = rw (history-more S more i few, history-more S more place (omega (arith, is.by_now, few))) is.past;
+    by_now = is.by_now;
+  }
+
+  safe-more : (l n : ℕ) (w : Writer) → n ≤ length S.events → IsSafeFrom S l n w → IsSafeFrom grown l n w
+  safe-more l n w few is = record {
+    by_now = is.by_now;
+    just = λ p h. subst (λ history. (w.rank ≤ front l history) ↔ ((1 ≤ w.safe) × (w.safe ≤ p))) (sym (history-more S more p (omega (arith, h, few)))) (is.just p h);
+  }
+
+  writers-more : (l n : ℕ) (ws : List Writer) → n ≤ length S.events → AreWriters S l n ws → AreWriters grown l n ws
+  writers-more l n ws few are = record {
+    each = λ w has. let is = are.each w has in record {
+      within = is.within;
+      last = λ o wrote. last_at-more n l w.rank w.number (l * S.format.line_size + o) few (is.last o wrote);
+      safe = safe-more l n w few is.safe;
+    };
+    all = λ o h. elim (are.all o h) [ inl none ↦ inl (rw (history-more S more n few) none) | inr x ↦ inr x ];
+  }
+
+  line_writers-more : (n : ℕ) (rows : List LineRow) (lines : List (List Writer)) → n ≤ length S.events → AreLineWriters S n rows lines → AreLineWriters grown n rows lines
+  line_writers-more n rows lines few are = record { few = are.few; each = λ l place at. writers-more l n (writers_at lines place) few (are.each l place at) }
+
+  verdict-more : (v : Verdict) → v.event ≤ length S.events → IsVerdictOf S v → IsVerdictOf grown v
+  verdict-more v h (OfPersist e at r op kind pass) =
+      OfPersist e (event-more S more v.event h ∙ at) r op kind (subst (λ acts. IsTrue v.pass ↔ PersistPasses acts r) (sym (history-more S more v.event h)) pass)
+  verdict-more v h (OfOrdered e at r q op kind pass) =
+      OfOrdered e (event-more S more v.event h ∙ at) r q op kind (subst (λ acts. IsTrue v.pass ↔ OrderedPasses acts r q) (sym (history-more S more v.event h)) pass)
+
+  verdict-less : (v : Verdict) → v.event ≤ length S.events → IsVerdictOf grown v → IsVerdictOf S v
+  verdict-less v h (OfPersist e at r op kind pass) =
+      OfPersist e (sym (event-more S more v.event h) ∙ at) r op kind (subst (λ acts. IsTrue v.pass ↔ PersistPasses acts r) (history-more S more v.event h) pass)
+  verdict-less v h (OfOrdered e at r q op kind pass) =
+      OfOrdered e (sym (event-more S more v.event h) ∙ at) r q op kind (subst (λ acts. IsTrue v.pass ↔ OrderedPasses acts r q) (history-more S more v.event h) pass)
+
+  verdicts-more : (vs : List Verdict) → AreVerdictsTo S (length S.events) vs → AreVerdictsTo grown (length S.events) vs
+  verdicts-more vs are = record {
+    ordered = are.ordered;
+    just = λ v. (
+      (λ has. let x = (are.just v).0 has in (verdict-more v x.1 x.0, x.1)),
+      (λ x. (are.just v).1 (verdict-less v x.1 x.0, x.1)),
+    );
+  }
+
+  -- ---- A sweep
+
+  taken-more : (s : Sweeper) → HasSwept S s → HasTaken grown (length S.events) s
+  taken-more s swept = record {
+    here = swept.here;
+    sweep = sweep-more s.judging.progress swept.here swept.sweep;
+    writers = λ judges. line_writers-more (length S.events) s.judging.progress.rows s.judging.writers (omega arith) (swept.writers judges);
+    verdicts = verdicts-more s.judging.verdicts.items swept.verdicts;
+  }
+
+-- It has taken the first events of the trace that has grown.
+pub first-taken : (T : Recording) (s : Sweeper) → HasSweptFirst T s → HasTaken T (taken s.judging.progress) s
+first-taken T s first =
+    let swept = first.3 in
+    let grown = taken-more first.0 first.1 s swept in
+    subst (λ n. HasTaken T n s) (sym swept.here) (subst (λ U. HasTaken U (length first.0.events) s) (sym first.2) grown)
+
+-- What one that judges knows is what a judging sweep knows.
+pub judging-of : (T : Recording) (n : ℕ) (s : Sweeper) → HasTaken T n s → s.judges ≡ true → IsJudgingOf T n s.judging
+judging-of T n s has judges = record {
+  known = record { here = has.here; sweep = has.sweep; writers = has.writers judges };
+  verdicts = has.verdicts;
+}
+
+pub taken-judging : (T : Recording) (n : ℕ) (s : Sweeper) → IsJudgingOf T n s.judging → HasTaken T n s
+taken-judging T n s is = record { here = is.known.here; sweep = is.known.sweep; writers = λ judges. is.known.writers; verdicts = is.verdicts }
+
+-- One that does not judge has taken events without assertions.
+pub taken-unjudged :
+    (T : Recording) (n : ℕ) (s new : Sweeper) → HasTaken T n s → new.judges ≡ false → new.judging.verdicts ≡ s.judging.verdicts → list_any event_asserts (drop n T.events) ≡ false →
+    IsSweepOf T new.judging.progress → taken new.judging.progress ≡ length T.events → HasSwept T new
+taken-unjudged T n s new has unjudged same none sweep all = record {
+  here = all;
+  sweep = sweep;
+  writers = λ judges. absurd (true≢false (sym judges ∙ unjudged));
+  verdicts = subst (λ vs. AreVerdictsTo T (length T.events) vs.items) (sym same) (verdicts-rest T n s.judging.verdicts.items (subst (λ k. k ≤ length T.events) has.here has.sweep.within) none has.verdicts);
+}
+
+-- Two facts of a call that may have been refused memory.
+pub on_ok-both : {A E : Type 0} (r : Result A E) (P Q R : Type 0) → (P → Q → R) → OnOk r P → OnOk r Q → OnOk r R
+on_ok-both (Ok x) P Q R both p q = both p q
+on_ok-both (Err e) P Q R both p q = tt

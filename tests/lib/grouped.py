@@ -1,0 +1,94 @@
+"""What `explain` tells in groups and tables, by their definitions: failed assertions by cause, late stores by place, what is made by each
+thread and at each label.
+
+The findings are those of explained.py, and what a run can reach is that of machine.py.
+"""
+from machine import FENCES, FLUSHES, is_kept
+
+ANY_FLUSH = ("clflush", *FLUSHES)
+
+
+def grouped(keyed):
+    """These numbers with their keys, in groups by key: most members first, and of as many the lowest first one first."""
+    groups = {}
+    for key, number in keyed:
+        groups.setdefault(key, []).append(number)
+    return sorted(groups.items(), key=lambda group: (-len(group[1]), group[1][0]))
+
+
+# Failed assertions by cause
+
+
+def part(trace, number, byte):
+    """Where the line of the byte lies among those of the assertion's range, or of its first one."""
+    _, _, start, length = trace.event(number)[:4]
+    first, last, line = start // trace.size, (start + length - 1) // trace.size, byte // trace.size
+    if first == last:
+        return "only"
+    return {first: "first", last: "last"}.get(line, "inner")
+
+
+def cause_key(explained, number):
+    """What failed assertions of one cause have in common: kind, cause, part of the range, and the label, or without one the thread."""
+    trace = explained.trace
+    _, place, _, (store, byte), _ = explained.violation(number)
+    label = explained.labels.get(number)
+    origin = ("thread", trace.event(number)[1]) if label is None else ("label", label)
+    return trace.event(number)[0], explained.cause(store, place)["cause"], part(trace, number, byte), origin
+
+
+def causes(explained):
+    """The failed assertions that are asked for, by cause."""
+    return grouped((cause_key(explained, number), number) for number in explained.failing() if explained.is_asked("failure", number))
+
+
+# Late stores
+
+
+def safe_place(trace, store):
+    """The first place from the store on where every run has it persisted, one past the end where there is none."""
+    end = len(trace.events)
+    return next((place for place in range(store, end + 1) if trace.is_safe(store, place)), end + 1)
+
+
+def fences_waited(trace, store):
+    """How many fences of its own thread stand after the store and before it is safe; a fence that makes it safe does not count."""
+    thread = trace.event(store)[1]
+    return sum(trace.event(number)[0] in FENCES and trace.event(number)[1] == thread for number in range(store + 1, safe_place(trace, store)))
+
+
+def late_key(explained, store):
+    """Where a late store stands: its label, or without one its line."""
+    label = explained.labels.get(store)
+    return ("line", explained.address(explained.trace.line(store))) if label is None else ("label", label)
+
+
+def late(explained):
+    """The late stores that are asked for, by place."""
+    trace = explained.trace
+    stores = [number for number in trace.numbers if trace.event(number)[0] == "store" and fences_waited(trace, number) >= 2]
+    return grouped((late_key(explained, store), store) for store in stores if explained.is_asked("late", store))
+
+
+# Tables
+
+
+def row(trace, numbers):
+    """How many of these events are stores, flushes and fences, and how many are dropped."""
+    words = [trace.event(number)[0] for number in numbers]
+    counts = (sum(word in of for word in words) for of in (("store",), ANY_FLUSH, FENCES))
+    return (*counts, sum(not is_kept(trace, number) for number in numbers))
+
+
+def thread_rows(trace):
+    """Of each thread that has an event its row, by rising thread."""
+    threads = sorted({event[1] for event in trace.events})
+    return [(thread, row(trace, [number for number in trace.numbers if trace.event(number)[1] == thread])) for thread in threads]
+
+
+def label_rows(explained):
+    """Of each label that an event has its row: most dropped first, and of as many that whose first event comes first."""
+    texts = dict.fromkeys(explained.labels[number] for number in explained.trace.numbers if number in explained.labels)
+    numbers = {text: [number for number in explained.trace.numbers if explained.labels.get(number) == text] for text in texts}
+    rows = [(text, row(explained.trace, numbers[text])) for text in texts]
+    return sorted(rows, key=lambda found: -found[1][3])

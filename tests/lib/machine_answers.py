@@ -1,0 +1,126 @@
+#!/usr/bin/env python3
+"""Compares a program with the machine of machine.py on small random traces: machine_answers.py PROGRAM.
+
+The traces are the same each time. The last line is 'N passed, M failed'.
+"""
+import itertools
+import pathlib
+import random
+import subprocess
+import sys
+import tempfile
+
+from examples import Counts
+from explained import Explained, judged
+from explained_text import wrong_text
+from machine import FENCES, FLUSHES, Trace, entries_at, is_faithful, is_kept, least, none_can_go, random_trace, spelled, text_of
+
+# As many entries as `--limit all` stands for.
+ALL = 1_000_000
+TRACES = 400
+GROUPED = 300
+PLACES = ("put.c:12 record", "put.c:14", "list.c:7 insert")
+
+
+def answers(head, trace):
+    """What each command must write, with its status; the place of fronts is the middle."""
+    kept = [number for number in trace.numbers if is_kept(trace, number)]
+    entries = list(itertools.chain.from_iterable(entries_at(trace, number) for number in trace.numbers))
+    bad = any(entry.endswith("fail") or entry.startswith("never") for entry in entries)
+    first = f"events {len(trace.events)} lines {len(trace.lines(len(trace.events)))}"
+    last = f"kept {len(kept)} dropped {len(trace.events) - len(kept)}"
+    place = len(trace.events) // 2
+    lines = trace.lines(place)
+    fronts = [f"place {place} lines {len(lines)}"]
+    fronts += [f"line {line * trace.size:#x} front {least(trace, line, place)} count {len(trace.stores(line, place))}" for line in lines]
+    yield ["check"], (int(bad), text_of([first, *entries, last]))
+    trimmed = (0, text_of([head, *(spelled(trace.event(number)) for number in kept)]))
+    yield ["trim"], trimmed
+    yield ["trim", "--stream"], trimmed
+    yield ["fronts", str(place)], (0, text_of(fronts))
+
+
+def is_open(trace, number):
+    """A flush whose thread has not fenced since."""
+    word, thread = trace.event(number)[:2]
+    later = (trace.event(other)[:2] for other in range(number + 1, len(trace.events) + 1))
+    return word in FLUSHES and not any(other == thread and fence in FENCES for fence, other in later)
+
+
+def streamed(head, trace):
+    """What is out of the stream after these events: what is kept of them before the oldest open flush."""
+    settled = itertools.takewhile(lambda number: not is_open(trace, number), trace.numbers)
+    return text_of([head, *(spelled(trace.event(number)) for number in settled if is_kept(trace, number))])
+
+
+def stream_is_right(program, head, trace):
+    """At every place a faulty line shows what is out there."""
+    for place in range(len(trace.events) + 1):
+        before = Trace(trace.size, trace.events[:place])
+        text = text_of([head, *map(spelled, before.events), "faulty"])
+        done = subprocess.run([program, "trim", "--stream"], input=text, capture_output=True, timeout=120)
+        fault = f"trace line {place + 2}: bad-word\n".encode()
+        if (done.returncode, done.stdout, done.stderr) != (3, streamed(head, before), fault):
+            return False
+    return True
+
+
+def grouped_trace(choose):
+    """The header and some events of few kinds, so that several have one cause or one place, and wait long for a flush."""
+    size, threads, lines = choose.choice((32, 64)), choose.choice((1, 1, 2, 3)), choose.choice((1, 1, 2, 3))
+    at = lambda: 0x1000 + size * choose.randrange(lines)
+    make = {
+        "store": lambda: ("store", choose.randrange(threads), at() + choose.choice((0, 8)), bytes([choose.choice((1, 2))])),
+        "flush": lambda: (choose.choice((*FLUSHES, *FLUSHES, "clflush")), choose.randrange(threads), at()),
+        "fence": lambda: (choose.choice(FENCES), choose.randrange(threads)),
+        "persist": lambda: ("isPersist", choose.randrange(threads), 0x1000, choose.choice((1, 3 * size))),
+        "ordered": lambda: ("isOrderedBefore", choose.randrange(threads), 0x1000, choose.choice((1, 3 * size)), at(), 1),
+    }
+    kinds = choose.choices(list(make), (5, 2, 6, 3, 3), k=choose.randrange(6, 24))
+    return f"pmtrace 2 {size}", Trace(size, [make[kind]() for kind in kinds])
+
+
+def explanation_is_right(program, file, trace, choose):
+    """What `explain` tells of all findings, their groups and the tables; half of the traces have labels."""
+    often = choose.choice((0, 0, 0.5, 1))
+    labels = {number: choose.choice(PLACES) for number in trace.numbers if choose.random() < often}
+    names = file.with_name("labels")
+    names.write_bytes(text_of(f"{number} {label}" for number, label in labels.items()))
+    explained = Explained(trace, [], labels)
+    words = ["--labels", names] * bool(labels) + ["--limit", "all", file]
+    text, entries = (subprocess.run([program, "explain", *form, *words], capture_output=True, timeout=120).stdout for form in ([], ["--json"]))
+    wrong = wrong_text(explained, text) or judged(explained, entries, ALL)
+    if wrong:
+        print(f"{labels}: {wrong}")
+    return not wrong
+
+
+def answers_are_right(program, file, head, trace):
+    """What is judged of a trace, and whether the program is right there."""
+    kept = [number for number in trace.numbers if is_kept(trace, number)]
+    yield "the selection", is_faithful(trace, kept) and none_can_go(trace, kept)
+    yield "the stream", stream_is_right(program, head, trace)
+    for (command, *words), wanted in answers(head, trace):
+        done = subprocess.run([program, command, file, *words], capture_output=True, timeout=120)
+        yield command, (done.returncode, done.stdout) == wanted
+
+
+def main():
+    program, counts = pathlib.Path(sys.argv[1]).resolve(), Counts()
+    choose, by_groups = random.Random(20), random.Random(21)
+    with tempfile.TemporaryDirectory() as folder:
+        file = pathlib.Path(folder, "trace")
+        for head, trace in (random_trace(choose) for _ in range(TRACES)):
+            file.write_bytes(text_of([head, *map(spelled, trace.events)]))
+            for what, right in answers_are_right(program, file, head, trace):
+                counts.expect(what, right, f"of\n{file.read_text()}")
+            counts.expect("explain", explanation_is_right(program, file, trace, by_groups), f"of\n{file.read_text()}")
+        for head, trace in (grouped_trace(by_groups) for _ in range(GROUPED)):
+            file.write_bytes(text_of([head, *map(spelled, trace.events)]))
+            counts.expect("explain", explanation_is_right(program, file, trace, by_groups), f"of\n{file.read_text()}")
+    print(f"{counts.passed} passed, {counts.failed} failed")
+    return 1 if counts.failed else 0
+
+
+if __name__ == "__main__":
+    sys.exit(main())
