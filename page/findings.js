@@ -111,6 +111,7 @@ function leftOut(more, explained) {
 class Findings {
   constructor(trace, explained) {
     this.trace = trace;
+    trace.learnRanges(explained);
     const { more = {}, ...summary } = explained.find((entry) => entry.kind === 'summary') ?? {};
     this.summary = { ...summary, more: leftOut(more, explained) };
     this.all = explained.filter((entry) => KINDS.includes(entry.kind)).map((entry) => this.finding(entry));

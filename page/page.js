@@ -9,7 +9,7 @@ const SHOWN_AT_ONCE = 50_000;
 
 class Page {
   constructor() {
-    this.trace = new Trace(readBlock('about'), readBlock('columns'), readBlock('labels'));
+    this.trace = new Trace(readBlock('about'), readBlock('columns'), textOfBlock('labels'));
     this.findings = new Findings(this.trace, readEntries());
     this.strip = new Strip(this.trace, byId('strip'), (from, to) => this.stretch(from, to));
     this.crash = new Crash(this.trace, this.strip.unsafe);
@@ -178,9 +178,11 @@ class Page {
     if (more.length > 0) found.push([`Not on this page, by its limit: ${kinds} (--limit says how many)`]);
     if (summary.assertions === 0) found.push(['The trace has no assertion: what is saved too late is not found without one']);
     if (!this.source.isWhole) found.push(['Not all source lines that labels name are here: a page has at most two million bytes of them']);
-    const labels = this.trace.labelsLeftOut();
-    if (labels > 0) found.push([`The labels of ${count(labels, 'event')} are left out for size; … stands for each`]);
+    const labels = about.labels_left_out;
+    const stands = this.trace.labelled.length > 0 ? '; … stands for each' : '';
+    if (labels > 0) found.push([`The labels of ${count(labels, 'event')} are left out for size${stands}`]);
     if (this.trace.labelsCut()) found.push([`Labels are cut at ${grouped(MOST_LABEL)} bytes`]);
+    if (!about.ranges) found.push(['The ranges of assertions are left out for size, but for those of the findings']);
     if (!about.values) found.push(['The bytes of stores are left out for size, but for those of the failures']);
     return found;
   }

@@ -1,13 +1,12 @@
 """Pages of traces that are as long as may be and all of one kind: what is left out is told, and the page can be used."""
 import itertools
-import json
+import random
 
-from page_large import EVENTS, FIRST, MOST_ELEMENTS, STEP, STEPS, slowness, taken, timed
+from page_large import EVENTS, FIRST, MOST_ELEMENTS, RUNS, STEP, STEPS, slowness, taken, timed
+from page_machine import read_steps
 
-# The most bytes of the columns with the bytes of stores, and of the texts of labels, each counted once.
-MOST_COLUMNS, MOST_TEXTS = 25_000_000, 4_000_000
-# How large a page is whose first picture has the time of page_large.
-USUAL = 20_000_000
+# The most bytes of a page, and of the texts of labels, each counted once.
+MOST_PAGE, MOST_TEXTS = 25_000_000, 4_000_000
 LONG = "x" * 10_230
 
 
@@ -47,12 +46,21 @@ def storing():
         yield f"store 0 {0x7F0000000000 + 64 * (number % 1000):#x} {number:016x}\n"
 
 
+def scattered():
+    """Claims of ranges all over the memory, in threads without an order."""
+    draw = random.Random(1).randrange
+    while True:
+        first, second = (f"{draw(2**48 - 4096):#x} {1 + draw(4096)}" for _ in range(2))
+        yield f"isOrderedBefore {draw(256)} {first} {second}\n"
+
+
 # Of each trace its events, its labels, and words of the notes that its page has to show.
 CASES = {
     "all failures": (failing, None, ["Not on this page, by its limit"]),
     "all without effect": (without_effect, None, ["Not on this page, by its limit"]),
     "an event a thread of 256": (of_all_threads, None, ["Not on this page, by its limit"]),
     "ranges of 4,096 bytes": (of_long_ranges, None, ["Not on this page, by its limit"]),
+    "claims all over the memory": (scattered, None, ["The ranges of assertions are left out for size"]),
     "labels of 10 KB": (storing, lambda: (f"{number} {number}{LONG}\n" for number in range(1, 6_001)), ["The labels of 2,000 events", "cut at 1,000 bytes"]),
     "a label an event": (storing, lambda: (f"{number} place{number}.c:{number}\n" for number in range(1, EVENTS + 1)), ["are left out for size"]),
 }
@@ -74,27 +82,30 @@ def made(pages, name):
     return found
 
 
-def wrong_size(blocks):
-    """What of the data is larger than it may be, or is left out though there is room for it."""
-    columns = blocks["columns"]
-    if blocks["about"]["events"] != EVENTS:
-        return f"{blocks['about']['events']} events"
-    stored = 2 * sum(unfolded(columns["length"], columns["op"]))
-    size = len(json.dumps(columns, separators=(",", ":"))) + (0 if blocks["about"]["values"] else stored)
-    if blocks["about"]["values"] != (size <= MOST_COLUMNS):
-        return f"columns of {size} bytes with the bytes of stores: {blocks['about']['values']}"
+def wrong_size(size, blocks):
+    """What is wrong with a page of so many bytes: it is too large, or something is left out though there is room for it."""
+    columns, about = blocks["columns"], blocks["about"]
+    if about["events"] != EVENTS:
+        return f"{about['events']} events"
+    if size > MOST_PAGE:
+        return f"{size} bytes"
+    stored = 2 * sum(stored_lengths(columns)) if about["ranges"] else MOST_PAGE
+    # It was judged with 'false' in place of 'true' for the ranges.
+    if not about["values"] and size + stored + 1 <= MOST_PAGE:
+        return f"{size} bytes, and {stored} of stores are left out"
     texts = sum(len(text.encode()) for text in blocks["labels"]["texts"])
     return "" if texts <= MOST_TEXTS + 3 else f"{texts} bytes of labels"
 
 
-def unfolded(lengths, ops):
-    """The lengths of the stores."""
-    found, last = [], 0
-    for field, op in zip(lengths.split(","), (op for op in ops if op in "SPB")):
-        last = int(field) if field else last
-        if op == "S":
-            found.append(last)
-    return found
+def stored_lengths(columns):
+    """The lengths of the stores, of a page that has the ranges of assertions."""
+    return [length for length, op in zip(read_steps(columns["length"]), (op for op in columns["op"] if op in "SPB")) if op == "S"]
+
+
+def opened(pages, page):
+    """How many milliseconds the page's thread takes until the page can be used."""
+    pages.open(page)
+    return 1000 * taken(pages.browser)
 
 
 def cases(pages):
@@ -102,13 +113,13 @@ def cases(pages):
     for name, (_, _, notes) in CASES.items():
         page, blocks = made(pages, name)
         size = page.stat().st_size
-        yield f"{name}: sizes", wrong_size(blocks)
+        yield f"{name}: sizes", wrong_size(size, blocks)
         pages.browser.send("Performance.enable", timeDomain="threadTicks")
-        pages.open(page)
-        first = 1000 * taken(pages.browser)
+        # Other programs run beside this one, so the best of some runs counts.
+        first = min(opened(pages, page) for _ in range(RUNS))
         told = pages.browser.run("[...document.querySelectorAll('#summary .note')].map((note) => note.textContent).join('; ')")
         yield f"{name}: notes", [f"{note} is not told: {told}" for note in notes if note not in told]
-        yield f"{name}: first picture", "" if first <= FIRST * slow * max(1, size / USUAL) else f"{first:.0f} ms"
+        yield f"{name}: first picture", "" if first <= FIRST * slow else f"{first:.0f} ms"
         steps = {step: min(timed(pages.browser, script) for _ in range(2)) for step, script in STEPS.items()}
         pages.browser.send("Performance.disable")
         yield f"{name}: steps", [f"{step} {time:.0f} ms" for step, time in steps.items() if time > STEP * slow]

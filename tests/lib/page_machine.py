@@ -12,6 +12,7 @@ TRACES = 8
 LETTERS = {"store": "S", "clwb": "C", "clflushopt": "O", "clflush": "F", "sfence": "s", "mfence": "m", "isPersist": "P", "isOrderedBefore": "B"}
 REASONS = {"safe": "s", "unfenced": "u", "repeated": "r", "overtaken": "o", "empty": "e", "useless": "z"}
 ENDS = (*FLUSHES, "clflush", *FENCES)
+DIGITS = "0123456789abcdefghijklmnopqrstuvwxyzABCDEFGHIJKLMNOPQRSTUVWXYZ_$"
 
 
 def read_trace(text):
@@ -26,13 +27,27 @@ def read_trace(text):
     return size, events
 
 
-def unfolded(column, base):
-    """The numbers of a column; an empty field is as the one before."""
-    numbers, last = [], 0
-    for field in column.split(","):
-        last = int(field, base) if field else last
-        numbers.append(last)
-    return numbers if column or numbers != [0] else []
+def short(number):
+    """A number in base 64; 0 has no digit."""
+    return short(number // 64) + DIGITS[number % 64] if number else ""
+
+
+def read_steps(column):
+    """The numbers of a column of steps."""
+    found, last = [], 0
+    for field in column.split(",")[:-1]:
+        way = 0
+        for glyph in field.removeprefix("-"):
+            way = way * 64 + DIGITS.index(glyph)
+        last += -way if field.startswith("-") else way
+        found.append(last)
+    return found
+
+
+def steps(numbers):
+    """The steps from 0 through these numbers, as a column has them."""
+    ways = [number - before for before, number in zip([0, *numbers], numbers)]
+    return "".join(f"{'-' if way < 0 else ''}{short(abs(way))}," for way in ways)
 
 
 def wrong_columns(trace, columns):
@@ -40,7 +55,7 @@ def wrong_columns(trace, columns):
     explained = Explained(trace, [], {})
     end = len(trace.events)
     safe_from = {
-        number: next((str(place - number) for place in range(number, end + 1) if trace.is_safe(number, place)), "n")
+        number: next((short(place - number) for place in range(number, end + 1) if trace.is_safe(number, place)), "-")
         for number in trace.numbers
         if trace.event(number)[0] == "store"
     }
@@ -57,16 +72,14 @@ def wrong_columns(trace, columns):
         "value": "".join(event[3].hex() for event in trace.events if event[0] == "store"),
     }
     numbers = {
-        "thread": ([event[1] for event in trace.events], 10),
-        "address": ([event[2] for event in placed], 16),
-        "length": ([len(event[3]) if event[0] == "store" else event[3] for event in spanned], 10),
-        "address2": ([event[4] for event in ordered], 16),
-        "length2": ([event[5] for event in ordered], 10),
+        "thread": [event[1] for event in trace.events],
+        "address": [event[2] for event in placed],
+        "length": [len(event[3]) if event[0] == "store" else event[3] for event in spanned],
+        "address2": [event[4] for event in ordered],
+        "length2": [event[5] for event in ordered],
     }
-    found = [name for name, text in wanted.items() if columns[name] != text]
-    # A column without a field and one with a single empty field are the same text.
-    found += [name for name, (values, base) in numbers.items() if values and unfolded(columns[name], base) != values or not values and columns[name]]
-    return found
+    wanted |= {name: steps(values) for name, values in numbers.items()}
+    return [name for name, text in wanted.items() if columns[name] != text]
 
 
 def cells_of(shown_range):

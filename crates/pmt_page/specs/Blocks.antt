@@ -2,22 +2,35 @@
 use Rattle.std.specs.Prelude.{◌≡◌, ℕ, ◌-◌, ◌==◌, Bool, if◌then◌else◌, List, [], ◌∷◌, ◌++◌, length, take, map, slice_get, codes, Some}
 use Rattle.std.specs.List.{flat_map}
 use Rattle.pmt_text.specs.Spelling.{numeral, hex_bytes}
+use Rattle.pmt_page.specs.declared.known.Kept.{Kept}
 use Rattle.pmt_page.specs.declared.labels.Label.{Label}
 use Rattle.pmt_page.specs.declared.sources.SourceFile.{SourceFile}
 use Rattle.pmt_page.specs.declared.sources.SourcePart.{SourcePart}
+use Rattle.pmt_page.specs.Columns.{has_ranges, has_values}
 use Rattle.pmt_page.specs.Escapes.{quoted}
-use Rattle.pmt_page.specs.Numbers.{fields, listed}
+use Rattle.pmt_page.specs.Numbers.{listed, steps}
+
+abbrev pub truth : Bool → List ℕ
+truth b = if b then codes "true" else codes "false"
+
+-- Whether there are ranges of assertions and bytes of stores.
+abbrev pub flags : Bool → Bool → List ℕ
+flags ranges values = codes ",\"ranges\":" ++ truth ranges ++ codes ",\"values\":" ++ truth values ++ codes "}"
+
+-- How many labels are left out, and what of the trace is kept.
+abbrev pub about_kept : ℕ → Kept → List ℕ
+about_kept labels_left_out kept =
+    codes "\",\"labels_left_out\":" ++ numeral 10 labels_left_out ++ flags (has_ranges kept) (has_values kept)
 
 -- What the page is of: a trace with this many events, this size of a cache line, this name and this digest.
-abbrev pub about : ℕ → ℕ → List ℕ → List ℕ → List ℕ → Bool → List ℕ
-about events line_size name program digest has_values =
+abbrev pub about : ℕ → ℕ → List ℕ → List ℕ → List ℕ → ℕ → Kept → List ℕ
+about events line_size name program digest labels_left_out kept =
     codes "{\"events\":" ++ numeral 10 events
     ++ codes ",\"line_size\":" ++ numeral 10 line_size
     ++ codes ",\"name\":" ++ quoted name
     ++ codes ",\"program\":" ++ quoted program
     ++ codes ",\"schema\":1,\"sha256\":\"" ++ hex_bytes digest
-    ++ codes "\",\"values\":" ++ (if has_values then codes "true" else codes "false")
-    ++ codes "}"
+    ++ about_kept labels_left_out kept
 
 -- LF ends a value.
 abbrev pub separated_byte : ℕ → List ℕ
@@ -32,15 +45,12 @@ pub record AreTexts (labels : List Label) (texts : List (List ℕ)) (places : Li
   pub each : map (slice_get texts) places ≡ map (λ (l : Label). Some l.text.now) labels
   pub distinct : (i j : ℕ) (text : List ℕ) → slice_get texts i ≡ Some text → slice_get texts j ≡ Some text → i ≡ j
 
-abbrev pub event_field : Label → List ℕ
-event_field l = numeral 10 l.event
-
 -- The numbers of the labelled events, the texts, and of each event the place of its text.
 abbrev pub labels_block : List Label → List (List ℕ) → List ℕ → List ℕ
 labels_block labels texts places =
-    codes "{\"events\":\"" ++ listed event_field labels
+    codes "{\"events\":\"" ++ steps 0 (map (λ (l : Label). l.event) labels)
     ++ codes "\",\"texts\":[" ++ listed quoted texts
-    ++ codes "],\"text\":\"" ++ fields 10 places
+    ++ codes "],\"text\":\"" ++ steps 0 places
     ++ codes "\"}"
 
 abbrev pub IsLabelsBlock : List Label → List ℕ → Type 0
@@ -63,7 +73,7 @@ source_part p =
 -- Files and lines of them, and whether these are all that labels name.
 abbrev pub sources_block : List SourceFile → List SourcePart → Bool → List ℕ
 sources_block files parts is_all =
-    codes "{\"all\":" ++ (if is_all then codes "true" else codes "false")
+    codes "{\"all\":" ++ truth is_all
     ++ codes ",\"files\":[" ++ listed source_file files
     ++ codes "],\"parts\":[" ++ listed source_part parts
     ++ codes "]}"

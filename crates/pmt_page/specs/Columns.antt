@@ -1,18 +1,20 @@
 -- The columns of a trace: what is written of all its events, one column for each property.
-use Rattle.std.specs.Prelude.{ℕ, ◌+◌, ◌-◌, ◌==◌, Bool, true, false, if◌then◌else◌, List, [], ◌∷◌, ◌++◌, length, map, codes, Option, None, Some}
+use Rattle.std.specs.Prelude.{ℕ, ◌+◌, ◌-◌, ◌==◌, nat_le, Bool, true, false, if◌then◌else◌, List, [], ◌∷◌, ◌++◌, length, map, codes, Option, None, Some}
 use Rattle.std.specs.List.{flat_map}
 use Rattle.pmt_model.specs.declared.event.Event.{Event}
 use Rattle.pmt_model.specs.declared.event.Op.{Op}
 use Rattle.pmt_model.specs.declared.event.Op.TheVariants.{Store, Clwb, ClflushOpt, Clflush, Sfence, Mfence, IsPersist, IsOrderedBefore}
 use Rattle.pmt_model.specs.declared.finding.Verdict.{Verdict}
-use Rattle.pmt_text.specs.Spelling.{numeral, hex_bytes}
+use Rattle.pmt_text.specs.Spelling.{hex_bytes}
 use Rattle.pmt_page.specs.declared.events.NumberColumn.{NumberColumn}
 use Rattle.pmt_page.specs.declared.events.NumberColumn.TheVariants.{Thread, Address, Length, SecondAddress, SecondLength}
 use Rattle.pmt_page.specs.declared.known.Dropped.{Dropped}
+use Rattle.pmt_page.specs.declared.known.Kept.{Kept}
+use Rattle.pmt_page.specs.declared.known.Kept.TheVariants.{Whole, WithoutValues, WithoutRanges}
 use Rattle.pmt_page.specs.declared.known.SafePlace.{SafePlace}
 use Rattle.pmt_page.specs.declared.known.Why.{Why}
 use Rattle.pmt_page.specs.declared.known.Why.TheVariants as whys
-use Rattle.pmt_page.specs.Numbers.{fields, listed}
+use Rattle.pmt_page.specs.Numbers.{listed, short, steps}
 
 -- ---- Of one event
 
@@ -27,54 +29,69 @@ op_letter Mfence = 109
 op_letter (IsPersist r) = 80
 op_letter (IsOrderedBefore r q) = 66
 
+-- What of a trace is in its columns besides all else.
+abbrev pub has_values : Kept → Bool
+has_values Whole = true
+has_values WithoutValues = false
+has_values WithoutRanges = false
+
+abbrev pub has_ranges : Kept → Bool
+has_ranges Whole = true
+has_ranges WithoutValues = true
+has_ranges WithoutRanges = false
+
+-- The number of an assertion's range, if these are wanted.
+abbrev pub of_range : Bool → ℕ → List ℕ
+of_range wanted n = if wanted then n ∷ [] else []
+
 -- Where there is one; of two ranges the first one's.
-abbrev pub first_address : Op → List ℕ
-first_address (Store w) = w.addr ∷ []
-first_address (Clwb a) = a ∷ []
-first_address (ClflushOpt a) = a ∷ []
-first_address (Clflush a) = a ∷ []
-first_address Sfence = []
-first_address Mfence = []
-first_address (IsPersist r) = r.addr ∷ []
-first_address (IsOrderedBefore r q) = r.addr ∷ []
+abbrev pub first_address : Bool → Op → List ℕ
+first_address wanted (Store w) = w.addr ∷ []
+first_address wanted (Clwb a) = a ∷ []
+first_address wanted (ClflushOpt a) = a ∷ []
+first_address wanted (Clflush a) = a ∷ []
+first_address wanted Sfence = []
+first_address wanted Mfence = []
+first_address wanted (IsPersist r) = of_range wanted r.addr
+first_address wanted (IsOrderedBefore r q) = of_range wanted r.addr
 
-abbrev pub first_length : Op → List ℕ
-first_length (Store w) = (length w.bytes) ∷ []
-first_length (Clwb a) = []
-first_length (ClflushOpt a) = []
-first_length (Clflush a) = []
-first_length Sfence = []
-first_length Mfence = []
-first_length (IsPersist r) = r.len ∷ []
-first_length (IsOrderedBefore r q) = r.len ∷ []
+abbrev pub first_length : Bool → Op → List ℕ
+first_length wanted (Store w) = (length w.bytes) ∷ []
+first_length wanted (Clwb a) = []
+first_length wanted (ClflushOpt a) = []
+first_length wanted (Clflush a) = []
+first_length wanted Sfence = []
+first_length wanted Mfence = []
+first_length wanted (IsPersist r) = of_range wanted r.len
+first_length wanted (IsOrderedBefore r q) = of_range wanted r.len
 
-abbrev pub second_address : Op → List ℕ
-second_address (Store w) = []
-second_address (Clwb a) = []
-second_address (ClflushOpt a) = []
-second_address (Clflush a) = []
-second_address Sfence = []
-second_address Mfence = []
-second_address (IsPersist r) = []
-second_address (IsOrderedBefore r q) = q.addr ∷ []
+abbrev pub second_address : Bool → Op → List ℕ
+second_address wanted (Store w) = []
+second_address wanted (Clwb a) = []
+second_address wanted (ClflushOpt a) = []
+second_address wanted (Clflush a) = []
+second_address wanted Sfence = []
+second_address wanted Mfence = []
+second_address wanted (IsPersist r) = []
+second_address wanted (IsOrderedBefore r q) = of_range wanted q.addr
 
-abbrev pub second_length : Op → List ℕ
-second_length (Store w) = []
-second_length (Clwb a) = []
-second_length (ClflushOpt a) = []
-second_length (Clflush a) = []
-second_length Sfence = []
-second_length Mfence = []
-second_length (IsPersist r) = []
-second_length (IsOrderedBefore r q) = q.len ∷ []
+abbrev pub second_length : Bool → Op → List ℕ
+second_length wanted (Store w) = []
+second_length wanted (Clwb a) = []
+second_length wanted (ClflushOpt a) = []
+second_length wanted (Clflush a) = []
+second_length wanted Sfence = []
+second_length wanted Mfence = []
+second_length wanted (IsPersist r) = []
+second_length wanted (IsOrderedBefore r q) = of_range wanted q.len
 
 -- What an event adds to a column of numbers.
-abbrev pub numbers_of : NumberColumn → Event → List ℕ
-numbers_of Thread e = e.thread ∷ []
-numbers_of Address e = first_address e.op
-numbers_of Length e = first_length e.op
-numbers_of SecondAddress e = second_address e.op
-numbers_of SecondLength e = second_length e.op
+abbrev pub numbers_of : Bool → NumberColumn → Event → List ℕ
+numbers_of wanted Thread e = e.thread ∷ []
+numbers_of wanted Address e = first_address wanted e.op
+numbers_of wanted Length e = first_length wanted e.op
+numbers_of wanted SecondAddress e = second_address wanted e.op
+numbers_of wanted SecondLength e = second_length wanted e.op
 
 abbrev pub stored_bytes : Op → List ℕ
 stored_bytes (Store w) = w.bytes
@@ -102,10 +119,10 @@ may_be_dropped (IsOrderedBefore r q) = false
 abbrev pub verdict_letter : Verdict → ℕ
 verdict_letter v = if v.pass then 112 else 102
 
--- From how many events after its own number on the store is safe; n where it never is.
+-- From how many events after its own number on the store is safe; - where it never is.
 abbrev pub delay : ℕ → Option ℕ → List ℕ
-delay store None = 110 ∷ []
-delay store (Some place) = numeral 10 (place - store)
+delay store None = 45 ∷ []
+delay store (Some place) = short (place - store)
 
 abbrev pub safe_field : SafePlace → List ℕ
 safe_field s = delay s.store s.place
@@ -134,39 +151,28 @@ dropped_letters list number (e ∷ es) =
 abbrev pub op_column : List Event → List ℕ
 op_column events = map (λ e. op_letter e.op) events
 
-abbrev pub thread_column : List Event → List ℕ
-thread_column events = fields 10 (flat_map (numbers_of Thread) events)
-
-abbrev pub address_column : List Event → List ℕ
-address_column events = fields 16 (flat_map (numbers_of Address) events)
-
-abbrev pub length_column : List Event → List ℕ
-length_column events = fields 10 (flat_map (numbers_of Length) events)
-
-abbrev pub second_address_column : List Event → List ℕ
-second_address_column events = fields 16 (flat_map (numbers_of SecondAddress) events)
-
-abbrev pub second_length_column : List Event → List ℕ
-second_length_column events = fields 10 (flat_map (numbers_of SecondLength) events)
+-- A column of numbers, with those of the ranges of assertions or without.
+abbrev pub number_column : Bool → NumberColumn → List Event → List ℕ
+number_column wanted column events = steps 0 (flat_map (numbers_of wanted column) events)
 
 -- The bytes of the stores; nothing, where they are left out.
 abbrev pub value_column : Bool → List Event → List ℕ
-value_column has_values events = if has_values then flat_map (λ e. hex_bytes (stored_bytes e.op)) events else []
+value_column wanted events = if wanted then flat_map (λ e. hex_bytes (stored_bytes e.op)) events else []
 
 -- The columns of the ranges of the events.
-abbrev pub range_columns : List Event → List ℕ
-range_columns events =
-    codes "\",\"address\":\"" ++ address_column events
-    ++ codes "\",\"length\":\"" ++ length_column events
-    ++ codes "\",\"address2\":\"" ++ second_address_column events
-    ++ codes "\",\"length2\":\"" ++ second_length_column events
+abbrev pub range_columns : Bool → List Event → List ℕ
+range_columns wanted events =
+    codes "\",\"address\":\"" ++ number_column wanted Address events
+    ++ codes "\",\"length\":\"" ++ number_column wanted Length events
+    ++ codes "\",\"address2\":\"" ++ number_column wanted SecondAddress events
+    ++ codes "\",\"length2\":\"" ++ number_column wanted SecondLength events
 
 -- The columns of the events themselves.
-abbrev pub event_columns : List Event → List ℕ
-event_columns events =
+abbrev pub event_columns : Bool → List Event → List ℕ
+event_columns wanted events =
     codes "{\"op\":\"" ++ op_column events
-    ++ codes "\",\"thread\":\"" ++ thread_column events
-    ++ range_columns events
+    ++ codes "\",\"thread\":\"" ++ number_column wanted Thread events
+    ++ range_columns wanted events
 
 -- The columns of what is found of them.
 abbrev pub found_columns : List Event → List SafePlace → List Verdict → List Dropped → List ℕ
@@ -176,13 +182,21 @@ found_columns events safe verdicts dropped =
     ++ codes "\",\"dropped\":\"" ++ dropped_letters dropped 1 events
     ++ codes "\"}"
 
--- All columns as JSON, with the bytes of the stores or without.
-unfoldable pub columns : Bool → List Event → List SafePlace → List Verdict → List Dropped → List ℕ
-columns has_values events safe verdicts dropped =
-    event_columns events
-    ++ codes "\",\"value\":\"" ++ value_column has_values events
+-- The columns as JSON, with the ranges of assertions and the bytes of stores or without.
+unfoldable pub columns_with : Bool → Bool → List Event → List SafePlace → List Verdict → List Dropped → List ℕ
+columns_with ranges values events safe verdicts dropped =
+    event_columns ranges events
+    ++ codes "\",\"value\":\"" ++ value_column values events
     ++ found_columns events safe verdicts dropped
 
--- The bytes of the stores are left out where the columns would be longer.
-abbrev pub columns_limit : ℕ
-columns_limit = 25000000
+-- The columns with what is kept.
+abbrev pub columns : Kept → List Event → List SafePlace → List Verdict → List Dropped → List ℕ
+columns kept events safe verdicts dropped = columns_with (has_ranges kept) (has_values kept) events safe verdicts dropped
+
+-- What is kept where so many bytes are the most: all, or else all but the bytes of stores; where these are too long too, the ranges of
+-- assertions are left out besides.
+abbrev pub kept_by : ℕ → List Event → List SafePlace → List Verdict → List Dropped → Kept
+kept_by most events safe verdicts dropped =
+    if nat_le (length (columns Whole events safe verdicts dropped)) most
+    then Whole
+    else (if nat_le (length (columns WithoutValues events safe verdicts dropped)) most then WithoutValues else WithoutRanges)

@@ -1,12 +1,14 @@
 //! What the page is of.
-ghost use Rattle.std.specs.Prelude.{◌≡◌, ◌++◌, ◌∷◌, codes, if◌then◌else◌, IfOk, OnOk};
+ghost use Rattle.std.specs.Prelude.{◌≡◌, ◌++◌, ◌∷◌, [], codes, IfOk, OnOk};
 ghost use Rattle.sha2.specs.Sha256.{sha256};
 ghost use Rattle.pmt_text.specs.Spelling.{hex_bytes, numeral};
-ghost use Rattle.pmt_page.specs.Blocks.{about};
+ghost use Rattle.pmt_page.specs.Blocks.{about, about_kept, flags, truth};
 ghost use Rattle.pmt_page.specs.Escapes.{quoted};
 
+use crate::columns::{has_ranges, has_values};
 use crate::digits::push_bytes;
 use crate::escapes::push_quoted;
+use crate::known::Kept;
 use pmt_model::OutOfMemory;
 use pmt_text::write::push_number;
 use sha2::{Digest, Sha256};
@@ -25,8 +27,10 @@ pub struct About<'a> {
     pub program: &'a str,
     /// The SHA-256 digest of the trace's bytes.
     pub digest: &'a [u8],
-    /// Whether the columns have the bytes of the stores.
-    pub has_values: bool,
+    /// How many labels of its events are left out.
+    pub labels_left_out: u64,
+    /// What of the trace is in its columns.
+    pub kept: Kept,
 }
 
 /// The SHA-256 digest of the bytes.
@@ -43,7 +47,7 @@ pub fn digest_of(bytes: &[u8]) -> [u8; 32]
 /// # Errors
 /// Where memory was refused.
 pub fn about_text(alloc: Global, page: About<'_>) -> Result<Vec<u8>, OutOfMemory>
-    ensures { IfOk result (λ text. text.items ≡ about page.entry.events page.entry.line_size page.entry.name.now page.entry.program.now page.entry.digest.now page.entry.has_values) }
+    ensures { IfOk result (λ text. text.items ≡ about page.entry.events page.entry.line_size page.entry.name.now page.entry.program.now page.entry.digest.now page.entry.labels_left_out page.entry.kept) }
 {
     let mut text = Vec::new(alloc);
     push_count(&mut text, b"{\"events\":", page.events)?;
@@ -51,7 +55,7 @@ pub fn about_text(alloc: Global, page: About<'_>) -> Result<Vec<u8>, OutOfMemory
     push_string(&mut text, b",\"name\":", page.name)?;
     push_string(&mut text, b",\"program\":", page.program)?;
     push_digest(&mut text, page.digest)?;
-    push_end(&mut text, page.has_values)?;
+    push_kept(&mut text, page.labels_left_out, page.kept)?;
     Ok(text)
 }
 
@@ -79,13 +83,34 @@ fn push_digest(text: &mut Vec<u8>, digest: &[u8]) -> Result<(), OutOfMemory>
     push_bytes(text, digest)
 }
 
-// Adds whether there are values, and ends the object.
-fn push_end(text: &mut Vec<u8>, has_values: bool) -> Result<(), OutOfMemory>
-    ensures { OnOk result (text.new.items ≡ text.old.items ++ codes "\",\"values\":" ++ (if has_values then codes "true" else codes "false") ++ codes "}") }
+// Adds what is on the page, and ends the object.
+fn push_kept(text: &mut Vec<u8>, labels_left_out: u64, kept: Kept) -> Result<(), OutOfMemory>
+    ensures { OnOk result (text.new.items ≡ text.old.items ++ about_kept labels_left_out kept) }
 {
-    if has_values {
-        text.extend_from_slice(b"\",\"values\":true}")
-    } else {
-        text.extend_from_slice(b"\",\"values\":false}")
-    }
+    push_count(text, b"\",\"labels_left_out\":", labels_left_out)?;
+    push_flags(text, has_ranges(kept), has_values(kept))
+}
+
+// Adds whether there are ranges and values, and ends the object.
+fn push_flags(text: &mut Vec<u8>, has_ranges: bool, has_values: bool) -> Result<(), OutOfMemory>
+    ensures { OnOk result (text.new.items ≡ text.old.items ++ flags has_ranges has_values) }
+{
+    push_truth(text, b",\"ranges\":", has_ranges)?;
+    push_truth(text, b",\"values\":", has_values)?;
+    text.push(b'}')?;
+    Ok(())
+}
+
+// Adds the words and whether it is so.
+pub(crate) fn push_truth(text: &mut Vec<u8>, words: &[u8], is_so: bool) -> Result<(), OutOfMemory>
+    ensures { OnOk result (text.new.items ≡ text.old.items ++ words.now ++ truth is_so) }
+{
+    text.extend_from_slice(words)?;
+    text.extend_from_slice(word_of(is_so))
+}
+
+fn word_of(is_so: bool) -> &'static [u8]
+    ensures { result.now ≡ truth is_so }
+{
+    if is_so { b"true" } else { b"false" }
 }

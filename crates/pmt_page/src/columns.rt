@@ -1,62 +1,101 @@
 //! All columns of a trace.
-ghost use Rattle.std.specs.Prelude.{◌≡◌, ◌++◌, codes, length, nat_le, true, IfOk, OnOk};
-ghost use Rattle.std.specs.List.{flat_map};
-ghost use Rattle.pmt_text.specs.Reading.{IsBase};
-ghost use Rattle.pmt_page.specs.Numbers.{fields};
-ghost use Rattle.pmt_page.specs.Columns.{columns, columns_limit, event_columns, found_columns, numbers_of as numbers, range_columns, value_column};
+ghost use Rattle.std.specs.Prelude.{◌≡◌, ◌++◌, codes, IfOk, OnOk};
+ghost use Rattle.pmt_page.specs.Columns.{columns, columns_with as written, event_columns, found_columns, has_ranges as with_ranges, has_values as with_values, kept_by, number_column, range_columns, value_column};
 
 use crate::dropping::push_dropped;
 use crate::events::{NumberColumn, numbers_of, push_ops, push_values};
-use crate::fields::{push_fields, push_safe, push_verdicts};
-use crate::known::Found;
+use crate::fields::{push_safe, push_steps, push_verdicts};
+use crate::known::{Found, Kept};
 use pmt_model::{Event, OutOfMemory, Trace};
 use std::alloc::Global;
-
-// The most bytes of the columns with the bytes of the stores.
-const COLUMNS_LIMIT: usize = 25_000_000;
 
 /// The columns of a trace.
 #[derive(Drop)]
 pub struct Columns {
     /// They as an object of JSON.
     pub text: Vec<u8>,
-    /// Whether the bytes of the stores are among them.
-    pub has_values: bool,
+    /// What of the trace is in them.
+    pub kept: Kept,
 }
 
-/// The columns of the trace of which this is found, without the bytes of the stores where they would have more than 25,000,000 bytes
-/// with them.
+/// The columns of the trace of which this is found, without the bytes of the stores where they would have more bytes than `most` with
+/// them, and without the ranges of assertions too where that is not enough. What is left then is never left out, and may be longer.
 ///
 /// # Errors
 /// Where memory was refused.
-pub fn columns_of(alloc: Global, trace: &Trace, found: Found<'_>) -> Result<Columns, OutOfMemory>
-    ensures text { IfOk result (λ c. c.text.items ≡ columns c.has_values trace.now.events found.entry.safe.now found.entry.verdicts.now found.entry.dropped.now) }
-    ensures values { IfOk result (λ c. c.has_values ≡ nat_le (length (columns true trace.now.events found.entry.safe.now found.entry.verdicts.now found.entry.dropped.now)) columns_limit) }
+pub fn columns_of(
+    alloc: Global,
+    trace: &Trace,
+    found: Found<'_>,
+    most: usize,
+) -> Result<Columns, OutOfMemory>
+    ensures text { IfOk result (λ c. c.text.items ≡ columns c.kept trace.now.events found.entry.safe.now found.entry.verdicts.now found.entry.dropped.now) }
+    ensures kept { IfOk result (λ c. c.kept ≡ kept_by most trace.now.events found.entry.safe.now found.entry.verdicts.now found.entry.dropped.now) }
 {
-    let text = columns_with(alloc, true, trace.events(), found)?;
-    if text.len() <= COLUMNS_LIMIT {
+    let whole = kept_columns(alloc, Kept::Whole, trace.events(), found)?;
+    if whole.len() <= most {
         return Ok(Columns {
-            text,
-            has_values: true,
+            text: whole,
+            kept: Kept::Whole,
+        });
+    }
+    let bare = kept_columns(alloc, Kept::WithoutValues, trace.events(), found)?;
+    if bare.len() <= most {
+        return Ok(Columns {
+            text: bare,
+            kept: Kept::WithoutValues,
         });
     }
     Ok(Columns {
-        text: columns_with(alloc, false, trace.events(), found)?,
-        has_values: false,
+        text: kept_columns(alloc, Kept::WithoutRanges, trace.events(), found)?,
+        kept: Kept::WithoutRanges,
     })
 }
 
-// The columns with the bytes of the stores, or without.
+/// Whether the bytes of the stores are kept.
+pub(crate) fn has_values(kept: Kept) -> bool
+    ensures { result ≡ with_values kept }
+{
+    match kept {
+        Kept::Whole => true,
+        Kept::WithoutValues | Kept::WithoutRanges => false,
+    }
+}
+
+/// Whether the ranges of assertions are kept.
+pub(crate) fn has_ranges(kept: Kept) -> bool
+    ensures { result ≡ with_ranges kept }
+{
+    match kept {
+        Kept::Whole | Kept::WithoutValues => true,
+        Kept::WithoutRanges => false,
+    }
+}
+
+// The columns with what is kept.
+fn kept_columns(
+    alloc: Global,
+    kept: Kept,
+    events: &[Event],
+    found: Found<'_>,
+) -> Result<Vec<u8>, OutOfMemory>
+    ensures { IfOk result (λ text. text.items ≡ columns kept events.now found.entry.safe.now found.entry.verdicts.now found.entry.dropped.now) }
+{
+    columns_with(alloc, has_ranges(kept), has_values(kept), events, found)
+}
+
+// The columns with the ranges of assertions and the bytes of stores, or without.
 fn columns_with(
     alloc: Global,
+    has_ranges: bool,
     has_values: bool,
     events: &[Event],
     found: Found<'_>,
 ) -> Result<Vec<u8>, OutOfMemory>
-    ensures { IfOk result (λ text. text.items ≡ columns has_values events.now found.entry.safe.now found.entry.verdicts.now found.entry.dropped.now) }
+    ensures { IfOk result (λ text. text.items ≡ written has_ranges has_values events.now found.entry.safe.now found.entry.verdicts.now found.entry.dropped.now) }
 {
     let mut text = Vec::new(alloc);
-    push_event_columns(alloc, &mut text, events)?;
+    push_event_columns(alloc, &mut text, has_ranges, events)?;
     push_value_column(&mut text, has_values, events)?;
     push_found(alloc, &mut text, events, found)?;
     Ok(text)
@@ -66,9 +105,10 @@ fn columns_with(
 fn push_event_columns(
     alloc: Global,
     text: &mut Vec<u8>,
+    has_ranges: bool,
     events: &[Event],
 ) -> Result<(), OutOfMemory>
-    ensures { OnOk result (text.new.items ≡ text.old.items ++ event_columns events.now) }
+    ensures { OnOk result (text.new.items ≡ text.old.items ++ event_columns has_ranges events.now) }
 {
     text.extend_from_slice(b"{\"op\":\"")?;
     push_ops(text, events)?;
@@ -76,26 +116,27 @@ fn push_event_columns(
         alloc,
         text,
         b"\",\"thread\":\"",
-        10,
+        has_ranges,
         NumberColumn::Thread,
         events,
     )?;
-    push_range_columns(alloc, text, events)
+    push_range_columns(alloc, text, has_ranges, events)
 }
 
 // Adds the columns of the ranges of the events.
 fn push_range_columns(
     alloc: Global,
     text: &mut Vec<u8>,
+    has_ranges: bool,
     events: &[Event],
 ) -> Result<(), OutOfMemory>
-    ensures { OnOk result (text.new.items ≡ text.old.items ++ range_columns events.now) }
+    ensures { OnOk result (text.new.items ≡ text.old.items ++ range_columns has_ranges events.now) }
 {
     push_column(
         alloc,
         text,
         b"\",\"address\":\"",
-        16,
+        has_ranges,
         NumberColumn::Address,
         events,
     )?;
@@ -103,7 +144,7 @@ fn push_range_columns(
         alloc,
         text,
         b"\",\"length\":\"",
-        10,
+        has_ranges,
         NumberColumn::Length,
         events,
     )?;
@@ -111,7 +152,7 @@ fn push_range_columns(
         alloc,
         text,
         b"\",\"address2\":\"",
-        16,
+        has_ranges,
         NumberColumn::SecondAddress,
         events,
     )?;
@@ -119,7 +160,7 @@ fn push_range_columns(
         alloc,
         text,
         b"\",\"length2\":\"",
-        10,
+        has_ranges,
         NumberColumn::SecondLength,
         events,
     )
@@ -130,16 +171,15 @@ fn push_column(
     alloc: Global,
     text: &mut Vec<u8>,
     words: &[u8],
-    base: u64,
+    has_ranges: bool,
     column: NumberColumn,
     events: &[Event],
 ) -> Result<(), OutOfMemory>
-    requires { IsBase base }
-    ensures { OnOk result (text.new.items ≡ text.old.items ++ words.now ++ fields base (flat_map (numbers column) events.now)) }
+    ensures { OnOk result (text.new.items ≡ text.old.items ++ words.now ++ number_column has_ranges column events.now) }
 {
-    let numbers = numbers_of(alloc, column, events)?;
+    let numbers = numbers_of(alloc, has_ranges, column, events)?;
     text.extend_from_slice(words)?;
-    push_fields(text, base, numbers.as_slice())
+    push_steps(text, numbers.as_slice())
 }
 
 // Adds the bytes of the stores, if they are wanted.

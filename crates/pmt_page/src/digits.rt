@@ -1,6 +1,7 @@
-//! Bytes as digits of base 16.
+//! Bytes as digits of base 16, and numbers as digits of base 64.
 ghost use Rattle.std.specs.Prelude.{◌≡◌, ◌++◌, ◌<◌, OnOk};
 ghost use Rattle.pmt_text.specs.Spelling.{glyph as glyph_of, hex_bytes, hex_pair};
+ghost use Rattle.pmt_page.specs.Numbers.{digit as digit_of, short};
 
 use pmt_model::OutOfMemory;
 
@@ -32,5 +33,39 @@ pub(crate) fn push_bytes(text: &mut Vec<u8>, bytes: &[u8]) -> Result<(), OutOfMe
     for byte in bytes {
         push_pair(text, *byte)?;
     }
+    Ok(())
+}
+
+// The character of a digit of base 64: 0 to 9, a to z, A to Z, _ and $.
+fn digit(value: u64) -> u8
+    requires { value < 64 }
+    ensures { result ≡ digit_of value }
+{
+    let value = value as u8;
+    if value < 10 {
+        48 + value
+    } else if value < 36 {
+        87 + value
+    } else if value < 62 {
+        29 + value
+    } else if value == 62 {
+        b'_'
+    } else {
+        b'$'
+    }
+}
+
+/// Adds the number in base 64; 0 has no digit.
+///
+/// # Errors
+/// Where memory was refused. The text may then have some of the digits.
+pub(crate) fn push_short(text: &mut Vec<u8>, number: u64) -> Result<(), OutOfMemory>
+    ensures { OnOk result (text.new.items ≡ text.old.items ++ short number) }
+{
+    if number == 0 {
+        return Ok(());
+    }
+    push_short(text, number / 64)?;
+    text.push(digit(number % 64))?;
     Ok(())
 }

@@ -2,7 +2,7 @@
 ghost use Rattle.std.specs.Prelude.{◌≡◌, ◌∷◌, ◌++◌, [], map, IfOk, OnOk};
 ghost use Rattle.std.specs.List.{flat_map};
 ghost use Rattle.pmt_text.specs.Spelling.{hex_bytes};
-ghost use Rattle.pmt_page.specs.Columns.{first_address, first_length, may_be_dropped as is_flush_or_fence, numbers_of as numbers, op_column, op_letter as letter_of, second_address, second_length, stored_bytes};
+ghost use Rattle.pmt_page.specs.Columns.{first_address, first_length, may_be_dropped as is_flush_or_fence, numbers_of as numbers, of_range, op_column, op_letter as letter_of, second_address, second_length, stored_bytes};
 
 use crate::digits::push_bytes;
 use pmt_model::{Event, Op, OutOfMemory};
@@ -85,34 +85,40 @@ pub(crate) enum NumberColumn {
     SecondLength,
 }
 
-/// The numbers of the column.
+/// The numbers of the column, with those of the ranges of assertions or without.
 ///
 /// # Errors
 /// Where memory was refused.
 pub(crate) fn numbers_of(
     alloc: Global,
+    has_ranges: bool,
     column: NumberColumn,
     events: &[Event],
 ) -> Result<Vec<u64>, OutOfMemory>
-    ensures { IfOk result (λ v. v.items ≡ flat_map (numbers column) events.now) }
+    ensures { IfOk result (λ v. v.items ≡ flat_map (numbers has_ranges column) events.now) }
 {
     let mut found = Vec::new(alloc);
     for event in events {
-        push_number(&mut found, column, event)?;
+        push_number(&mut found, has_ranges, column, event)?;
     }
     Ok(found)
 }
 
 // Adds the event's number, if it has one in the column.
-fn push_number(found: &mut Vec<u64>, column: NumberColumn, event: &Event) -> Result<(), OutOfMemory>
-    ensures { OnOk result (found.new.items ≡ found.old.items ++ numbers column event.now) }
+fn push_number(
+    found: &mut Vec<u64>,
+    has_ranges: bool,
+    column: NumberColumn,
+    event: &Event,
+) -> Result<(), OutOfMemory>
+    ensures { OnOk result (found.new.items ≡ found.old.items ++ numbers has_ranges column event.now) }
 {
     match column {
         NumberColumn::Thread => push(found, event.thread as u64),
-        NumberColumn::Address => push_address(found, &event.op),
-        NumberColumn::Length => push_length(found, &event.op),
-        NumberColumn::SecondAddress => push_second_address(found, &event.op),
-        NumberColumn::SecondLength => push_second_length(found, &event.op),
+        NumberColumn::Address => push_address(found, has_ranges, &event.op),
+        NumberColumn::Length => push_length(found, has_ranges, &event.op),
+        NumberColumn::SecondAddress => push_second_address(found, has_ranges, &event.op),
+        NumberColumn::SecondLength => push_second_length(found, has_ranges, &event.op),
     }
 }
 
@@ -123,8 +129,18 @@ fn push(found: &mut Vec<u64>, number: u64) -> Result<(), OutOfMemory>
     Ok(())
 }
 
-fn push_address(found: &mut Vec<u64>, op: &Op) -> Result<(), OutOfMemory>
-    ensures { OnOk result (found.new.items ≡ found.old.items ++ first_address op.now) }
+// Adds the number of an assertion's range, if these are wanted.
+fn push_of_range(found: &mut Vec<u64>, has_ranges: bool, number: u64) -> Result<(), OutOfMemory>
+    ensures { OnOk result (found.new.items ≡ found.old.items ++ of_range has_ranges number) }
+{
+    if !has_ranges {
+        return Ok(());
+    }
+    push(found, number)
+}
+
+fn push_address(found: &mut Vec<u64>, has_ranges: bool, op: &Op) -> Result<(), OutOfMemory>
+    ensures { OnOk result (found.new.items ≡ found.old.items ++ first_address has_ranges op.now) }
 {
     match op {
         Op::Store(store) => push(found, store.addr().get()),
@@ -132,38 +148,38 @@ fn push_address(found: &mut Vec<u64>, op: &Op) -> Result<(), OutOfMemory>
         Op::ClflushOpt(addr) => push(found, addr.get()),
         Op::Clflush(addr) => push(found, addr.get()),
         Op::Sfence | Op::Mfence => Ok(()),
-        Op::IsPersist(range) => push(found, range.addr().get()),
-        Op::IsOrderedBefore(range, _) => push(found, range.addr().get()),
+        Op::IsPersist(range) => push_of_range(found, has_ranges, range.addr().get()),
+        Op::IsOrderedBefore(range, _) => push_of_range(found, has_ranges, range.addr().get()),
     }
 }
 
-fn push_length(found: &mut Vec<u64>, op: &Op) -> Result<(), OutOfMemory>
-    ensures { OnOk result (found.new.items ≡ found.old.items ++ first_length op.now) }
+fn push_length(found: &mut Vec<u64>, has_ranges: bool, op: &Op) -> Result<(), OutOfMemory>
+    ensures { OnOk result (found.new.items ≡ found.old.items ++ first_length has_ranges op.now) }
 {
     match op {
         Op::Store(store) => push(found, store.bytes().len() as u64),
         Op::Clwb(_) | Op::ClflushOpt(_) | Op::Clflush(_) | Op::Sfence | Op::Mfence => Ok(()),
-        Op::IsPersist(range) => push(found, range.len()),
-        Op::IsOrderedBefore(range, _) => push(found, range.len()),
+        Op::IsPersist(range) => push_of_range(found, has_ranges, range.len()),
+        Op::IsOrderedBefore(range, _) => push_of_range(found, has_ranges, range.len()),
     }
 }
 
-fn push_second_address(found: &mut Vec<u64>, op: &Op) -> Result<(), OutOfMemory>
-    ensures { OnOk result (found.new.items ≡ found.old.items ++ second_address op.now) }
+fn push_second_address(found: &mut Vec<u64>, has_ranges: bool, op: &Op) -> Result<(), OutOfMemory>
+    ensures { OnOk result (found.new.items ≡ found.old.items ++ second_address has_ranges op.now) }
 {
     match op {
         Op::Store(_) | Op::Clwb(_) | Op::ClflushOpt(_) | Op::Clflush(_) => Ok(()),
         Op::Sfence | Op::Mfence | Op::IsPersist(_) => Ok(()),
-        Op::IsOrderedBefore(_, range) => push(found, range.addr().get()),
+        Op::IsOrderedBefore(_, range) => push_of_range(found, has_ranges, range.addr().get()),
     }
 }
 
-fn push_second_length(found: &mut Vec<u64>, op: &Op) -> Result<(), OutOfMemory>
-    ensures { OnOk result (found.new.items ≡ found.old.items ++ second_length op.now) }
+fn push_second_length(found: &mut Vec<u64>, has_ranges: bool, op: &Op) -> Result<(), OutOfMemory>
+    ensures { OnOk result (found.new.items ≡ found.old.items ++ second_length has_ranges op.now) }
 {
     match op {
         Op::Store(_) | Op::Clwb(_) | Op::ClflushOpt(_) | Op::Clflush(_) => Ok(()),
         Op::Sfence | Op::Mfence | Op::IsPersist(_) => Ok(()),
-        Op::IsOrderedBefore(_, range) => push(found, range.len()),
+        Op::IsOrderedBefore(_, range) => push_of_range(found, has_ranges, range.len()),
     }
 }

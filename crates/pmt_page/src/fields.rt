@@ -1,67 +1,46 @@
 //! Columns of numbers.
-ghost use Rattle.std.specs.Prelude.{◌≡◌, ◌∷◌, ◌++◌, map, OnOk};
+ghost use Rattle.std.specs.Prelude.{◌≡◌, ◌∷◌, ◌++◌, [], map, OnOk};
 ghost use Rattle.std.specs.List.{flat_map};
-ghost use Rattle.pmt_text.specs.Reading.{IsBase};
 ghost use Rattle.pmt_page.specs.Columns.{safe_field, verdict_letter as letter_of};
-ghost use Rattle.pmt_page.specs.Numbers.{field, fields, later_fields, listed};
+ghost use Rattle.pmt_page.specs.Numbers.{listed, step, steps};
 
+use crate::digits::push_short;
 use crate::known::SafePlace;
 use pmt_model::{OutOfMemory, Verdict};
-use pmt_text::write::push_number;
 
-/// Adds the numbers in base 10 or 16 with commas between them; one that is the one before is left out, and before the first stands 0.
+/// Adds the steps from 0 through the numbers, each with a comma behind it.
 ///
 /// # Errors
 /// Where memory was refused. The text may then have some of them.
-pub(crate) fn push_fields(text: &mut Vec<u8>, base: u64, numbers: &[u64]) -> Result<(), OutOfMemory>
-    requires { IsBase base }
-    ensures { OnOk result (text.new.items ≡ text.old.items ++ fields base numbers.now) }
+pub(crate) fn push_steps(text: &mut Vec<u8>, numbers: &[u64]) -> Result<(), OutOfMemory>
+    ensures { OnOk result (text.new.items ≡ text.old.items ++ steps 0 numbers.now) }
 {
-    match numbers {
-        [] => Ok(()),
-        [first, later @ ..] => {
-            push_field(text, base, 0, *first)?;
-            push_later(text, base, *first, later)
-        }
-    }
-}
-
-// Adds the number, unless it is the one before.
-fn push_field(text: &mut Vec<u8>, base: u64, before: u64, number: u64) -> Result<(), OutOfMemory>
-    requires { IsBase base }
-    ensures { OnOk result (text.new.items ≡ text.old.items ++ field base before number) }
-{
-    if number == before {
-        return Ok(());
-    }
-    push_number(text, base, number)
-}
-
-// Adds the numbers after this one, each behind a comma.
-fn push_later(text: &mut Vec<u8>, base: u64, first: u64, numbers: &[u64]) -> Result<(), OutOfMemory>
-    requires { IsBase base }
-    ensures { OnOk result (text.new.items ≡ text.old.items ++ later_fields base first numbers.now) }
-{
-    let mut before = first;
+    let mut before = 0;
     for number in numbers {
-        push_later_field(text, base, before, *number)?;
+        push_step(text, before, *number)?;
         before = *number;
     }
     Ok(())
 }
 
-// Adds the number behind a comma, unless it is the one before.
-fn push_later_field(
-    text: &mut Vec<u8>,
-    base: u64,
-    before: u64,
-    number: u64,
-) -> Result<(), OutOfMemory>
-    requires { IsBase base }
-    ensures { OnOk result (text.new.items ≡ text.old.items ++ (44 ∷ field base before number)) }
+// Adds the step from one number to the next, and a comma.
+fn push_step(text: &mut Vec<u8>, before: u64, number: u64) -> Result<(), OutOfMemory>
+    ensures { OnOk result (text.new.items ≡ text.old.items ++ (step before number ++ 44 ∷ [])) }
 {
+    push_way(text, before, number)?;
     text.push(b',')?;
-    push_field(text, base, before, number)
+    Ok(())
+}
+
+// Adds how far it is, with a - before the way back.
+fn push_way(text: &mut Vec<u8>, before: u64, number: u64) -> Result<(), OutOfMemory>
+    ensures { OnOk result (text.new.items ≡ text.old.items ++ step before number) }
+{
+    if number < before {
+        text.push(b'-')?;
+        return push_short(text, before - number);
+    }
+    push_short(text, number - before)
 }
 
 /// Adds of each store from how many events after its own number on it is safe.
@@ -103,10 +82,10 @@ fn push_delay(text: &mut Vec<u8>, safe: &SafePlace) -> Result<(), OutOfMemory>
 {
     match safe.place {
         None => {
-            text.push(b'n')?;
+            text.push(b'-')?;
             Ok(())
         }
-        Some(place) => push_number(text, 10, place.saturating_sub(safe.store)),
+        Some(place) => push_short(text, place.saturating_sub(safe.store)),
     }
 }
 

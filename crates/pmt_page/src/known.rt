@@ -46,3 +46,14 @@ pub struct Found<'a> {
     /// The flushes and fences without effect. Of several entries of one event the first one counts.
     pub dropped: &'a [Dropped],
 }
+
+/// What of a trace is in its columns.
+#[derive(Clone, Copy, Debug, PartialEq, Eq)]
+pub enum Kept {
+    /// All.
+    Whole,
+    /// All but the bytes of stores.
+    WithoutValues,
+    /// All but these and the ranges of assertions.
+    WithoutRanges,
+}

@@ -1,16 +1,14 @@
 //! What the events are called.
 ghost use Rattle.std.specs.Prelude.{◌≡◌, ◌∷◌, ◌++◌, map, IfOk, OnOk};
 ghost use Rattle.std.specs.List.{flat_map};
-ghost use Rattle.pmt_text.specs.Spelling.{numeral};
-ghost use Rattle.pmt_page.specs.Blocks.{AreTexts, IsLabelsBlock, event_field};
+ghost use Rattle.pmt_page.specs.Blocks.{AreTexts, IsLabelsBlock};
 ghost use Rattle.pmt_page.specs.Escapes.{quoted};
-ghost use Rattle.pmt_page.specs.Numbers.{listed};
+ghost use Rattle.pmt_page.specs.Numbers.{listed, steps};
 
 use crate::escapes::push_quoted;
-use crate::fields::push_fields;
+use crate::fields::push_steps;
 use indexmap::IndexSet;
 use pmt_model::OutOfMemory;
-use pmt_text::write::push_number;
 use std::alloc::{AllocError, Global};
 
 /// What the program calls an event.
@@ -39,11 +37,11 @@ pub fn labels_text(alloc: Global, labels: &[Label<'_>]) -> Result<Vec<u8>, OutOf
     let found = texts_of(alloc, labels)?;
     let mut text = Vec::new(alloc);
     text.extend_from_slice(b"{\"events\":\"")?;
-    push_events(&mut text, labels)?;
+    push_events(alloc, &mut text, labels)?;
     text.extend_from_slice(b"\",\"texts\":[")?;
     push_texts(&mut text, found.texts.as_slice())?;
     text.extend_from_slice(b"],\"text\":\"")?;
-    push_fields(&mut text, 10, found.places.as_slice())?;
+    push_steps(&mut text, found.places.as_slice())?;
     text.extend_from_slice(b"\"}")?;
     Ok(text)
 }
@@ -65,34 +63,23 @@ fn texts_of<'a>(alloc: Global, labels: &[Label<'a>]) -> Result<Texts<'a>, OutOfM
     Ok(Texts { texts, places })
 }
 
-// Adds the numbers of the events with commas between them.
-fn push_events(text: &mut Vec<u8>, labels: &[Label<'_>]) -> Result<(), OutOfMemory>
-    ensures { OnOk result (text.new.items ≡ text.old.items ++ listed event_field labels.now) }
+// Adds the steps through the numbers of the events.
+fn push_events(alloc: Global, text: &mut Vec<u8>, labels: &[Label<'_>]) -> Result<(), OutOfMemory>
+    ensures { OnOk result (text.new.items ≡ text.old.items ++ steps 0 (map (λ l. l.event) labels.now)) }
 {
-    match labels {
-        [] => Ok(()),
-        [first, later @ ..] => {
-            push_number(text, 10, first.event)?;
-            push_later_events(text, later)
-        }
-    }
+    let events = events_of(alloc, labels)?;
+    push_steps(text, events.as_slice())
 }
 
-// Adds them, each behind a comma.
-fn push_later_events(text: &mut Vec<u8>, labels: &[Label<'_>]) -> Result<(), OutOfMemory>
-    ensures { OnOk result (text.new.items ≡ text.old.items ++ flat_map (λ l. 44 ∷ event_field l) labels.now) }
+// The numbers of the events.
+fn events_of(alloc: Global, labels: &[Label<'_>]) -> Result<Vec<u64>, OutOfMemory>
+    ensures { IfOk result (λ v. v.items ≡ map (λ l. l.event) labels.now) }
 {
+    let mut events = Vec::new(alloc);
     for label in labels {
-        push_later_number(text, label.event)?;
+        events.push(label.event)?;
     }
-    Ok(())
-}
-
-fn push_later_number(text: &mut Vec<u8>, number: u64) -> Result<(), OutOfMemory>
-    ensures { OnOk result (text.new.items ≡ text.old.items ++ (44 ∷ numeral 10 number)) }
-{
-    text.push(b',')?;
-    push_number(text, 10, number)
+    Ok(events)
 }
 
 // Adds the texts with commas between them.

@@ -1,10 +1,10 @@
 //! Lines of source files.
-ghost use Rattle.std.specs.Prelude.{◌≡◌, ◌∷◌, ◌++◌, IfOk, OnOk, codes, if◌then◌else◌};
+ghost use Rattle.std.specs.Prelude.{◌≡◌, ◌∷◌, ◌++◌, IfOk, OnOk};
 ghost use Rattle.std.specs.List.{flat_map};
 ghost use Rattle.pmt_page.specs.Blocks.{source_file, source_part, sources_block};
 ghost use Rattle.pmt_page.specs.Numbers.{listed};
 
-use crate::about::{push_count, push_string};
+use crate::about::{push_count, push_string, push_truth};
 use pmt_model::OutOfMemory;
 use std::alloc::Global;
 
@@ -41,20 +41,13 @@ pub fn sources_text(
     ensures { IfOk result (λ text. text.items ≡ sources_block files.now parts.now is_all) }
 {
     let mut text = Vec::new(alloc);
-    text.extend_from_slice(b"{\"all\":")?;
-    text.extend_from_slice(word_of(is_all))?;
+    push_truth(&mut text, b"{\"all\":", is_all)?;
     text.extend_from_slice(b",\"files\":[")?;
     push_files(&mut text, files)?;
     text.extend_from_slice(b"],\"parts\":[")?;
     push_parts(&mut text, parts)?;
     text.extend_from_slice(b"]}")?;
     Ok(text)
-}
-
-fn word_of(is_all: bool) -> &'static [u8]
-    ensures { result.now ≡ (if is_all then codes "true" else codes "false") }
-{
-    if is_all { b"true" } else { b"false" }
 }
 
 // Adds the files with commas between them.

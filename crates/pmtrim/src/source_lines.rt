@@ -1,7 +1,14 @@
 //! The lines of a source file round those that labels name.
 
+use crate::page_labels::size_quoted;
 use crate::refused::split_line;
 use std::alloc::{AllocError, Global};
+
+// How many bytes the LF of a line has on a page.
+const LF_SIZE: usize = 6;
+
+/// The most bytes that a file, or lines that follow each other, have on a page besides their text.
+pub const PART_SIZE: usize = 60;
 
 // How many lines are shown before and behind one that is named.
 const AROUND: u64 = 5;
@@ -100,11 +107,17 @@ impl Lines {
         line: &[u8],
     ) -> Result<bool, AllocError> {
         let shown = shown_line(alloc, line)?;
-        if !self.take_room(shown.len().saturating_add(1)) {
+        let size = size_quoted(shown.as_bytes());
+        let follows = match self.parts.last() {
+            Some(last) => last.file == file && last.next == number,
+            None => false,
+        };
+        let more = if follows { LF_SIZE } else { PART_SIZE };
+        if !self.take_room(size.saturating_add(more)) {
             return Ok(false);
         }
         if let Some(last) = self.parts.last_mut() {
-            if last.file == file && last.next == number {
+            if follows {
                 last.lines.push_str("\n")?;
                 last.lines.push_str(shown.as_str())?;
                 last.next = number.saturating_add(1);

@@ -2,8 +2,9 @@
 
 use crate::fault::Fault;
 use crate::opener::{OpenError, Opener};
+use crate::page_labels::size_quoted;
 use crate::reading::{reason, system_fault};
-use crate::source_lines::Lines;
+use crate::source_lines::{Lines, PART_SIZE};
 use pmt_page::{Label, SourceFile, SourcePart, sources_text};
 use pmt_text::number::read_number;
 use std::alloc::{AllocError, Global};
@@ -81,7 +82,8 @@ pub fn sources_of<O: Opener>(
     let wanted = wanted_of(alloc, labels, &mut lines.is_all)?;
     let mut reasons: Vec<String> = Vec::new(alloc);
     for (place, one) in wanted.iter().enumerate() {
-        if place == MOST_FILES || !lines.take_room(one.name.len()) {
+        let size = size_quoted(one.name.as_bytes()).saturating_add(PART_SIZE);
+        if place == MOST_FILES || !lines.take_room(size) {
             lines.is_all = false;
             break;
         }

@@ -1,0 +1,4 @@
+use Rattle.pmt_page.proofs.digits.+push_short.Given as goal
+
+abbrev pub decreases-push_short : goal.decreases-push_short
+decreases-push_short l = l.number

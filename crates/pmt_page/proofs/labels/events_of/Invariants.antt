@@ -1,0 +1,6 @@
+use Rattle.std.proofs.Common.{◌≡◌, ◌++◌, drop, map}
+use Rattle.pmt_page.specs.declared.labels.Label.{Label}
+use Rattle.pmt_page.proofs.labels.events_of.Given as goal
+
+abbrev pub invariant-loop-label : goal.invariant-loop-label
+invariant-loop-label l = l.events.items ++ map (λ (x : Label). x.event) (drop l.label-index l.labels) ≡ map (λ (x : Label). x.event) l.labels
