@@ -135,7 +135,7 @@ def pending_writers_32(count):
     return pending_writers(count)
 
 
-def shuffled_lines(count):
+def shuffled_lines(count, apart=8192):
     """A page is persisted and another one is not, line by line in no order; then it is asked whether the one comes first."""
     lines = list(range(128))
     random.Random(3).shuffle(lines)
@@ -144,9 +144,22 @@ def shuffled_lines(count):
         yield f"clwb 0 {BASE + 32 * line:#x}\n"
     yield "sfence 0\n"
     for line in lines:
-        yield byte_store(0, BASE + 8192 + 32 * line)
+        yield byte_store(0, BASE + apart + 32 * line)
     while True:
-        yield f"isOrderedBefore 0 {BASE:#x} 4096 {BASE + 8192:#x} 4096\n"
+        yield f"isOrderedBefore 0 {BASE:#x} 4096 {BASE + apart:#x} 4096\n"
+
+
+def far_lines(count):
+    """As shuffled_lines, and the pages lie 512 lines apart."""
+    return shuffled_lines(count, 512 * 32)
+
+
+def unwritten_lines(count):
+    """It is asked of pages that no event stores to whether one comes before the other."""
+    page = 0
+    while True:
+        page = (page + 7) % 1024
+        yield f"isOrderedBefore 0 {BASE + 4096 * page:#x} 4096 {BASE + 4096 * (page + 1):#x} 4096\n"
 
 
 def line_by_bytes(count):
@@ -178,11 +191,13 @@ def threads_one_line(count):
 
 # Kinds like the traces of programs, and kinds in which an event costs as much as one may.
 COMMON = (log_appends, tree_inserts, redundant_flushes, many_assertions, one_line, one_line_stores, many_lines, threads_256, long_intervals)
-HOSTILE = (pending_writers, pending_writers_32, shuffled_lines, line_by_bytes, judged_line_by_bytes, threads_one_line)
+HOSTILE = (pending_writers, pending_writers_32, shuffled_lines, far_lines, unwritten_lines, line_by_bytes, judged_line_by_bytes, threads_one_line)
 KINDS = {kind.__name__: kind for kind in COMMON + HOSTILE}
 
 # The bytes of a line, where they aren't 64.
-LINE_SIZES = {"pending_writers": 256, "pending_writers_32": 32, "shuffled_lines": 32, "line_by_bytes": 256, "judged_line_by_bytes": 256}
+NARROW = ("pending_writers_32", "shuffled_lines", "far_lines", "unwritten_lines")
+WIDE = ("pending_writers", "line_by_bytes", "judged_line_by_bytes")
+LINE_SIZES = dict.fromkeys(NARROW, 32) | dict.fromkeys(WIDE, 256)
 
 
 def main():
