@@ -11,7 +11,6 @@ use Rattle.pmt_model.specs.Values.{Layout}
 use Rattle.pmt_model.specs.Traces.{Recording, IsAct, act_of}
 use Rattle.pmt_laws.proofs.Histories.{act-unique, act-within}
 use Rattle.pmt_explain.specs.declared.following.Ahead.{Ahead}
-use Rattle.pmt_explain.specs.declared.following.Following.{Following}
 use Rattle.pmt_explain.specs.Numbers.{Numbers, number_at, Puts}
 use Rattle.pmt_explain.specs.Following.{IsFirst, past_of, IsFenceAfter, IsFlushAfter, IsCompleteBy, ByFence, ByItself, IsCompletedAfter, pair_of, IsAhead}
 use Rattle.pmt_explain.proofs.FirstLemmas.{first-same, first-either, first-none, first-here, first-over}

@@ -1,17 +1,12 @@
 -- Which stores a crash loses, and which of them is the first.
-use Rattle.std.proofs.Common.{◌≡◌, ◌↔◌, ℕ, ◌+◌, ◌<◌, ◌≤◌, ◌==◌, inl, inr, List, Option, None, Some, refl, sym, ap, subst, ◌∙◌, arith, get_or}
+use Rattle.std.proofs.Common.{◌≡◌, ℕ, ◌+◌, ◌<◌, ◌≤◌, ◌==◌, inl, inr, List, Option, None, Some, refl, sym, ap, subst, ◌∙◌, arith, get_or}
 use Rattle.std.specs.Prelude.{IsTrue}
 use Rattle.std.proofs.lemmas.Bool.{cases_lt, cond_both, ltb-true, lt-ltb}
-use Rattle.pmt_model.specs.Values.{Written}
-use Rattle.pmt_model.specs.Machine.{Stores}
-use Rattle.pmt_model.specs.Traces.{Recording, IsAct, history, count_at}
+use Rattle.pmt_model.specs.Traces.{Recording, history, count_at}
 use Rattle.pmt_model.specs.Fronts.{front_at}
-use Rattle.pmt_laws.proofs.Histories.{act-unique, count-mono, front-le-count}
+use Rattle.pmt_laws.proofs.Histories.{front-le-count}
 use Rattle.pmt_reasons.specs.declared.failure.ByteStore.{ByteStore}
-use Rattle.pmt_reasons.specs.Failures.{persisted_at, IsLost}
-use Rattle.pmt_reasons.proofs.CauseLemmas.{rank-above}
-use Rattle.pmt_explain.specs.declared.crash.Crash.{Crash}
-use Rattle.pmt_explain.specs.Keepers.{persisted_to, IsCrashAt}
+use Rattle.pmt_reasons.specs.Failures.{persisted_at}
 use Rattle.pmt_explain.specs.Losing.{comes_before, Picks, IsFirstWith, IsFirstOption}
 
 -- no line has fewer stores persisted than are safe

@@ -141,3 +141,8 @@ lost-alone T i l c w store why =
 -- the groups are as they should be
 pub lost-groups : (T : Recording) (numbers : List ℕ) (gs : List LostGroup) (find : Key → Option ℕ) → IsLostGathered T numbers gs find → AreLostGroups T numbers gs
 lost-groups T numbers gs find s = (s.stores, s.picked, s.gathered.groups)
+
+-- no store
+pub lost-none : (T : Recording) (stores : List ℕ) (groups : List LostGroup) → length stores ≡ 0 → groups ≡ [] → AreLostGroups T stores groups
+lost-none T [] groups none is = rw is ([], refl, refl)
+lost-none T (x ∷ xs) groups none is = absurd (omega (arith, none))

@@ -2,9 +2,11 @@
 
 ghost use Rattle.std.specs.Prelude.{◌≡◌, IfOk, OnOk};
 ghost use Rattle.pmt_explain.specs.Dropping.{AreDropped, with_listed};
+ghost use Rattle.pmt_explain.specs.Following.{AreFollowing};
+ghost use Rattle.pmt_explain.specs.Saving.{AreSafePlaces};
 
 use crate::dropped_event::Dropped;
-use crate::following::all_following;
+use crate::following::{Following, all_coming};
 use crate::known::Known;
 use pmt_model::{OutOfMemory, Trace};
 use pmt_reasons::Reason;
@@ -19,7 +21,44 @@ use std::alloc::Global;
 pub fn dropped(alloc: Global, trace: &Trace) -> Result<Vec<Dropped>, OutOfMemory>
     ensures { IfOk result (λ list. AreDropped trace.now list.items) }
 {
-    let after = all_following(alloc, trace)?;
+    let coming = all_coming(alloc, trace)?;
+    dropped_before(alloc, trace, coming.following.as_slice())
+}
+
+/// What is dropped of a trace, and from which place on each of its stores is safe.
+#[derive(Drop)]
+pub struct EventEffects {
+    /// What `dropped` tells.
+    pub dropped: Vec<Dropped>,
+    /// What `safe_places` tells.
+    pub safe: Vec<u64>,
+}
+
+/// What `dropped` and `safe_places` tell of the trace. It takes the time of `dropped` alone.
+///
+/// # Errors
+/// Where memory was refused.
+pub fn effects(alloc: Global, trace: &Trace) -> Result<EventEffects, OutOfMemory>
+    ensures dropped { IfOk result (λ found. AreDropped trace.now found.dropped.items) }
+    ensures safe { IfOk result (λ found. AreSafePlaces trace.now found.safe.items) }
+{
+    let coming = all_coming(alloc, trace)?;
+    let dropped = dropped_before(alloc, trace, coming.following.as_slice())?;
+    Ok(EventEffects {
+        dropped,
+        safe: coming.safe,
+    })
+}
+
+// The events that are dropped, where this is what comes after each flush.
+fn dropped_before(
+    alloc: Global,
+    trace: &Trace,
+    after: &[Following],
+) -> Result<Vec<Dropped>, OutOfMemory>
+    requires { AreFollowing trace.now after.now }
+    ensures { IfOk result (λ list. AreDropped trace.now list.items) }
+{
     let format = trace.format();
     let events = trace.events();
     let mut known = Known::new(alloc, events.len() as u64 + 1);

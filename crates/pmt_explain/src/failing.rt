@@ -30,14 +30,31 @@ use std::alloc::Global;
 pub fn failure(alloc: Global, trace: &Trace, number: u64) -> Result<Option<Failure>, OutOfMemory>
     ensures { IfOk result (IsFailureAt trace.now number) }
 {
+    let safe = safe_places(alloc, trace)?;
+    failure_by(alloc, trace, safe.as_slice(), number)
+}
+
+/// What `failure` tells, where `safe` has the places that `safe_places` gives. It takes at most two looks at each event.
+///
+/// # Errors
+/// Where memory was refused.
+pub fn failure_by(
+    alloc: Global,
+    trace: &Trace,
+    safe: &[u64],
+    number: u64,
+) -> Result<Option<Failure>, OutOfMemory>
+    requires { AreSafePlaces trace.now safe.now }
+    ensures { IfOk result (IsFailureAt trace.now number) }
+{
     let Some(event) = trace.get(number) else {
         return Ok(None);
     };
     let op = event.op;
     match op {
-        Op::IsPersist(range) => failure_of_persist(alloc, trace, number, range),
+        Op::IsPersist(range) => failure_of_persist(alloc, trace, safe, number, range),
         Op::IsOrderedBefore(first, second) => {
-            failure_of_ordered(alloc, trace, number, first, second)
+            failure_of_ordered(alloc, trace, safe, number, first, second)
         }
         Op::Store(_) | Op::Clwb(_) | Op::ClflushOpt(_) | Op::Clflush(_) | Op::Sfence | Op::Mfence =>
             Ok(None),
@@ -48,34 +65,36 @@ pub fn failure(alloc: Global, trace: &Trace, number: u64) -> Result<Option<Failu
 fn failure_of_persist(
     alloc: Global,
     trace: &Trace,
+    safe: &[u64],
     number: u64,
     range: Range,
 ) -> Result<Option<Failure>, OutOfMemory>
-    requires { number ≤ length trace.now.events }
+    requires number { number ≤ length trace.now.events }
+    requires safe { AreSafePlaces trace.now safe.now }
     ensures { IfOk result (λ o. MatchOption o (PersistPasses (history trace.now number) range) (IsPersistFailure trace.now number range)) }
 {
-    let safe = safe_places(alloc, trace)?;
     let last = last_stores(alloc, trace, range, number)?;
-    Ok(persist_failure(trace, safe.as_slice(), number, range, last.as_slice()))
+    Ok(persist_failure(trace, safe, number, range, last.as_slice()))
 }
 
 // The crash that violates the isOrderedBefore of the two ranges at the event with this number.
 fn failure_of_ordered(
     alloc: Global,
     trace: &Trace,
+    safe: &[u64],
     number: u64,
     first: Range,
     second: Range,
 ) -> Result<Option<Failure>, OutOfMemory>
-    requires { number ≤ length trace.now.events }
+    requires number { number ≤ length trace.now.events }
+    requires safe { AreSafePlaces trace.now safe.now }
     ensures { IfOk result (λ o. MatchOption o (OrderedPasses (history trace.now number) first second) (IsOrderedFailure trace.now number first second)) }
 {
-    let safe = safe_places(alloc, trace)?;
     let last = last_stores(alloc, trace, first, number)?;
     let kept = last_stores(alloc, trace, second, number)?;
     Ok(ordered_failure(
         trace,
-        safe.as_slice(),
+        safe,
         number,
         first,
         second,

@@ -4,7 +4,7 @@ ghost use Rattle.std.specs.Prelude.{◌≡◌, ℕ, ◌+◌, suc, length, IfOk, 
 ghost use Rattle.pmt_model.specs.Machine.{Flushes, Clflushes, Fences};
 ghost use Rattle.pmt_model.specs.Traces.{Recording, IsAct, act_of};
 ghost use Rattle.pmt_explain.specs.Following.{past_of, pair_of as pair_in, TellsFollowing, AreFollowing, IsAhead};
-ghost use Rattle.pmt_explain.specs.Saving.{safe_in};
+ghost use Rattle.pmt_explain.specs.Saving.{AreSafePlaces, safe_in};
 
 use crate::numbers::{Numbers, number_of, put};
 use pmt_model::{Format, Op, OutOfMemory, Trace, line_of};
@@ -34,20 +34,32 @@ pub(crate) struct Ahead {
     completed: Numbers,
 }
 
-// Of each flush what comes after it; of another event any numbers.
-pub(crate) fn all_following(alloc: Global, trace: &Trace) -> Result<Vec<Following>, OutOfMemory>
-    ensures { IfOk result (λ list. AreFollowing trace.now list.items) }
+/// What comes after the events of a trace, in their order.
+#[derive(Drop)]
+pub(crate) struct Coming {
+    /// Of each flush what comes after it; of another event any numbers.
+    pub(crate) following: Vec<Following>,
+    /// Of each store the first place from which on every run has it persisted; of another event any number.
+    pub(crate) safe: Vec<u64>,
+}
+
+// What comes after all events, by one look at each.
+pub(crate) fn all_coming(alloc: Global, trace: &Trace) -> Result<Coming, OutOfMemory>
+    ensures following { IfOk result (λ coming. AreFollowing trace.now coming.following.items) }
+    ensures safe { IfOk result (λ coming. AreSafePlaces trace.now coming.safe.items) }
 {
     let format = trace.format();
     let events = trace.events();
     let past = events.len() as u64 + 1;
     let mut ahead = Ahead::new(alloc, past);
-    let mut list = vec![in alloc; none(past); events.len()]?;
+    let mut following = vec![in alloc; none(past); events.len()]?;
+    let mut safe = vec![in alloc; past; events.len()]?;
     for index in (0..events.len()).rev() {
         let event = events[index];
-        list[index] = ahead.go_back(format, event.thread, event.op, index as u64 + 1)?;
+        safe[index] = ahead.safe_place(format, event.op);
+        following[index] = ahead.go_back(format, event.thread, event.op, index as u64 + 1)?;
     }
-    Ok(list)
+    Ok(Coming { following, safe })
 }
 
 // Nothing comes.

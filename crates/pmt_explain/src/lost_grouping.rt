@@ -27,7 +27,8 @@ pub struct LostGroup {
 }
 
 /// The groups of these stores by their line and their cause at the trace's end, in the order of their first stores. Stores go by
-/// their numbers; a number that is of no store, or of one that every run persists, is in no group.
+/// their numbers; a number that is of no store, or of one that every run persists, is in no group. The trace is looked at only
+/// where there are any.
 ///
 /// # Errors
 /// Where memory was refused.
@@ -38,6 +39,9 @@ pub fn lost_groups(
 ) -> Result<Vec<LostGroup>, OutOfMemory>
     ensures { IfOk result (λ groups. AreLostGroups trace.now stores.now groups.items) }
 {
+    if stores.is_empty() {
+        return Ok(Vec::new(alloc));
+    }
     let causes = causes_at_end(alloc, trace)?;
     let mut groups = Vec::new(alloc);
     let mut places = Places::new(alloc);

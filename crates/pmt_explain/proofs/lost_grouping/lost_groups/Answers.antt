@@ -1,11 +1,16 @@
-use Rattle.std.proofs.Common.{◌≡◌, ◌++◌, ◌∷◌, [], take, length-take, get_or, sym, subst, arith, List, ℕ}
+use Rattle.std.proofs.Common.{rules, ◌≡◌, length, ◌++◌, ◌∷◌, [], take, length-take, get_or, sym, subst, arith, List, ℕ}
 use Rattle.std.proofs.lemmas.List.{take_all, take_more}
 use Rattle.pmt_explain.specs.declared.lost_grouping.LostGroup.{LostGroup}
 use Rattle.pmt_explain.specs.declared.lost_grouping.Places.{Places}
 use Rattle.pmt_explain.specs.LostGroups.{place_in}
-use Rattle.pmt_explain.proofs.LostGroupLemmas.{IsLostGathered, lost-start, lost-other, lost-more, lost-stands, lost-room, lost-groups}
+use Rattle.pmt_explain.proofs.LostGroupLemmas.{IsLostGathered, lost-start, lost-other, lost-more, lost-stands, lost-room, lost-groups, lost-none}
 use Rattle.pmt_explain.proofs.lost_grouping.lost_groups.Goals as goal
 use Rattle.pmt_explain.proofs.lost_grouping.lost_groups.Goals.{in-Some+in_ok-add_group, in_default}
+
+pub returns-then-is_empty : goal.returns-then-is_empty
+returns-then-is_empty c =
+    let none : length c.args.stores.now ≡ 0 = search rules in
+    lost-none c.args.trace.now c.args.stores.now c.new.result.items none c.new.ensures.items
 
 pub returns : goal.returns
 returns c =

@@ -1,9 +1,9 @@
-use Rattle.std.proofs.Common.{◌≡◌, suc, ◌+◌, ◌<◌, Some, length, subst, sym, ap, ◌∙◌, rules, arith}
+use Rattle.std.proofs.Common.{◌≡◌, suc, ◌+◌, ◌<◌, length, subst, sym, ap, rules, arith}
 use Rattle.std.proofs.lemmas.Option.{slice_get-get_or}
 use Rattle.pmt_explain.specs.Known.{IsKnown}
 use Rattle.pmt_explain.proofs.FollowingLemmas.{event-at}
 use Rattle.pmt_explain.proofs.DroppingLemmas.{dropped-start, dropped-next, dropped-all}
-use Rattle.pmt_explain.proofs.dropping.dropped.Goals as goal
+use Rattle.pmt_explain.proofs.dropping.dropped_before.Goals as goal
 
 pub loop-index-init : goal.loop-index-init
 loop-index-init c = record {
@@ -11,22 +11,21 @@ loop-index-init c = record {
   listed = dropped-start c.args.trace.now _ (search rules);
 }
 
-pub index-requires : goal.index-requires
-index-requires c = omega (arith, c.in_ok-after.after.ok, c.in_ok-after.ensures.size, ap (λ xs. length xs) c.events-events.ensures.value)
+pub bounds-after-index : goal.bounds-after-index
+bounds-after-index c = omega (arith, c.requires.size, ap (λ xs. length xs) c.events-events.ensures.value)
 
 pub loop-index-preserved : goal.loop-index-preserved
 loop-index-preserved c =
     let T = c.args.trace.now in
     let i = c.loop-index.index in
     let within : c.loop-index.index < length c.events-events.result.now = omega arith in
-    let inside : c.loop-index.index < length c.in_ok-after.after.items = omega (arith, c.in_ok-after.ensures.size, ap (λ xs. length xs) c.events-events.ensures.value) in
+    let inside : c.loop-index.index < length c.args.after.now = omega (arith, c.requires.size, ap (λ xs. length xs) c.events-events.ensures.value) in
     let is = event-at T c.format-format.result c.events-events.result.now i c.index-events-index.result c.format-format.ensures.value c.events-events.ensures.value within c.index-events-index.is in
-    let after = c.in_ok-after.ensures.each i c.index.result.now (slice_get-get_or c.in_ok-after.after.items i c.index.result.now inside ∙ ap Some (sym c.index.ensures)) in
     let next : c.loop-index.index + 1 ≡ suc c.loop-index.index = omega arith in
     record {
-      known = subst (λ k. IsKnown T k c.take.new.self) (sym next) (c.in_ok-reason.ensures.known T i is next after c.loop-index.invariant.known);
+      known = subst (λ k. IsKnown T k c.take.new.self) (sym next) (c.in_ok-reason.ensures.known T i is next (c.requires.each i _ (slice_get-get_or c.args.after.now i _ inside)) c.loop-index.invariant.known);
       listed = rw c.in_ok-list_event.ensures
-          (dropped-next T i (c.loop-index.index + 1) (c.loop-index.index + 1) _ c.in_ok-reason.reason c.loop-index.list.items next next is (c.in_ok-reason.ensures.tells T i is next after c.loop-index.invariant.known)
+          (dropped-next T i (c.loop-index.index + 1) (c.loop-index.index + 1) _ c.in_ok-reason.reason c.loop-index.list.items next next is (c.in_ok-reason.ensures.tells T i is next (c.requires.each i _ (slice_get-get_or c.args.after.now i _ inside)) c.loop-index.invariant.known)
           c.loop-index.invariant.listed);
     }
 
