@@ -1,12 +1,10 @@
 -- The rows of keys, and their order.
 use Rattle.std.proofs.Common.{◌≡◌, ◌≢◌, ℕ, zero, suc, ◌+◌, ◌-◌, ◌^◌, ◌<◌, ◌≤◌, ◌⊎◌, inl, inr, false, List, [], ◌∷◌, map, length, get_or, Option, Some, None, refl, sym, ap, ap₂, subst, ◌∙◌, arith, true≢false}
-use Rattle.std.specs.Prelude.{slice_get, ◌==◌, unwrap_or, IsSome}
-use Rattle.std.specs.Option.{option_map}
+use Rattle.std.specs.Prelude.{slice_get, ◌==◌, IsSome}
 use Rattle.std.specs.List.{All, Contains, IsDistinct}
 use Rattle.std.specs.Ordering.{nat_cmp, is_lt, eq_by_cmp}
 use Rattle.std.specs.List.Sorted.{IsPermutation, IsSortedByKey, IsStableByKey}
 use Rattle.std.specs.BTreeMap.{BTreeMap, IsOrdered, get, keys}
-use Rattle.std.proofs.Math.Path.{fun_ext}
 use Rattle.std.proofs.lemmas.Bool.{cases_lt, cases_eq, le-ltb, eq-eqb, ne_eqb}
 use Rattle.std.proofs.lemmas.Cmp.{nat_cmp_total}
 use Rattle.std.proofs.lemmas.List.{get_or-map, length-map}
@@ -15,16 +13,17 @@ use Rattle.std.proofs.lemmas.List.Sorted.{All-permutation, Contains-permutation,
 use Rattle.std.proofs.lemmas.Map.Keys.{IsDistinct-from_sorted, IsDistinct-IsPermutation, apart_from_distinct, below_from_sorted, sorted_from_strictly_increasing}
 use Rattle.std.proofs.lemmas.Map.Lookups.{exact_unsigned}
 use Rattle.std.proofs.lemmas.Map.Views.{All-keys_found, btree_map_contains_key_iff}
-use Rattle.std.proofs.lemmas.Option.{slice_get-map, slice_get-get_or, get_or_from_slice_get, slice_get_within}
+use Rattle.std.proofs.lemmas.Option.{slice_get-get_or, get_or_from_slice_get, slice_get_within}
 use Rattle.pmt_model.specs.declared.event.Event.{Event}
 use Rattle.pmt_model.specs.Traces.{Recording, IsTrace, IsEventIn}
+use Rattle.pmt_laws.proofs.Histories.{event-none}
 use Rattle.pmt_explain.specs.declared.dropped_event.Dropped.{Dropped}
 use Rattle.pmt_explain.specs.Numbers.{Numbers}
 use Rattle.pmt_causes.specs.declared.tables.Counts.{Counts}
 use Rattle.pmt_causes.specs.declared.tables.Row.{Row}
-use Rattle.pmt_causes.specs.Tables.{IsRow, AreRows, AreThreadRows, HasLowerKey, DropsMore, label_at, label_in, thread_in, thread_of}
+use Rattle.pmt_causes.specs.Tables.{IsRow, AreRows, AreThreadRows, HasLowerKey, DropsMore, thread_in, thread_of}
 use Rattle.pmt_causes.specs.Tallies.{AreCounts, AreDrops, row_in}
-use Rattle.pmt_causes.proofs.TallyLemmas.{key-past, same-test}
+use Rattle.pmt_causes.proofs.TallyLemmas.{same-test}
 
 abbrev keys_of_rows : List (Row ℕ) → List ℕ
 keys_of_rows rows = map (λ (r : Row ℕ). r.key) rows
@@ -38,12 +37,12 @@ keys-back table drops [] = refl
 keys-back table drops (k ∷ ks) = ap (λ js. k ∷ js) (keys-back table drops ks)
 
 -- the rows of a table
-pub rows-told : (T : Recording) (labels : List (Option ℕ)) (all : List Dropped) (table : BTreeMap ℕ Counts) (drops : Numbers) (rows : List (Row ℕ)) → IsOrdered nat_cmp table →
-    AreCounts T (label_at T labels) (length T.events) table → AreDrops (label_at T labels) all drops → rows ≡ map (row_in table drops) (keys table) → AreRows T (label_at T labels) all HasLowerKey rows
-rows-told T labels all table drops rows ordered x y is = rw is (record {
+pub rows-told : (T : Recording) (key : ℕ → Option ℕ) (all : List Dropped) (table : BTreeMap ℕ Counts) (drops : Numbers) (rows : List (Row ℕ)) → ((i : ℕ) → length T.events < i → key i ≡ None) →
+    IsOrdered nat_cmp table → AreCounts T key (length T.events) (get nat_cmp table) → AreDrops key all drops → rows ≡ map (row_in table drops) (keys table) → AreRows T key all HasLowerKey rows
+rows-told T key all table drops rows past ordered x y is = rw is (record {
   each = λ j d below.
       let within : j < length (keys table) = subst (λ n. j < n) (length-map (keys table) (row_in table drops)) below in
-      subst (IsRow T (label_at T labels) all) (sym (get_or-map (row_in table drops) (keys table) j 0 d within)) (row (get_or (keys table) j 0) (All-keys_found nat_cmp_total table ordered j 0 within));
+      subst (IsRow T key all) (sym (get_or-map (row_in table drops) (keys table) j 0 d within)) (row (get_or (keys table) j 0) (All-keys_found nat_cmp_total table ordered j 0 within));
   every = λ i k own. subst (λ ks. Contains ks k) (sym (keys-back table drops (keys table))) ((btree_map_contains_key_iff nat_cmp_total exact_unsigned table k).0 (x.every i k (within i k own (cases_lt (length T.events) i)) own));
   order = λ n r s here there.
       let ks = keys table in
@@ -55,7 +54,7 @@ rows-told T labels all table drops rows ordered x y is = rw is (record {
       omega (arith, first, second, below_from_sorted ks n (suc n) 0 ordered (omega arith) inside);
 })
   where
-    row : (k : ℕ) → IsSome (get nat_cmp table k) → IsRow T (label_at T labels) all (row_in table drops k)
+    row : (k : ℕ) → IsSome (get nat_cmp table k) → IsRow T key all (row_in table drops k)
     row k has = record {
       some = x.some k has;
       stores = ap (λ (c : Counts). c.stores) (x.counts k);
@@ -64,8 +63,8 @@ rows-told T labels all table drops rows ordered x y is = rw is (record {
       dropped = y k;
     }
 
-    within : (i k : ℕ) → label_at T labels i ≡ Some k → (length T.events < i) ⊎ (i ≤ length T.events) → i ≤ length T.events
-    within i k own (inl past) = let never : None ≡ Some k = sym (key-past T labels i past) ∙ own in absurd (cc)
+    within : (i k : ℕ) → key i ≡ Some k → (length T.events < i) ⊎ (i ≤ length T.events) → i ≤ length T.events
+    within i k own (inl after) = let never : None ≡ Some k = sym (past i after) ∙ own in absurd (cc)
     within i k own (inr by_end) = by_end
 
 -- rows by rising keys, sorted by how many are dropped
@@ -151,15 +150,13 @@ rows-sorted T key all xs ys x same stable sorted small = record {
               inr (equal, strict r.key s.key upto differ_keys)
         ]
 
--- the threads of events
-thread-keys : (T : Recording) (i : ℕ) → label_at T (map (λ (e : Event). Some e.thread) T.events) i ≡ thread_of T i
-thread-keys T zero = refl
-thread-keys T (suc n) =
-    ap (λ o. label_in (unwrap_or o None) (slice_get T.events n)) (slice_get-map (λ (e : Event). Some e.thread) T.events n) ∙ go (slice_get T.events n)
-  where
-    go : (o : Option Event) → label_in (unwrap_or (option_map (λ (e : Event). Some e.thread) o) None) o ≡ thread_in o
-    go None = refl
-    go (Some e) = refl
+-- the thread of an event
+pub thread-past : (T : Recording) (i : ℕ) → length T.events < i → thread_of T i ≡ None
+thread-past T zero past = refl
+thread-past T (suc n) past = ap thread_in (event-none T n (omega arith))
+
+pub thread-here : (T : Recording) (n : ℕ) (e : Event) → slice_get T.events n ≡ Some e → Some e.thread ≡ thread_of T (suc n)
+thread-here T n e is = sym (ap thread_in is)
 
 small : (T : Recording) (i k : ℕ) → IsTrace T → thread_of T i ≡ Some k → k < 256
 small T zero k trace is = absurd (cc)
@@ -173,12 +170,6 @@ small T (suc n) k trace is = go (slice_get T.events n) refl is
         let same : e.thread ≡ k = cc in
         omega (arith, same, event_is.event.thread)
 
--- the rows of threads
-pub thread-rows : (T : Recording) (all : List Dropped) (threads : List (Option ℕ)) (rows : List (Row ℕ)) → threads ≡ map (λ (e : Event). Some e.thread) T.events → AreRows T (label_at T threads) all HasLowerKey rows →
-    AreThreadRows T all rows
-thread-rows T all threads rows is x =
-    let same : label_at T threads ≡ thread_of T = fun_ext (λ i. ap (λ xs. label_at T xs i) is ∙ thread-keys T i) in
-    subst (λ key. AreRows T key all HasLowerKey rows) same x
-
+-- threads are bytes
 pub threads-small : (T : Recording) (all : List Dropped) (rows : List (Row ℕ)) → IsTrace T → AreThreadRows T all rows → All (λ (r : Row ℕ). r.key < 256) rows
 threads-small T all rows trace x = λ j d within. let row = x.each j d within in small T row.some.0 (get_or rows j d).key trace row.some.1

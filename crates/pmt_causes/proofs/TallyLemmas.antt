@@ -1,6 +1,6 @@
 -- The counts of keys, event by event.
-use Rattle.std.proofs.Common.{◌≡◌, ◌≢◌, ℕ, zero, suc, ◌+◌, ◌<◌, ◌≤◌, ◌⊎◌, inl, inr, Bool, true, false, cond, List, [], length, take, get_or, Option, Some, None, refl, sym, ap, subst, ◌∙◌, arith}
-use Rattle.std.specs.Prelude.{if◌then◌else◌, ◌&&◌, ◌||◌, ◌==◌, slice_get, unwrap_or, is_some, IsSome}
+use Rattle.std.proofs.Common.{◌≡◌, ◌≢◌, ℕ, zero, suc, ◌+◌, ◌<◌, ◌≤◌, ◌⊎◌, inl, inr, Bool, true, false, cond, List, [], length, take, get_or, set, get_or-set_same, get_or-set_other, Option, Some, None, refl, sym, ap, subst, ◌∙◌, arith}
+use Rattle.std.specs.Prelude.{if◌then◌else◌, ◌&&◌, ◌||◌, ◌==◌, replicate, slice_get, unwrap_or, is_some, IsSome}
 use Rattle.std.specs.List.{count_by}
 use Rattle.std.specs.Ordering.{nat_cmp, is_eq}
 use Rattle.std.specs.BTreeMap.{BTreeMap, get, Updates}
@@ -16,7 +16,7 @@ use Rattle.pmt_causes.specs.declared.tables.Counts.{Counts}
 use Rattle.pmt_causes.specs.Labels.{label_of}
 use Rattle.pmt_causes.specs.Late.{is_fence}
 use Rattle.pmt_causes.specs.Tables.{events_with, has_key, is_flush, is_store, op_passes, label_at, label_in}
-use Rattle.pmt_causes.specs.Tallies.{AreCounts, AreDrops, IsFew, counts_in, counts_of, with_op}
+use Rattle.pmt_causes.specs.Tallies.{AreCounts, AreDrops, IsFew, counts_in, counts_of, listed_at, with_op}
 use Rattle.pmt_causes.proofs.CountedLemmas.{counted-le}
 
 -- the order of numbers tells which are the same
@@ -40,14 +40,30 @@ choice-some : {X : Type 0} (b : Bool) (o : Option X) (c : X) → is_some (if b t
 choice-some true o c = refl
 choice-some false o c = refl
 
-pub counts-inserted : (old new : BTreeMap ℕ Counts) (q : ℕ) (o : Op) (c : Counts) → Updates nat_cmp old new q (Some c) → c ≡ with_op o (counts_in old q) →
+-- one key has other counts
+pub counts-changed : (old new : ℕ → Option Counts) (q : ℕ) (o : Op) (c : Counts) → ((k : ℕ) → new k ≡ (if q == k then Some c else old k)) → c ≡ with_op o (counts_in old q) →
     (k : ℕ) → counts_in new k ≡ (if has_key k (Some q) then with_op o (counts_in old k) else counts_in old k)
-counts-inserted old new q o c u value k =
-    ap (λ x. unwrap_or x (counts_of 0 0 0)) (inserted old new q k c u) ∙ choice-counts (q == k) (get nat_cmp old k) c ∙ go (cases_eq q k)
+counts-changed old new q o c is value k =
+    ap (λ x. unwrap_or x (counts_of 0 0 0)) (is k) ∙ choice-counts (q == k) (old k) c ∙ go (cases_eq q k)
   where
     go : (q ≡ k) ⊎ (q ≢ k) → (if q == k then c else counts_in old k) ≡ (if q == k then with_op o (counts_in old k) else counts_in old k)
     go (inl e) = ap (λ x. if q == k then x else counts_in old k) (value ∙ ap (λ j. with_op o (counts_in old j)) e)
     go (inr apart) = rw (ne_eqb q k apart) refl
+
+pub keys-changed : (old new : ℕ → Option Counts) (q : ℕ) (c : Counts) → ((k : ℕ) → new k ≡ (if q == k then Some c else old k)) → (k : ℕ) → is_some (new k) ≡ (has_key k (Some q) || is_some (old k))
+keys-changed old new q c is k = ap (λ x. is_some x) (is k) ∙ choice-some (q == k) (old k) c
+
+-- what stands in a list that is changed at one place
+pub listed-set : (xs : List (Option Counts)) (q k : ℕ) (c : Counts) → q < length xs → listed_at (set xs q (Some c)) k ≡ (if q == k then Some c else listed_at xs k)
+listed-set xs q k c within = go (cases_eq q k)
+  where
+    go : (q ≡ k) ⊎ (q ≢ k) → listed_at (set xs q (Some c)) k ≡ (if q == k then Some c else listed_at xs k)
+    go (inl e) = rw (eq-eqb q k e) (subst (λ j. listed_at (set xs q (Some c)) j ≡ Some c) e (get_or-set_same xs q (Some c) None within))
+    go (inr apart) = rw (ne_eqb q k apart) (get_or-set_other xs q k (Some c) None (λ e. apart (sym e)))
+
+pub counts-inserted : (old new : BTreeMap ℕ Counts) (q : ℕ) (o : Op) (c : Counts) → Updates nat_cmp old new q (Some c) → c ≡ with_op o (counts_in (get nat_cmp old) q) →
+    (k : ℕ) → counts_in (get nat_cmp new) k ≡ (if has_key k (Some q) then with_op o (counts_in (get nat_cmp old) k) else counts_in (get nat_cmp old) k)
+counts-inserted old new q o c u value k = counts-changed (get nat_cmp old) (get nat_cmp new) q o c (λ j. inserted old new q j c u) value k
 
 pub keys-inserted : (old new : BTreeMap ℕ Counts) (q : ℕ) (c : Counts) → Updates nat_cmp old new q (Some c) → (k : ℕ) → is_some (get nat_cmp new k) ≡ (has_key k (Some q) || is_some (get nat_cmp old k))
 keys-inserted old new q c u k = ap (λ x. is_some x) (inserted old new q k c u) ∙ choice-some (q == k) (get nat_cmp old k) c
@@ -73,21 +89,19 @@ key-within T keys zero within = refl
 key-within T keys (suc n) within = let e = event-some T n (omega arith) in key-here T keys n e.0 e.1
 
 -- no event yet
-pub counts-start : (T : Recording) (keys : List (Option ℕ)) (table : BTreeMap ℕ Counts) → table.entries ≡ [] → AreCounts T (label_at T keys) 0 table
-counts-start T keys table empty =
-    let none : (k : ℕ) → get nat_cmp table k ≡ None = λ k. rw empty refl in
-    record {
-      counts = λ k. ap (λ o. unwrap_or o (counts_of 0 0 0)) (none k);
-      some = λ k has. let never : false ≡ true = sym (ap (λ o. is_some o) (none k)) ∙ has in absurd (false≢true never);
-      every = λ i k le is. go i le is;
-    }
+pub counts-start : (T : Recording) (key : ℕ → Option ℕ) (find : ℕ → Option Counts) → key 0 ≡ None → ((k : ℕ) → find k ≡ None) → AreCounts T key 0 find
+counts-start T key find first none = record {
+  counts = λ k. ap (λ o. unwrap_or o (counts_of 0 0 0)) (none k);
+  some = λ k has. let never : false ≡ true = sym (ap (λ o. is_some o) (none k)) ∙ has in absurd (false≢true never);
+  every = λ i k le is. go i le is;
+}
   where
-    go : (i : ℕ) {k : ℕ} → i ≤ 0 → label_at T keys i ≡ Some k → IsSome (get nat_cmp table k)
-    go zero le is = absurd (cc)
+    go : (i : ℕ) {k : ℕ} → i ≤ 0 → key i ≡ Some k → IsSome (find k)
+    go zero {k} le is = let never : None ≡ Some k = sym first ∙ is in absurd (cc)
     go (suc i) le is = absurd (omega arith)
 
-pub counts-few : (T : Recording) (key : ℕ → Option ℕ) (n k : ℕ) (table : BTreeMap ℕ Counts) → n ≤ event_limit → AreCounts T key n table → IsFew (counts_in table k)
-counts-few T key n k table few x =
+pub counts-few : (T : Recording) (key : ℕ → Option ℕ) (n k : ℕ) (find : ℕ → Option Counts) → n ≤ event_limit → AreCounts T key n find → IsFew (counts_in find k)
+counts-few T key n k find few x =
     let each : (is : Op → Bool) → events_with T key k is n ≤ event_limit = λ is. omega (arith, counted-le (λ i. has_key k (key i) && op_passes is (event T i)) n) in
     subst IsFew (sym (x.counts k)) (each is_store, each is_flush, each is_fence)
 
@@ -102,49 +116,57 @@ with-key : (b : Bool) (o : Op) (s f g : ℕ) → (if b then with_op o (counts_of
 with-key true o s f g = refl
 with-key false o s f g = sym (with-other (counts_of s f g))
 
-pub counts-next : (T : Recording) (keys : List (Option ℕ)) (n number : ℕ) (e : Event) (old new : BTreeMap ℕ Counts) → number ≡ suc n → slice_get T.events n ≡ Some e →
-    ((k : ℕ) → counts_in new k ≡ (if has_key k (label_of keys number) then with_op e.op (counts_in old k) else counts_in old k)) →
-    ((k : ℕ) → is_some (get nat_cmp new k) ≡ (has_key k (label_of keys number) || is_some (get nat_cmp old k))) → AreCounts T (label_at T keys) n old → AreCounts T (label_at T keys) (suc n) new
-counts-next T keys n number e old new same at counted has x = record {
+pub counts-next : (T : Recording) (key : ℕ → Option ℕ) (n : ℕ) (own : Option ℕ) (e : Event) (old new : ℕ → Option Counts) → own ≡ key (suc n) → slice_get T.events n ≡ Some e →
+    ((k : ℕ) → counts_in new k ≡ (if has_key k own then with_op e.op (counts_in old k) else counts_in old k)) → ((k : ℕ) → is_some (new k) ≡ (has_key k own || is_some (old k))) →
+    AreCounts T key n old → AreCounts T key (suc n) new
+counts-next T key n own e old new mine at counted has x = record {
   counts = λ k. counted k ∙ ap (λ o. if has_key k o then with_op e.op (counts_in old k) else counts_in old k) mine ∙ counts k;
-  some = λ k is. some k (label_at T keys (suc n)) refl (sym (ap (λ o. has_key k o || is_some (get nat_cmp old k)) mine) ∙ sym (has k) ∙ is);
-  every = λ i k le is. has k ∙ ap (λ o. has_key k o || is_some (get nat_cmp old k)) mine ∙ every i k is (cases_lt n i) le;
+  some = λ k is. some k (key (suc n)) refl (sym (ap (λ o. has_key k o || is_some (old k)) mine) ∙ sym (has k) ∙ is);
+  every = λ i k le is. has k ∙ ap (λ o. has_key k o || is_some (old k)) mine ∙ every i k is (cases_lt n i) le;
 }
   where
-    key : ℕ → Option ℕ
-    key = label_at T keys
-
-    mine : label_of keys number ≡ label_at T keys (suc n)
-    mine = ap (label_of keys) same ∙ sym (key-here T keys n e at)
-
-    counts : (k : ℕ) → (if has_key k (label_at T keys (suc n)) then with_op e.op (counts_in old k) else counts_in old k) ≡
-        counts_of (events_with T (label_at T keys) k is_store (suc n)) (events_with T (label_at T keys) k is_flush (suc n)) (events_with T (label_at T keys) k is_fence (suc n))
+    counts : (k : ℕ) → (if has_key k (key (suc n)) then with_op e.op (counts_in old k) else counts_in old k) ≡
+        counts_of (events_with T key k is_store (suc n)) (events_with T key k is_flush (suc n)) (events_with T key k is_fence (suc n))
     counts k =
-        ap (λ c. if has_key k (label_at T keys (suc n)) then with_op e.op c else c) (x.counts k)
-        ∙ with-key (has_key k (label_at T keys (suc n))) e.op (events_with T key k is_store n) (events_with T key k is_flush n) (events_with T key k is_fence n)
+        ap (λ c. if has_key k (key (suc n)) then with_op e.op c else c) (x.counts k)
+        ∙ with-key (has_key k (key (suc n))) e.op (events_with T key k is_store n) (events_with T key k is_flush n) (events_with T key k is_fence n)
         ∙ rw (more-of T key n k e is_store at, more-of T key n k e is_flush at, more-of T key n k e is_fence at) refl
 
-    found : (k : ℕ) → IsSome (get nat_cmp old k) → (i : ℕ) × (label_at T keys i ≡ Some k)
+    found : (k : ℕ) → IsSome (old k) → (i : ℕ) × (key i ≡ Some k)
     found k is = x.some k is
 
-    some : (k : ℕ) (o : Option ℕ) → label_at T keys (suc n) ≡ o → (has_key k o || is_some (get nat_cmp old k)) ≡ true → (i : ℕ) × (label_at T keys i ≡ Some k)
+    some : (k : ℕ) (o : Option ℕ) → key (suc n) ≡ o → (has_key k o || is_some (old k)) ≡ true → (i : ℕ) × (key i ≡ Some k)
     some k None here is = found k is
     some k (Some q) here is = by_test (cases_eq q k)
       where
-        by_test : (q ≡ k) ⊎ (q ≢ k) → (i : ℕ) × (label_at T keys i ≡ Some k)
+        by_test : (q ≡ k) ⊎ (q ≢ k) → (i : ℕ) × (key i ≡ Some k)
         by_test (inl e) = (suc n, here ∙ ap Some e)
-        by_test (inr apart) = found k (ap (λ b. b || is_some (get nat_cmp old k)) (sym (ne_eqb q k apart)) ∙ is)
+        by_test (inr apart) = found k (ap (λ b. b || is_some (old k)) (sym (ne_eqb q k apart)) ∙ is)
 
     or-true : (b : Bool) → (b || true) ≡ true
     or-true true = refl
     or-true false = refl
 
-    every : (i k : ℕ) → label_at T keys i ≡ Some k → (n < i) ⊎ (i ≤ n) → i ≤ suc n → (has_key k (label_at T keys (suc n)) || is_some (get nat_cmp old k)) ≡ true
-    every i k is (inr before) le = ap (λ b. has_key k (label_at T keys (suc n)) || b) (x.every i k before is) ∙ or-true (has_key k (label_at T keys (suc n)))
+    every : (i k : ℕ) → key i ≡ Some k → (n < i) ⊎ (i ≤ n) → i ≤ suc n → (has_key k (key (suc n)) || is_some (old k)) ≡ true
+    every i k is (inr before) le = ap (λ b. has_key k (key (suc n)) || b) (x.every i k before is) ∙ or-true (has_key k (key (suc n)))
     every i k is (inl last) le =
         let e : i ≡ suc n = omega arith in
-        let own : label_at T keys (suc n) ≡ Some k = sym (ap (label_at T keys) e) ∙ is in
-        ap (λ o. has_key k o || is_some (get nat_cmp old k)) own ∙ rw (eq-eqb k k refl) refl
+        let own : key (suc n) ≡ Some k = sym (ap key e) ∙ is in
+        ap (λ o. has_key k o || is_some (old k)) own ∙ rw (eq-eqb k k refl) refl
+
+-- counts that are found elsewhere too
+pub counts-same : (T : Recording) (key : ℕ → Option ℕ) (n : ℕ) (old new : ℕ → Option Counts) → ((k : ℕ) → new k ≡ old k) → AreCounts T key n old → AreCounts T key n new
+counts-same T key n old new same x = record {
+  counts = λ k. ap (λ o. unwrap_or o (counts_of 0 0 0)) (same k) ∙ x.counts k;
+  some = λ k has. x.some k (sym (ap (λ o. is_some o) (same k)) ∙ has);
+  every = λ i k le is. ap (λ o. is_some o) (same k) ∙ x.every i k le is;
+}
+
+-- no key has counts
+pub listed-none : (n k : ℕ) → listed_at (replicate n None) k ≡ None
+listed-none zero k = refl
+listed-none (suc n) zero = refl
+listed-none (suc n) (suc k) = listed-none n k
 
 -- no dropped event yet
 pub drops-start : (key : ℕ → Option ℕ) (drops : Numbers) → drops.entries ≡ [] → AreDrops key [] drops

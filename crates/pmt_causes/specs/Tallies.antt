@@ -1,5 +1,5 @@
 -- The counts of keys, while events are read.
-use Rattle.std.specs.Prelude.{◌≡◌, ℕ, ◌+◌, ◌≤◌, if◌then◌else◌, List, Option, Some, unwrap_or, IsSome}
+use Rattle.std.specs.Prelude.{◌≡◌, ℕ, ◌+◌, ◌≤◌, if◌then◌else◌, List, Option, None, Some, slice_index_or, unwrap_or, IsSome}
 use Rattle.std.specs.List.{count_by}
 use Rattle.std.specs.Ordering.{nat_cmp}
 use Rattle.std.specs.BTreeMap.{BTreeMap, get}
@@ -15,9 +15,13 @@ use Rattle.pmt_causes.specs.Tables.{events_with, has_key, is_flush, is_store}
 abbrev pub counts_of : ℕ → ℕ → ℕ → Counts
 counts_of stores flushes fences = record { stores = stores; flushes = flushes; fences = fences }
 
--- The counts of the key; zeros where it has none.
-abbrev pub counts_in : BTreeMap ℕ Counts → ℕ → Counts
-counts_in table k = unwrap_or (get nat_cmp table k) (counts_of 0 0 0)
+-- The counts of the key that are found; zeros where none are.
+abbrev pub counts_in : (ℕ → Option Counts) → ℕ → Counts
+counts_in find k = unwrap_or (find k) (counts_of 0 0 0)
+
+-- What stands at the key in a list.
+abbrev pub listed_at : List (Option Counts) → ℕ → Option Counts
+listed_at list k = slice_index_or list k None
 
 -- The counts with one more op.
 abbrev pub with_op : Op → Counts → Counts
@@ -26,11 +30,11 @@ with_op op c = counts_of (c.stores + (if is_store op then 1 else 0)) (c.flushes 
 abbrev pub IsFew : Counts → Type 0
 IsFew c = (c.stores ≤ event_limit) × (c.flushes ≤ event_limit) × (c.fences ≤ event_limit)
 
--- The table has the keys and the counts of the first n events.
-pub record AreCounts (T : Recording) (key : ℕ → Option ℕ) (n : ℕ) (table : BTreeMap ℕ Counts) : Type 0 where
-  pub counts : (k : ℕ) → counts_in table k ≡ counts_of (events_with T key k is_store n) (events_with T key k is_flush n) (events_with T key k is_fence n)
-  pub some : (k : ℕ) → IsSome (get nat_cmp table k) → (i : ℕ) × (key i ≡ Some k)
-  pub every : (i k : ℕ) → i ≤ n → key i ≡ Some k → IsSome (get nat_cmp table k)
+-- What is found has the keys and the counts of the first n events.
+pub record AreCounts (T : Recording) (key : ℕ → Option ℕ) (n : ℕ) (find : ℕ → Option Counts) : Type 0 where
+  pub counts : (k : ℕ) → counts_in find k ≡ counts_of (events_with T key k is_store n) (events_with T key k is_flush n) (events_with T key k is_fence n)
+  pub some : (k : ℕ) → IsSome (find k) → (i : ℕ) × (key i ≡ Some k)
+  pub every : (i k : ℕ) → i ≤ n → key i ≡ Some k → IsSome (find k)
 
 -- Of each key how many of these dropped events have it.
 abbrev pub AreDrops : (ℕ → Option ℕ) → List Dropped → Numbers → Type 0
@@ -40,8 +44,8 @@ AreDrops key dropped drops = (k : ℕ) → number_at 0 drops k ≡ count_by (λ 
 abbrev pub row_in : BTreeMap ℕ Counts → Numbers → ℕ → Row ℕ
 row_in table drops k = record {
   key = k;
-  stores = (counts_in table k).stores;
-  flushes = (counts_in table k).flushes;
-  fences = (counts_in table k).fences;
+  stores = (counts_in (get nat_cmp table) k).stores;
+  flushes = (counts_in (get nat_cmp table) k).flushes;
+  fences = (counts_in (get nat_cmp table) k).fences;
   dropped = number_at 0 drops k;
 }

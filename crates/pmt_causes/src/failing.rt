@@ -34,7 +34,25 @@ pub fn failure_groups(
 ) -> Result<Vec<Group<FailureKey>>, OutOfMemory>
     ensures { IfOk result (λ gs. AreFailureGroups trace.now labels.now numbers.now gs.items) }
 {
-    let items = failure_items(alloc, trace, labels, numbers)?;
+    let safe = safe_places(alloc, trace)?;
+    failure_groups_by(alloc, trace, safe.as_slice(), labels, numbers)
+}
+
+/// What `failure_groups` tells, where `safe` has the places that `safe_places` of pmt_explain gives.
+///
+/// # Errors
+/// Where memory was refused.
+pub fn failure_groups_by(
+    alloc: Global,
+    trace: &Trace,
+    safe: &[u64],
+    labels: &[Option<u64>],
+    numbers: &[u64],
+) -> Result<Vec<Group<FailureKey>>, OutOfMemory>
+    requires { AreSafePlaces trace.now safe.now }
+    ensures { IfOk result (λ gs. AreFailureGroups trace.now labels.now numbers.now gs.items) }
+{
+    let items = failure_items(alloc, trace, safe, labels, numbers)?;
     groups(alloc, items.as_slice())
 }
 
@@ -42,12 +60,13 @@ pub fn failure_groups(
 fn failure_items(
     alloc: Global,
     trace: &Trace,
+    safe: &[u64],
     labels: &[Option<u64>],
     numbers: &[u64],
 ) -> Result<Vec<Keyed<FailureKey>>, OutOfMemory>
+    requires { AreSafePlaces trace.now safe.now }
     ensures { IfOk result (λ items. AreKeyed trace.now labels.now numbers.now items.items) }
 {
-    let safe = safe_places(alloc, trace)?;
     let flushes = next_flushes(alloc, trace)?;
     let mut writers = LastWriters::new(alloc);
     let mut items = Vec::new(alloc);
@@ -56,7 +75,7 @@ fn failure_items(
             alloc,
             trace,
             labels,
-            safe.as_slice(),
+            safe,
             flushes.as_slice(),
             &mut writers,
             *number,

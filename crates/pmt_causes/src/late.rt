@@ -3,6 +3,7 @@
 ghost use Rattle.std.specs.Prelude.{◌≡◌, ◌<◌, ◌∷◌, [], ◌++◌, length, map, replicate, nat_le, IfOk, OnOk};
 ghost use Rattle.std.specs.List.{count_by};
 ghost use Rattle.std.specs.List.Sorted.{IsNonDecreasingBy};
+ghost use Rattle.pmt_explain.specs.Saving.{AreSafePlaces};
 ghost use Rattle.pmt_causes.specs.Fences.{AreFences, list_by, wait_of, with_fence};
 ghost use Rattle.pmt_causes.specs.Late.{AreLateGroups, AreWaited, late_items as late_items_in, late_spot as late_spot_in, spot_of_op as spot_of_op_in, with_spot};
 
@@ -33,6 +34,17 @@ pub fn fences_waited(alloc: Global, trace: &Trace) -> Result<Vec<u64>, OutOfMemo
     ensures { IfOk result (λ list. AreWaited trace.now list.items) }
 {
     let safe = safe_places(alloc, trace)?;
+    fences_waited_by(alloc, trace, safe.as_slice())
+}
+
+/// What `fences_waited` tells, where `safe` has the places that `safe_places` of pmt_explain gives.
+///
+/// # Errors
+/// Where memory was refused.
+pub fn fences_waited_by(alloc: Global, trace: &Trace, safe: &[u64]) -> Result<Vec<u64>, OutOfMemory>
+    requires { AreSafePlaces trace.now safe.now }
+    ensures { IfOk result (λ list. AreWaited trace.now list.items) }
+{
     let fences = all_fences(alloc, trace)?;
     let events = trace.events();
     let mut waited = vec![in alloc; 0; events.len()]?;
@@ -57,7 +69,23 @@ pub fn late_groups(
     ensures { IfOk result (λ gs. AreLateGroups trace.now labels.now gs.items) }
 {
     let waited = fences_waited(alloc, trace)?;
-    let items = late_items(alloc, trace, labels, waited.as_slice())?;
+    late_groups_by(alloc, trace, labels, waited.as_slice())
+}
+
+/// What `late_groups` tells, where `waited` has the counts that `fences_waited` gives.
+///
+/// # Errors
+/// Where memory was refused.
+pub fn late_groups_by(
+    alloc: Global,
+    trace: &Trace,
+    labels: &[Option<u64>],
+    waited: &[u64],
+) -> Result<Vec<Group<LateSpot>>, OutOfMemory>
+    requires { AreWaited trace.now waited.now }
+    ensures { IfOk result (λ gs. AreLateGroups trace.now labels.now gs.items) }
+{
+    let items = late_items(alloc, trace, labels, waited)?;
     groups(alloc, items.as_slice())
 }
 

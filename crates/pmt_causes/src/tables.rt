@@ -1,13 +1,13 @@
 //! Tables of what threads and labels have in a trace.
 
-ghost use Rattle.std.specs.Prelude.{◌≡◌, ◌+◌, ◌-◌, ◌^◌, ◌<◌, ◌||◌, ℕ, if◌then◌else◌, length, map, Some, is_some, IfOk, OnOk};
+ghost use Rattle.std.specs.Prelude.{◌≡◌, ◌==◌, ◌+◌, ◌-◌, ◌^◌, ◌<◌, ◌&&◌, ◌||◌, ℕ, if◌then◌else◌, length, map, Some, is_some, IfOk, OnOk};
 ghost use Rattle.std.specs.List.{All};
 ghost use Rattle.std.specs.Ordering.{nat_cmp};
 ghost use Rattle.std.specs.BTreeMap.{IsOrdered, get, keys};
 ghost use Rattle.pmt_model.specs.Traces.{IsTrace};
 ghost use Rattle.pmt_explain.specs.Numbers.{number_at};
-ghost use Rattle.pmt_causes.specs.Tables.{AreThreadRows, AreLabelRows, AreRows, HasLowerKey, label_at, has_key};
-ghost use Rattle.pmt_causes.specs.Tallies.{AreCounts, AreDrops, IsFew, counts_in, row_in, with_op};
+ghost use Rattle.pmt_causes.specs.Tables.{AreThreadRows, AreLabelRows, AreRows, HasLowerKey, label_at, has_key, thread_of};
+ghost use Rattle.pmt_causes.specs.Tallies.{AreCounts, AreDrops, IsFew, counts_in, counts_of, listed_at, row_in, with_op};
 
 use crate::labels::label_of;
 use pmt_explain::Dropped;
@@ -47,7 +47,7 @@ type Drops = HashMap<u64, u64>;
 /// What each thread has that has an event, by rising thread. `dropped` are the dropped events: each entry counts that names an event
 /// of the trace.
 ///
-/// It takes three looks at each event.
+/// It takes one look at each event.
 ///
 /// # Errors
 /// Where memory was refused.
@@ -58,8 +58,10 @@ pub fn thread_table(
 ) -> Result<Vec<Row<u8>>, OutOfMemory>
     ensures { IfOk result (λ rows. AreThreadRows trace.now dropped.now rows.items) }
 {
-    let threads = threads_of(alloc, trace)?;
-    let rows = rows_of(alloc, trace, threads.as_slice(), dropped)?;
+    let counts = thread_counts(trace);
+    let table = table_of(alloc, &counts)?;
+    let drops = thread_drops(alloc, trace, dropped)?;
+    let rows = listed(alloc, &table, &drops)?;
     thread_rows(alloc, rows.as_slice())
 }
 
@@ -91,16 +93,87 @@ fn rank_of(row: &Row<u64>) -> u64
     u64::MAX - row.dropped
 }
 
-// Of each event its thread.
-fn threads_of(alloc: Global, trace: &Trace) -> Result<Vec<Option<u64>>, OutOfMemory>
-    ensures threads { IfOk result (λ list. list.items ≡ map (λ e. Some e.thread) trace.now.events) }
+// The counts of each thread that has an event.
+fn thread_counts(trace: &Trace) -> [Option<Counts>; 256]
+    ensures counts { AreCounts trace.now (thread_of trace.now) (length trace.now.events) (listed_at result) }
+    ensures size { length result ≡ 256 }
     ensures is_trace { IsTrace trace.now }
 {
-    trace
-        .events()
-        .iter()
-        .map(|event| Some(event.thread as u64))
-        .collect(alloc)
+    let events = trace.events();
+    let mut counts = [None; 256];
+    for index in 0..events.len() {
+        let event = events[index];
+        count_thread(&mut counts, event.thread, event.op);
+    }
+    counts
+}
+
+// Counts an event of this thread.
+fn count_thread(counts: &mut [Option<Counts>; 256], thread: u8, op: Op)
+    requires { (k : ℕ) → IsFew (counts_in (listed_at counts.old) k) }
+    ensures counts { (k : ℕ) → counts_in (listed_at counts.new) k ≡ (if has_key k (Some thread) then with_op op (counts_in (listed_at counts.old) k) else counts_in (listed_at counts.old) k) }
+    ensures keys { (k : ℕ) → is_some (listed_at counts.new k) ≡ (has_key k (Some thread) || is_some (listed_at counts.old k)) }
+    ensures size { length counts.new ≡ length counts.old }
+{
+    let old = counts[thread as usize].unwrap_or(no_counts());
+    counts[thread as usize] = Some(counted_with(old, op));
+}
+
+// The counts of no event.
+fn no_counts() -> Counts
+    ensures { result ≡ counts_of 0 0 0 }
+{
+    Counts {
+        stores: 0,
+        flushes: 0,
+        fences: 0,
+    }
+}
+
+// These counts as a table.
+fn table_of(alloc: Global, counts: &[Option<Counts>; 256]) -> Result<Table, OutOfMemory>
+    requires { length counts.now ≡ 256 }
+    ensures { IfOk result (λ table. (k : ℕ) → get nat_cmp table k ≡ listed_at counts.now k) }
+{
+    let mut table = BTreeMap::new(alloc);
+    for key in 0..256u64 {
+        put_counts(&mut table, key, counts[key as usize])?;
+    }
+    Ok(table)
+}
+
+// The key gets these counts, if there are any.
+fn put_counts(table: &mut Table, key: u64, counts: Option<Counts>) -> Result<(), OutOfMemory>
+    ensures { OnOk result ((k : ℕ) → get nat_cmp table.new k ≡ (if key == k && is_some counts then counts else get nat_cmp table.old k)) }
+{
+    match counts {
+        None => Ok(()),
+        Some(counts) => {
+            table.insert(key, counts)?;
+            Ok(())
+        }
+    }
+}
+
+// How many of the dropped events each thread has.
+fn thread_drops(alloc: Global, trace: &Trace, dropped: &[Dropped]) -> Result<Drops, OutOfMemory>
+    ensures { IfOk result (AreDrops (thread_of trace.now) dropped.now) }
+{
+    let mut drops = HashMap::new(alloc);
+    for entry in dropped {
+        count_drop(&mut drops, thread_at(trace, entry.event))?;
+    }
+    Ok(drops)
+}
+
+// The thread of the event with this number, where the trace has one.
+fn thread_at(trace: &Trace, number: u64) -> Option<u64>
+    ensures { result ≡ thread_of trace.now number }
+{
+    let Some(event) = trace.get(number) else {
+        return None;
+    };
+    Some(event.thread as u64)
 }
 
 // These rows as rows of threads.
@@ -162,7 +235,7 @@ fn row_of(table: &Table, drops: &Drops, key: u64) -> Row<u64>
 
 // The counts of the events with these keys.
 fn counts_of(alloc: Global, trace: &Trace, keys: &[Option<u64>]) -> Result<Table, OutOfMemory>
-    ensures { IfOk result (AreCounts trace.now (label_at trace.now keys.now) (length trace.now.events)) }
+    ensures { IfOk result (λ table. AreCounts trace.now (label_at trace.now keys.now) (length trace.now.events) (get nat_cmp table)) }
 {
     let events = trace.events();
     let mut table = BTreeMap::new(alloc);
@@ -175,8 +248,8 @@ fn counts_of(alloc: Global, trace: &Trace, keys: &[Option<u64>]) -> Result<Table
 
 // Counts an event with this key.
 fn count_event(table: &mut Table, key: Option<u64>, op: Op) -> Result<(), OutOfMemory>
-    requires { (k : ℕ) → IsFew (counts_in table.old k) }
-    ensures counts { OnOk result ((k : ℕ) → counts_in table.new k ≡ (if has_key k key then with_op op (counts_in table.old k) else counts_in table.old k)) }
+    requires { (k : ℕ) → IsFew (counts_in (get nat_cmp table.old) k) }
+    ensures counts { OnOk result ((k : ℕ) → counts_in (get nat_cmp table.new) k ≡ (if has_key k key then with_op op (counts_in (get nat_cmp table.old) k) else counts_in (get nat_cmp table.old) k)) }
     ensures keys { OnOk result ((k : ℕ) → is_some (get nat_cmp table.new k) ≡ (has_key k key || is_some (get nat_cmp table.old k))) }
 {
     match key {
@@ -191,15 +264,11 @@ fn count_event(table: &mut Table, key: Option<u64>, op: Op) -> Result<(), OutOfM
 
 // The counts of the key; none where the table does not have it.
 fn count_in(table: &Table, key: u64) -> Counts
-    ensures { result ≡ counts_in table.now key }
+    ensures { result ≡ counts_in (get nat_cmp table.now) key }
 {
     match table.get(&key) {
         Some(counts) => *counts,
-        None => Counts {
-            stores: 0,
-            flushes: 0,
-            fences: 0,
-        },
+        None => no_counts(),
     }
 }
 

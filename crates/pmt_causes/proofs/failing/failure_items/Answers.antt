@@ -1,16 +1,12 @@
 use Rattle.std.proofs.Common.{◌++◌, ◌∷◌, [], take, get_or, sym, subst}
 use Rattle.std.proofs.lemmas.List.{take_more}
-use Rattle.pmt_explain.specs.Saving.{AreSafePlaces}
 use Rattle.pmt_causes.specs.Flushing.{AreNextFlushes}
 use Rattle.pmt_causes.specs.FailureKeys.{AreKeyed}
 use Rattle.pmt_causes.proofs.KeyLemmas.{keyed-more}
 use Rattle.pmt_causes.proofs.failing.failure_items.Goals as goal
 
-pub key_at-requires-clause-safe : goal.key_at-requires-clause-safe
-key_at-requires-clause-safe c = subst (AreSafePlaces c.args.trace.now) (sym c.as_slice.ensures.value) c.in_ok-safe.ensures
-
 pub key_at-requires-clause-flushes : goal.key_at-requires-clause-flushes
-key_at-requires-clause-flushes c = subst (AreNextFlushes c.args.trace.now) (sym c.as_slice-in-loop-number.ensures.value) c.in_ok-flushes.ensures
+key_at-requires-clause-flushes c = subst (AreNextFlushes c.args.trace.now) (sym c.as_slice.ensures.value) c.in_ok-flushes.ensures
 
 pub loop-number-preserved : goal.loop-number-preserved
 loop-number-preserved c =

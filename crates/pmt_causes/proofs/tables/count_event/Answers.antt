@@ -15,7 +15,7 @@ returns-in_ok-insert-in-Some-clause-counts c =
     let old = c.args.table.now in
     let value = c.counted_with.ensures ∙ ap (with_op c.args.op) c.count_in-old.ensures in
     λ k. counts-inserted old c.insert.new.self c.in-Some.key c.args.op c.counted_with.result c.in_ok-insert-in-Some.ensures.updates value k
-    ∙ ap (λ o. if has_key k o then with_op c.args.op (counts_in old k) else counts_in old k) (sym c.in-Some.is)
+    ∙ ap (λ o. if has_key k o then with_op c.args.op (counts_in (get nat_cmp old) k) else counts_in (get nat_cmp old) k) (sym c.in-Some.is)
 
 pub returns-in_ok-insert-in-Some-clause-keys : goal.returns-in_ok-insert-in-Some-clause-keys
 returns-in_ok-insert-in-Some-clause-keys c =

@@ -2,7 +2,7 @@ use Rattle.std.proofs.Common.{subst}
 use Rattle.std.proofs.lemmas.Result.{IfOk-weaker}
 use Rattle.pmt_causes.specs.Groups.{AreGrouped}
 use Rattle.pmt_causes.proofs.ExactFailures.{failure-exact}
-use Rattle.pmt_causes.proofs.failing.failure_groups.Goals as goal
+use Rattle.pmt_causes.proofs.failing.failure_groups_by.Goals as goal
 
 pub groups-requires : goal.groups-requires
 groups-requires c = record { exact = failure-exact }
