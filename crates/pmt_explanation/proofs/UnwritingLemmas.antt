@@ -1,10 +1,12 @@
 -- What is told of the events of a trace, one event more.
-use Rattle.std.proofs.Common.{◌≡◌, ℕ, zero, suc, ◌+◌, ◌<◌, length, get_or, Bool, true, false, ◌||◌, List, [], ◌∷◌, ◌++◌, Option, Some, None, refl, sym, ap, ◌∙◌, arith}
+use Rattle.std.proofs.Common.{◌≡◌, ℕ, zero, suc, ◌+◌, ◌<◌, ◌≤◌, ◌⊎◌, inl, inr, length, get_or, Bool, true, false, ◌||◌, List, [], ◌∷◌, ◌++◌, Option, Some, None, refl, sym, ap, ◌∙◌, arith, true≢false}
 use Rattle.std.specs.Prelude.{is_some, if◌then◌else◌, slice_get}
 use Rattle.std.specs.Option.{option_to_list}
 use Rattle.std.specs.List.{list_any, cons_option, filter_map, range_with_len}
+use Rattle.std.proofs.lemmas.Bool.{cases_lt}
+use Rattle.std.proofs.lemmas.List.{append-nil}
 use Rattle.std.proofs.lemmas.List.Elements.{filter_map-append}
-use Rattle.std.proofs.lemmas.Option.{slice_get-get_or}
+use Rattle.std.proofs.lemmas.Option.{same_Some, slice_get-get_or}
 use Rattle.pmt_model.specs.Values.{Layout, Span}
 use Rattle.pmt_model.specs.declared.event.Event.{Event}
 use Rattle.pmt_model.specs.declared.event.Op.{Op}
@@ -15,7 +17,7 @@ use Rattle.pmt_model.specs.Assertions.{last_store}
 use Rattle.pmt_laws.proofs.Histories.{history-suc}
 use Rattle.pmt_explain.specs.LastStores.{written_by}
 use Rattle.pmt_explanation.specs.declared.unwritten.Unwritten.{Unwritten}
-use Rattle.pmt_explanation.specs.Unwriting.{is_written, unless_written, entry_of, op_unwritten, event_unwritten, unwritten_at, unwritten_among}
+use Rattle.pmt_explanation.specs.Unwriting.{is_claim, is_written, unless_written, entry_of, op_unwritten, event_unwritten, unwritten_at, unwritten_among}
 
 -- ---- The bytes that are written, one event more
 
@@ -94,3 +96,39 @@ bytes-next T n e old new is before more b =
 
 pub event-is : (T : Recording) (es : List Event) (i : ℕ) (e : Event) → es ≡ T.events → i < length es → e ≡ get_or es i e → event T (suc i) ≡ Some e
 event-is T es i e events within is = ap (λ xs. slice_get xs i) (sym events) ∙ slice_get-get_or es i e within ∙ ap Some (sym is)
+
+-- ---- Events that are no assertions
+
+silent : (p : ℕ → Bool) (i : ℕ) (op : Op) → is_claim op ≡ false → op_unwritten p i op ≡ None
+silent p i (Store w) quiet = refl
+silent p i (Clwb a) quiet = refl
+silent p i (ClflushOpt a) quiet = refl
+silent p i (Clflush a) quiet = refl
+silent p i Sfence quiet = refl
+silent p i Mfence quiet = refl
+silent p i (IsPersist r) quiet = absurd (true≢false quiet)
+silent p i (IsOrderedBefore r s) quiet = absurd (true≢false quiet)
+
+silent-at : (T : Recording) (k : ℕ) → ((e : Event) → slice_get T.events k ≡ Some e → is_claim e.op ≡ false) → unwritten_at T (suc k) ≡ None
+silent-at T k quiet = go (slice_get T.events k) refl
+  where
+    go : (o : Option Event) → slice_get T.events k ≡ o → unwritten_at T (suc k) ≡ None
+    go None is = ap (λ (o : Option Event). event_unwritten (is_written (history T (suc k))) (suc k) o) is
+    go (Some e) is = ap (λ (o : Option Event). event_unwritten (is_written (history T (suc k))) (suc k) o) is ∙ silent (is_written (history T (suc k))) (suc k) e.op (quiet e is)
+
+pub silent-more : (es : List Event) (i : ℕ) (e : Event) → slice_get es i ≡ Some e → is_claim e.op ≡ false → ((k : ℕ) (x : Event) → suc i ≤ k → slice_get es k ≡ Some x → is_claim x.op ≡ false) →
+    (k : ℕ) (x : Event) → i ≤ k → slice_get es k ≡ Some x → is_claim x.op ≡ false
+silent-more es i e here quiet rest k x from is = go (cases_lt i k)
+  where
+    go : (i < k) ⊎ (k ≤ i) → is_claim x.op ≡ false
+    go (inl later) = rest k x later is
+    go (inr upto) =
+        let place : k ≡ i = omega arith in
+        let same : x ≡ e = same_Some x e (sym is ∙ ap (slice_get es) place ∙ here) in
+        ap (λ (y : Event). is_claim y.op) same ∙ quiet
+
+pub silent-rest : (T : Recording) (n m : ℕ) → ((k : ℕ) (e : Event) → n ≤ k → slice_get T.events k ≡ Some e → is_claim e.op ≡ false) → unwritten_among T (n + m) ≡ unwritten_among T n
+silent-rest T n zero quiet = let same : n + 0 ≡ n = omega arith in ap (unwritten_among T) same
+silent-rest T n (suc m) quiet =
+    let next : n + suc m ≡ suc (n + m) = omega arith in
+    ap (unwritten_among T) next ∙ among-next T (n + m) None (silent-at T (n + m) (λ e is. quiet (n + m) e (omega arith) is)) ∙ append-nil (unwritten_among T (n + m)) ∙ silent-rest T n m quiet

@@ -1,5 +1,5 @@
 -- The bytes that stores have written, word by word.
-use Rattle.std.proofs.Common.{◌≡◌, ℕ, zero, suc, ◌+◌, ◌-◌, ◌*◌, ◌/◌, ◌%◌, ◌<◌, ◌≤◌, min, inl, inr, Bool, true, false, ◌&&◌, ◌||◌, List, length, get_or, set, Option, None, Some, [], refl, sym, ap, ◌∙◌, arith}
+use Rattle.std.proofs.Common.{◌≡◌, ℕ, zero, suc, ◌+◌, ◌-◌, ◌*◌, ◌/◌, ◌%◌, ◌<◌, ◌≤◌, ◌⊎◌, min, inl, inr, Bool, true, false, ◌&&◌, ◌||◌, List, length, get_or, set, Option, None, Some, [], refl, sym, ap, ◌∙◌, arith}
 use Rattle.std.specs.Prelude.{cond, nat_eq, nat_le, nat_lt, unwrap_or, replicate}
 use Rattle.std.specs.List.{list_any, range_with_len}
 use Rattle.std.specs.HashMap.{get}
@@ -96,18 +96,17 @@ read-word words number bytes is k = ap (λ (bs : List Bool). get_or bs k false) 
 pub has-none : (words : WrittenBytes) → words.words.entries ≡ [] → (b : ℕ) → has_byte words b ≡ false
 has-none words none b = ap (λ (es : List (ℕ × List Bool)). word_has (lookup (nat_eq (b / 8)) es) (b % 8)) none
 
-pub noted : (old new : WrittenBytes) (first len : ℕ) (before after : List Bool) → first % 8 + len ≤ 8 →
-    ((k : ℕ) → get_or before k false ≡ word_has (get nat_eq old.words (first / 8)) k) →
-    ((k : ℕ) → get_or after k false ≡ (nat_le (first % 8) k && nat_lt k (first % 8 + len) || get_or before k false)) →
+pub noted : (old new : WrittenBytes) (first len : ℕ) (after : List Bool) → first % 8 + len ≤ 8 →
+    ((k : ℕ) → k < 8 → get_or after k false ≡ (nat_le (first % 8) k && nat_lt k (first % 8 + len) || word_has (get nat_eq old.words (first / 8)) k)) →
     ((q : ℕ) → get nat_eq new.words q ≡ cond (nat_eq (first / 8) q) (Some after) (get nat_eq old.words q)) →
     (b : ℕ) → has_byte new b ≡ (nat_le first b && nat_lt (b - first) len || has_byte old b)
-noted old new first len before after inside same more put b = elim (cases_eq (first / 8) (b / 8)) [
+noted old new first len after inside more put b = elim (cases_eq (first / 8) (b / 8)) [
   | inl e ↦
       let here : get nat_eq new.words (b / 8) ≡ Some after = put (b / 8) ∙ cond-true (nat_eq (first / 8) (b / 8)) (Some after) (get nat_eq old.words (b / 8)) (eq-eqb (first / 8) (b / 8) e) in
       ap (λ (o : Option (List Bool)). word_has o (b % 8)) here
-      ∙ more (b % 8)
-      ∙ ap (λ (t : Bool). t || get_or before (b % 8) false) (in-word first len b e)
-      ∙ ap (λ (t : Bool). nat_le first b && nat_lt (b - first) len || t) (same (b % 8) ∙ ap (λ (n : ℕ). word_has (get nat_eq old.words n) (b % 8)) e)
+      ∙ more (b % 8) (omega arith)
+      ∙ ap (λ (t : Bool). t || word_has (get nat_eq old.words (first / 8)) (b % 8)) (in-word first len b e)
+      ∙ ap (λ (n : ℕ). nat_le first b && nat_lt (b - first) len || word_has (get nat_eq old.words n) (b % 8)) e
   | inr apart ↦
       let here : get nat_eq new.words (b / 8) ≡ get nat_eq old.words (b / 8) =
       put (b / 8) ∙ cond-false (nat_eq (first / 8) (b / 8)) (Some after) (get nat_eq old.words (b / 8)) (ne_eqb (first / 8) (b / 8) apart) in
@@ -115,15 +114,27 @@ noted old new first len before after inside same more put b = elim (cases_eq (fi
 ]
 
 pub noted-store : (old new : WrittenBytes) (w : Written) (first len : ℕ) (before after : List Bool) → IsStore w → first ≡ w.addr → len ≡ length w.bytes →
-    before ≡ unwrap_or (get nat_eq old.words (first / 8)) (replicate 8 false) →
+    (len < 8 → before ≡ unwrap_or (get nat_eq old.words (first / 8)) (replicate 8 false)) →
     ((k : ℕ) → get_or after k false ≡ (nat_le (first % 8) k && nat_lt k (first % 8 + len) || get_or before k false)) →
     ((q : ℕ) → get nat_eq new.words q ≡ cond (nat_eq (first / 8) q) (Some after) (get nat_eq old.words q)) →
     (b : ℕ) → has_byte new b ≡ (writes w b || has_byte old b)
 noted-store old new w first len before after is from size was more put b =
     let fits : first % 8 + len ≤ 8 = omega (arith, is.inside, ap (λ (a : ℕ). a % 8) from) in
-    noted old new first len before after fits (read-word old (first / 8) before was) more put b
+    noted old new first len after fits (λ k below. more k ∙ both k below (cases_lt len 8)) put b
     ∙ ap (λ (a : ℕ). nat_le a b && nat_lt (b - a) len || has_byte old b) from
     ∙ ap (λ (n : ℕ). nat_le w.addr b && nat_lt (b - w.addr) n || has_byte old b) size
+  where
+    inside : first % 8 + len ≤ 8
+    inside = omega (arith, is.inside, ap (λ (a : ℕ). a % 8) from)
+
+    test : ℕ → Bool
+    test k = nat_le (first % 8) k && nat_lt k (first % 8 + len)
+
+    both : (k : ℕ) → k < 8 → (len < 8) ⊎ (8 ≤ len) → (test k || get_or before k false) ≡ (test k || word_has (get nat_eq old.words (first / 8)) k)
+    both k below (inl part) = ap (λ (t : Bool). test k || t) (read-word old (first / 8) before (was part) k)
+    both k below (inr whole) =
+        let yes : test k ≡ true = and_from (nat_le (first % 8) k) (nat_lt k (first % 8 + len)) (le-leb (first % 8) k (omega (arith, inside))) (lt-ltb k (first % 8 + len) (omega arith)) in
+        ap (λ (t : Bool). t || get_or before k false) yes ∙ sym (ap (λ (t : Bool). t || word_has (get nat_eq old.words (first / 8)) k) yes)
 
 -- ---- A range, word by word
 

@@ -1,5 +1,5 @@
 -- Assertions on bytes that no store has written.
-use Rattle.std.specs.Prelude.{ℕ, ◌/◌, ◌%◌, ◌||◌, nat_eq, if◌then◌else◌, Bool, false, List, length, Option, None, Some, is_some, slice_index_or}
+use Rattle.std.specs.Prelude.{ℕ, ◌/◌, ◌%◌, ◌||◌, nat_eq, if◌then◌else◌, Bool, false, true, List, length, Option, None, Some, is_some, slice_index_or}
 use Rattle.std.specs.List.{list_any, filter_map, range_with_len}
 use Rattle.std.specs.HashMap.{get}
 use Rattle.pmt_model.specs.Values.{Span}
@@ -15,6 +15,16 @@ use Rattle.pmt_explanation.specs.declared.written.WrittenBytes.{WrittenBytes}
 -- A store of the history writes the byte at b.
 abbrev pub is_written : List Act → ℕ → Bool
 is_written history b = is_some (last_store b history)
+
+abbrev pub is_claim : Op → Bool
+is_claim (Store w) = false
+is_claim (Clwb a) = false
+is_claim (ClflushOpt a) = false
+is_claim (Clflush a) = false
+is_claim Sfence = false
+is_claim Mfence = false
+is_claim (IsPersist r) = true
+is_claim (IsOrderedBefore r q) = true
 
 -- The range, if none of its bytes is written.
 abbrev pub unless_written : (ℕ → Bool) → Span → Option Span

@@ -1,10 +1,10 @@
 //! Assertions on bytes that no store has written.
-ghost use Rattle.std.specs.Prelude.{◌≡◌, ◌++◌, IfOk, OnOk};
+ghost use Rattle.std.specs.Prelude.{◌≡◌, ◌≤◌, ◌++◌, ℕ, false, length, slice_get, Some, IfOk, OnOk};
 ghost use Rattle.std.specs.Option.{option_to_list};
-ghost use Rattle.pmt_explanation.specs.Unwriting.{entry_of as entry_in, first_unwritten as first_in, has_byte, op_unwritten, second_unwritten as second_in, unless_written as unless_in, unwritten_of};
+ghost use Rattle.pmt_explanation.specs.Unwriting.{is_claim as op_claims, entry_of as entry_in, first_unwritten as first_in, has_byte, op_unwritten, second_unwritten as second_in, unless_written as unless_in, unwritten_of};
 
 use crate::written::WrittenBytes;
-use pmt_model::{Op, OutOfMemory, Range, Trace};
+use pmt_model::{Event, Op, OutOfMemory, Range, Trace};
 use std::alloc::Global;
 
 /// An assertion of which no store has written a byte of a range by then: that range demands nothing.
@@ -18,7 +18,8 @@ pub struct Unwritten {
     pub second: Option<Range>,
 }
 
-/// The assertions that speak of a range none of whose bytes is written by then, by rising event number.
+/// The assertions that speak of a range none of whose bytes is written by then, by rising event number. No event after the last
+/// assertion is looked at twice.
 ///
 /// # Errors
 /// Where memory was refused.
@@ -28,12 +29,37 @@ pub fn unwritten_assertions(alloc: Global, trace: &Trace) -> Result<Vec<Unwritte
     let mut found = Vec::new(alloc);
     let mut written = WrittenBytes::new(alloc);
     let events = trace.events();
-    for index in 0..events.len() {
+    for index in 0..claims_end(events) {
         let event = events[index];
         note_assertion(&mut found, &written, index as u64 + 1, &event.op)?;
         written.note(event.op)?;
     }
     Ok(found)
+}
+
+// How many events there are up to the last assertion.
+fn claims_end(events: &[Event]) -> usize
+    ensures within { result ≤ length events.now }
+    ensures rest { (k : ℕ) (e : Event) → result ≤ k → slice_get events.now k ≡ Some e → op_claims e.op ≡ false }
+{
+    for index in (0..events.len()).rev() {
+        let event = events[index];
+        if is_claim(event.op) {
+            return index + 1;
+        }
+    }
+    0
+}
+
+// Whether the op is an assertion.
+fn is_claim(op: Op) -> bool
+    ensures { result ≡ op_claims op }
+{
+    match op {
+        Op::IsPersist(_) | Op::IsOrderedBefore(_, _) => true,
+        Op::Store(_) | Op::Clwb(_) | Op::ClflushOpt(_) | Op::Clflush(_) | Op::Sfence | Op::Mfence =>
+            false,
+    }
 }
 
 // Adds what is told of the op at this event, where these bytes are written.

@@ -52,10 +52,21 @@ impl WrittenBytes {
     {
         let first = store.addr().get();
         let len = store.bytes().len();
-        let before = self.word(first / 8);
+        let before = self.others(first / 8, len);
         let after = with_bytes(before, (first % 8) as usize, len);
         self.words.insert(first / 8, after)?;
         Ok(())
+    }
+
+    // Which bytes of the aligned word with this number are written. Of a store to all of them it need not be known.
+    fn others(&self, number: u64, len: usize) -> [bool; 8]
+        ensures { len < 8 → result ≡ unwrap_or (get nat_eq self.now.words number) (replicate 8 false) }
+    {
+        if len < 8 {
+            self.word(number)
+        } else {
+            [false; 8]
+        }
     }
 
     // Which bytes of the aligned word with this number are written.
