@@ -1,29 +1,23 @@
 //! The explanation of a trace.
-ghost use Rattle.std.specs.Prelude.{◌≡◌, IfOk, count_by, is_some};
-ghost use Rattle.pmt_explanation.specs.Asking.{asked_numbers as numbers_asked, asked_pairs as pairs_asked, asked_unwritten};
-ghost use Rattle.pmt_explain.specs.LostGroups.{AreLostGroups};
-ghost use Rattle.pmt_explain.specs.OverwrittenGroups.{AreOverwrittenGroups};
-ghost use Rattle.pmt_explanation.specs.Unwriting.{unwritten_of};
-ghost use Rattle.pmt_explanation.specs.declared.choosing.Kind.TheVariants.{NeverPersisted};
+ghost use Rattle.std.specs.Prelude.{◌≡◌, IfOk};
+ghost use Rattle.pmt_explanation.specs.Asking.{asked_unwritten};
 ghost use Rattle.pmt_explanation.specs.Explaining.{IsExplanation, has_failed as fails};
-ghost use Rattle.pmt_explanation.specs.Ignoring.{lost_store as lost_of, overwriting as overwriting_of};
+ghost use Rattle.pmt_explanation.specs.Unwriting.{unwritten_of};
 
-use crate::asking::{asked_drops, asked_numbers, asked_pairs, asked_unwrittens};
-use crate::causing::{asked_late, causes_of, first_members};
-use crate::choosing::{Choice, Kind};
-use crate::failures::{ShownFailure, failing_events, shown_failures};
-use crate::ignoring::{ByteRange, lost_store, lost_stores, overwriting, overwritings};
+use crate::asking::asked_unwrittens;
+use crate::choosing::Choice;
+use crate::effects::effects_of;
+use crate::failed::failed_of;
+use crate::failures::ShownFailure;
+use crate::ignoring::ByteRange;
 use crate::labels::Labels;
+use crate::losses::losses_of;
 use crate::numbering::label_numbers;
 use crate::unwritten::{Unwritten, unwritten_assertions};
 use pmt_analysis::Analysis;
-use pmt_causes::{
-    DroppedKey, FailureKey, Group, LateSpot, Row, dropped_groups, label_table, thread_table,
-};
-use pmt_explain::{
-    Dropped, LostGroup, Overwriting, OverwrittenGroup, dropped, lost_groups, overwritten_groups,
-};
-use pmt_model::{Finding, OutOfMemory, Trace};
+use pmt_causes::{DroppedKey, FailureKey, Group, LateSpot, Row};
+use pmt_explain::{Dropped, LostGroup, OverwrittenGroup};
+use pmt_model::{OutOfMemory, Trace};
 use std::alloc::Global;
 
 /// What is asked of an explanation.
@@ -94,86 +88,33 @@ pub fn explanation_of(
     ensures analysis { IfOk result (λ x. x.analysis ≡ analysis) }
     ensures limit { IfOk result (λ x. x.limit ≡ options.now.limit) }
 {
-    let trace = analysis.trace();
-    let findings = analysis.findings();
-    let ranges = options.ignored.as_slice();
-    let choice = &options.choice;
-    let failing = failing_events(alloc, analysis.verdicts())?;
-    let asked_failing = asked_numbers(
-        alloc,
-        trace,
-        labels,
-        choice,
-        Kind::Failure,
-        failing.as_slice(),
-    )?;
-    let label_numbers = label_numbers(alloc, labels, trace.len())?;
+    let label_numbers = label_numbers(alloc, labels, analysis.trace().len())?;
     let numbers = label_numbers.as_slice();
-    let causes = causes_of(alloc, trace, numbers, asked_failing.as_slice())?;
-    let firsts = first_members(alloc, causes.as_slice())?;
-    let failures = shown_failures(alloc, trace, firsts.as_slice(), options.limit)?;
-    let stores = lost_stores(alloc, trace, findings, ranges)?;
-    let lost = asked_losses(alloc, trace, labels, choice, stores.as_slice())?;
-    let pairs = overwritings(alloc, trace, findings, ranges)?;
-    let overwritten = asked_overwritten(alloc, trace, labels, choice, pairs.as_slice())?;
-    let dropped = dropped(alloc, trace)?;
-    let asked_dropped = asked_drops(alloc, trace, labels, choice, dropped.as_slice())?;
-    let dropped_groups = dropped_groups(alloc, trace, numbers, asked_dropped.as_slice())?;
-    let late = asked_late(alloc, trace, labels, numbers, choice)?;
-    let threads = thread_table(alloc, trace, dropped.as_slice())?;
-    let labelled = label_table(alloc, trace, numbers, dropped.as_slice())?;
-    let unwritten = unwritten_asked(alloc, trace, labels, choice)?;
-    let ignored_never_persisted = count_lost(findings).saturating_sub(stores.len()) as u64;
-    let ignored_overwritten = count_overwritten(findings).saturating_sub(pairs.len()) as u64;
+    let failed = failed_of(alloc, &analysis, labels, numbers, options)?;
+    let lost = losses_of(alloc, &analysis, labels, options)?;
+    let effects = effects_of(alloc, analysis.trace(), labels, numbers, options)?;
+    let unwritten = unwritten_asked(alloc, analysis.trace(), labels, &options.choice)?;
     Ok(Explanation {
         analysis,
         limit: options.limit,
-        failing,
-        asked_failing,
+        failing: failed.failing,
+        asked_failing: failed.asked,
         label_numbers,
-        causes,
-        failures,
-        stores,
-        ignored_never_persisted,
-        lost,
-        dropped,
-        asked_dropped,
-        dropped_groups,
-        late,
-        threads,
-        labelled,
-        overwritten,
-        ignored_overwritten,
+        causes: failed.causes,
+        failures: failed.shown,
+        stores: lost.stores,
+        ignored_never_persisted: lost.ignored_stores,
+        lost: lost.groups,
+        dropped: effects.dropped,
+        asked_dropped: effects.asked_dropped,
+        dropped_groups: effects.dropped_groups,
+        late: effects.late,
+        threads: effects.threads,
+        labelled: effects.labelled,
+        overwritten: lost.overwritten,
+        ignored_overwritten: lost.ignored_pairs,
         unwritten,
     })
-}
-
-// The groups of those of these stores that are asked for.
-fn asked_losses(
-    alloc: Global,
-    trace: &Trace,
-    labels: &Labels,
-    choice: &Choice,
-    stores: &[u64],
-) -> Result<Vec<LostGroup>, OutOfMemory>
-    ensures { IfOk result (λ groups. AreLostGroups trace.now (numbers_asked trace.now labels.now choice.now NeverPersisted stores.now) groups.items) }
-{
-    let asked = asked_numbers(alloc, trace, labels, choice, Kind::NeverPersisted, stores)?;
-    lost_groups(alloc, trace, asked.as_slice())
-}
-
-// The groups of those of these pairs that are asked for.
-fn asked_overwritten(
-    alloc: Global,
-    trace: &Trace,
-    labels: &Labels,
-    choice: &Choice,
-    pairs: &[Overwriting],
-) -> Result<Vec<OverwrittenGroup>, OutOfMemory>
-    ensures { IfOk result (λ groups. AreOverwrittenGroups trace.now (pairs_asked trace.now labels.now choice.now pairs.now) groups.items) }
-{
-    let asked = asked_pairs(alloc, trace, labels, choice, pairs)?;
-    overwritten_groups(alloc, trace, asked.as_slice())
 }
 
 // The assertions on bytes that no store has written, where they are asked for.
@@ -187,26 +128,6 @@ fn unwritten_asked(
 {
     let found = unwritten_assertions(alloc, trace)?;
     asked_unwrittens(alloc, trace, labels, choice, found.as_slice())
-}
-
-// How many of the findings are stores that are never persisted.
-fn count_lost(findings: &[Finding]) -> usize
-    ensures { result ≡ count_by (λ f. is_some (lost_of f)) findings.now }
-{
-    findings
-        .iter()
-        .filter(|finding| lost_store(**finding).is_some())
-        .count()
-}
-
-// How many of the findings are overwritten stores.
-fn count_overwritten(findings: &[Finding]) -> usize
-    ensures { result ≡ count_by (λ f. is_some (overwriting_of f)) findings.now }
-{
-    findings
-        .iter()
-        .filter(|finding| overwriting(**finding).is_some())
-        .count()
 }
 
 /// Whether an assertion fails, or a store that is not ignored is never persisted.

@@ -1,0 +1,66 @@
+//! What an explanation has of assertions that fail.
+ghost use Rattle.std.specs.Prelude.{◌≡◌, take, IfOk};
+ghost use Rattle.pmt_causes.specs.FailureKeys.{AreFailureGroups};
+ghost use Rattle.pmt_explanation.specs.Asking.{asked_numbers as numbers_asked};
+ghost use Rattle.pmt_explanation.specs.Causing.{first_members as firsts_of};
+ghost use Rattle.pmt_explanation.specs.Failing.{failing_events as failing_of};
+ghost use Rattle.pmt_explanation.specs.Showing.{AreShown};
+ghost use Rattle.pmt_explanation.specs.declared.choosing.Kind.TheVariants.{Failure};
+
+use crate::asking::asked_numbers;
+use crate::causing::{causes_of, first_members};
+use crate::choosing::Kind;
+use crate::explaining::Options;
+use crate::failures::{ShownFailure, failing_events, shown_failures};
+use crate::labels::Labels;
+use pmt_analysis::Analysis;
+use pmt_causes::{FailureKey, Group};
+use pmt_model::OutOfMemory;
+use std::alloc::Global;
+
+/// Assertions that fail.
+#[derive(Drop)]
+pub(crate) struct Failed {
+    /// All of them, by rising event number.
+    pub(crate) failing: Vec<u64>,
+    /// Those that are asked for.
+    pub(crate) asked: Vec<u64>,
+    /// Those by cause.
+    pub(crate) causes: Vec<Group<FailureKey>>,
+    /// The first one of each cause in full, as many as the limit allows.
+    pub(crate) shown: Vec<ShownFailure>,
+}
+
+// The assertions that fail, where the events have these numbers of labels.
+pub(crate) fn failed_of(
+    alloc: Global,
+    analysis: &Analysis,
+    labels: &Labels,
+    numbers: &[Option<u64>],
+    options: &Options,
+) -> Result<Failed, OutOfMemory>
+    ensures failing { IfOk result (λ f. f.failing.items ≡ failing_of analysis.now.verdicts) }
+    ensures asked { IfOk result (λ f. f.asked.items ≡ numbers_asked analysis.now.trace labels.now options.now.choice Failure f.failing.items) }
+    ensures causes { IfOk result (λ f. AreFailureGroups analysis.now.trace numbers.now f.asked.items f.causes.items) }
+    ensures shown { IfOk result (λ f. AreShown analysis.now.trace (take options.now.limit (firsts_of f.causes.items)) f.shown.items) }
+{
+    let trace = analysis.trace();
+    let failing = failing_events(alloc, analysis.verdicts())?;
+    let asked = asked_numbers(
+        alloc,
+        trace,
+        labels,
+        &options.choice,
+        Kind::Failure,
+        failing.as_slice(),
+    )?;
+    let causes = causes_of(alloc, trace, numbers, asked.as_slice())?;
+    let firsts = first_members(alloc, causes.as_slice())?;
+    let shown = shown_failures(alloc, trace, firsts.as_slice(), options.limit)?;
+    Ok(Failed {
+        failing,
+        asked,
+        causes,
+        shown,
+    })
+}

@@ -1,0 +1,112 @@
+//! What an explanation has of stores that are never persisted or overwritten.
+ghost use Rattle.std.specs.Prelude.{◌≡◌, ◌-◌, IfOk, count_by, is_some, length};
+ghost use Rattle.pmt_explain.specs.LostGroups.{AreLostGroups};
+ghost use Rattle.pmt_explain.specs.OverwrittenGroups.{AreOverwrittenGroups};
+ghost use Rattle.pmt_explanation.specs.Asking.{asked_numbers as numbers_asked, asked_pairs as pairs_asked};
+ghost use Rattle.pmt_explanation.specs.Ignoring.{lost_store as lost_of, overwriting as overwriting_of, told_pairs, told_stores};
+ghost use Rattle.pmt_explanation.specs.declared.choosing.Kind.TheVariants.{NeverPersisted};
+
+use crate::asking::{asked_numbers, asked_pairs};
+use crate::choosing::{Choice, Kind};
+use crate::explaining::Options;
+use crate::ignoring::{lost_store, lost_stores, overwriting, overwritings};
+use crate::labels::Labels;
+use pmt_analysis::Analysis;
+use pmt_explain::{LostGroup, Overwriting, OverwrittenGroup, lost_groups, overwritten_groups};
+use pmt_model::{Finding, OutOfMemory, Trace};
+use std::alloc::Global;
+
+/// Stores that are never persisted or overwritten.
+#[derive(Drop)]
+pub(crate) struct Losses {
+    /// The stores that are never persisted, by rising event number, without those that are ignored.
+    pub(crate) stores: Vec<u64>,
+    /// How many stores that are never persisted are ignored.
+    pub(crate) ignored_stores: u64,
+    /// Those of `stores` that are asked for, by line and cause.
+    pub(crate) groups: Vec<LostGroup>,
+    /// What is overwritten and asked for, by line, without what is ignored.
+    pub(crate) overwritten: Vec<OverwrittenGroup>,
+    /// How many pairs of an overwritten and an overwriting store are ignored.
+    pub(crate) ignored_pairs: u64,
+}
+
+// The stores that are never persisted or overwritten.
+pub(crate) fn losses_of(
+    alloc: Global,
+    analysis: &Analysis,
+    labels: &Labels,
+    options: &Options,
+) -> Result<Losses, OutOfMemory>
+    ensures stores { IfOk result (λ l. l.stores.items ≡ told_stores analysis.now.trace options.now.ignored.items analysis.now.findings) }
+    ensures ignored_stores { IfOk result (λ l. l.ignored_stores ≡ count_by (λ f. is_some (lost_of f)) analysis.now.findings - length l.stores.items) }
+    ensures groups { IfOk result (λ l. AreLostGroups analysis.now.trace (numbers_asked analysis.now.trace labels.now options.now.choice NeverPersisted l.stores.items) l.groups.items) }
+    ensures overwritten { IfOk result (λ l. AreOverwrittenGroups analysis.now.trace (pairs_asked analysis.now.trace labels.now options.now.choice (told_pairs analysis.now.trace options.now.ignored.items analysis.now.findings)) l.overwritten.items) }
+    ensures ignored_pairs { IfOk result (λ l. l.ignored_pairs ≡ count_by (λ f. is_some (overwriting_of f)) analysis.now.findings - length (told_pairs analysis.now.trace options.now.ignored.items analysis.now.findings)) }
+{
+    let trace = analysis.trace();
+    let findings = analysis.findings();
+    let ranges = options.ignored.as_slice();
+    let choice = &options.choice;
+    let stores = lost_stores(alloc, trace, findings, ranges)?;
+    let ignored_stores = count_lost(findings).saturating_sub(stores.len()) as u64;
+    let groups = asked_losses(alloc, trace, labels, choice, stores.as_slice())?;
+    let pairs = overwritings(alloc, trace, findings, ranges)?;
+    let ignored_pairs = count_overwritten(findings).saturating_sub(pairs.len()) as u64;
+    let overwritten = asked_overwritten(alloc, trace, labels, choice, pairs.as_slice())?;
+    Ok(Losses {
+        stores,
+        ignored_stores,
+        groups,
+        overwritten,
+        ignored_pairs,
+    })
+}
+
+// The groups of those of these stores that are asked for.
+fn asked_losses(
+    alloc: Global,
+    trace: &Trace,
+    labels: &Labels,
+    choice: &Choice,
+    stores: &[u64],
+) -> Result<Vec<LostGroup>, OutOfMemory>
+    ensures { IfOk result (λ groups. AreLostGroups trace.now (numbers_asked trace.now labels.now choice.now NeverPersisted stores.now) groups.items) }
+{
+    let asked = asked_numbers(alloc, trace, labels, choice, Kind::NeverPersisted, stores)?;
+    lost_groups(alloc, trace, asked.as_slice())
+}
+
+// The groups of those of these pairs that are asked for.
+fn asked_overwritten(
+    alloc: Global,
+    trace: &Trace,
+    labels: &Labels,
+    choice: &Choice,
+    pairs: &[Overwriting],
+) -> Result<Vec<OverwrittenGroup>, OutOfMemory>
+    ensures { IfOk result (λ groups. AreOverwrittenGroups trace.now (pairs_asked trace.now labels.now choice.now pairs.now) groups.items) }
+{
+    let asked = asked_pairs(alloc, trace, labels, choice, pairs)?;
+    overwritten_groups(alloc, trace, asked.as_slice())
+}
+
+// How many of the findings are stores that are never persisted.
+fn count_lost(findings: &[Finding]) -> usize
+    ensures { result ≡ count_by (λ f. is_some (lost_of f)) findings.now }
+{
+    findings
+        .iter()
+        .filter(|finding| lost_store(**finding).is_some())
+        .count()
+}
+
+// How many of the findings are overwritten stores.
+fn count_overwritten(findings: &[Finding]) -> usize
+    ensures { result ≡ count_by (λ f. is_some (overwriting_of f)) findings.now }
+{
+    findings
+        .iter()
+        .filter(|finding| overwriting(**finding).is_some())
+        .count()
+}
