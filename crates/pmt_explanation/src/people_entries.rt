@@ -4,7 +4,7 @@ use crate::commands::push_draw;
 use crate::counting::first;
 use crate::json_parts::line_address;
 use crate::mending::mend_for;
-use crate::people_parts::{plural, push_cause, push_event, push_mend};
+use crate::people_parts::{plural, push_event, push_named, push_remedy};
 use crate::screen::Section;
 use crate::telling::Telling;
 use crate::unwritten::Unwritten;
@@ -31,6 +31,27 @@ pub(crate) fn lost_section(told: &Telling<'_>) -> Result<Section, OutOfMemory> {
 
 // Adds stores that are never persisted.
 fn push_lost(out: &mut String, told: &Telling<'_>, group: &LostGroup) -> Result<(), OutOfMemory> {
+    push_lost_head(out, told, group)?;
+    let role = if group.count == 1 {
+        "  store:  "
+    } else {
+        "  first:  "
+    };
+    push_named(out, told, role, group.first)?;
+    if group.count > 1 {
+        push_named(out, told, "  last:   ", group.last)?;
+    }
+    let mend = mend_for(group.cause, group.line, group.last, None, false);
+    push_remedy(out, told, group.cause, group.line, mend)?;
+    push_draw(out, told, "--around", group.last)
+}
+
+// Adds how many stores are never persisted, and to which line.
+fn push_lost_head(
+    out: &mut String,
+    told: &Telling<'_>,
+    group: &LostGroup,
+) -> Result<(), OutOfMemory> {
     let count = group.count;
     let line = line_address(told.trace, group.line);
     let (verb, object) = if count == 1 {
@@ -42,23 +63,7 @@ fn push_lost(out: &mut String, told: &Telling<'_>, group: &LostGroup) -> Result<
         out,
         "error: {count} store{} to cache line {line:#x} {verb} never persisted: a crash at the end can lose {object}",
         plural(count)
-    )?;
-    let role = if count == 1 { "store" } else { "first" };
-    write!(out, "  {role}:  ")?;
-    push_event(out, told, group.first)?;
-    if count > 1 {
-        out.push_str("  last:   ")?;
-        push_event(out, told, group.last)?;
-    }
-    out.push_str("  why:    ")?;
-    push_cause(out, told, group.cause, group.line)?;
-    out.push_str("  fix:    ")?;
-    push_mend(
-        out,
-        told,
-        mend_for(group.cause, group.line, group.last, None, false),
-    )?;
-    push_draw(out, told, "--around", group.last)
+    )
 }
 
 // Assertions on bytes that no store has written.

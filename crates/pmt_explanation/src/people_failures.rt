@@ -4,12 +4,14 @@ use crate::commands::push_draw;
 use crate::failures::{ShownFailure, line_of_store};
 use crate::json_parts::line_address;
 use crate::people_causes::{part_word, push_head, push_others};
-use crate::people_parts::{plural, push_cause, push_event, push_mend};
+use crate::people_parts::{plural, push_event, push_named, push_remedy};
 use crate::people_ranges::push_range;
 use crate::screen::Section;
 use crate::telling::Telling;
 use pmt_causes::{FailureKey, Group};
+use pmt_explain::LineCount;
 use pmt_model::OutOfMemory;
+use pmt_reasons::ByteStore;
 
 // The most cache lines that are named.
 const FEW: usize = 3;
@@ -41,17 +43,27 @@ fn push_failure(
     group: &Group<FailureKey>,
 ) -> Result<(), OutOfMemory> {
     let event = shown.event;
-    let place = shown.failure.place;
     push_head(out, group, event)?;
-    out.push_str("  claim:  ")?;
-    push_event(out, told, event)?;
+    push_named(out, told, "  claim:  ", event)?;
     push_others(out, group)?;
+    push_crash(out, told, shown, group)?;
+    let line = line_of_store(told.trace, shown.failure.lost.store).unwrap_or(0);
+    push_remedy(out, told, shown.cause, line, shown.mend)?;
+    push_range(out, told, shown)?;
+    push_lines(out, told, shown)?;
+    push_draw(out, told, "--failure", event)
+}
+
+// Adds the crash: where it comes, and which store it keeps and which it loses.
+fn push_crash(
+    out: &mut String,
+    told: &Telling<'_>,
+    shown: &ShownFailure,
+    group: &Group<FailureKey>,
+) -> Result<(), OutOfMemory> {
+    let place = shown.failure.place;
     writeln!(out, "  crash:  right after event {place}")?;
-    if let Some(kept) = shown.failure.kept {
-        let byte = kept.byte;
-        write!(out, "  keeps:  byte {byte:#x} of ")?;
-        push_event(out, told, kept.store)?;
-    }
+    push_kept(out, told, shown.failure.kept)?;
     let lost = shown.failure.lost;
     let byte = lost.byte;
     let part = part_word(group.key.part);
@@ -59,15 +71,21 @@ fn push_failure(
         out,
         "  loses:  byte {byte:#x}, in the {part} cache line of its range, of "
     )?;
-    push_event(out, told, lost.store)?;
-    out.push_str("  why:    ")?;
-    let line = line_of_store(told.trace, lost.store).unwrap_or(0);
-    push_cause(out, told, shown.cause, line)?;
-    out.push_str("  fix:    ")?;
-    push_mend(out, told, shown.mend)?;
-    push_range(out, told, shown)?;
-    push_lines(out, told, shown)?;
-    push_draw(out, told, "--failure", event)
+    push_event(out, told, lost.store)
+}
+
+// Adds the store that the crash keeps, if it is told.
+fn push_kept(
+    out: &mut String,
+    told: &Telling<'_>,
+    kept: Option<ByteStore>,
+) -> Result<(), OutOfMemory> {
+    let Some(kept) = kept else {
+        return Ok(());
+    };
+    let byte = kept.byte;
+    write!(out, "  keeps:  byte {byte:#x} of ")?;
+    push_event(out, told, kept.store)
 }
 
 // Adds of which cache lines the crash keeps fewer stores than there are, and of how many it keeps all.
@@ -78,16 +96,25 @@ fn push_lines(
 ) -> Result<(), OutOfMemory> {
     out.push_str("  kept:  ")?;
     for line in shown.lines.iter().take(FEW) {
-        let addr = line_address(told.trace, line.line);
-        let persisted = line.persisted;
-        let stores = line.stores;
-        write!(out, " {persisted} of {stores} in {addr:#x};")?;
+        push_line(out, told, *line)?;
     }
     let more = shown.lines.len().saturating_sub(FEW);
     if more > 0 {
         write!(out, " not all in {more} more (--json has them);")?;
     }
-    let whole = shown.whole_lines;
+    push_whole(out, shown.whole_lines)
+}
+
+// Adds how many stores to the line the crash keeps.
+fn push_line(out: &mut String, told: &Telling<'_>, line: LineCount) -> Result<(), OutOfMemory> {
+    let addr = line_address(told.trace, line.line);
+    let persisted = line.persisted;
+    let stores = line.stores;
+    write!(out, " {persisted} of {stores} in {addr:#x};")
+}
+
+// Adds of how many lines the crash keeps all stores.
+fn push_whole(out: &mut String, whole: u64) -> Result<(), OutOfMemory> {
     writeln!(
         out,
         " all stores in {whole} other cache line{}",

@@ -4,7 +4,7 @@ use crate::json_parts::line_address;
 use crate::people_parts::{is_unflushed, plural};
 use crate::screen::Section;
 use crate::telling::Telling;
-use pmt_explain::OverwrittenGroup;
+use pmt_explain::{LostGroup, OverwrittenGroup};
 use pmt_model::{Op, OutOfMemory, Range, Trace, line_of};
 use std::collections::HashMap;
 
@@ -39,20 +39,30 @@ fn push_unflushed(told: &Telling<'_>, entries: &mut Vec<String>) -> Result<(), O
     }
     let flushed = flushed_lines(told)?;
     let claimed = claimed_lines(told)?;
-    let size = told.trace.format().line_size();
     let mut guesses = 0usize;
     for group in told.explanation.lost.as_slice() {
         let is_quiet = is_unflushed(group.cause) && !flushed.contains_key(&group.line);
         if guesses < FEW && is_quiet && !is_claimed(told.trace, &claimed, group.line) {
-            let line = line_address(told.trace, group.line);
-            let count = group.count;
-            entries.push(format!(in told.alloc;
-                "  --ignore {line:#x}:{size}  {count} store{}, and no flush of the line in the whole trace\n",
-                plural(count)
-            )?)?;
+            push_line_guess(told, entries, group)?;
             guesses = guesses.saturating_add(1);
         }
     }
+    Ok(())
+}
+
+// Adds the line of the stores.
+fn push_line_guess(
+    told: &Telling<'_>,
+    entries: &mut Vec<String>,
+    group: &LostGroup,
+) -> Result<(), OutOfMemory> {
+    let line = line_address(told.trace, group.line);
+    let size = told.trace.format().line_size();
+    let count = group.count;
+    entries.push(format!(in told.alloc;
+        "  --ignore {line:#x}:{size}  {count} store{}, and no flush of the line in the whole trace\n",
+        plural(count)
+    )?)?;
     Ok(())
 }
 

@@ -7,22 +7,15 @@ use crate::screen::Section;
 use crate::telling::Telling;
 use pmt_explain::OverwrittenGroup;
 use pmt_model::OutOfMemory;
+use std::alloc::Global;
 
 // What is overwritten, those first that write other bytes.
 pub(crate) fn overwritten_section(told: &Telling<'_>) -> Result<Section, OutOfMemory> {
     let groups = told.explanation.overwritten.as_slice();
-    let mut order = Vec::with_capacity(told.alloc, groups.len())?;
-    for index in 0..groups.len() {
-        order.push(index)?;
-    }
-    order.sort_by_key(|index| rank_of(groups, *index))?;
+    let order = order_of(told.alloc, groups)?;
     let mut entries = Vec::new(told.alloc);
     for index in first(order.as_slice(), told.explanation.limit) {
-        let mut entry = String::new(told.alloc);
-        if let Some(group) = groups.get(*index) {
-            push_overwritten(&mut entry, told, group)?;
-        }
-        entries.push(entry)?;
+        push_entry(&mut entries, told, groups.get(*index))?;
     }
     Ok(Section {
         heading: String::from_str(
@@ -34,6 +27,30 @@ pub(crate) fn overwritten_section(told: &Telling<'_>) -> Result<Section, OutOfMe
         what: "cache lines with overwritten stores",
         words: "--only overwritten --limit all",
     })
+}
+
+// The places of the groups, those first that write other bytes.
+fn order_of(alloc: Global, groups: &[OverwrittenGroup]) -> Result<Vec<usize>, OutOfMemory> {
+    let mut order = Vec::with_capacity(alloc, groups.len())?;
+    for index in 0..groups.len() {
+        order.push(index)?;
+    }
+    order.sort_by_key(|index| rank_of(groups, *index))?;
+    Ok(order)
+}
+
+// Adds the entry of the group.
+fn push_entry(
+    entries: &mut Vec<String>,
+    told: &Telling<'_>,
+    group: Option<&OverwrittenGroup>,
+) -> Result<(), OutOfMemory> {
+    let mut entry = String::new(told.alloc);
+    if let Some(group) = group {
+        push_overwritten(&mut entry, told, group)?;
+    }
+    entries.push(entry)?;
+    Ok(())
 }
 
 // The least of the group that stands first: most pairs that differ, then most pairs.

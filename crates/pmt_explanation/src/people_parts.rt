@@ -50,6 +50,17 @@ pub(crate) fn push_event(
     writeln!(out, ": {words}")
 }
 
+// Adds the event after the name that it has in its entry.
+pub(crate) fn push_named(
+    out: &mut String,
+    told: &Telling<'_>,
+    name: &str,
+    number: u64,
+) -> Result<(), OutOfMemory> {
+    out.push_str(name)?;
+    push_event(out, told, number)
+}
+
 // Adds where the event is made, if it has a label.
 pub(crate) fn push_label(
     out: &mut String,
@@ -62,8 +73,22 @@ pub(crate) fn push_label(
     }
 }
 
+// Adds why the store is not safe by then, and what mends it.
+pub(crate) fn push_remedy(
+    out: &mut String,
+    told: &Telling<'_>,
+    cause: Cause,
+    line: u64,
+    mend: Mend,
+) -> Result<(), OutOfMemory> {
+    out.push_str("  why:    ")?;
+    push_cause(out, told, cause, line)?;
+    out.push_str("  fix:    ")?;
+    push_mend(out, told, mend)
+}
+
 // Adds why the store is not safe by then.
-pub(crate) fn push_cause(
+fn push_cause(
     out: &mut String,
     told: &Telling<'_>,
     cause: Cause,
@@ -85,8 +110,7 @@ pub(crate) fn push_cause(
                 out,
                 "cache line {line:#x} is flushed after the store, but thread {thread} makes no fence after its flush by then"
             )?;
-            out.push_str("  flush:  ")?;
-            push_event(out, told, flush)?;
+            push_named(out, told, "  flush:  ", flush)?;
             push_other(out, told, other)
         }
     }
@@ -104,11 +128,7 @@ fn push_other(out: &mut String, told: &Telling<'_>, other: Option<u64>) -> Resul
 }
 
 // Adds what mends the store.
-pub(crate) fn push_mend(
-    out: &mut String,
-    told: &Telling<'_>,
-    mend: Mend,
-) -> Result<(), OutOfMemory> {
+fn push_mend(out: &mut String, told: &Telling<'_>, mend: Mend) -> Result<(), OutOfMemory> {
     match mend {
         Mend::Fence {
             thread,
@@ -116,8 +136,7 @@ pub(crate) fn push_mend(
             before,
         } => {
             write!(out, "Fence by thread {thread} after ")?;
-            push_place(out, told, after)?;
-            push_before(out, told, before)
+            push_when(out, told, after, "", before)
         }
         Mend::FlushAndFence {
             line,
@@ -126,9 +145,13 @@ pub(crate) fn push_mend(
         } => {
             let line = line_address(told.trace, line);
             write!(out, "Flush cache line {line:#x} after ")?;
-            push_place(out, told, after)?;
-            out.push_str(", and fence by the thread that flushes it")?;
-            push_before(out, told, before)
+            push_when(
+                out,
+                told,
+                after,
+                ", and fence by the thread that flushes it",
+                before,
+            )
         }
         Mend::StoreFirst {
             store,
@@ -136,12 +159,23 @@ pub(crate) fn push_mend(
             same_line,
         } => {
             out.push_str("Make the store of ")?;
-            push_place(out, told, store)?;
-            out.push_str(" earlier")?;
-            push_before(out, told, before)?;
+            push_when(out, told, store, " earlier", before)?;
             push_first(out, same_line)
         }
     }
+}
+
+// Adds the event, what is to be done besides, and by when.
+fn push_when(
+    out: &mut String,
+    told: &Telling<'_>,
+    number: u64,
+    besides: &str,
+    before: Option<u64>,
+) -> Result<(), OutOfMemory> {
+    push_place(out, told, number)?;
+    out.push_str(besides)?;
+    push_before(out, told, before)
 }
 
 // Adds the event's number, with its label if it has one.

@@ -211,13 +211,23 @@ fn push_line(
 ) -> Result<(), OutOfMemory> {
     let addr = line_address(told.trace, number);
     write!(out, "    {addr:#x}: ")?;
-    match line.lost {
-        Some(store) => write!(out, "loses event {store}; ")?,
-        None => out.push_str("kept; ")?,
+    push_lost(out, line.lost)?;
+    match line.flush {
+        Some(flush) => push_flush(out, told, flush),
+        None => out.push_str("no flush by then\n"),
     }
-    let Some(flush) = line.flush else {
-        return out.push_str("no flush by then\n");
-    };
+}
+
+// Adds which store is lost, if one is.
+fn push_lost(out: &mut String, lost: Option<u64>) -> Result<(), OutOfMemory> {
+    match lost {
+        Some(store) => write!(out, "loses event {store}; "),
+        None => out.push_str("kept; "),
+    }
+}
+
+// Adds the last flush of the line, and what completes it.
+fn push_flush(out: &mut String, told: &Telling<'_>, flush: LastFlush) -> Result<(), OutOfMemory> {
     let event = flush.event;
     write!(out, "last flush event {event}")?;
     if let Some(made) = told.trace.get(event) {

@@ -11,6 +11,14 @@ use pmt_model::OutOfMemory;
 pub(crate) fn push_summary(out: &mut String, told: &Telling<'_>) -> Result<(), OutOfMemory> {
     let counts = summary_of(told.explanation);
     push_size(out, &counts, told.trace.format().line_size())?;
+    push_counts(out, &counts)?;
+    push_ignored(out, &counts)?;
+    push_choice(out, told.screen.choice)?;
+    push_legend(out, told)
+}
+
+// Adds how much of it is faulty, or does nothing.
+fn push_counts(out: &mut String, counts: &Summary) -> Result<(), OutOfMemory> {
     let failing = counts.failing;
     let assertions = counts.assertions;
     writeln!(
@@ -24,9 +32,11 @@ pub(crate) fn push_summary(out: &mut String, told: &Telling<'_>) -> Result<(), O
         "  stores never persisted, which a crash at the end can lose: {never} of {stores}"
     )?;
     push_share(out, counts.flushes_dropped, counts.flushes, "flushes")?;
-    push_share(out, counts.fences_dropped, counts.fences, "fences")?;
-    push_ignored(out, &counts)?;
-    push_choice(out, told.screen.choice)?;
+    push_share(out, counts.fences_dropped, counts.fences, "fences")
+}
+
+// Adds what the words mean.
+fn push_legend(out: &mut String, told: &Telling<'_>) -> Result<(), OutOfMemory> {
     out.push_str(LEGEND)?;
     if !told.explanation.asked_failing.is_empty() {
         out.push_str(CLAIMS)?;

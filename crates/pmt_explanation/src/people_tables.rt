@@ -28,9 +28,7 @@ pub(crate) fn threads_section(told: &Telling<'_>) -> Result<Section, OutOfMemory
     let mut entries = Vec::new(told.alloc);
     for row in first(rows, told.explanation.limit) {
         let mut entry = String::new(told.alloc);
-        push_counts(&mut entry, row)?;
-        let thread = row.key;
-        writeln!(entry, "  thread {thread}")?;
+        push_thread_row(&mut entry, row)?;
         entries.push(entry)?;
     }
     Ok(Section {
@@ -53,10 +51,7 @@ pub(crate) fn labels_section(told: &Telling<'_>) -> Result<Section, OutOfMemory>
     let mut entries = Vec::new(told.alloc);
     for row in first(rows, told.explanation.limit) {
         let mut entry = String::new(told.alloc);
-        push_counts(&mut entry, row)?;
-        entry.push_str(" ")?;
-        push_label(&mut entry, told, row.key)?;
-        entry.push_str("\n")?;
+        push_label_row(&mut entry, told, row)?;
         entries.push(entry)?;
     }
     Ok(Section {
@@ -66,6 +61,21 @@ pub(crate) fn labels_section(told: &Telling<'_>) -> Result<Section, OutOfMemory>
         what: "source places",
         words: "--limit all",
     })
+}
+
+// Adds the row of the thread.
+fn push_thread_row(out: &mut String, row: &Row<u8>) -> Result<(), OutOfMemory> {
+    push_counts(out, row)?;
+    let thread = row.key;
+    writeln!(out, "  thread {thread}")
+}
+
+// Adds the row of the label.
+fn push_label_row(out: &mut String, told: &Telling<'_>, row: &Row<u64>) -> Result<(), OutOfMemory> {
+    push_counts(out, row)?;
+    out.push_str(" ")?;
+    push_label(out, told, row.key)?;
+    out.push_str("\n")
 }
 
 // Whether the words choose nothing, so that the whole trace is told of.
