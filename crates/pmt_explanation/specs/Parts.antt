@@ -1,5 +1,5 @@
 -- Events, causes, reasons and mends as JSON.
-use Rattle.std.specs.Prelude.{ℕ, ◌+◌, ◌-◌, ◌*◌, ◌^◌, min, Bool, List, [], ◌∷◌, ◌++◌, Option, None, Some, codes}
+use Rattle.std.specs.Prelude.{ℕ, ◌+◌, ◌-◌, ◌*◌, ◌^◌, min, ◌≡◌, Bool, List, [], ◌∷◌, ◌++◌, Option, None, Some, Result, IsOkAnd, codes}
 use Rattle.std.specs.Borrow.{Bor}
 use Rattle.serde_json.specs.Data.{Data, null, boolean, number, string, array, object, unsigned, Members, no_members, member, put}
 use Rattle.serde_json.specs.View.{view, items_of}
@@ -37,6 +37,11 @@ object_of ms = object (members_from ms)
 abbrev pub put_all : List (Bor (List ℕ) × Value) → Members → Members
 put_all [] ms = ms
 put_all (f ∷ fs) ms = put_all fs (put f.0.now (view f.1) ms)
+
+-- All of these values were made, and the object is that with these members and then the values, put in by their keys one after the other.
+abbrev pub IsMadeOf : {E : Type 0} → List (Bor (List ℕ) × Result Value E) → Members → Data → Type 0
+IsMadeOf [] ms d = d ≡ object ms
+IsMadeOf (f ∷ fs) ms d = IsOkAnd f.1 (λ v. IsMadeOf fs (put f.0.now (view v) ms) d)
 
 abbrev pub array_of : List Data → Data
 array_of ds = array (items_of ds)

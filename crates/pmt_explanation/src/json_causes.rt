@@ -3,9 +3,9 @@ ghost use Rattle.std.specs.Prelude.{◌≡◌, IfOk, map};
 ghost use Rattle.serde_json.specs.Data.{string};
 ghost use Rattle.serde_json.specs.View.{view};
 ghost use Rattle.pmt_explanation.specs.Parts.{array_of, count_data, or_null};
-ghost use Rattle.pmt_explanation.specs.Groups.{assertion_name as assertion_in, cause_group_data, origin_label, origin_thread, part_name as part_in, why_name as why_in};
+ghost use Rattle.pmt_explanation.specs.Groups.{assertion_name, cause_group_data, origin_label, origin_thread, part_name, why_name};
 
-use crate::json_objects::object_value;
+use crate::json_objects::object_made;
 use crate::json_parts::label_value;
 use crate::labels::Labels;
 use pmt_causes::{AssertionKind, CauseKind, FailureKey, Group, Origin, RangePart};
@@ -22,24 +22,24 @@ pub(crate) fn cause_group_value(
     ensures { IfOk result (λ v. view v ≡ cause_group_data labels.now group.now) }
 {
     let key = group.key;
-    let members = group.members.as_slice();
-    let kind = Value::try_from_str(alloc, "cause")?;
-    let assertion = Value::try_from_str(alloc, assertion_name(key.kind))?;
-    let events = numbers_value(alloc, members)?;
-    let label = origin_label_value(alloc, labels, key.origin)?;
-    let part = Value::try_from_str(alloc, part_name(key.part))?;
-    let why = Value::try_from_str(alloc, why_name(key.cause))?;
+    let kind = Value::try_from_str(alloc, "cause");
+    let assertion = assertion_value(alloc, key.kind);
+    let events = numbers_value(alloc, group.members.as_slice());
+    let label = origin_label_value(alloc, labels, key.origin);
+    let part = part_value(alloc, key.part);
+    let thread = origin_thread_value(key.origin);
+    let why = why_value(alloc, key.cause);
     let fields = vec![in alloc;
         ("assertion", assertion),
-        ("count", Value::from(members.len())),
+        ("count", Ok(Value::from(group.members.len()))),
         ("events", events),
         ("kind", kind),
         ("label", label),
         ("part", part),
-        ("thread", origin_thread_value(key.origin)),
+        ("thread", thread),
         ("why", why),
     ]?;
-    object_value(alloc, fields)
+    object_made(alloc, fields)
 }
 
 // The numbers.
@@ -64,41 +64,41 @@ fn origin_label_value(alloc: Global, labels: &Labels, origin: Origin) -> Result<
 }
 
 // The thread of those that have no label.
-fn origin_thread_value(origin: Origin) -> Value
-    ensures { view result ≡ or_null count_data (origin_thread origin) }
+fn origin_thread_value(origin: Origin) -> Result<Value, OutOfMemory>
+    ensures { IfOk result (λ v. view v ≡ or_null count_data (origin_thread origin)) }
 {
     match origin {
-        Origin::Label(_) => Value::Null,
-        Origin::Thread(thread) => Value::from(thread),
+        Origin::Label(_) => Ok(Value::Null),
+        Origin::Thread(thread) => Ok(Value::from(thread)),
     }
 }
 
-fn assertion_name(kind: AssertionKind) -> &'static str
-    ensures { result.now ≡ assertion_in kind }
+fn assertion_value(alloc: Global, kind: AssertionKind) -> Result<Value, OutOfMemory>
+    ensures { IfOk result (λ v. view v ≡ string (assertion_name kind)) }
 {
     match kind {
-        AssertionKind::Persist => "isPersist",
-        AssertionKind::Ordered => "isOrderedBefore",
+        AssertionKind::Persist => Value::try_from_str(alloc, "isPersist"),
+        AssertionKind::Ordered => Value::try_from_str(alloc, "isOrderedBefore"),
     }
 }
 
-fn why_name(cause: CauseKind) -> &'static str
-    ensures { result.now ≡ why_in cause }
+fn why_value(alloc: Global, cause: CauseKind) -> Result<Value, OutOfMemory>
+    ensures { IfOk result (λ v. view v ≡ string (why_name cause)) }
 {
     match cause {
-        CauseKind::Later => "later",
-        CauseKind::Unflushed => "unflushed",
-        CauseKind::Unfenced => "unfenced",
+        CauseKind::Later => Value::try_from_str(alloc, "later"),
+        CauseKind::Unflushed => Value::try_from_str(alloc, "unflushed"),
+        CauseKind::Unfenced => Value::try_from_str(alloc, "unfenced"),
     }
 }
 
-fn part_name(part: RangePart) -> &'static str
-    ensures { result.now ≡ part_in part }
+fn part_value(alloc: Global, part: RangePart) -> Result<Value, OutOfMemory>
+    ensures { IfOk result (λ v. view v ≡ string (part_name part)) }
 {
     match part {
-        RangePart::Only => "only",
-        RangePart::First => "first",
-        RangePart::Inner => "inner",
-        RangePart::Last => "last",
+        RangePart::Only => Value::try_from_str(alloc, "only"),
+        RangePart::First => Value::try_from_str(alloc, "first"),
+        RangePart::Inner => Value::try_from_str(alloc, "inner"),
+        RangePart::Last => Value::try_from_str(alloc, "last"),
     }
 }

@@ -5,7 +5,7 @@ ghost use Rattle.pmt_explanation.specs.Parts.{array_of, byte_store_data, or_null
 ghost use Rattle.pmt_explanation.specs.Entries.{byte_store, byte_value, failure_data, line_count_data, range_after_data};
 
 use crate::failures::{RangeAfter, ShownFailure};
-use crate::json_objects::object_value;
+use crate::json_objects::{object_made, object_value};
 use crate::json_parts::{byte_store_value, cause_value, event_value, line_value, mend_value};
 use crate::labels::Labels;
 use crate::words::address_text;
@@ -24,14 +24,14 @@ pub(crate) fn failure_value(
 ) -> Result<Value, OutOfMemory>
     ensures { IfOk result (λ v. view v ≡ failure_data trace.now labels.now shown.now) }
 {
-    let kind = Value::try_from_str(alloc, "failure")?;
-    let event = event_value(alloc, trace, labels, shown.event)?;
-    let kept = kept_value(alloc, trace, labels, shown.failure.kept)?;
-    let lost = byte_store_value(alloc, trace, labels, shown.failure.lost)?;
-    let cause = cause_value(alloc, trace, labels, shown.cause)?;
-    let mend = mend_value(alloc, trace, shown.mend)?;
-    let lines = lines_value(alloc, trace, shown.lines.as_slice())?;
-    let ranges = ranges_value(alloc, shown.ranges.as_slice())?;
+    let kind = Value::try_from_str(alloc, "failure");
+    let event = event_value(alloc, trace, labels, shown.event);
+    let kept = kept_value(alloc, trace, labels, shown.failure.kept);
+    let lost = byte_store_value(alloc, trace, labels, shown.failure.lost);
+    let cause = cause_value(alloc, trace, labels, shown.cause);
+    let mend = mend_value(alloc, trace, shown.mend);
+    let lines = lines_value(alloc, trace, shown.lines.as_slice());
+    let ranges = ranges_value(alloc, shown.ranges.as_slice());
     let fields = vec![in alloc;
         ("cause", cause),
         ("event", event),
@@ -40,11 +40,11 @@ pub(crate) fn failure_value(
         ("lines", lines),
         ("lost", lost),
         ("mend", mend),
-        ("place", Value::from(shown.failure.place)),
+        ("place", Ok(Value::from(shown.failure.place))),
         ("ranges", ranges),
-        ("whole_lines", Value::from(shown.whole_lines)),
+        ("whole_lines", Ok(Value::from(shown.whole_lines))),
     ]?;
-    object_value(alloc, fields)
+    object_made(alloc, fields)
 }
 
 // The store that the crash keeps, if it is told.
@@ -100,15 +100,15 @@ fn range_after_value(alloc: Global, after: &RangeAfter) -> Result<Value, OutOfMe
     ensures { IfOk result (λ v. view v ≡ range_after_data after.now) }
 {
     let address = address_text(alloc, after.range.addr().get())?;
-    let stores = stores_value(alloc, after.bytes.as_slice())?;
-    let values = values_value(alloc, after.bytes.as_slice())?;
+    let stores = stores_value(alloc, after.bytes.as_slice());
+    let values = values_value(alloc, after.bytes.as_slice());
     let fields = vec![in alloc;
-        ("address", Value::String(address)),
-        ("length", Value::from(after.range.len())),
+        ("address", Ok(Value::String(address))),
+        ("length", Ok(Value::from(after.range.len()))),
         ("stores", stores),
         ("values", values),
     ]?;
-    object_value(alloc, fields)
+    object_made(alloc, fields)
 }
 
 // The numbers of the stores that the bytes are from.

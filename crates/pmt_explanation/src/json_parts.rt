@@ -5,7 +5,7 @@ ghost use Rattle.serde_json.specs.View.{view};
 ghost use Rattle.pmt_explanation.specs.Labelling.{label_of};
 ghost use Rattle.pmt_explanation.specs.Parts.{address_data, by_of as by_in, byte_store_data, cause_data, count_data, event_data, fence_data, flush_data, line_address as line_start, line_data, mend_data, named_cause, or_null, range_data, reason_data, reason_name as name_in, store_first_data, unfenced_data};
 
-use crate::json_objects::object_value;
+use crate::json_objects::{object_made, object_value};
 use crate::labels::Labels;
 use crate::words::{address_of, address_text, words_of};
 use pmt_model::{OutOfMemory, Range, Trace};
@@ -27,18 +27,18 @@ pub(crate) fn event_value(
     };
     let thread = event.thread;
     let op = event.op;
-    let address = address_value(alloc, address_of(op))?;
-    let label = label_value(alloc, labels, number)?;
     let words = words_of(alloc, event)?;
+    let address = address_value(alloc, address_of(op));
+    let label = label_value(alloc, labels, number);
     let fields = vec![in alloc;
         ("address", address),
-        ("event", Value::from(number)),
+        ("event", Ok(Value::from(number))),
         ("label", label),
-        ("line", Value::from(number.saturating_add(1))),
-        ("thread", Value::from(thread)),
-        ("words", Value::String(words)),
+        ("line", Ok(Value::from(number.saturating_add(1)))),
+        ("thread", Ok(Value::from(thread))),
+        ("words", Ok(Value::String(words))),
     ]?;
-    object_value(alloc, fields)
+    object_made(alloc, fields)
 }
 
 // The event, if there is a number.
@@ -160,16 +160,16 @@ fn unfenced_value(
 ) -> Result<Value, OutOfMemory>
     ensures { IfOk result (λ v. view v ≡ unfenced_data trace.now labels.now flush thread other) }
 {
-    let cause = Value::try_from_str(alloc, "unfenced")?;
-    let flush = event_value(alloc, trace, labels, flush)?;
-    let other = event_or_null(alloc, trace, labels, other)?;
+    let cause = Value::try_from_str(alloc, "unfenced");
+    let flush = event_value(alloc, trace, labels, flush);
+    let other = event_or_null(alloc, trace, labels, other);
     let fields = vec![in alloc;
         ("cause", cause),
         ("flush", flush),
         ("other", other),
-        ("thread", Value::from(thread)),
+        ("thread", Ok(Value::from(thread))),
     ]?;
-    object_value(alloc, fields)
+    object_made(alloc, fields)
 }
 
 // Why an event is dropped.

@@ -10,7 +10,7 @@ use crate::choosing::{Choice, Kind};
 use crate::counting::per_cent;
 use crate::explaining::Explanation;
 use crate::ignoring::ByteRange;
-use crate::json_objects::object_value;
+use crate::json_objects::{object_made, object_value};
 use crate::json_parts::count_or_null;
 use crate::summary::Summary;
 use crate::words::address_text;
@@ -113,18 +113,18 @@ pub(crate) fn more_value(alloc: Global, explanation: &Explanation) -> Result<Val
 fn asked_value(alloc: Global, choice: &Choice) -> Result<Value, OutOfMemory>
     ensures { IfOk result (λ v. view v ≡ asked_data choice.now) }
 {
-    let label = text_or_null(alloc, &choice.label)?;
-    let only = kind_or_null(alloc, choice.only)?;
-    let range = range_or_null(alloc, choice.range)?;
+    let label = text_or_null(alloc, &choice.label);
+    let only = kind_or_null(alloc, choice.only);
+    let range = range_or_null(alloc, choice.range);
     let fields = vec![in alloc;
-        ("from", count_or_null(choice.from)),
+        ("from", Ok(count_or_null(choice.from))),
         ("label", label),
         ("only", only),
         ("range", range),
-        ("thread", thread_or_null(choice.thread)),
-        ("to", count_or_null(choice.to)),
+        ("thread", Ok(thread_or_null(choice.thread))),
+        ("to", Ok(count_or_null(choice.to))),
     ]?;
-    object_value(alloc, fields)
+    object_made(alloc, fields)
 }
 
 fn text_or_null(alloc: Global, text: &Option<String>) -> Result<Value, OutOfMemory>

@@ -10,7 +10,7 @@ use crate::causing::first_of;
 use crate::counting::first;
 use crate::explaining::Explanation;
 use crate::json_lines::push_value;
-use crate::json_objects::object_value;
+use crate::json_objects::{object_made, object_value};
 use crate::json_parts::{event_value, label_value, line_value};
 use crate::labels::Labels;
 use pmt_causes::{Group, LateSpot, Row};
@@ -123,18 +123,18 @@ fn late_value(
 ) -> Result<Value, OutOfMemory>
     ensures { IfOk result (λ v. view v ≡ late_data trace.now labels.now group.now) }
 {
-    let kind = Value::try_from_str(alloc, "late")?;
-    let line = spot_line_value(alloc, trace, group.key)?;
-    let label = spot_label_value(alloc, labels, group.key)?;
-    let earliest = event_value(alloc, trace, labels, first_of(group))?;
+    let kind = Value::try_from_str(alloc, "late");
+    let line = spot_line_value(alloc, trace, group.key);
+    let label = spot_label_value(alloc, labels, group.key);
+    let earliest = event_value(alloc, trace, labels, first_of(group));
     let fields = vec![in alloc;
         ("cache_line", line),
-        ("count", Value::from(group.members.len())),
+        ("count", Ok(Value::from(group.members.len()))),
         ("first", earliest),
         ("kind", kind),
         ("label", label),
     ]?;
-    object_value(alloc, fields)
+    object_made(alloc, fields)
 }
 
 // The line of stores that have no label.
@@ -177,15 +177,15 @@ fn thread_row_value(alloc: Global, row: Row<u8>) -> Result<Value, OutOfMemory>
 fn label_row_value(alloc: Global, labels: &Labels, row: Row<u64>) -> Result<Value, OutOfMemory>
     ensures { IfOk result (λ v. view v ≡ label_row_data labels.now row) }
 {
-    let kind = Value::try_from_str(alloc, "label")?;
-    let label = label_value(alloc, labels, row.key)?;
+    let kind = Value::try_from_str(alloc, "label");
+    let label = label_value(alloc, labels, row.key);
     let fields = vec![in alloc;
-        ("dropped", Value::from(row.dropped)),
-        ("fences", Value::from(row.fences)),
-        ("flushes", Value::from(row.flushes)),
+        ("dropped", Ok(Value::from(row.dropped))),
+        ("fences", Ok(Value::from(row.fences))),
+        ("flushes", Ok(Value::from(row.flushes))),
         ("kind", kind),
         ("label", label),
-        ("stores", Value::from(row.stores)),
+        ("stores", Ok(Value::from(row.stores))),
     ]?;
-    object_value(alloc, fields)
+    object_made(alloc, fields)
 }
