@@ -17,6 +17,10 @@ impl LineAnswers for Tables {
         self.shift_of(line)
     }
 
+    fn may_be_stored(&self, _trace: &Trace, _number: u64, _first: u64, _end: u64) -> bool {
+        true
+    }
+
     fn is_line_persisted(
         &self,
         trace: &Trace,

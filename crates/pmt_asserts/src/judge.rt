@@ -118,6 +118,9 @@ fn persists<L: LineAnswers>(lines: &L, trace: &Trace, number: u64, range: Range)
     ensures { IsTrue result ↔ PersistPasses (history trace.now number) range }
 {
     let (first, end) = lines_of(trace, range);
+    if !lines.may_be_stored(trace, number, first, end) {
+        return true;
+    }
     let shift = lines.shift(first);
     for line in first..end {
         if !lines.is_line_persisted(trace, range, Spot { line, shift }, number, number) {
@@ -153,6 +156,9 @@ fn earliest<L: LineAnswers>(
     ensures { IsEarliestOf trace.now number skipped range result }
 {
     let (first, end) = lines_of(trace, range);
+    if !lines.may_be_stored(trace, number, first, end) {
+        return None;
+    }
     let shift = lines.shift(first);
     let mut earliest = None;
     for line in first..end {
@@ -240,6 +246,9 @@ fn is_written<L: LineAnswers>(lines: &L, trace: &Trace, number: u64, range: Rang
     ensures { result ≡ false → (b : ℕ) → InSpan range b → IsUnwritten trace.now number b }
 {
     let (first, end) = lines_of(trace, range);
+    if !lines.may_be_stored(trace, number, first, end) {
+        return false;
+    }
     let shift = lines.shift(first);
     for line in first..end {
         let spot = Spot { line, shift };

@@ -1,7 +1,8 @@
 //! What is known of the lines of a trace, by which its assertions are judged.
-ghost use Rattle.std.specs.Prelude.{ℕ, ◌<◌, ◌≤◌, ◌^◌, ◌↔◌, IsTrue, length};
+ghost use Rattle.std.specs.Prelude.{◌≡◌, ℕ, ◌<◌, ◌≤◌, ◌^◌, ◌↔◌, IsTrue, false, length};
+ghost use Rattle.pmt_model.specs.Values.{line_of};
 ghost use Rattle.pmt_model.specs.Traces.{Recording};
-ghost use Rattle.pmt_asserts.specs.Tables.{PersistedBy, RankedBy};
+ghost use Rattle.pmt_asserts.specs.Tables.{IsUnwritten, PersistedBy, RankedBy};
 ghost use Rattle.pmt_asserts.specs.Judging.{EachIn, IsOldestOfLine};
 
 use crate::oldest::{Oldest, Spot};
@@ -15,6 +16,11 @@ pub trait LineAnswers {
     /// How far what is known of this line stands from the line, as that of the lines after it mostly does. Nothing is promised of
     /// it.
     fn shift(&self, line: u64) -> u64;
+
+    /// Whether a line from `first` on, below `end`, may have a store. It may say so where none has.
+    fn may_be_stored(&self, trace: &Trace, number: u64, first: u64, end: u64) -> bool
+        requires known { is_of self.now trace.now number }
+        ensures { result ≡ false → (b : ℕ) → first ≤ line_of trace.now.format b → line_of trace.now.format b < end → IsUnwritten trace.now number b };
 
     /// Whether by place `by` the last store to a byte of the range in this line is persisted for sure, for each such byte.
     fn is_line_persisted(

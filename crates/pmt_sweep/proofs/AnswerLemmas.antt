@@ -62,7 +62,7 @@ stored-among b (Fences t ∷ h) = stored-among b h
 stored-among b (Asserts ∷ h) = stored-among b h
 
 -- two facts about the value that is there
-both_some : (P Q : Placed → Type 0) (o : Option Placed) → IfSome o P → IfSome o Q → IfSome o (λ x. P x × Q x)
+pub both_some : (P Q : Placed → Type 0) (o : Option Placed) → IfSome o P → IfSome o Q → IfSome o (λ x. P x × Q x)
 both_some P Q None p q = tt
 both_some P Q (Some x) p q = (p, q)
 

@@ -1,22 +1,21 @@
 -- What is known of the first events of a trace stays known where more events follow.
-use Rattle.std.proofs.Common.{◌≡◌, ℕ, suc, ◌+◌, ◌*◌, ◌-◌, ◌<◌, ◌≤◌, ◌⊎◌, inl, inr, Bool, true, false, List, ◌++◌, length, drop, get_or, map, refl, sym, ap, subst, ◌∙◌, true≢false, arith}
-use Rattle.std.specs.Prelude.{◌↔◌, IsTrue, slice_index, Contains, Result, Ok, Err, OnOk}
+use Rattle.std.proofs.Common.{◌≡◌, ℕ, suc, ◌+◌, ◌*◌, ◌-◌, ◌≤◌, inl, inr, Bool, true, false, List, length, drop, get_or, map, sym, ap, subst, ◌∙◌, true≢false, arith}
+use Rattle.std.specs.Prelude.{◌↔◌, IsTrue, slice_index, Result, Ok, Err, OnOk}
 use Rattle.std.specs.List.{list_any}
 use Rattle.std.proofs.lemmas.List.{length-append}
 use Rattle.pmt_model.specs.declared.event.Event.{Event}
 use Rattle.pmt_model.specs.declared.finding.Finding.{Finding}
 use Rattle.pmt_model.specs.declared.finding.Finding.TheVariants.{Overwritten, NeverPersisted, RedundantFlush, FenceWithoutFlush}
 use Rattle.pmt_model.specs.declared.finding.Verdict.{Verdict}
-use Rattle.pmt_model.specs.Values.{Written}
-use Rattle.pmt_model.specs.Machine.{Act, Stores, Flushes, Clflushes, Fences, State, Ends, count}
-use Rattle.pmt_model.specs.Traces.{Recording, IsAct, event, history}
+use Rattle.pmt_model.specs.Machine.{Stores, Flushes, Clflushes, Fences, Ends, count}
+use Rattle.pmt_model.specs.Traces.{Recording, history}
 use Rattle.pmt_model.specs.Fronts.{front}
 use Rattle.pmt_model.specs.Assertions.{PersistPasses, OrderedPasses}
 use Rattle.pmt_model.specs.Findings.{IsFlushOf, ByFlush, ByClflush, IsSafe, IsCovered}
 use Rattle.pmt_model.specs.Analyses.{IsFinding, reported_at, IsVerdictOf, OfPersist, OfOrdered}
 use Rattle.pmt_model.specs.Keeping.{IsKept}
 use Rattle.pmt_model.specs.Selections.{Has}
-use Rattle.pmt_laws.specs.Passing.{with_events, open_flushes, IsOpenFlush, IsDecided}
+use Rattle.pmt_laws.specs.Passing.{with_events, open_flushes, IsOpenFlush}
 use Rattle.pmt_laws.proofs.DecidedLemmas.{IsSameTo, act-more, act-less, event-more, history-more, decided_stays, open-or_decided, open_is_dropped}
 use Rattle.pmt_laws.proofs.PassLemmas.{are_open}
 use Rattle.pmt_asserts.specs.Tables.{IsLastAt}
@@ -27,17 +26,18 @@ use Rattle.pmt_sweep.specs.declared.writers.Writer.{Writer}
 use Rattle.pmt_sweep.specs.declared.sweeping.Progress.{Progress}
 use Rattle.pmt_sweep.specs.declared.growing.Sweeper.{Sweeper}
 use Rattle.pmt_sweep.specs.Known.{is_known_late, AreKnownTo}
-use Rattle.pmt_sweep.specs.Rows.{IsPlaceOf, AreRows, last_line_store}
+use Rattle.pmt_sweep.specs.Rows.{AreRows, last_line_store}
 use Rattle.pmt_sweep.specs.Chains.{AreChained}
-use Rattle.pmt_sweep.specs.ByteTables.{IsStoreTo, IsLastTo, IsTable, AreTables}
+use Rattle.pmt_sweep.specs.ByteTables.{IsLastTo, AreTables}
 use Rattle.pmt_sweep.specs.Ending.{StandAt}
 use Rattle.pmt_sweep.specs.OpenFlushes.{AreNumbered, number_in}
 use Rattle.pmt_sweep.specs.Flags.{IsOpenAt, AreFlagsTo}
 use Rattle.pmt_sweep.specs.Sweeping.{AreOpen, IsSweepOf, taken}
-use Rattle.pmt_sweep.specs.Writers.{IsWriter, AreWriters, IsSafe as IsSafeFrom, Wrote}
+use Rattle.pmt_sweep.specs.Writers.{AreWriters, IsSafe as IsSafeFrom}
 use Rattle.pmt_sweep.specs.LineWriters.{AreLineWriters, writers_at}
 use Rattle.pmt_sweep.specs.VerdictsSoFar.{AreVerdictsTo}
 use Rattle.pmt_sweep.specs.Judging.{IsJudgingOf}
+use Rattle.pmt_sweep.specs.Pages.{HasPagesOf}
 use Rattle.pmt_sweep.proofs.VerdictsSoFar.{verdicts-rest}
 use Rattle.pmt_sweep.specs.Growing.{HasTaken, HasSwept, HasSweptFirst}
 
@@ -253,6 +253,7 @@ module _ (S : Recording) (more : List Event) where
     here = swept.here;
     sweep = sweep-more s.judging.progress swept.here swept.sweep;
     writers = λ judges. line_writers-more (length S.events) s.judging.progress.rows s.judging.writers (omega arith) (swept.writers judges);
+    pages = λ judges. subst (λ h. HasPagesOf h s.judging.pages) (sym (history-more S more (length S.events) (omega arith))) (swept.pages judges);
     verdicts = verdicts-more s.judging.verdicts.items swept.verdicts;
   }
 
@@ -266,12 +267,12 @@ first-taken T s first =
 -- What one that judges knows is what a judging sweep knows.
 pub judging-of : (T : Recording) (n : ℕ) (s : Sweeper) → HasTaken T n s → s.judges ≡ true → IsJudgingOf T n s.judging
 judging-of T n s has judges = record {
-  known = record { here = has.here; sweep = has.sweep; writers = has.writers judges };
+  known = record { here = has.here; sweep = has.sweep; writers = has.writers judges; pages = has.pages judges };
   verdicts = has.verdicts;
 }
 
 pub taken-judging : (T : Recording) (n : ℕ) (s : Sweeper) → IsJudgingOf T n s.judging → HasTaken T n s
-taken-judging T n s is = record { here = is.known.here; sweep = is.known.sweep; writers = λ judges. is.known.writers; verdicts = is.verdicts }
+taken-judging T n s is = record { here = is.known.here; sweep = is.known.sweep; writers = λ judges. is.known.writers; pages = λ judges. is.known.pages; verdicts = is.verdicts }
 
 -- One that does not judge has taken events without assertions.
 pub taken-unjudged :
@@ -281,6 +282,7 @@ taken-unjudged T n s new has unjudged same none sweep all = record {
   here = all;
   sweep = sweep;
   writers = λ judges. absurd (true≢false (sym judges ∙ unjudged));
+  pages = λ judges. absurd (true≢false (sym judges ∙ unjudged));
   verdicts = subst (λ vs. AreVerdictsTo T (length T.events) vs.items) (sym same) (verdicts-rest T n s.judging.verdicts.items (subst (λ k. k ≤ length T.events) has.here has.sweep.within) none has.verdicts);
 }
 

@@ -21,5 +21,6 @@ pub mod SettlingLemmas
 pub mod VerdictsSoFar
 pub mod FindLemmas
 pub mod AnswerLemmas
+pub mod PageLemmas
 pub mod JudgingLemmas
 pub mod GrowingLemmas

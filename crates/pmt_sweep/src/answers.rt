@@ -20,6 +20,11 @@ impl LineAnswers for Judging {
         self.progress.rows.shift(line)
     }
 
+    fn may_be_stored(&self, trace: &Trace, _number: u64, first: u64, end: u64) -> bool {
+        let _is_trace = trace.len();
+        self.pages.may_have(first, end)
+    }
+
     fn is_line_persisted(
         &self,
         trace: &Trace,

@@ -75,6 +75,7 @@ impl Sweeper {
             writers: _,
             verdicts,
             stale: _,
+            pages: _,
         } = self.judging;
         progress.finish(alloc, trace, verdicts)
     }

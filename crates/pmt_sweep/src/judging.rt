@@ -8,6 +8,7 @@ ghost use Rattle.pmt_sweep.specs.Judging.{IsJudgingOf};
 ghost use Rattle.pmt_sweep.specs.Sweeping.{taken};
 
 use crate::line_writers::LineWriters;
+use crate::pages::Pages;
 use crate::settling::settle_fence;
 use crate::sweeping::{Progress, Swept};
 use crate::writers::Writer;
@@ -23,6 +24,7 @@ pub(crate) struct Judging {
     pub(crate) verdicts: Vec<Verdict>,
     // The places of lines of which the oldest store has to be found again before an assertion is judged.
     pub(crate) stale: Vec<u32>,
+    pub(crate) pages: Pages,
 }
 
 impl Judging {
@@ -35,6 +37,7 @@ impl Judging {
             writers: LineWriters::new(alloc),
             verdicts: Vec::new(alloc),
             stale: Vec::new(alloc),
+            pages: Pages::new(alloc),
         })
     }
 
@@ -68,10 +71,11 @@ impl Judging {
         self.progress.take_store(trace, line, store)?;
         let index = self.progress.places.len() - 1;
         let place = self.progress.places[index] as usize;
+        let stores = self.progress.rows.at(place).state.count();
         let low = (store.addr().get() - line * size) as u16;
         let writer = Writer {
             number: index as u32 + 1,
-            rank: self.progress.rows.at(place).state.count() as u32,
+            rank: stores as u32,
             safe: 0,
             low,
             high: low + store.bytes().len() as u16,
@@ -79,6 +83,7 @@ impl Judging {
         let is_fresh = self.writers.is_fresh(place);
         push_stale(&mut self.stale, is_fresh, self.progress.places[index])?;
         self.writers.store(place, writer)?;
+        self.pages.note(line, stores)?;
         Ok(())
     }
 
@@ -169,6 +174,7 @@ pub(crate) fn judged(alloc: Global, trace: &Trace) -> Result<Swept, OutOfMemory>
         writers: _,
         verdicts,
         stale: _,
+        pages: _,
     } = judging;
     progress.finish(alloc, trace, verdicts)
 }

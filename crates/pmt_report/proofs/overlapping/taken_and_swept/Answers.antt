@@ -94,6 +94,11 @@ returns-in_err-swept-clause-failures g c =
     let refused : c.from_residual-in_err-swept.result ≡ Err OutOfMemory = search (rules, c.from_residual-in_err-swept.ensures) in
     uncounted old now (with_events c.take.trace block.events) _ c.from_residual-in_err-swept.result refused next
 
+pub returns-in_err-swept-clause-fault : goal.returns-in_err-swept-clause-fault
+returns-in_err-swept-clause-fault g c =
+    let refused : c.from_residual-in_err-swept.result ≡ Err OutOfMemory = search (rules, c.from_residual-in_err-swept.ensures) in
+    unfaulted (g.S.EventSource.coming c.args.source.now) c.from_residual-in_err-swept.result refused
+
 pub returns-in_err-append-clause-told : goal.returns-in_err-append-clause-told
 returns-in_err-append-clause-told g c =
     let source = g.S.EventSource in

@@ -16,7 +16,7 @@ verdict_by-requires c =
     let n = taken j.progress in
     let number : c.len-number.result ≡ suc n = omega (arith, c.len-number.ensures, c.in_ok-take_assertion.ensures.one) in
     known-counted T (suc n) c.len-number.result _ number
-    (known-same T n Asserts j _ c.len-is_trace.ensures.is_trace c.requires.so_far.known c.requires.next (λ l s e. cc) (λ l. refl) (c.in_ok-take_assertion.ensures.so_far T c.requires.next c.requires.so_far.known.sweep) c.in_ok-take_assertion.ensures.one c.refresh.ensures)
+    (known-same T n Asserts j _ c.len-is_trace.ensures.is_trace c.requires.so_far.known c.requires.next (λ l s e. cc) (λ l. refl) (c.in_ok-take_assertion.ensures.so_far T c.requires.next c.requires.so_far.known.sweep) c.in_ok-take_assertion.ensures.one c.refresh.ensures refl)
 
 pub returns-in_ok-push : goal.returns-in_ok-push
 returns-in_ok-push c =
@@ -26,7 +26,7 @@ returns-in_ok-push c =
     let v = c.in-Some.verdict in
     let number : c.len-number.result ≡ suc n = omega (arith, c.len-number.ensures, c.in_ok-take_assertion.ensures.one) in
     record {
-      known = known-same T n Asserts j _ c.len-is_trace.ensures.is_trace c.requires.so_far.known c.requires.next (λ l s e. cc) (λ l. refl) (c.in_ok-take_assertion.ensures.so_far T c.requires.next c.requires.so_far.known.sweep) c.in_ok-take_assertion.ensures.one c.refresh.ensures;
+      known = known-same T n Asserts j _ c.len-is_trace.ensures.is_trace c.requires.so_far.known c.requires.next (λ l s e. cc) (λ l. refl) (c.in_ok-take_assertion.ensures.so_far T c.requires.next c.requires.so_far.known.sweep) c.in_ok-take_assertion.ensures.one c.refresh.ensures refl;
       verdicts = subst (λ (vs : List Verdict). AreVerdictsTo T (suc n) vs) (sym c.in_ok-push.ensures.items) (verdicts-push T n j.verdicts.items v (subst (λ k. IsVerdictAt T k (Some v)) number c.in-Some.ensures) c.requires.so_far.verdicts);
     }
 
@@ -37,6 +37,6 @@ returns-in_default c =
     let n = taken j.progress in
     let number : c.len-number.result ≡ suc n = omega (arith, c.len-number.ensures, c.in_ok-take_assertion.ensures.one) in
     record {
-      known = known-same T n Asserts j _ c.len-is_trace.ensures.is_trace c.requires.so_far.known c.requires.next (λ l s e. cc) (λ l. refl) (c.in_ok-take_assertion.ensures.so_far T c.requires.next c.requires.so_far.known.sweep) c.in_ok-take_assertion.ensures.one c.refresh.ensures;
+      known = known-same T n Asserts j _ c.len-is_trace.ensures.is_trace c.requires.so_far.known c.requires.next (λ l s e. cc) (λ l. refl) (c.in_ok-take_assertion.ensures.so_far T c.requires.next c.requires.so_far.known.sweep) c.in_ok-take_assertion.ensures.one c.refresh.ensures refl;
       verdicts = verdicts-none T n j.verdicts.items (subst (λ k. IsVerdictAt T k None) number c.in_default.ensures) c.requires.so_far.verdicts;
     }

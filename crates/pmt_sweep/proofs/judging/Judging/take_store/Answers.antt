@@ -32,12 +32,12 @@ returns c =
     let last : c.len-index.result - 1 ≡ n = omega (arith, c.len-index.ensures, sweep.all, c.in_ok-take_store.ensures.one) in
     let number : c.len-index.result - 1 + 1 ≡ suc n = omega (arith, last) in
     let here = last-stands T n l s new sweep c.in_ok-take_store.ensures.one c.requires.next (c.len-index.result - 1) c.index.result.now last c.index.ensures in
-    let rank : c.count.result ≡ count_at T l (suc n) = c.count.ensures.value ∙ row.follows.counts ∙ ap (λ k. count_at T k (suc n)) (c.at.ensures.line l here) in
+    let rank : c.count-stores.result ≡ count_at T l (suc n) = c.count-stores.ensures.value ∙ row.follows.counts ∙ ap (λ k. count_at T k (suc n)) (c.at.ensures.line l here) in
     let size : c.line_size-size.result ≡ T.format.line_size = c.line_size-size.ensures.value ∙ ap (λ f. f.line_size) c.format.ensures.value in
     let start : l * c.line_size-size.result ≡ l * T.format.line_size = ap (λ m. l * m) size in
     let addr : c.get.result ≡ s.addr = c.get.ensures.value ∙ c.addr.ensures.value in
     let low : l * T.format.line_size + (c.get.result - l * c.line_size-size.result) ≡ s.addr = omega (arith, start, addr, store-low T (suc n) l s trace c.requires.next) in
     record {
-      known = known-store T n l c.index.result.now s _ j _ trace c.requires.so_far.known c.requires.next sweep c.in_ok-take_store.ensures.one here number rank refl low (ap (λ bs. c.get.result - l * c.line_size-size.result + length bs) c.bytes.ensures.value) c.in_ok-store.ensures;
+      known = known-store T n l c.index.result.now s _ j _ trace c.requires.so_far.known c.requires.next sweep c.in_ok-take_store.ensures.one here number rank refl low (ap (λ bs. c.get.result - l * c.line_size-size.result + length bs) c.bytes.ensures.value) c.in_ok-store.ensures c.in_ok-note.ensures.kept c.in_ok-note.ensures.first;
       verdicts = verdicts-act T n j.verdicts.items (Stores l s) c.requires.next (λ e. cc) c.requires.so_far.verdicts;
     }
