@@ -34,8 +34,9 @@ function focusOf(trace, finding) {
   for (const number of known) {
     if (trace.lineOf[number] !== NO_LINE && lines.size < MOST_FOCUS_LINES) lines.add(trace.lineOf[number]);
   }
+  const wanted = (line) => lines.size < MOST_FOCUS_LINES && (kind === 'unwritten' || trace.isStored(line, end));
   for (const span of kind === 'dropped' ? [] : spansOf(trace, entry)) {
-    for (const line of trace.linesOfRange(span)) if (lines.size < MOST_FOCUS_LINES) lines.add(line);
+    for (const line of trace.linesOfRange(span)) if (wanted(line)) lines.add(line);
   }
   return { lines: [...lines], anchors: known.sort((a, b) => a - b), end };
 }
