@@ -1534,8 +1534,15 @@ static bool pmtrace_is_readable_(pmtrace_range_ range) {
     return at >= end;
 }
 
+/* The same of what a mapping has from one place of the trace to another, if it can be read. */
+static void pmtrace_notice_part_(const pmtrace_mapping_ *mapping, uint64_t first, uint64_t end) {
+    pmtrace_range_ part = pmtrace_part_(mapping->range, first, end);
+    if (part.length > 0 && pmtrace_is_readable_(part))
+        pmtrace_notice_(mapping->pool, part);
+}
+
 /* The same of the lines of a piece, before a call does something to them. Of a line that its mapping has a part of, others may have
- * the rest. */
+ * the rest; a byte that two of them have is looked at once, or a store that comes in between is noted by halves. */
 static void pmtrace_notice_lines_(pmtrace_range_ piece) {
     if (!pmtrace_.watching || pmtrace_.ended || piece.length == 0)
         return;
@@ -1546,9 +1553,8 @@ static void pmtrace_notice_lines_(pmtrace_range_ piece) {
     pmtrace_notice_(own->pool, lines);
     for (unsigned number = 0; lines.length < end - first && number < pmtrace_.mapping_count; number++) {
         const pmtrace_mapping_ *mapping = &pmtrace_.mappings[number];
-        pmtrace_range_ more = pmtrace_part_(mapping->range, first, end);
-        if (mapping != own && more.length > 0 && pmtrace_is_readable_(more))
-            pmtrace_notice_(mapping->pool, more);
+        pmtrace_notice_part_(mapping, first, lines.from);
+        pmtrace_notice_part_(mapping, lines.from + lines.length, end);
     }
 }
 
