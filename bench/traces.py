@@ -162,6 +162,24 @@ def unwritten_lines(count):
         yield f"isOrderedBefore 0 {BASE + 4096 * page:#x} 4096 {BASE + 4096 * (page + 1):#x} 4096\n"
 
 
+def one_store_a_page(count, persisted=True):
+    """Each page has one line that is stored, and it is asked of each page whether it comes before the next one."""
+    for page in range(1024):
+        yield byte_store(0, BASE + 4096 * page)
+        yield f"clwb 0 {BASE + 4096 * page:#x}\n"
+    if persisted:
+        yield "sfence 0\n"
+    page = 0
+    while True:
+        page = (page + 7) % 1023
+        yield f"isOrderedBefore 0 {BASE + 4096 * page:#x} 4096 {BASE + 4096 * (page + 1):#x} 4096\n"
+
+
+def one_lost_store_a_page(count):
+    """As one_store_a_page, and no store is persisted."""
+    return one_store_a_page(count, False)
+
+
 def line_by_bytes(count):
     """One line is overwritten byte by byte, round and round."""
     value = 0
@@ -191,11 +209,12 @@ def threads_one_line(count):
 
 # Kinds like the traces of programs, and kinds in which an event costs as much as one may.
 COMMON = (log_appends, tree_inserts, redundant_flushes, many_assertions, one_line, one_line_stores, many_lines, threads_256, long_intervals)
-HOSTILE = (pending_writers, pending_writers_32, shuffled_lines, far_lines, unwritten_lines, line_by_bytes, judged_line_by_bytes, threads_one_line)
+HOSTILE = (pending_writers, pending_writers_32, shuffled_lines, far_lines, unwritten_lines, one_store_a_page, one_lost_store_a_page, line_by_bytes, judged_line_by_bytes,
+           threads_one_line)
 KINDS = {kind.__name__: kind for kind in COMMON + HOSTILE}
 
 # The bytes of a line, where they aren't 64.
-NARROW = ("pending_writers_32", "shuffled_lines", "far_lines", "unwritten_lines")
+NARROW = ("pending_writers_32", "shuffled_lines", "far_lines", "unwritten_lines", "one_store_a_page", "one_lost_store_a_page")
 WIDE = ("pending_writers", "line_by_bytes", "judged_line_by_bytes")
 LINE_SIZES = dict.fromkeys(NARROW, 32) | dict.fromkeys(WIDE, 256)
 

@@ -15,6 +15,8 @@ mod image;
 #[cfg(test)]
 mod lines;
 #[cfg(test)]
+mod places;
+#[cfg(test)]
 mod sweep;
 #[cfg(test)]
 mod trim;

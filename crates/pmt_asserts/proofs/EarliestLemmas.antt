@@ -1,7 +1,8 @@
 -- The earliest of the last stores to the bytes of a range, line by line.
-use Rattle.std.proofs.Common.{◌≡◌, ℕ, ◌+◌, ◌<◌, ◌≤◌, inl, inr, Option, Some, None, IfSome, sym, subst, arith}
-use Rattle.std.specs.Prelude.{if◌then◌else◌, MatchOption}
-use Rattle.std.proofs.lemmas.Bool.{cases_eq}
+use Rattle.std.proofs.Common.{◌≡◌, ℕ, ◌+◌, ◌<◌, ◌≤◌, inl, inr, Option, Some, None, IfSome, not, true, false, sym, ap, subst, ◌∙◌, arith}
+use Rattle.std.specs.Prelude.{if◌then◌else◌, MatchOption, nat_eq}
+use Rattle.std.specs.Option.{option_eq}
+use Rattle.std.proofs.lemmas.Bool.{cases_eq, cases_lt, false≢true, eq-eqb, eqb-true, not-false}
 use Rattle.std.proofs.lemmas.Bool.Decides.{leb_tells}
 use Rattle.std.proofs.lemmas.Option.{IfSome_then}
 use Rattle.pmt_model.specs.Values.{Span, line_of}
@@ -34,10 +35,29 @@ comes-earlier T i place other b h c = IfSome_then (last_store b (history T i)) c
 oldest-comes : (T : Recording) (i line : ℕ) (A : Span) (o : Oldest) → IsOldestIn T i line A o → (b : ℕ) → InSpan A b → line_of T.format b ≡ line → ComesNoEarlier T i o.number b
 oldest-comes T i line A o is b j own = IfSome_then (last_store b (history T i)) (is.first b j own) (λ y r. r.1)
 
+-- whether a line is left out, as it is asked
+pub taken-by : (skipped : Option ℕ) (line : ℕ) → not (option_eq nat_eq skipped (Some line)) ≡ true → IsTaken skipped line
+taken-by None line other = tt
+taken-by (Some s) line other = λ same. false≢true (sym (ap not (eq-eqb s line (sym same))) ∙ other)
+
+pub skipped-by : (skipped : Option ℕ) (line : ℕ) → not (option_eq nat_eq skipped (Some line)) ≡ false → skipped ≡ Some line
+skipped-by None line same = absurd (false≢true (sym same))
+skipped-by (Some s) line same = ap Some (eqb-true s line (not-false (nat_eq s line) same))
+
 -- a line that is left out
 pub earliest-skip : (T : Recording) (i line : ℕ) (A : Span) (o : Option Earliest) → EarliestOfBelow T i (Some line) A line o → EarliestOfBelow T i (Some line) A (line + 1) o
 earliest-skip T i line A None is = λ b j below taken. is b j (omega (arith, below, taken)) taken
 earliest-skip T i line A (Some e) is = record { first = λ b j below taken. is.first b j (omega (arith, below, taken)) taken; taken = is.taken; reached = is.reached }
+
+-- lines without stores
+pub earliest-bare : (T : Recording) (i from to : ℕ) (skipped : Option ℕ) (A : Span) (o : Option Earliest) → ((b : ℕ) → InSpan A b → from ≤ line_of T.format b → line_of T.format b < to → IsUnwritten T i b) →
+    EarliestOfBelow T i skipped A from o → EarliestOfBelow T i skipped A to o
+earliest-bare T i from to skipped A None bare is = λ b j below taken. elim (cases_lt (line_of T.format b) from) [ inl earlier ↦ is b j earlier taken | inr later ↦ bare b j later below ]
+earliest-bare T i from to skipped A (Some e) bare is = record {
+  first = λ b j below taken. elim (cases_lt (line_of T.format b) from) [ inl earlier ↦ is.first b j earlier taken | inr later ↦ unwritten-comes T i e.number b (bare b j later below) ];
+  taken = is.taken;
+  reached = is.reached;
+}
 
 -- one more line
 pub earliest-more : (T : Recording) (i line : ℕ) (skipped : Option ℕ) (A : Span) (old : Option Earliest) (o : Option Oldest) → IsTaken skipped line → EarliestOfBelow T i skipped A line old → IsOldestOfLine T i line A o → EarliestOfBelow T i skipped A (line + 1) (earlier_of old line o)

@@ -12,3 +12,4 @@ pub mod PartLemmas
 pub mod JudgeLemmas
 pub mod EarliestLemmas
 pub mod VerdictLemmas
+pub mod StretchLemmas

@@ -2,17 +2,27 @@
 use Rattle.std.specs.Prelude.{◌≡◌, ◌≢◌, ℕ, Bool, true, false, List, ◌≤◌, Option, None, Some, MatchOption, IfSome, ◌==◌, nat_le, if◌then◌else◌}
 use Rattle.std.specs.Option.{option_map}
 use Rattle.pmt_model.specs.declared.finding.Verdict.{Verdict}
-use Rattle.pmt_model.specs.Values.{Span, line_of}
+use Rattle.pmt_model.specs.Values.{Layout, Span, line_of}
 use Rattle.pmt_model.specs.declared.event.Event.{Event}
 use Rattle.pmt_model.specs.declared.event.Op.{Op}
 use Rattle.pmt_model.specs.declared.event.Op.TheVariants.{Store, Clwb, ClflushOpt, Clflush, Sfence, Mfence, IsPersist, IsOrderedBefore}
-use Rattle.pmt_model.specs.Traces.{Recording, history, event}
+use Rattle.pmt_model.specs.Traces.{Recording, IsTrace, history, event}
 use Rattle.pmt_model.specs.Selections.{IsRising, Has}
 use Rattle.pmt_model.specs.Assertions.{InSpan, last_store, up_to_last}
 use Rattle.pmt_model.specs.Analyses.{IsVerdictOf}
 use Rattle.pmt_asserts.specs.declared.oldest.Oldest.{Oldest}
 use Rattle.pmt_asserts.specs.declared.oldest.Earliest.{Earliest}
 use Rattle.pmt_asserts.specs.Tables.{ComesFrom, IsLastAt, IsUnwritten, PersistedBy, RankedBy}
+
+-- It is known of the trace after its first n events, and the trace has this format.
+pub record Knows (is_of : Recording → ℕ → Type 0) (format : Layout) (n : ℕ) (T : Recording) : Type 0 where
+  pub is : is_of T n
+  pub formatted : T.format ≡ format
+  pub trace : IsTrace T
+
+-- No byte of this line is stored by the first i events.
+abbrev pub IsBare : Recording → ℕ → ℕ → Type 0
+IsBare T i line = (b : ℕ) → line_of T.format b ≡ line → IsUnwritten T i b
 
 -- P holds of each byte of A in this line.
 abbrev pub EachIn : Recording → ℕ → Span → (ℕ → Type 0) → Type 0

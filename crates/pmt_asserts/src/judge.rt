@@ -1,17 +1,19 @@
 //! The verdicts of the assertions of a trace.
-ghost use Rattle.std.specs.Prelude.{◌≡◌, ◌≢◌, ℕ, ◌+◌, ◌<◌, ◌≤◌, ◌^◌, ◌↔◌, IsTrue, false, IfOk, IfSome, length, Option, None, Some};
+ghost use Rattle.std.specs.Prelude.{◌≡◌, ◌≢◌, ℕ, ◌+◌, ◌<◌, ◌≤◌, ◌^◌, ◌↔◌, IsTrue, false, IfOk, IfSome, length, Option, Some};
 ghost use Rattle.std.specs.List.{list_any};
 ghost use Rattle.pmt_model.specs.Values.{line_of};
-ghost use Rattle.pmt_model.specs.Traces.{IsTrace, history};
+ghost use Rattle.pmt_model.specs.declared.event.Event.{Event};
+ghost use Rattle.pmt_model.specs.Traces.{Recording, event, history};
 ghost use Rattle.pmt_model.specs.Assertions.{InSpan, PersistPasses, OrderedPasses};
 ghost use Rattle.pmt_model.specs.Analyses.{IsVerdicts};
 ghost use Rattle.pmt_asserts.specs.Tables.{AreResultsOf, IsUnwritten};
-ghost use Rattle.pmt_asserts.specs.Judging.{AreAssertions, asserts, event_asserts, IsEarliestOf, IsVerdictAt, IsLineInOrder, IsLineOrdered, earlier_of, place_for};
+ghost use Rattle.pmt_asserts.specs.Judging.{AreAssertions, asserts, event_asserts, IsEarliestOf, IsVerdictAt, IsLineInOrder, IsLineOrdered, Knows, earlier_of, place_for};
 
 use crate::lines::LineAnswers;
 use crate::oldest::{Earliest, Oldest, Spot};
+use crate::stretch::stretch_of;
 use crate::tables::Tables;
-use pmt_model::{Event, Op, OutOfMemory, Range, Trace, Verdict};
+use pmt_model::{Event, Format, Op, OutOfMemory, Range, Trace, Verdict};
 use rayon::prelude::*;
 use std::alloc::Global;
 use std::thread::Threads;
@@ -78,10 +80,8 @@ pub fn verdict(tables: &Tables, trace: &Trace, number: u64) -> Option<Verdict>
     requires { AreResultsOf trace.now tables.now }
     ensures { IsVerdictAt trace.now number result }
 {
-    if (trace.len() as u64) < number {
-        return None;
-    }
-    verdict_by(tables, trace, number)
+    let op = trace.get(number)?.op;
+    verdict_by(tables, trace.format(), number, op)
 }
 
 /// Whether one of the events is an assertion.
@@ -91,53 +91,49 @@ pub fn has_assertion(events: &[Event]) -> bool
     events.iter().any(|event| is_assertion(event.op))
 }
 
-/// The verdict of the event with this number, by what is known of the lines after it; none where it is no assertion.
-pub fn verdict_by<L: LineAnswers>(lines: &L, trace: &Trace, number: u64) -> Option<Verdict>
-    requires { L.is_of lines.now trace.now number }
-    ensures { IsVerdictAt trace.now number result }
+/// The verdict of the event with this number and op, by what is known of the lines after it; none where it is no assertion.
+pub fn verdict_by<L: LineAnswers>(lines: &L, format: Format, number: u64, op: Op) -> Option<Verdict>
+    ensures { (T : Recording) (e : Event) → Knows (L.is_of lines.now) format number T → event T number ≡ Some e → e.op ≡ op → IsVerdictAt T number result }
 {
-    let op = trace.get(number)?.op;
     match op {
         Op::IsPersist(range) => Some(Verdict {
             event: number,
             ordered: false,
-            pass: persists(lines, trace, number, range),
+            pass: persists(lines, format, number, range),
         }),
         Op::IsOrderedBefore(first, second) => Some(Verdict {
             event: number,
             ordered: true,
-            pass: is_ordered(lines, trace, number, first, second),
+            pass: is_ordered(lines, format, number, first, second),
         }),
         _ => None,
     }
 }
 
 // Whether isPersist passes after the event with this number.
-fn persists<L: LineAnswers>(lines: &L, trace: &Trace, number: u64, range: Range) -> bool
-    requires known { L.is_of lines.now trace.now number }
-    ensures { IsTrue result ↔ PersistPasses (history trace.now number) range }
+fn persists<L: LineAnswers>(lines: &L, format: Format, number: u64, range: Range) -> bool
+    ensures { (T : Recording) → Knows (L.is_of lines.now) format number T → (IsTrue result ↔ PersistPasses (history T number) range) }
 {
-    let (first, end) = lines_of(trace, range);
-    if !lines.may_be_stored(trace, number, first, end) {
-        return true;
-    }
-    let shift = lines.shift(first);
-    for line in first..end {
-        if !lines.is_line_persisted(trace, range, Spot { line, shift }, number, number) {
-            return false;
+    let (first, end) = lines_of(format, range);
+    for block in first / 16..(end - 1) / 16 + 1 {
+        let stretch = stretch_of(lines, first, end, block);
+        for line in stretch.first..stretch.end {
+            let spot = stretch.spot(line);
+            if !lines.is_line_persisted(format, range, spot, number, number) {
+                return false;
+            }
         }
     }
     true
 }
 
 // The first line of the range, and the one after its last.
-fn lines_of(trace: &Trace, range: Range) -> (u64, u64)
-    ensures lines { (b : ℕ) → InSpan range b → (result.0 ≤ line_of trace.now.format b) × (line_of trace.now.format b < result.1) }
+fn lines_of(format: Format, range: Range) -> (u64, u64)
+    ensures lines { (T : Recording) (b : ℕ) → T.format ≡ format → InSpan range b → (result.0 ≤ line_of T.format b) × (line_of T.format b < result.1) }
     ensures some { result.0 < result.1 }
     ensures within { result.1 ≤ 2 ^ 48 }
-    ensures trace { IsTrace trace.now }
 {
-    let size = trace.format().line_size();
+    let size = format.line_size();
     let first = range.addr().get();
     let last = first + range.len() - 1;
     (first / size, last / size + 1)
@@ -147,27 +143,23 @@ fn lines_of(trace: &Trace, range: Range) -> (u64, u64)
 // be left out.
 fn earliest<L: LineAnswers>(
     lines: &L,
-    trace: &Trace,
+    format: Format,
     number: u64,
     range: Range,
     skipped: Option<u64>,
 ) -> Option<Earliest>
-    requires { L.is_of lines.now trace.now number }
-    ensures { IsEarliestOf trace.now number skipped range result }
+    ensures { (T : Recording) → Knows (L.is_of lines.now) format number T → IsEarliestOf T number skipped range result }
 {
-    let (first, end) = lines_of(trace, range);
-    if !lines.may_be_stored(trace, number, first, end) {
-        return None;
-    }
-    let shift = lines.shift(first);
+    let (first, end) = lines_of(format, range);
     let mut earliest = None;
-    for line in first..end {
-        if skipped != Some(line) {
-            earliest = earlier(
-                earliest,
-                line,
-                lines.line_oldest(trace, range, Spot { line, shift }, number),
-            );
+    for block in first / 16..(end - 1) / 16 + 1 {
+        let stretch = stretch_of(lines, first, end, block);
+        for line in stretch.first..stretch.end {
+            if skipped != Some(line) {
+                let spot = stretch.spot(line);
+                let oldest = lines.line_oldest(format, range, spot, number);
+                earliest = earlier(earliest, line, oldest);
+            }
         }
     }
     earliest
@@ -193,18 +185,17 @@ fn earlier(earliest: Option<Earliest>, line: u64, oldest: Option<Oldest>) -> Opt
 // earliest. It is looked for only where that line is one of the lines from `start` on, below `end`.
 fn next_earliest<L: LineAnswers>(
     lines: &L,
-    trace: &Trace,
+    format: Format,
     number: u64,
     range: Range,
     found: Earliest,
     start: u64,
     end: u64,
 ) -> Option<Earliest>
-    requires { L.is_of lines.now trace.now number }
-    ensures { start ≤ found.line → found.line < end → IsEarliestOf trace.now number (Some found.line) range result }
+    ensures { (T : Recording) → Knows (L.is_of lines.now) format number T → start ≤ found.line → found.line < end → IsEarliestOf T number (Some found.line) range result }
 {
     if start <= found.line && found.line < end {
-        earliest(lines, trace, number, range, Some(found.line))
+        earliest(lines, format, number, range, Some(found.line))
     } else {
         None
     }
@@ -213,47 +204,46 @@ fn next_earliest<L: LineAnswers>(
 // Whether isOrderedBefore passes after the event with this number.
 fn is_ordered<L: LineAnswers>(
     lines: &L,
-    trace: &Trace,
+    format: Format,
     number: u64,
     first: Range,
     second: Range,
 ) -> bool
-    requires known { L.is_of lines.now trace.now number }
-    ensures { IsTrue result ↔ OrderedPasses (history trace.now number) first second }
+    ensures { (T : Recording) → Knows (L.is_of lines.now) format number T → (IsTrue result ↔ OrderedPasses (history T number) first second) }
 {
-    if !is_written(lines, trace, number, first) {
+    if !is_written(lines, format, number, first) {
         return true;
     }
-    let Some(found) = earliest(lines, trace, number, second, None) else {
+    let Some(found) = earliest(lines, format, number, second, None) else {
         return true;
     };
-    let (start, end) = lines_of(trace, first);
-    let other = next_earliest(lines, trace, number, second, found, start, end);
-    let shift = lines.shift(start);
-    for line in start..end {
-        let by = place_by(found, other, line);
-        let spot = Spot { line, shift };
-        if !is_line_ordered(lines, trace, number, first, second, spot, by) {
-            return false;
+    let (start, end) = lines_of(format, first);
+    let other = next_earliest(lines, format, number, second, found, start, end);
+    for block in start / 16..(end - 1) / 16 + 1 {
+        let stretch = stretch_of(lines, start, end, block);
+        for line in stretch.first..stretch.end {
+            let by = place_by(found, other, line);
+            let spot = stretch.spot(line);
+            if !is_line_ordered(lines, format, number, first, second, spot, by) {
+                return false;
+            }
         }
     }
     true
 }
 
 // Whether one of the events up to this number stores to a byte of the range.
-fn is_written<L: LineAnswers>(lines: &L, trace: &Trace, number: u64, range: Range) -> bool
-    requires { L.is_of lines.now trace.now number }
-    ensures { result ≡ false → (b : ℕ) → InSpan range b → IsUnwritten trace.now number b }
+fn is_written<L: LineAnswers>(lines: &L, format: Format, number: u64, range: Range) -> bool
+    ensures { result ≡ false → (T : Recording) → Knows (L.is_of lines.now) format number T → (b : ℕ) → InSpan range b → IsUnwritten T number b }
 {
-    let (first, end) = lines_of(trace, range);
-    if !lines.may_be_stored(trace, number, first, end) {
-        return false;
-    }
-    let shift = lines.shift(first);
-    for line in first..end {
-        let spot = Spot { line, shift };
-        if lines.line_oldest(trace, range, spot, number).is_some() {
-            return true;
+    let (first, end) = lines_of(format, range);
+    for block in first / 16..(end - 1) / 16 + 1 {
+        let stretch = stretch_of(lines, first, end, block);
+        for line in stretch.first..stretch.end {
+            let spot = stretch.spot(line);
+            if lines.line_oldest(format, range, spot, number).is_some() {
+                return true;
+            }
         }
     }
     false
@@ -276,42 +266,39 @@ fn place_by(found: Earliest, other: Option<Earliest>, line: u64) -> Option<u64>
 // for sure by a place.
 fn is_line_ordered<L: LineAnswers>(
     lines: &L,
-    trace: &Trace,
+    format: Format,
     number: u64,
     first: Range,
     second: Range,
     spot: Spot,
     by: Option<u64>,
 ) -> bool
-    requires known { L.is_of lines.now trace.now number }
     requires line { spot.line < 2 ^ 48 }
-    requires by { IfSome by (λ place. place ≤ number) }
-    ensures { IsTrue result ↔ IsLineOrdered trace.now number first second spot.line by }
+    ensures { (T : Recording) → Knows (L.is_of lines.now) format number T → IfSome by (λ place. place ≤ number) → (IsTrue result ↔ IsLineOrdered T number first second spot.line by) }
 {
-    if !is_line_in_order(lines, trace, number, first, second, spot) {
+    if !is_line_in_order(lines, format, number, first, second, spot) {
         return false;
     }
     match by {
         None => true,
-        Some(place) => lines.is_line_persisted(trace, first, spot, number, place),
+        Some(place) => lines.is_line_persisted(format, first, spot, number, place),
     }
 }
 
 // Whether in this line the last stores to bytes of the first range come before those to bytes of the second.
 fn is_line_in_order<L: LineAnswers>(
     lines: &L,
-    trace: &Trace,
+    format: Format,
     number: u64,
     first: Range,
     second: Range,
     spot: Spot,
 ) -> bool
-    requires known { L.is_of lines.now trace.now number }
     requires line { spot.line < 2 ^ 48 }
-    ensures { IsTrue result ↔ IsLineInOrder trace.now number first second spot.line }
+    ensures { (T : Recording) → Knows (L.is_of lines.now) format number T → (IsTrue result ↔ IsLineInOrder T number first second spot.line) }
 {
-    match lines.line_oldest(trace, second, spot, number) {
+    match lines.line_oldest(format, second, spot, number) {
         None => true,
-        Some(oldest) => lines.is_line_ranked(trace, first, spot, number, oldest.rank),
+        Some(oldest) => lines.is_line_ranked(format, first, spot, number, oldest.rank),
     }
 }

@@ -12,6 +12,7 @@ mod oldest;
 mod part;
 mod put;
 mod small_put;
+mod stretch;
 mod table;
 mod tables;
 mod writes;

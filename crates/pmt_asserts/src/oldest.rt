@@ -21,9 +21,9 @@ pub struct Part {
     pub high: u64,
 }
 
-/// A line, and how far the place of its table is thought to lie from it.
+/// A line, and where what is known of it and its neighbours is thought to stand.
 #[derive(Clone, Copy, Debug, PartialEq, Eq)]
 pub struct Spot {
     pub line: u64,
-    pub shift: u64,
+    pub block: usize,
 }

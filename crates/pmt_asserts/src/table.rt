@@ -61,13 +61,6 @@ impl LineTable {
         })
     }
 
-    /// The line.
-    pub fn line(&self) -> u64
-        ensures { result ≡ self.now.job.line }
-    {
-        self.found.job().line()
-    }
-
     // How many stores come by the place, which mostly lies past all of them.
     fn count_at(&self, place: u64) -> usize
         ensures value { OfEachTrace self.now (λ T l. stores_by T l place ≡ result) }

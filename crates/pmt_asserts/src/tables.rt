@@ -1,7 +1,6 @@
 //! The tables of all lines of a trace.
 ghost use Rattle.std.specs.Prelude.{◌≡◌, ◌≢◌, IfOk, All, Contains, MatchOption};
 
-use crate::oldest::Spot;
 use crate::table::LineTable;
 use indexmap::IndexMap;
 use pmt_lines::LineResult;
@@ -46,27 +45,11 @@ impl Tables {
         Ok(Tables { lines, places })
     }
 
-    // How far the place of this line's table lies from the line, as those of the lines after it mostly do. Nothing is promised of
-    // it: `find` looks whose table it is.
-    pub(crate) fn shift_of(&self, line: u64) -> u64 {
-        match self.places.get(&line) {
-            None => 0,
-            Some(place) => (*place as u64).wrapping_sub(line),
-        }
-    }
-
-    // The table of the line. Its place is looked up only where the table isn't found as far from the line as it is thought to lie.
-    pub(crate) fn find(&self, spot: Spot) -> Option<&LineTable>
-        ensures { MatchOption result (All (λ found. found.job.line ≢ spot.line) self.now) (λ table. Contains self.now table.now × (table.now.job.line ≡ spot.line)) }
+    // The table of the line.
+    pub(crate) fn find(&self, line: u64) -> Option<&LineTable>
+        ensures { MatchOption result (All (λ found. found.job.line ≢ line) self.now) (λ table. Contains self.now table.now × (table.now.job.line ≡ line)) }
     {
-        let guess = spot.line.wrapping_add(spot.shift) as usize;
-        if guess < self.lines.len() {
-            let table = &self.lines[guess];
-            if table.line() == spot.line {
-                return Some(table);
-            }
-        }
-        let place = *self.places.get(&spot.line)?;
+        let place = *self.places.get(&line)?;
         Some(&self.lines[place])
     }
 }

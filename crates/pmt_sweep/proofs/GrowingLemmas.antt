@@ -37,7 +37,6 @@ use Rattle.pmt_sweep.specs.Writers.{AreWriters, IsSafe as IsSafeFrom}
 use Rattle.pmt_sweep.specs.LineWriters.{AreLineWriters, writers_at}
 use Rattle.pmt_sweep.specs.VerdictsSoFar.{AreVerdictsTo}
 use Rattle.pmt_sweep.specs.Judging.{IsJudgingOf}
-use Rattle.pmt_sweep.specs.Pages.{HasPagesOf}
 use Rattle.pmt_sweep.proofs.VerdictsSoFar.{verdicts-rest}
 use Rattle.pmt_sweep.specs.Growing.{HasTaken, HasSwept, HasSweptFirst}
 
@@ -253,7 +252,6 @@ module _ (S : Recording) (more : List Event) where
     here = swept.here;
     sweep = sweep-more s.judging.progress swept.here swept.sweep;
     writers = λ judges. line_writers-more (length S.events) s.judging.progress.rows s.judging.writers (omega arith) (swept.writers judges);
-    pages = λ judges. subst (λ h. HasPagesOf h s.judging.pages) (sym (history-more S more (length S.events) (omega arith))) (swept.pages judges);
     verdicts = verdicts-more s.judging.verdicts.items swept.verdicts;
   }
 
@@ -267,12 +265,12 @@ first-taken T s first =
 -- What one that judges knows is what a judging sweep knows.
 pub judging-of : (T : Recording) (n : ℕ) (s : Sweeper) → HasTaken T n s → s.judges ≡ true → IsJudgingOf T n s.judging
 judging-of T n s has judges = record {
-  known = record { here = has.here; sweep = has.sweep; writers = has.writers judges; pages = has.pages judges };
+  known = record { here = has.here; sweep = has.sweep; writers = has.writers judges };
   verdicts = has.verdicts;
 }
 
 pub taken-judging : (T : Recording) (n : ℕ) (s : Sweeper) → IsJudgingOf T n s.judging → HasTaken T n s
-taken-judging T n s is = record { here = is.known.here; sweep = is.known.sweep; writers = λ judges. is.known.writers; pages = λ judges. is.known.pages; verdicts = is.verdicts }
+taken-judging T n s is = record { here = is.known.here; sweep = is.known.sweep; writers = λ judges. is.known.writers; verdicts = is.verdicts }
 
 -- One that does not judge has taken events without assertions.
 pub taken-unjudged :
@@ -282,7 +280,6 @@ taken-unjudged T n s new has unjudged same none sweep all = record {
   here = all;
   sweep = sweep;
   writers = λ judges. absurd (true≢false (sym judges ∙ unjudged));
-  pages = λ judges. absurd (true≢false (sym judges ∙ unjudged));
   verdicts = subst (λ vs. AreVerdictsTo T (length T.events) vs.items) (sym same) (verdicts-rest T n s.judging.verdicts.items (subst (λ k. k ≤ length T.events) has.here has.sweep.within) none has.verdicts);
 }
 

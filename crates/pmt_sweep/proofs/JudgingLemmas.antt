@@ -20,10 +20,8 @@ use Rattle.pmt_sweep.specs.Sweeping.{IsSweepOf, taken}
 use Rattle.pmt_sweep.specs.LineWriters.{AreLineWriters, TakesOverAt, SettlesAll}
 use Rattle.pmt_sweep.specs.Settling.{fence_front}
 use Rattle.pmt_sweep.specs.Judging.{IsKnownTo}
-use Rattle.pmt_sweep.specs.Pages.{HasPage, HasPagesOf}
 use Rattle.pmt_sweep.proofs.LineWriterLemmas.{line_writers-start, line_writers-store, line_writers-settle, settles-none}
 use Rattle.pmt_sweep.proofs.OpenLemmas.{IsUnique, unique-lines}
-use Rattle.pmt_sweep.proofs.PageLemmas.{pages-start, pages-store, pages-stay}
 use Rattle.pmt_sweep.proofs.SettlingLemmas.{fence_front-is, fence_front-stays}
 
 -- the rows are those after the events that were taken
@@ -38,13 +36,12 @@ pub known-store :
     (T : Recording) (n l place : ℕ) (s : Written) (w : Writer) (j new : Judging) → IsTrace T → IsKnownTo T n j → IsAct T (suc n) (Stores l s) →
     IsSweepOf T new.progress → taken new.progress ≡ suc n → IsPlaceOf l place new.progress.rows →
     w.number ≡ suc n → w.rank ≡ count_at T l (suc n) → w.safe ≡ 0 → l * T.format.line_size + w.low ≡ s.addr → w.high ≡ w.low + length s.bytes →
-    TakesOverAt place w j.writers new.writers → ((k : ℕ) → HasPage k j.pages → HasPage k new.pages) → (w.rank ≡ 1 → HasPage l new.pages) → IsKnownTo T (suc n) new
-known-store T n l place s w j new trace known is sweep one at number rank safe low high takes kept first = record {
+    TakesOverAt place w j.writers new.writers → IsKnownTo T (suc n) new
+known-store T n l place s w j new trace known is sweep one at number rank safe low high takes = record {
   here = one;
   sweep = sweep;
   writers =
       line_writers-store T n l place s w j.progress.rows new.progress.rows j.writers new.writers trace is (rows-at T n j known.sweep known.here) (rows-at T (suc n) new sweep one) at number rank safe low high takes known.writers;
-  pages = pages-store T n l s j.pages new.pages is kept (λ e. first (rank ∙ e)) known.pages;
 }
 
 known-settled :
@@ -52,22 +49,21 @@ known-settled :
     ((l : ℕ) (s : Written) → a ≢ Stores l s) → IsSweepOf T new.progress → taken new.progress ≡ suc n →
     ((l q : ℕ) → IsPlaceOf l q new.progress.rows → has_line q places ≡ true → fronts q ≡ front l (a ∷ history T n)) →
     ((l q : ℕ) → IsPlaceOf l q new.progress.rows → has_line q places ≡ false → front l (a ∷ history T n) ≡ front_at T l n) →
-    SettlesAll fronts places (suc n) j.writers new.writers → new.pages ≡ j.pages → IsKnownTo T (suc n) new
-known-settled T n a fronts places j new trace known is other sweep one told stays settles same = record {
+    SettlesAll fronts places (suc n) j.writers new.writers → IsKnownTo T (suc n) new
+known-settled T n a fronts places j new trace known is other sweep one told stays settles = record {
   here = one;
   sweep = sweep;
   writers =
       line_writers-settle T n a fronts places j.progress.rows new.progress.rows j.writers new.writers trace is other (rows-at T n j known.sweep known.here) (rows-at T (suc n) new sweep one) (λ l q at has. told l q at has ∙ sym (ap (front l) (history-act T n a is)))
       (λ l q at none. ap (front l) (history-act T n a is) ∙ stays l q at none) settles known.writers;
-  pages = subst (HasPagesOf (history T (suc n))) (sym same) (pages-stay T n a j.pages is other known.pages);
 }
 
 -- a flush or an assertion moves no front
 pub known-same :
     (T : Recording) (n : ℕ) (a : Act) (j new : Judging) → IsTrace T → IsKnownTo T n j → IsAct T (suc n) a → ((l : ℕ) (s : Written) → a ≢ Stores l s) →
-    ((l : ℕ) → front l (a ∷ history T n) ≡ front_at T l n) → IsSweepOf T new.progress → taken new.progress ≡ suc n → new.writers ≡ j.writers → new.pages ≡ j.pages → IsKnownTo T (suc n) new
-known-same T n a j new trace known is other stays sweep one same pages =
-    known-settled T n a (λ q. 0) [] j new trace known is other sweep one (λ l q at has. absurd (true≢false (sym has))) (λ l q at none. stays l) (subst (SettlesAll (λ q. 0) [] (suc n) j.writers) (sym same) (settles-none (λ q. 0) (suc n) j.writers)) pages
+    ((l : ℕ) → front l (a ∷ history T n) ≡ front_at T l n) → IsSweepOf T new.progress → taken new.progress ≡ suc n → new.writers ≡ j.writers → IsKnownTo T (suc n) new
+known-same T n a j new trace known is other stays sweep one same =
+    known-settled T n a (λ q. 0) [] j new trace known is other sweep one (λ l q at has. absurd (true≢false (sym has))) (λ l q at none. stays l) (subst (SettlesAll (λ q. 0) [] (suc n) j.writers) (sym same) (settles-none (λ q. 0) (suc n) j.writers))
 
 -- the same, of a number that is counted otherwise
 pub known-counted : (T : Recording) (n k : ℕ) (j : Judging) → k ≡ n → IsKnownTo T n j → IsKnownTo T k j
@@ -76,9 +72,9 @@ known-counted T n k j e known = subst (λ m. IsKnownTo T m j) (sym e) known
 -- a clflush raises the front of its own line
 pub known-clflush :
     (T : Recording) (n l place f : ℕ) (j new : Judging) → IsTrace T → IsKnownTo T n j → IsAct T (suc n) (Clflushes l) → IsSweepOf T new.progress → taken new.progress ≡ suc n →
-    IsPlaceOf l place new.progress.rows → f ≡ front_at T l (suc n) → SettlesAll (λ q. f) (place ∷ []) (suc n) j.writers new.writers → new.pages ≡ j.pages → IsKnownTo T (suc n) new
-known-clflush T n l place f j new trace known is sweep one at front_is settles same =
-    known-settled T n (Clflushes l) (λ q. f) (place ∷ []) j new trace known is (λ k s e. let clash : Clflushes l ≡ Stores k s = e in (cc)) sweep one told stays settles same
+    IsPlaceOf l place new.progress.rows → f ≡ front_at T l (suc n) → SettlesAll (λ q. f) (place ∷ []) (suc n) j.writers new.writers → IsKnownTo T (suc n) new
+known-clflush T n l place f j new trace known is sweep one at front_is settles =
+    known-settled T n (Clflushes l) (λ q. f) (place ∷ []) j new trace known is (λ k s e. let clash : Clflushes l ≡ Stores k s = e in (cc)) sweep one told stays settles
   where
     once : IsUnique (map line_in new.progress.rows)
     once = one-place T (suc n) new.progress.rows (rows-at T (suc n) new sweep one)
@@ -104,11 +100,11 @@ known-clflush T n l place f j new trace known is sweep one at front_is settles s
 -- a fence raises the fronts of the lines that its thread has flushed
 pub known-fence :
     (T : Recording) (n t : ℕ) (places : List ℕ) (j new : Judging) → IsTrace T → IsKnownTo T n j → IsAct T (suc n) (Fences t) → IsSweepOf T new.progress → taken new.progress ≡ suc n →
-    HasOpen t (history T n) places j.progress.rows → SettlesAll (fence_front t j.progress.rows) places (suc n) j.writers new.writers → new.pages ≡ j.pages → IsKnownTo T (suc n) new
-known-fence T n t places j new trace known is sweep one open_here settles same =
+    HasOpen t (history T n) places j.progress.rows → SettlesAll (fence_front t j.progress.rows) places (suc n) j.writers new.writers → IsKnownTo T (suc n) new
+known-fence T n t places j new trace known is sweep one open_here settles =
     known-settled T n (Fences t) (fence_front t j.progress.rows) places j new trace known is (λ k s e. let clash : Fences t ≡ Stores k s = e in (cc)) sweep one
     (λ l q at has. fence_front-is t l q (history T n) j.progress.rows rows (before l q at))
-    (λ l q at none. fence_front-stays t l q (history T n) places j.progress.rows rows open_here (before l q at) none) settles same
+    (λ l q at none. fence_front-stays t l q (history T n) places j.progress.rows rows open_here (before l q at) none) settles
   where
     rows : AreRows (history T n) j.progress.rows
     rows = rows-at T n j known.sweep known.here
@@ -135,12 +131,11 @@ last-stands T n l s new sweep one is i place at read =
     subst (λ p. IsPlaceOf l p new.rows) here (sweep.standing n l s within is)
 
 -- no event has come
-pub known-start : (T : Recording) (j : Judging) → IsSweepOf T j.progress → taken j.progress ≡ 0 → j.writers ≡ [] → j.pages ≡ [] → IsKnownTo T 0 j
-known-start T j sweep none empty unpaged = record {
+pub known-start : (T : Recording) (j : Judging) → IsSweepOf T j.progress → taken j.progress ≡ 0 → j.writers ≡ [] → IsKnownTo T 0 j
+known-start T j sweep none empty = record {
   here = none;
   sweep = sweep;
   writers = subst (AreLineWriters T 0 j.progress.rows) (sym empty) (subst (λ rs. AreLineWriters T 0 rs []) (sym (no-rows j.progress.rows (rows-at T 0 j sweep none).lines_in_order)) (line_writers-start T));
-  pages = subst (HasPagesOf []) (sym unpaged) pages-start;
 }
   where
     no-rows : (rows : List LineRow) → map line_in rows ≡ [] → rows ≡ []

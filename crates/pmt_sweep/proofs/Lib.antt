@@ -21,6 +21,5 @@ pub mod SettlingLemmas
 pub mod VerdictsSoFar
 pub mod FindLemmas
 pub mod AnswerLemmas
-pub mod PageLemmas
 pub mod JudgingLemmas
 pub mod GrowingLemmas

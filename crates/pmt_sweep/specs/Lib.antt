@@ -12,7 +12,6 @@ pub mod Giving
 pub mod Settling
 pub mod VerdictsSoFar
 pub mod Judging
-pub mod Pages
 pub mod Distances
 pub mod OpenFlushes
 pub mod Flags

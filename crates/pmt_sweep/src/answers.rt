@@ -5,7 +5,7 @@ ghost use Rattle.pmt_sweep.specs.Distances.{AreDistances};
 use crate::judging::Judging;
 use pmt_asserts::{LineAnswers, Oldest, Part, Spot, part_of};
 use pmt_marks::LineState;
-use pmt_model::{Format, Range, Trace};
+use pmt_model::{Format, Range};
 
 impl LineAnswers for Judging {
     ghost use Rattle.std.specs.Prelude.{◌≤◌, length};
@@ -16,25 +16,19 @@ impl LineAnswers for Judging {
 
     ghost within = { λ j T n known. subst (λ k. k ≤ length T.events) known.here known.sweep.within };
 
-    fn shift(&self, line: u64) -> u64 {
-        self.progress.rows.shift(line)
-    }
-
-    fn may_be_stored(&self, trace: &Trace, _number: u64, first: u64, end: u64) -> bool {
-        let _is_trace = trace.len();
-        self.pages.may_have(first, end)
+    fn block(&self, line: u64) -> Option<usize> {
+        self.progress.rows.block(line)
     }
 
     fn is_line_persisted(
         &self,
-        trace: &Trace,
+        format: Format,
         range: Range,
         spot: Spot,
         number: u64,
         by: u64,
     ) -> bool {
-        let format = trace.format();
-        let Some(place) = self.progress.rows.find(spot) else {
+        let Some(place) = self.progress.rows.find(spot.line, spot.block) else {
             return true;
         };
         if by == number && are_all_persisted(&self.progress.rows.at(place).state) {
@@ -49,14 +43,13 @@ impl LineAnswers for Judging {
 
     fn is_line_ranked(
         &self,
-        trace: &Trace,
+        format: Format,
         range: Range,
         spot: Spot,
         _number: u64,
         rank: u64,
     ) -> bool {
-        let format = trace.format();
-        let Some(place) = self.progress.rows.find(spot) else {
+        let Some(place) = self.progress.rows.find(spot.line, spot.block) else {
             return true;
         };
         let part = distances(format, range, spot.line);
@@ -66,12 +59,18 @@ impl LineAnswers for Judging {
         }
     }
 
-    fn line_oldest(&self, trace: &Trace, range: Range, spot: Spot, _number: u64) -> Option<Oldest> {
-        let part = distances(trace.format(), range, spot.line);
+    fn line_oldest(
+        &self,
+        format: Format,
+        range: Range,
+        spot: Spot,
+        _number: u64,
+    ) -> Option<Oldest> {
+        let part = distances(format, range, spot.line);
         if part.high <= part.low {
             return None;
         }
-        let Some(place) = self.progress.rows.find(spot) else {
+        let Some(place) = self.progress.rows.find(spot.line, spot.block) else {
             return None;
         };
         match self.writers.at(place) {

@@ -75,7 +75,6 @@ impl Sweeper {
             writers: _,
             verdicts,
             stale: _,
-            pages: _,
         } = self.judging;
         progress.finish(alloc, trace, verdicts)
     }

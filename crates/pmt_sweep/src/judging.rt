@@ -8,7 +8,6 @@ ghost use Rattle.pmt_sweep.specs.Judging.{IsJudgingOf};
 ghost use Rattle.pmt_sweep.specs.Sweeping.{taken};
 
 use crate::line_writers::LineWriters;
-use crate::pages::Pages;
 use crate::settling::settle_fence;
 use crate::sweeping::{Progress, Swept};
 use crate::writers::Writer;
@@ -24,7 +23,6 @@ pub(crate) struct Judging {
     pub(crate) verdicts: Vec<Verdict>,
     // The places of lines of which the oldest store has to be found again before an assertion is judged.
     pub(crate) stale: Vec<u32>,
-    pub(crate) pages: Pages,
 }
 
 impl Judging {
@@ -37,7 +35,6 @@ impl Judging {
             writers: LineWriters::new(alloc),
             verdicts: Vec::new(alloc),
             stale: Vec::new(alloc),
-            pages: Pages::new(alloc),
         })
     }
 
@@ -57,7 +54,7 @@ impl Judging {
             }
             Op::Clflush(addr) => self.take_clflush(trace, line_of(format, *addr)),
             Op::Sfence | Op::Mfence => self.take_fence(trace, thread),
-            Op::IsPersist(_) | Op::IsOrderedBefore(_, _) => self.take_assertion(trace),
+            Op::IsPersist(_) | Op::IsOrderedBefore(_, _) => self.take_assertion(trace, event),
         }
     }
 
@@ -83,7 +80,6 @@ impl Judging {
         let is_fresh = self.writers.is_fresh(place);
         push_stale(&mut self.stale, is_fresh, self.progress.places[index])?;
         self.writers.store(place, writer)?;
-        self.pages.note(line, stores)?;
         Ok(())
     }
 
@@ -133,17 +129,18 @@ impl Judging {
     }
 
     // An assertion.
-    fn take_assertion(&mut self, trace: &Trace) -> Result<(), OutOfMemory>
+    fn take_assertion(&mut self, trace: &Trace, event: &Event) -> Result<(), OutOfMemory>
         requires so_far { IsJudgingOf trace.now (taken self.old.progress) self.old }
-        requires next { IsAct trace.now (suc (taken self.old.progress)) Asserts }
+        requires next { slice_get trace.now.events (taken self.old.progress) ≡ Some event.now }
+        requires asserts { IsAct trace.now (suc (taken self.old.progress)) Asserts }
         ensures { OnOk result (IsJudgingOf trace.now (suc (taken self.old.progress)) self.new) }
     {
-        let _is_trace = trace.len();
+        let format = trace.format();
         self.progress.take_assertion()?;
         let number = self.progress.before.len() as u64;
         self.writers.refresh(self.stale.as_slice());
         self.stale.clear();
-        if let Some(verdict) = verdict_by(self, trace, number) {
+        if let Some(verdict) = verdict_by(self, format, number, event.op) {
             self.verdicts.push(verdict)?;
         }
         Ok(())
@@ -174,7 +171,6 @@ pub(crate) fn judged(alloc: Global, trace: &Trace) -> Result<Swept, OutOfMemory>
         writers: _,
         verdicts,
         stale: _,
-        pages: _,
     } = judging;
     progress.finish(alloc, trace, verdicts)
 }

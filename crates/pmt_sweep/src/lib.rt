@@ -12,7 +12,6 @@ mod joining;
 mod judging;
 mod line_writers;
 mod open_numbers;
-mod pages;
 mod rows;
 mod settling;
 pub mod sweeping;

@@ -1,20 +1,16 @@
 //! What is known of each line while the events of a trace go by.
-ghost use Rattle.std.specs.Prelude.{◌≡◌, ℕ, suc, ◌<◌, ◌≤◌, List, [], ◌∷◌, length, get_or, All, MatchOption, IfOk, OnOk};
+ghost use Rattle.std.specs.Prelude.{◌≡◌, ℕ, suc, ◌<◌, ◌≤◌, ◌/◌, None, List, [], ◌∷◌, length, get_or, All, MatchOption, IfOk, OnOk};
 ghost use Rattle.pmt_model.specs.Machine.{Act, Stores, Flushes, Clflushes, Fences};
 ghost use Rattle.pmt_model.specs.Traces.{Recording, event_limit};
 ghost use Rattle.pmt_model.specs.Values.{Written};
 ghost use Rattle.pmt_sweep.specs.Rows.{AreRows, AreRowsWith, HasOpen, IsPlaceOf, IsRow, KeepsPlaces};
 ghost use Rattle.pmt_sweep.specs.Flags.{IsAtFence, IsPastFence};
 
-use indexmap::IndexSet;
-use pmt_asserts::Spot;
 use pmt_marks::LineState;
 use pmt_model::OutOfMemory;
+use pmt_places::LinePlaces;
 use std::alloc::Global;
 use std::marker::Model;
-
-// So many lines in a row are found with no look-up, in whatever order they came.
-const NEAR: usize = 512;
 
 /// A line, with its state, the number of the last flush or clflush of it, and that of the last store to it, or 0.
 #[derive(Drop)]
@@ -25,15 +21,11 @@ pub(crate) struct LineRow {
     pub(crate) store: u32,
 }
 
-/// The rows of the lines that were stored or flushed, in order of first appearance. A line is looked up where it is not that of the look-up
-/// before.
+/// The rows of the lines that were stored or flushed, in order of first appearance.
 #[derive(Drop)]
 pub(crate) struct Rows {
-    lines: IndexSet<u64>,
+    lines: LinePlaces,
     rows: Vec<LineRow>,
-    last: usize,
-    // Where the last line of each remainder stands. Nothing is promised of it: `find` looks whose row it is.
-    near: [usize; NEAR],
 }
 
 impl Model for Rows {
@@ -45,7 +37,7 @@ impl Model for Rows {
 
     ghost view = { λ r. r.rows.items };
 
-    ghost invariant = { λ r. AreKeys r.lines.keys r.rows.items };
+    ghost invariant = { λ r. AreKeys r.lines r.rows.items };
 }
 
 impl Rows {
@@ -54,10 +46,8 @@ impl Rows {
         ensures { AreRows [] result }
     {
         Rows {
-            lines: IndexSet::new(alloc),
+            lines: LinePlaces::new(alloc),
             rows: Vec::new(alloc),
-            last: 0,
-            near: [0; NEAR],
         }
     }
 
@@ -75,20 +65,8 @@ impl Rows {
         ensures kept { OnOk result (KeepsPlaces self.old self.new) }
         ensures rows { OnOk result ((h : List Act) → AreRows h self.old → AreRowsWith line h self.new) }
     {
-        if self.last < self.rows.len() && self.rows[self.last].line == line {
-            return Ok(self.last);
-        }
-        self.look_up(line)
-    }
-
-    // As `place_of`, by a look-up.
-    fn look_up(&mut self, line: u64) -> Result<usize, OutOfMemory>
-        ensures here { IfOk result (λ place. IsPlaceOf line place self.new) }
-        ensures kept { OnOk result (KeepsPlaces self.old self.new) }
-        ensures rows { OnOk result ((h : List Act) → AreRows h self.old → AreRowsWith line h self.new) }
-    {
         self.rows.reserve(1)?;
-        let (place, is_new) = self.lines.insert_full(line)?;
+        let (place, is_new) = self.lines.insert(line)?;
         if is_new {
             let state = LineState::new(*self.rows.allocator());
             self.rows.push_reserved(LineRow {
@@ -98,43 +76,21 @@ impl Rows {
                 store: 0,
             });
         }
-        self.last = place;
-        self.near[line as usize % NEAR] = place;
         Ok(place)
     }
 
-    // How far the place of this line's row lies from the line, as that of the lines after it mostly does. Nothing is promised of it: `find`
-    // looks whose row it is.
-    pub(crate) fn shift(&self, line: u64) -> u64 {
-        let shift = self.last_shift();
-        match self.find(Spot { line, shift }) {
-            None => 0,
-            Some(place) => (place as u64).wrapping_sub(line),
-        }
-    }
-
-    // How far the place of the row that was looked up last lies from its line.
-    fn last_shift(&self) -> u64 {
-        if self.last < self.rows.len() {
-            (self.last as u64).wrapping_sub(self.rows[self.last].line)
-        } else {
-            0
-        }
-    }
-
-    // The place of the line's row, if it has one. It is looked up only where it isn't found as far from the line as it is thought to lie.
-    pub(crate) fn find(&self, spot: Spot) -> Option<usize>
-        ensures { MatchOption result ((place : ℕ) → IsPlaceOf spot.line place self.now → ⊥) (λ place. IsPlaceOf spot.line place self.now) }
+    // Where the line and its fifteen neighbours stand; none where none of them has a row.
+    pub(crate) fn block(&self, line: u64) -> Option<usize>
+        ensures { result ≡ None → (l place : ℕ) → l / 16 ≡ line / 16 → IsPlaceOf l place self.now → ⊥ }
     {
-        let guess = spot.line.wrapping_add(spot.shift) as usize;
-        if guess < self.rows.len() && self.rows[guess].line == spot.line {
-            return Some(guess);
-        }
-        let near = self.near[spot.line as usize % NEAR];
-        if near < self.rows.len() && self.rows[near].line == spot.line {
-            return Some(near);
-        }
-        self.lines.get_index_of(&spot.line)
+        self.lines.block(line)
+    }
+
+    // The place of the line's row, if it has one. It is looked up only where its block isn't the one at `block`.
+    pub(crate) fn find(&self, line: u64, block: usize) -> Option<usize>
+        ensures { MatchOption result ((place : ℕ) → IsPlaceOf line place self.now → ⊥) (λ place. IsPlaceOf line place self.now) }
+    {
+        self.lines.find(line, block)
     }
 
     // The row at a place.

@@ -57,10 +57,10 @@ pub(crate) struct Progress {
 }
 
 /// The findings and verdicts of the trace, all that is kept of it, and how many lines it stores or flushes: one pass forward over the
-/// events, and one over the stores for those that are never persisted. It takes one look-up of a line for each store and flush, some 80
-/// bytes a line and 9 an event; where the trace has assertions, some 120 bytes more for each line that is stored, and 20 for each page of
-/// 128 lines that has one; where over 16 stores to a line follow one another without a flush, at most 4 bytes more for each byte of the
-/// line, and some 60 for the line.
+/// events, and one over the stores for those that are never persisted. It takes at most one look-up for each store and flush, some 75
+/// bytes a line (some 160 where none of its fifteen neighbours is there) and 9 an event; where the trace has assertions, some 120 bytes
+/// more for each line that is stored; where over 16 stores to a line follow one another without a flush, at most 4 bytes more for each byte
+/// of the line, and some 60 for the line.
 ///
 /// # Errors
 /// Where memory was refused.

@@ -151,7 +151,7 @@ abbrev pub rows_with : Bool → ℕ → List LineRow → List LineRow
 rows_with is_new l rows = if is_new then rows ++ fresh l ∷ [] else rows
 
 -- the table after the look-up of a line
-module _ (keys : List ℕ) (rows : List LineRow) (l p k : ℕ) (is_new : Bool) (table : IsTable keys rows) (added : is_new ≡ not (list_any (nat_eq l) keys))
+module _ (keys : List ℕ) (rows : List LineRow) (l p : ℕ) (is_new : Bool) (table : IsTable keys rows) (added : is_new ≡ not (list_any (nat_eq l) keys))
     (distinct : IsDistinct nat_eq (insert_key nat_eq keys l)) where
   keys-with : insert_key nat_eq keys l ≡ map line_in (rows_with is_new l rows)
   keys-with = go is_new (list_any (nat_eq l) keys) added
@@ -165,9 +165,9 @@ module _ (keys : List ℕ) (rows : List LineRow) (l p k : ℕ) (is_new : Bool) (
   pub table-with : IsTable (insert_key nat_eq keys l) (rows_with is_new l rows)
   table-with = record { same = keys-with; distinct = distinct }
 
-  pub reaches : slice_get (insert_key nat_eq keys l) p ≡ Some k → nat_eq l k ≡ true → Reaches l p rows (rows_with is_new l rows)
-  reaches stored equal = record {
-    here = ap (λ ls. slice_get ls p) (sym keys-with) ∙ stored ∙ ap Some (sym (eqb-true l k equal));
+  pub reaches : slice_get (insert_key nat_eq keys l) p ≡ Some l → Reaches l p rows (rows_with is_new l rows)
+  reaches here = record {
+    here = ap (λ ls. slice_get ls p) (sym keys-with) ∙ here;
     places = λ j q h. places is_new j q h;
     counts = λ j. counts is_new j;
     fronts = λ j. fronts is_new j;
@@ -184,20 +184,6 @@ module _ (keys : List ℕ) (rows : List LineRow) (l p k : ℕ) (is_new : Bool) (
       fronts : (b : Bool) (j : ℕ) → front_of j (rows_with b l rows) ≡ front_of j rows
       fronts true j = front-fresh rows l j
       fronts false j = refl
-
--- the line of the look-up before
-pub reaches-last : (rows : List LineRow) (l p : ℕ) (x : LineRow) → p < length rows → x ≡ get_or rows p x → x.line ≡ l → Reaches l p rows rows
-reaches-last rows l p x within read line = record {
-  here = at rows p within read;
-  places = λ j q h. h;
-  counts = λ j. refl;
-  fronts = λ j. refl;
-}
-  where
-    at : (rows : List LineRow) (p : ℕ) → p < length rows → x ≡ get_or rows p x → IsPlaceOf l p rows
-    at [] p h e = absurd (omega arith)
-    at (r ∷ rows) zero h e = ap Some (sym (ap line_in e) ∙ line)
-    at (r ∷ rows) (suc p) h e = at rows p (omega arith) e
 
 -- the place of a line is one of the rows'
 pub within-rows : (rows : List LineRow) (l p : ℕ) → IsPlaceOf l p rows → p < length rows

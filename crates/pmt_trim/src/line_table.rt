@@ -4,8 +4,8 @@ ghost use Rattle.std.specs.Prelude.{◌≡◌, ◌<◌, ◌+◌, max, nat_lt, On
 ghost use Rattle.pmt_model.specs.Traces.{event_limit};
 ghost use Rattle.pmt_trim.specs.LineTables.{count_of, front_of, no_rows, IsPlaceOf, Reaches, Puts};
 
-use indexmap::IndexSet;
 use pmt_model::OutOfMemory;
+use pmt_places::LinePlaces;
 use std::alloc::Global;
 use std::marker::Model;
 
@@ -17,13 +17,11 @@ pub(crate) struct LineRow {
     pub(crate) front: u64,
 }
 
-/// The lines that were stored or flushed, in order of first appearance. A line is looked up where it is not that of the look-up
-/// before.
+/// The lines that were stored or flushed, in order of first appearance.
 #[derive(Drop)]
 pub(crate) struct LineTable {
-    lines: IndexSet<u64>,
+    lines: LinePlaces,
     rows: Vec<LineRow>,
-    last: usize,
 }
 
 impl Model for LineTable {
@@ -35,7 +33,7 @@ impl Model for LineTable {
 
     ghost view = { λ t. t.rows.items };
 
-    ghost invariant = { λ t. IsTable t.lines.keys t.rows.items };
+    ghost invariant = { λ t. IsTable t.lines t.rows.items };
 }
 
 impl LineTable {
@@ -44,9 +42,8 @@ impl LineTable {
         ensures { result ≡ no_rows }
     {
         LineTable {
-            lines: IndexSet::new(alloc),
+            lines: LinePlaces::new(alloc),
             rows: Vec::new(alloc),
-            last: 0,
         }
     }
 
@@ -55,18 +52,8 @@ impl LineTable {
     pub(crate) fn place_of(&mut self, line: u64) -> Result<usize, OutOfMemory>
         ensures { IfOk result (λ place. Reaches line place self.old self.new) }
     {
-        if self.last < self.rows.len() && self.rows[self.last].line == line {
-            return Ok(self.last);
-        }
-        self.look_up(line)
-    }
-
-    // As `place_of`, by a look-up.
-    fn look_up(&mut self, line: u64) -> Result<usize, OutOfMemory>
-        ensures { IfOk result (λ place. Reaches line place self.old self.new) }
-    {
         self.rows.reserve(1)?;
-        let (place, is_new) = self.lines.insert_full(line)?;
+        let (place, is_new) = self.lines.insert(line)?;
         if is_new {
             self.rows.push_reserved(LineRow {
                 line,
@@ -74,7 +61,6 @@ impl LineTable {
                 front: 0,
             });
         }
-        self.last = place;
         Ok(place)
     }
 

@@ -1,33 +1,57 @@
-use Rattle.std.proofs.Common.{◌≤◌, IfSome, refl, sym, subst, arith}
-use Rattle.pmt_asserts.specs.Judging.{IsLineOrdered}
-use Rattle.pmt_asserts.proofs.JudgeLemmas.{ordered-from, lines-from, place-within}
+use Rattle.std.proofs.Common.{◌≡◌, ◌≤◌, ◌∙◌, IfSome, Some, IsTrue, inl, inr, refl, sym, subst, arith}
+use Rattle.std.proofs.lemmas.Bool.{false≢true}
+use Rattle.pmt_model.specs.Values.{line_of}
+use Rattle.pmt_asserts.specs.Judging.{IsEarliestOf, IsLineOrdered, place_for}
+use Rattle.pmt_asserts.proofs.JudgeLemmas.{bare-ordered, ordered-from, lines-from, place-within}
+use Rattle.pmt_asserts.proofs.StretchLemmas.{below-more, below-all, below-start, below-end}
 use Rattle.pmt_asserts.proofs.judge.is_ordered.Goals as goal
 
-pub is_line_ordered-requires-clause-by : goal.is_line_ordered-requires-clause-by
-is_line_ordered-requires-clause-by g c =
-    let T = c.args.trace.now in
-    subst (λ o. IfSome o (λ n. n ≤ c.args.number)) (sym c.place_by-by.ensures)
-    (place-within T c.args.number c.loop-line.line c.args.second c.in-Some.found c.next_earliest-other.result (c.in-Some.ensures {u = tt})
-    (λ own. c.next_earliest-other.ensures (omega (arith, own, c.loop-line.auto.line)) (omega (arith, own, c.loop-line-test.true))))
+pub loop-line-init : goal.loop-line-init
+loop-line-init g c = λ T k.
+    below-start c.lines_of-start.result.0 c.lines_of-start.result.1 c.loop-block.block c.stretch_of-stretch.result.first c.stretch_of-stretch.result.end (λ line. IsLineOrdered T c.args.number c.args.first c.args.second line (place_for c.in-Some.found c.next_earliest-other.result line)) c.stretch_of-stretch.ensures.low c.stretch_of-stretch.ensures.high (λ l low high same. elim (c.stretch_of-stretch.ensures.all T c.args.number l k.trace k.is low high same) [ inl gone ↦ inl gone | inr bare ↦ inr (bare-ordered T c.args.number l c.args.first c.args.second (place_for c.in-Some.found c.next_earliest-other.result l) bare) ])
+    (c.loop-block.invariant T k)
+
+pub loop-block-preserved : goal.loop-block-preserved
+loop-block-preserved g c = λ T k.
+    below-end c.lines_of-start.result.0 c.lines_of-start.result.1 c.loop-block.block c.stretch_of-stretch.result.first c.stretch_of-stretch.result.end (λ line. IsLineOrdered T c.args.number c.args.first c.args.second line (place_for c.in-Some.found c.next_earliest-other.result line)) c.stretch_of-stretch.ensures.low c.stretch_of-stretch.ensures.high (λ l low high same. elim (c.stretch_of-stretch.ensures.all T c.args.number l k.trace k.is low high same) [ inl gone ↦ inl gone | inr bare ↦ inr (bare-ordered T c.args.number l c.args.first c.args.second (place_for c.in-Some.found c.next_earliest-other.result l) bare) ])
+    c.loop-line.line c.loop-line.auto.line (omega (arith, c.loop-line-test.false)) (c.loop-line.invariant T k)
+
+pub loop-line-preserved : goal.loop-line-preserved
+loop-line-preserved g c = λ T k.
+    let line = c.loop-line.line in
+    let o = c.next_earliest-other.result in
+    let found = c.in-Some.ensures {u = tt} T k in
+    let apart : line ≡ c.in-Some.found.line → IsEarliestOf T c.args.number (Some c.in-Some.found.line) c.args.second o =
+    (λ own. c.next_earliest-other.ensures T k (omega (arith, own, c.loop-line.auto.line, c.stretch_of-stretch.ensures.from)) (omega (arith, own, c.loop-line-test.true, c.stretch_of-stretch.ensures.within))) in
+    let by : IfSome c.place_by-by.result (λ n. n ≤ c.args.number) =
+    subst (λ p. IfSome p (λ n. n ≤ c.args.number)) (sym c.place_by-by.ensures) (place-within T c.args.number line c.args.second c.in-Some.found o found apart) in
+    below-more c.lines_of-start.result.0 c.lines_of-start.result.1 line (λ l. IsLineOrdered T c.args.number c.args.first c.args.second l (place_for c.in-Some.found o l)) (c.loop-line.invariant T k)
+    (subst (IsLineOrdered T c.args.number c.args.first c.args.second line) c.place_by-by.ensures
+    (subst (λ l. IsLineOrdered T c.args.number c.args.first c.args.second l c.place_by-by.result) c.spot-spot.ensures ((c.is_line_ordered.ensures T k by).0 c.if-not-is_line_ordered.false)))
 
 pub returns-then-not-is_line_ordered : goal.returns-then-not-is_line_ordered
-returns-then-not-is_line_ordered g c =
-    let T = c.args.trace.now in
-    let line = c.loop-line.line in (
+returns-then-not-is_line_ordered g c = λ T k.
+    let line = c.loop-line.line in
+    let o = c.next_earliest-other.result in
+    let found = c.in-Some.ensures {u = tt} T k in
+    let apart : line ≡ c.in-Some.found.line → IsEarliestOf T c.args.number (Some c.in-Some.found.line) c.args.second o =
+    (λ own. c.next_earliest-other.ensures T k (omega (arith, own, c.loop-line.auto.line, c.stretch_of-stretch.ensures.from)) (omega (arith, own, c.loop-line-test.true, c.stretch_of-stretch.ensures.within))) in
+    let by : IfSome c.place_by-by.result (λ n. n ≤ c.args.number) =
+    subst (λ p. IfSome p (λ n. n ≤ c.args.number)) (sym c.place_by-by.ensures) (place-within T c.args.number line c.args.second c.in-Some.found o found apart) in (
       λ t. absurd cc,
       λ passes. absurd (
-          let each = lines-from T c.args.number c.args.first c.args.second c.in-Some.found c.next_earliest-other.result c.lines_of-start.ensures.trace (c.in-Some.ensures {u = tt}) passes line
-          (λ own. c.next_earliest-other.ensures (omega (arith, own, c.loop-line.auto.line)) (omega (arith, own, c.loop-line-test.true))) in
-          let told = c.is_line_ordered.ensures.1 (subst (IsLineOrdered T c.args.number c.args.first c.args.second line) (sym c.place_by-by.ensures) each) in
-          cc),
+          let each : IsLineOrdered T c.args.number c.args.first c.args.second line (place_for c.in-Some.found o line) = lines-from T c.args.number c.args.first c.args.second c.in-Some.found o k.trace found passes line apart in
+          let told : IsTrue c.is_line_ordered.result = (c.is_line_ordered.ensures T k by).1
+          (subst (λ l. IsLineOrdered T c.args.number c.args.first c.args.second l c.place_by-by.result) (sym c.spot-spot.ensures) (subst (IsLineOrdered T c.args.number c.args.first c.args.second line) (sym c.place_by-by.ensures) each)) in
+          false≢true (sym c.if-not-is_line_ordered.true ∙ told)),
     )
 
 pub returns : goal.returns
-returns g c =
-    let T = c.args.trace.now in
-    let lines = c.lines_of-start.ensures.lines in (
-      λ t. ordered-from T c.args.number c.args.first c.args.second c.in-Some.found c.next_earliest-other.result c.lines_of-start.ensures.trace (c.in-Some.ensures {u = tt})
-          (λ a k own. c.next_earliest-other.ensures (omega (arith, own, (lines a k).0)) (omega (arith, own, (lines a k).1)))
-          (λ b j. c.loop-line.invariant b j (omega (arith, (lines b j).1, c.loop-line-test.false))),
+returns g c = λ T k.
+    let lines = c.lines_of-start.ensures.lines in
+    let all = below-all c.lines_of-start.result.0 c.lines_of-start.result.1 c.loop-block.block (λ line. IsLineOrdered T c.args.number c.args.first c.args.second line (place_for c.in-Some.found c.next_earliest-other.result line)) (c.loop-block.invariant T k) (omega (arith, c.loop-block-test.false, c.loop-block.auto.block-end)) in (
+      λ t. ordered-from T c.args.number c.args.first c.args.second c.in-Some.found c.next_earliest-other.result k.trace (c.in-Some.ensures {u = tt} T k)
+          (λ a j own. let at = lines T a k.formatted j in c.next_earliest-other.ensures T k (omega (arith, own, at.0)) (omega (arith, own, at.1)))
+          (λ b j. let at = lines T b k.formatted j in all (line_of T.format b) at.0 at.1),
       λ passes. refl,
     )

@@ -4,36 +4,32 @@ use Rattle.pmt_sweep.proofs.AnswerLemmas.{unplaced, distances-moved, first-told,
 use Rattle.pmt_sweep.proofs.answers.JudgingLineAnswers.line_oldest.Goals as goal
 
 pub returns-then-part : goal.returns-then-part
-returns-then-part c b in_range own =
-    let T = c.args.trace.now in
+returns-then-part c = λ T k b in_range own.
     let l = c.args.spot.line in
     let p = c.distances-part.result in
-    let part = distances-moved c.format.result T.format c.args.range l p c.format.ensures.value c.distances-part.ensures in
-    absurd (apart-of_part T c.args.range l b p c.format.ensures.is_trace part c.if-part.true in_range own)
+    let part = distances-moved c.args.format T.format c.args.range l p (sym k.formatted) c.distances-part.ensures in
+    absurd (apart-of_part T c.args.range l b p k.trace part c.if-part.true in_range own)
 
 pub returns-in_default : goal.returns-in_default
-returns-in_default c b in_range own =
-    let T = c.args.trace.now in
+returns-in_default c = λ T k b in_range own.
     let n = c.args._number in
     let j = c.args.self.now in
-    unplaced T c.args.spot.line n b j.progress.rows c.format.ensures.is_trace (rows-known T n j c.requires.known) (c.in_default.ensures {u = tt}) own
+    unplaced T c.args.spot.line n b j.progress.rows k.trace (rows-known T n j k.is) (c.in_default.ensures {u = tt}) own
 
 pub returns-in-None : goal.returns-in-None
-returns-in-None c =
-    let T = c.args.trace.now in
+returns-in-None c = λ T k.
     let l = c.args.spot.line in
     let n = c.args._number in
     let p = c.distances-part.result in
-    let part = distances-moved c.format.result T.format c.args.range l p c.format.ensures.value c.distances-part.ensures in
-    let are = c.requires.known.writers.each l c.in-Some.place (c.in-Some.ensures {u = tt}) in
-    first-told T l n c.args.range p _ c.format.ensures.is_trace part are None (known-within T n c.args.self.now c.requires.known) (λ w has m. none-met _ p.low p.high w (c.in-None.ensures {u = tt}) has m)
+    let part = distances-moved c.args.format T.format c.args.range l p (sym k.formatted) c.distances-part.ensures in
+    let are = k.is.writers.each l c.in-Some.place (c.in-Some.ensures {u = tt}) in
+    first-told T l n c.args.range p _ k.trace part are None (known-within T n c.args.self.now k.is) (λ w has m. none-met _ p.low p.high w (c.in-None.ensures {u = tt}) has m)
 
 pub returns-in-Some-at : goal.returns-in-Some-at
-returns-in-Some-at c =
-    let T = c.args.trace.now in
+returns-in-Some-at c = λ T k.
     let l = c.args.spot.line in
     let n = c.args._number in
     let p = c.distances-part.result in
-    let part = distances-moved c.format.result T.format c.args.range l p c.format.ensures.value c.distances-part.ensures in
-    let are = c.requires.known.writers.each l c.in-Some.place (c.in-Some.ensures {u = tt}) in
-    first-told T l n c.args.range p c.in-Some-at.writers.now c.format.ensures.is_trace part (subst (AreWriters T l n) (sym (c.in-Some-at.ensures {u = tt})) are) c.oldest.result (known-within T n c.args.self.now c.requires.known) c.oldest.ensures
+    let part = distances-moved c.args.format T.format c.args.range l p (sym k.formatted) c.distances-part.ensures in
+    let are = k.is.writers.each l c.in-Some.place (c.in-Some.ensures {u = tt}) in
+    first-told T l n c.args.range p c.in-Some-at.writers.now k.trace part (subst (AreWriters T l n) (sym (c.in-Some-at.ensures {u = tt})) are) c.oldest.result (known-within T n c.args.self.now k.is) c.oldest.ensures

@@ -9,6 +9,6 @@ pub returns : goal.returns
 returns c =
     let T = c.args.trace.now in
     record {
-      known = known-start T _ c.in_ok-new.ensures.so_far c.in_ok-new.ensures.none c.new-2.ensures c.new-5.ensures;
+      known = known-start T _ c.in_ok-new.ensures.so_far c.in_ok-new.ensures.none c.new-2.ensures;
       verdicts = subst (λ (vs : List Verdict). AreVerdictsTo T 0 vs) (sym c.new-3.ensures.items) (verdicts-start T);
     }

@@ -1,6 +1,7 @@
 use Rattle.std.proofs.Common.{◌≡◌, suc, List, refl, sym, subst, arith}
 use Rattle.pmt_model.specs.declared.finding.Verdict.{Verdict}
 use Rattle.pmt_model.specs.Machine.{Asserts}
+use Rattle.pmt_model.specs.Traces.{event}
 use Rattle.pmt_asserts.specs.Judging.{IsVerdictAt}
 use Rattle.std.specs.Prelude.{None, Some}
 use Rattle.pmt_sweep.specs.Sweeping.{taken}
@@ -9,15 +10,6 @@ use Rattle.pmt_sweep.proofs.JudgingLemmas.{known-same, known-counted}
 use Rattle.pmt_sweep.proofs.VerdictsSoFar.{verdicts-push, verdicts-none}
 use Rattle.pmt_sweep.proofs.judging.Judging.take_assertion.Goals as goal
 
-pub verdict_by-requires : goal.verdict_by-requires
-verdict_by-requires c =
-    let T = c.args.trace.now in
-    let j = c.args.self.now in
-    let n = taken j.progress in
-    let number : c.len-number.result ≡ suc n = omega (arith, c.len-number.ensures, c.in_ok-take_assertion.ensures.one) in
-    known-counted T (suc n) c.len-number.result _ number
-    (known-same T n Asserts j _ c.len-is_trace.ensures.is_trace c.requires.so_far.known c.requires.next (λ l s e. cc) (λ l. refl) (c.in_ok-take_assertion.ensures.so_far T c.requires.next c.requires.so_far.known.sweep) c.in_ok-take_assertion.ensures.one c.refresh.ensures refl)
-
 pub returns-in_ok-push : goal.returns-in_ok-push
 returns-in_ok-push c =
     let T = c.args.trace.now in
@@ -25,9 +17,11 @@ returns-in_ok-push c =
     let n = taken j.progress in
     let v = c.in-Some.verdict in
     let number : c.len-number.result ≡ suc n = omega (arith, c.len-number.ensures, c.in_ok-take_assertion.ensures.one) in
+    let e = c.args.event.now in
+    let at : event T c.len-number.result ≡ Some e = subst (λ k. event T k ≡ Some e) (sym number) c.requires.next in
     record {
-      known = known-same T n Asserts j _ c.len-is_trace.ensures.is_trace c.requires.so_far.known c.requires.next (λ l s e. cc) (λ l. refl) (c.in_ok-take_assertion.ensures.so_far T c.requires.next c.requires.so_far.known.sweep) c.in_ok-take_assertion.ensures.one c.refresh.ensures refl;
-      verdicts = subst (λ (vs : List Verdict). AreVerdictsTo T (suc n) vs) (sym c.in_ok-push.ensures.items) (verdicts-push T n j.verdicts.items v (subst (λ k. IsVerdictAt T k (Some v)) number c.in-Some.ensures) c.requires.so_far.verdicts);
+      known = known-same T n Asserts j _ c.format-format.ensures.is_trace c.requires.so_far.known c.requires.asserts (λ l s e. cc) (λ l. refl) (c.in_ok-take_assertion.ensures.so_far T c.requires.asserts c.requires.so_far.known.sweep) c.in_ok-take_assertion.ensures.one c.refresh.ensures;
+      verdicts = subst (λ (vs : List Verdict). AreVerdictsTo T (suc n) vs) (sym c.in_ok-push.ensures.items) (verdicts-push T n j.verdicts.items v (subst (λ k. IsVerdictAt T k (Some v)) number (c.in-Some.ensures {u = tt} T e (record { is = known-counted T (suc n) c.len-number.result _ number (known-same T n Asserts j _ c.format-format.ensures.is_trace c.requires.so_far.known c.requires.asserts (λ l s e. cc) (λ l. refl) (c.in_ok-take_assertion.ensures.so_far T c.requires.asserts c.requires.so_far.known.sweep) c.in_ok-take_assertion.ensures.one c.refresh.ensures); formatted = sym c.format-format.ensures.value; trace = c.format-format.ensures.is_trace }) at refl)) c.requires.so_far.verdicts);
     }
 
 pub returns-in_default : goal.returns-in_default
@@ -36,7 +30,9 @@ returns-in_default c =
     let j = c.args.self.now in
     let n = taken j.progress in
     let number : c.len-number.result ≡ suc n = omega (arith, c.len-number.ensures, c.in_ok-take_assertion.ensures.one) in
+    let e = c.args.event.now in
+    let at : event T c.len-number.result ≡ Some e = subst (λ k. event T k ≡ Some e) (sym number) c.requires.next in
     record {
-      known = known-same T n Asserts j _ c.len-is_trace.ensures.is_trace c.requires.so_far.known c.requires.next (λ l s e. cc) (λ l. refl) (c.in_ok-take_assertion.ensures.so_far T c.requires.next c.requires.so_far.known.sweep) c.in_ok-take_assertion.ensures.one c.refresh.ensures refl;
-      verdicts = verdicts-none T n j.verdicts.items (subst (λ k. IsVerdictAt T k None) number c.in_default.ensures) c.requires.so_far.verdicts;
+      known = known-same T n Asserts j _ c.format-format.ensures.is_trace c.requires.so_far.known c.requires.asserts (λ l s e. cc) (λ l. refl) (c.in_ok-take_assertion.ensures.so_far T c.requires.asserts c.requires.so_far.known.sweep) c.in_ok-take_assertion.ensures.one c.refresh.ensures;
+      verdicts = verdicts-none T n j.verdicts.items (subst (λ k. IsVerdictAt T k None) number (c.in_default.ensures {u = tt} T e (record { is = known-counted T (suc n) c.len-number.result _ number (known-same T n Asserts j _ c.format-format.ensures.is_trace c.requires.so_far.known c.requires.asserts (λ l s e. cc) (λ l. refl) (c.in_ok-take_assertion.ensures.so_far T c.requires.asserts c.requires.so_far.known.sweep) c.in_ok-take_assertion.ensures.one c.refresh.ensures); formatted = sym c.format-format.ensures.value; trace = c.format-format.ensures.is_trace }) at refl)) c.requires.so_far.verdicts;
     }

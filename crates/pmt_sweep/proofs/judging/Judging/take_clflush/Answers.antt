@@ -1,4 +1,4 @@
-use Rattle.std.proofs.Common.{◌≡◌, suc, [], ◌∷◌, refl, ap, subst, ◌∙◌, arith}
+use Rattle.std.proofs.Common.{◌≡◌, suc, [], ◌∷◌, ap, subst, ◌∙◌, arith}
 use Rattle.pmt_model.specs.Machine.{Clflushes}
 use Rattle.pmt_model.specs.Traces.{history}
 use Rattle.pmt_model.specs.Fronts.{front_at}
@@ -23,6 +23,6 @@ returns c =
     let number : c.len-number.result ≡ suc n = omega (arith, c.len-number.ensures, c.in_ok-place.ensures.one) in
     record {
       known = known-clflush T n l c.in_ok-place.place c.front-front.result j _ c.len-is_trace.ensures.is_trace c.requires.so_far.known c.requires.next sweep c.in_ok-place.ensures.one c.in_ok-place.ensures.place front_is
-          (subst (λ k. SettlesAll (λ q. c.front-front.result) (c.in_ok-place.place ∷ []) k j.writers c.settle.new.self) number c.settle.ensures) refl;
+          (subst (λ k. SettlesAll (λ q. c.front-front.result) (c.in_ok-place.place ∷ []) k j.writers c.settle.new.self) number c.settle.ensures);
       verdicts = verdicts-act T n j.verdicts.items (Clflushes l) c.requires.next (λ e. cc) c.requires.so_far.verdicts;
     }

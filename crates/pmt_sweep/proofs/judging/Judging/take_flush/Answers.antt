@@ -11,6 +11,6 @@ returns c =
     let j = c.args.self.now in
     let n = taken j.progress in
     record {
-      known = known-same T n (Flushes c.args.thread c.args.line) j _ c.len-is_trace.ensures.is_trace c.requires.so_far.known c.requires.next (λ l s e. cc) (λ l. refl) (c.in_ok-take_flush.ensures.so_far T c.requires.next c.requires.so_far.known.sweep) c.in_ok-take_flush.ensures.one refl refl;
+      known = known-same T n (Flushes c.args.thread c.args.line) j _ c.len-is_trace.ensures.is_trace c.requires.so_far.known c.requires.next (λ l s e. cc) (λ l. refl) (c.in_ok-take_flush.ensures.so_far T c.requires.next c.requires.so_far.known.sweep) c.in_ok-take_flush.ensures.one refl;
       verdicts = verdicts-act T n j.verdicts.items (Flushes c.args.thread c.args.line) c.requires.next (λ e. cc) c.requires.so_far.verdicts;
     }

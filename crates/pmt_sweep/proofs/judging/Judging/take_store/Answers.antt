@@ -38,6 +38,6 @@ returns c =
     let addr : c.get.result ≡ s.addr = c.get.ensures.value ∙ c.addr.ensures.value in
     let low : l * T.format.line_size + (c.get.result - l * c.line_size-size.result) ≡ s.addr = omega (arith, start, addr, store-low T (suc n) l s trace c.requires.next) in
     record {
-      known = known-store T n l c.index.result.now s _ j _ trace c.requires.so_far.known c.requires.next sweep c.in_ok-take_store.ensures.one here number rank refl low (ap (λ bs. c.get.result - l * c.line_size-size.result + length bs) c.bytes.ensures.value) c.in_ok-store.ensures c.in_ok-note.ensures.kept c.in_ok-note.ensures.first;
+      known = known-store T n l c.index.result.now s _ j _ trace c.requires.so_far.known c.requires.next sweep c.in_ok-take_store.ensures.one here number rank refl low (ap (λ bs. c.get.result - l * c.line_size-size.result + length bs) c.bytes.ensures.value) c.in_ok-store.ensures;
       verdicts = verdicts-act T n j.verdicts.items (Stores l s) c.requires.next (λ e. cc) c.requires.so_far.verdicts;
     }

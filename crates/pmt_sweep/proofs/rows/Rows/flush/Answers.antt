@@ -7,14 +7,14 @@ use Rattle.pmt_sweep.proofs.rows.Rows.flush.Goals as goal
 pub invariant_of-self : goal.invariant_of-self
 invariant_of-self c =
     let at = rw (← c.self.view_is) at c.requires.place in
-    keys-put c.self.inside.lines.keys c.self.inside.rows.items c.args.line c.args.place c.index_mut-row.result.now _ c.self.invariant at c.index_mut-row.ensures.value refl
+    keys-put c.self.inside.lines c.self.inside.rows.items c.args.line c.args.place c.index_mut-row.result.now _ c.self.invariant at c.index_mut-row.ensures.value refl
 
 pub returns-clause-kept : goal.returns-clause-kept
 returns-clause-kept c =
     let at = rw (← c.self.view_is) at c.requires.place in
     rw (← c.self.view_is)
     (on_ok_weaker c.on_flush.result
-    (λ marked. places-put c.self.inside.lines.keys c.self.inside.rows.items c.args.line c.args.place c.index_mut-row.result.now _ c.self.invariant at c.index_mut-row.ensures.value refl)
+    (λ marked. places-put c.self.inside.lines c.self.inside.rows.items c.args.line c.args.place c.index_mut-row.result.now _ c.self.invariant at c.index_mut-row.ensures.value refl)
     c.on_flush.ensures.ok)
 
 pub returns-clause-rows : goal.returns-clause-rows
@@ -23,6 +23,6 @@ returns-clause-rows c =
     let x = c.index_mut-row.result.now in
     rw (← c.self.view_is)
     (on_ok_weaker c.on_flush.result
-    (λ follows h newest. rows-put c.self.inside.lines.keys c.self.inside.rows.items c.args.line c.args.place x _ c.self.invariant at c.index_mut-row.ensures.value refl (λ l. Flushes c.args.thread l) h refl
+    (λ follows h newest. rows-put c.self.inside.lines c.self.inside.rows.items c.args.line c.args.place x _ c.self.invariant at c.index_mut-row.ensures.value refl (λ l. Flushes c.args.thread l) h refl
     (row-flush h c.args.thread x c.on_flush.new.self c.args.number newest follows))
     c.on_flush.ensures.follows)

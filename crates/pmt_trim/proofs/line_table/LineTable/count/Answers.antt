@@ -7,4 +7,4 @@ pub returns : goal.returns
 returns c =
     let at = rw (← c.self.view_is) at c.requires in
     rw (← c.self.view_is)
-    (ap (λ (r : LineRow). r.count) (row-there c.self.inside.lines.keys c.self.inside.rows.items c.args.line c.args.place c.index.result.now c.index.result.now c.self.invariant at c.index.ensures))
+    (ap (λ (r : LineRow). r.count) (row-there c.self.inside.lines c.self.inside.rows.items c.args.line c.args.place c.index.result.now c.index.result.now c.self.invariant at c.index.ensures))

@@ -7,25 +7,25 @@ use Rattle.pmt_trim.proofs.line_table.LineTable.raise.Goals as goal
 pub invariant_of-self : goal.invariant_of-self
 invariant_of-self c =
     let at = rw (← c.self.view_is) at c.requires in
-    table-put c.self.inside.lines.keys c.self.inside.rows.items c.args.line c.args.place c.index_mut.result.now _ c.self.invariant at c.index_mut.ensures.value refl
+    table-put c.self.inside.lines c.self.inside.rows.items c.args.line c.args.place c.index_mut.result.now _ c.self.invariant at c.index_mut.ensures.value refl
 
 pub returns-then-rises-clause-rises : goal.returns-then-rises-clause-rises
 returns-then-rises-clause-rises c =
     let at = rw (← c.self.view_is) at c.requires in
     let x = c.index.result.now in
     rw (← c.self.view_is)
-    (ap (λ (r : LineRow). nat_lt r.front c.args.stores) (row-there c.self.inside.lines.keys c.self.inside.rows.items c.args.line c.args.place x x c.self.invariant at c.index.ensures))
+    (ap (λ (r : LineRow). nat_lt r.front c.args.stores) (row-there c.self.inside.lines c.self.inside.rows.items c.args.line c.args.place x x c.self.invariant at c.index.ensures))
 
 pub returns-else-rises-clause-rises : goal.returns-else-rises-clause-rises
 returns-else-rises-clause-rises c =
     let at = rw (← c.self.view_is) at c.requires in
     let x = c.index.result.now in
     rw (← c.self.view_is)
-    (ap (λ (r : LineRow). nat_lt r.front c.args.stores) (row-there c.self.inside.lines.keys c.self.inside.rows.items c.args.line c.args.place x x c.self.invariant at c.index.ensures))
+    (ap (λ (r : LineRow). nat_lt r.front c.args.stores) (row-there c.self.inside.lines c.self.inside.rows.items c.args.line c.args.place x x c.self.invariant at c.index.ensures))
 
 pub returns-then-rises-clause-raised : goal.returns-then-rises-clause-raised
 returns-then-rises-clause-raised c =
-    let keys = c.self.inside.lines.keys in
+    let keys = c.self.inside.lines in
     let rows = c.self.inside.rows.items in
     let at = rw (← c.self.view_is) at c.requires in
     let x = c.index.result.now in
@@ -38,7 +38,7 @@ returns-then-rises-clause-raised c =
 
 pub returns-else-rises-clause-raised : goal.returns-else-rises-clause-raised
 returns-else-rises-clause-raised c =
-    let keys = c.self.inside.lines.keys in
+    let keys = c.self.inside.lines in
     let rows = c.self.inside.rows.items in
     let at = rw (← c.self.view_is) at c.requires in
     let x = c.index.result.now in
