@@ -12,8 +12,8 @@ use Rattle.pmt_text.specs.declared.source.SourceState.TheVariants as states
 use Rattle.pmt_text.specs.Coming.{Coming, ComesWhole}
 use Rattle.pmt_text.specs.Sources.{Gives, IsOver, TakesNext, HasFormat, TakesFormat, TellsNext, TellsFormat, KeepsFormat, LeavesFewer, CountsReads}
 use Rattle.pmt_text.proofs.SourceLemmas.{Gives-over, Gives-same, Gives-trans, whole-parts}
-use Rattle.pmt_lines.specs.declared.splitting.SplitError.{SplitError}
-use Rattle.pmt_lines.specs.declared.splitting.SplitError.TheVariants as splits
+use Rattle.pmt_lines.specs.declared.taking.TakeError.{TakeError}
+use Rattle.pmt_lines.specs.declared.taking.TakeError.TheVariants as refusals
 use Rattle.pmt_lines.specs.Sourcing.{TakesFirst, TellsEnd, TellsNothing, told_by}
 
 -- no read has failed since
@@ -32,7 +32,7 @@ same_reads-more (Some n) mid new x same counts =
     let e : n + 0 ≡ n = omega arith in counted ∙ ap (λ (k : ℕ). Some k) e
 
 -- nor is one told where memory was refused to the split itself
-pub counts-refused : {A B : Type 0} (old mid new : Option ℕ) (x : A) (r : Result B SplitError) → SameReads old mid → CountsReads mid (Ok x) new → r ≡ Err splits.OutOfMemory → CountsReads old (told_by r) new
+pub counts-refused : {A B : Type 0} (old mid new : Option ℕ) (x : A) (r : Result B TakeError) → SameReads old mid → CountsReads mid (Ok x) new → r ≡ Err refusals.OutOfMemory → CountsReads old (told_by r) new
 counts-refused None mid new x r same counts refused = tt
 counts-refused (Some n) mid new x r same counts refused =
     subst (λ q. CountsReads (Some n) (told_by q) new) (sym refused) (subst (λ m. CountsReads m (Ok x) new) same counts)

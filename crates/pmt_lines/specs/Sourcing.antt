@@ -7,8 +7,8 @@ use Rattle.pmt_text.specs.declared.source.SourceState.{SourceState}
 use Rattle.pmt_text.specs.declared.source.SourceState.TheVariants as states
 use Rattle.pmt_text.specs.Coming.{Coming, ComesWhole}
 use Rattle.pmt_text.specs.Sources.{Gives, HasFormat}
-use Rattle.pmt_lines.specs.declared.splitting.SplitError.{SplitError}
-use Rattle.pmt_lines.specs.declared.splitting.SplitError.TheVariants as splits
+use Rattle.pmt_lines.specs.declared.taking.TakeError.{TakeError}
+use Rattle.pmt_lines.specs.declared.taking.TakeError.TheVariants as refusals
 
 -- ---- What came
 
@@ -40,19 +40,25 @@ TellsNothing states.Open new = new ≡ states.Open
 TellsNothing states.Ended new = new ≡ states.Ended
 TellsNothing (states.Failed told) new = ⊥
 
--- ---- What a split answers
+-- ---- What is answered where the events of a source were to be taken
 
 -- The fault that the source told, if it told one.
-abbrev pub told_by : {A : Type 0} → Result A SplitError → Result (Unit {0}) SourceError
+abbrev pub told_by : {A : Type 0} → Result A TakeError → Result (Unit {0}) SourceError
 told_by (Ok x) = Ok tt
-told_by (Err (splits.Source e)) = Err e
-told_by (Err splits.OutOfMemory) = Ok tt
+told_by (Err (refusals.Source e)) = Err e
+told_by (Err refusals.OutOfMemory) = Ok tt
 
 -- The source told its end, or the fault that is answered; where memory was refused to the split itself, it told nothing.
-abbrev pub TellsSplit : {A : Type 0} → SourceState → Result A SplitError → SourceState → Type 0
+abbrev pub TellsSplit : {A : Type 0} → SourceState → Result A TakeError → SourceState → Type 0
 TellsSplit old (Ok x) new = TellsEnd old new
-TellsSplit old (Err (splits.Source e)) new = TellsFault old e new
-TellsSplit old (Err splits.OutOfMemory) new = TellsNothing old new
+TellsSplit old (Err (refusals.Source e)) new = TellsFault old e new
+TellsSplit old (Err refusals.OutOfMemory) new = TellsNothing old new
+
+-- The same, where the source may have told its end before memory was refused.
+abbrev pub TellsTaken : {A : Type 0} → SourceState → Result A TakeError → SourceState → Type 0
+TellsTaken old (Ok x) new = TellsEnd old new
+TellsTaken old (Err (refusals.Source e)) new = TellsFault old e new
+TellsTaken old (Err refusals.OutOfMemory) new = TellsNothing old new ⊎ TellsEnd old new
 
 -- Where `OutOfMemory` stands for both: the source told it, or it told nothing, and memory was refused to the split itself.
 abbrev pub TellsWhole : {A : Type 0} → SourceState → Result A SourceError → SourceState → Type 0
@@ -68,7 +74,7 @@ pub record TakesFirst (most : ℕ) (old new : Option Coming) (before after : Sou
   pub few : ((length T.events < most) × ComesWhole old T × TellsEnd before after) ⊎ ((length T.events ≡ most) × TellsNothing before after)
 
 -- The source told the fault that is answered; where memory was refused to the split itself, it told nothing.
-abbrev pub TellsRefusal : {A : Type 0} → SourceState → Result A SplitError → SourceState → Type 0
+abbrev pub TellsRefusal : {A : Type 0} → SourceState → Result A TakeError → SourceState → Type 0
 TellsRefusal old (Ok x) new = Unit {0}
-TellsRefusal old (Err (splits.Source e)) new = TellsFault old e new
-TellsRefusal old (Err splits.OutOfMemory) new = TellsNothing old new
+TellsRefusal old (Err (refusals.Source e)) new = TellsFault old e new
+TellsRefusal old (Err refusals.OutOfMemory) new = TellsNothing old new

@@ -7,16 +7,14 @@ ghost use Rattle.pmt_text.specs.Sources.{CountsReads};
 ghost use Rattle.pmt_lines.specs.Splitting.{IsSplit};
 ghost use Rattle.pmt_lines.specs.Splitters.{HasTaken};
 ghost use Rattle.pmt_lines.specs.Sourcing.{IsFaultOf, TakesFirst, TellsRefusal, TellsSplit, TellsWhole, told_by};
-ghost use Rattle.pmt_lines.specs.declared.splitting.SplitError.TheVariants.{Source, OutOfMemory};
 
 use crate::job::LineJob;
 use crate::splitter::Splitter;
-use crate::taking::add;
+use crate::taking::{TakeError, add};
 use crate::thread_job::ThreadJob;
 use pmt_model::{Event, OutOfMemory, Trace};
 use pmt_text::{EventSource, SourceError};
-use std::alloc::{AllocError, Global};
-use thiserror::Error;
+use std::alloc::Global;
 
 /// A trace taken apart by its lines.
 #[derive(Drop)]
@@ -27,33 +25,6 @@ pub struct Jobs {
     pub lines: Vec<LineJob>,
     /// The flushes and fences.
     pub fences: ThreadJob,
-}
-
-/// Why a source was not taken apart.
-#[derive(Clone, Copy, Debug, PartialEq, Eq, Error)]
-pub enum SplitError {
-    /// The source told this fault.
-    #[error("{0}")]
-    Source(SourceError),
-    /// Memory was refused, and not to the source.
-    #[error("out of memory")]
-    OutOfMemory,
-}
-
-impl From<SourceError> for SplitError {
-    ghost from_gives = { λ fault error. error ≡ Source fault };
-
-    fn from(fault: SourceError) -> Self {
-        SplitError::Source(fault)
-    }
-}
-
-impl From<AllocError> for SplitError {
-    ghost from_gives = { λ _ error. error ≡ OutOfMemory };
-
-    fn from(_refused: AllocError) -> Self {
-        SplitError::OutOfMemory
-    }
 }
 
 /// Takes all events of the source, and takes their trace apart by lines.
@@ -70,13 +41,13 @@ pub fn split<S: EventSource>(alloc: Global, source: &mut S) -> Result<Jobs, Sour
 {
     match split_source(alloc, source) {
         Ok(jobs) => Ok(jobs),
-        Err(SplitError::Source(fault)) => Err(fault),
-        Err(SplitError::OutOfMemory) => Err(SourceError::OutOfMemory),
+        Err(TakeError::Source(fault)) => Err(fault),
+        Err(TakeError::OutOfMemory) => Err(SourceError::OutOfMemory),
     }
 }
 
 // As `split`, and it tells want of memory of its own from that of the source.
-fn split_source<S: EventSource>(alloc: Global, source: &mut S) -> Result<Jobs, SplitError>
+fn split_source<S: EventSource>(alloc: Global, source: &mut S) -> Result<Jobs, TakeError>
     ensures apart { IfOk result (λ jobs. IsSplit jobs.trace jobs.lines.items jobs.fences) }
     ensures whole { IfOk result (λ jobs. ComesWhole (S.coming source.old) jobs.trace) }
     ensures fault { IfErr (told_by result) (λ e. IfSome (S.coming source.old) (λ c. IsFaultOf c e)) }
@@ -97,7 +68,7 @@ pub fn split_first<S: EventSource>(
     alloc: Global,
     source: &mut S,
     most: u64,
-) -> Result<Jobs, SplitError>
+) -> Result<Jobs, TakeError>
     ensures apart { IfOk result (λ jobs. IsSplit jobs.trace jobs.lines.items jobs.fences) }
     ensures first { IfOk result (λ jobs. TakesFirst most (S.coming source.old) (S.coming source.new) (S.state source.old) (S.state source.new) jobs.trace) }
     ensures fault { IfErr (told_by result) (λ e. IfSome (S.coming source.old) (λ c. IsFaultOf c e)) }

@@ -5,18 +5,46 @@ ghost use Rattle.pmt_model.specs.Traces.{event_limit, IsEventIn};
 ghost use Rattle.pmt_text.specs.Coming.{ComesWhole};
 ghost use Rattle.pmt_text.specs.Sources.{CountsReads};
 ghost use Rattle.pmt_lines.specs.Sourcing.{IsFaultOf, TakesFirst, TellsRefusal, TellsSplit, told_by};
+ghost use Rattle.pmt_lines.specs.declared.taking.TakeError.TheVariants.{Source, OutOfMemory};
 
-use crate::splitting::SplitError;
 use pmt_model::{Event, OutOfMemory, Trace};
-use pmt_text::EventSource;
+use pmt_text::{EventSource, SourceError};
 use std::alloc::{AllocError, Global};
+use thiserror::Error;
+
+/// Why the events of a source were not taken.
+#[derive(Clone, Copy, Debug, PartialEq, Eq, Error)]
+pub enum TakeError {
+    /// The source told this fault.
+    #[error("{0}")]
+    Source(SourceError),
+    /// Memory was refused, and not to the source.
+    #[error("out of memory")]
+    OutOfMemory,
+}
+
+impl From<SourceError> for TakeError {
+    ghost from_gives = { λ fault error. error ≡ Source fault };
+
+    fn from(fault: SourceError) -> Self {
+        TakeError::Source(fault)
+    }
+}
+
+impl From<AllocError> for TakeError {
+    ghost from_gives = { λ _ error. error ≡ OutOfMemory };
+
+    fn from(_refused: AllocError) -> Self {
+        TakeError::OutOfMemory
+    }
+}
 
 /// Takes all events of the source, as a trace, which `split_trace` takes apart.
 ///
 /// # Errors
 /// `Source` with the fault that the source told, or with `Failed` where it had told a fault before. `OutOfMemory` where memory
 /// was refused to the trace; the source told nothing then. The source stands past the events that were taken.
-pub fn take_trace<S: EventSource>(alloc: Global, source: &mut S) -> Result<Trace, SplitError>
+pub fn take_trace<S: EventSource>(alloc: Global, source: &mut S) -> Result<Trace, TakeError>
     ensures whole { IfOk result (λ trace. ComesWhole (S.coming source.old) trace) }
     ensures fault { IfErr (told_by result) (λ e. IfSome (S.coming source.old) (λ c. IsFaultOf c e)) }
     ensures told { TellsSplit (S.state source.old) result (S.state source.new) }
@@ -28,7 +56,7 @@ pub fn take_trace<S: EventSource>(alloc: Global, source: &mut S) -> Result<Trace
 }
 
 // The first events of the source alone, at most so many.
-fn take_first<S: EventSource>(alloc: Global, source: &mut S, most: u64) -> Result<Trace, SplitError>
+fn take_first<S: EventSource>(alloc: Global, source: &mut S, most: u64) -> Result<Trace, TakeError>
     ensures first { IfOk result (λ trace. TakesFirst most (S.coming source.old) (S.coming source.new) (S.state source.old) (S.state source.new) trace) }
     ensures fault { IfErr (told_by result) (λ e. IfSome (S.coming source.old) (λ c. IsFaultOf c e)) }
     ensures told { TellsRefusal (S.state source.old) result (S.state source.new) }

@@ -1,5 +1,5 @@
 -- What a source has told and given while its events are taken block by block.
-use Rattle.std.proofs.Common.{◌≡◌, ◌≢◌, ℕ, zero, suc, ◌+◌, ◌<◌, ◌≤◌, ◌⊎◌, inl, inr, ◌==◌, Bool, true, false, List, [], ◌∷◌, ◌++◌, length, get_or, take, Option, Some, None, IfSome, Result, Ok, Err, refl, sym, ap, subst, ◌∙◌, arith, eqb-true, append-nil, append_assoc}
+use Rattle.std.proofs.Common.{◌≡◌, ◌≢◌, ℕ, zero, suc, ◌+◌, ◌<◌, ◌≤◌, inl, inr, ◌==◌, Bool, true, false, List, [], ◌∷◌, ◌++◌, length, get_or, take, Option, Some, None, IfSome, Result, Ok, Err, refl, sym, ap, subst, ◌∙◌, arith, eqb-true, append-nil, append_assoc}
 use Rattle.std.specs.Prelude.{if◌then◌else◌, IfErr}
 use Rattle.std.specs.List.{AllByRecursion}
 use Rattle.std.proofs.lemmas.Bool.{eqb-false}
@@ -17,11 +17,11 @@ use Rattle.pmt_text.specs.declared.source.SourceState.TheVariants as states
 use Rattle.pmt_text.specs.Coming.{Coming, ComesWhole, whole}
 use Rattle.pmt_text.specs.Sources.{Gives, TakesNext, HasFormat, TakesFormat, TellsNext, TellsFormat, KeepsFormat, LeavesFewer, CountsReads}
 use Rattle.pmt_text.proofs.SourceLemmas.{Gives-trans, whole-parts}
-use Rattle.pmt_lines.specs.declared.splitting.SplitError.{SplitError}
-use Rattle.pmt_lines.specs.declared.splitting.SplitError.TheVariants as splits
-use Rattle.pmt_lines.specs.Sourcing.{IsFaultOf, TakesFirst, TellsEnd, TellsFault, TellsNothing, TellsRefusal, told_by}
+use Rattle.pmt_lines.specs.declared.taking.TakeError.{TakeError}
+use Rattle.pmt_lines.specs.declared.taking.TakeError.TheVariants as refusals
+use Rattle.pmt_lines.specs.Sourcing.{IsFaultOf, TellsEnd, TellsFault, TellsNothing, TellsRefusal, TellsTaken, told_by}
 use Rattle.pmt_lines.proofs.SourceRunLemmas.{Shown, SoFar, SameReads, so_far-none, so_far-more, so_far-full, so_far-ended}
-use Rattle.pmt_report.specs.Blocks.{TakesBlock, TellsTaken}
+use Rattle.pmt_report.specs.Blocks.{TakesBlock}
 
 -- ---- One block
 
@@ -181,7 +181,7 @@ next-block most first mid now T B so_far block counts = record { on = λ full. o
     ]
 
 -- no fault was told where memory was refused to what takes the events
-pub untold : {A : Type 0} (first now : Shown) (T : Recording) (more : Bool) (r : Result A SplitError) → r ≡ Err splits.OutOfMemory → IsTakenSoFar first now T more → TellsTaken first.state r now.state
+pub untold : {A : Type 0} (first now : Shown) (T : Recording) (more : Bool) (r : Result A TakeError) → r ≡ Err refusals.OutOfMemory → IsTakenSoFar first now T more → TellsTaken first.state r now.state
 untold {A = A} first now T true r refused taken =
     let so_far = taken.on refl in
     subst (λ q. TellsTaken {A = A} first.state q now.state) (sym refused) (inl (nothing-told first.state now.state so_far.same_state so_far.unfailed))
@@ -191,7 +191,7 @@ so_far-reads : (first now : Shown) (T : Recording) (more : Bool) → IsTakenSoFa
 so_far-reads first now T true taken = (taken.on refl).same_reads
 so_far-reads first now T false taken = (taken.over refl).same_reads
 
-pub uncounted : {A : Type 0} (first now : Shown) (T : Recording) (more : Bool) (r : Result A SplitError) → r ≡ Err splits.OutOfMemory → IsTakenSoFar first now T more → CountsReads first.failures (told_by r) now.failures
+pub uncounted : {A : Type 0} (first now : Shown) (T : Recording) (more : Bool) (r : Result A TakeError) → r ≡ Err refusals.OutOfMemory → IsTakenSoFar first now T more → CountsReads first.failures (told_by r) now.failures
 uncounted {A = A} first now T more r refused taken =
     subst (λ q. CountsReads first.failures (told_by {A = A} q) now.failures) (sym refused) (same-counted {A = Unit {0}} first.failures now.failures tt (so_far-reads first now T more taken))
 
@@ -209,27 +209,27 @@ fault-before None mid taken e given fault = tt
 fault-before (Some c) mid taken e given fault =
     fault-part c (record { format = c.format; events = given.0; fault = c.fault }) e refl (subst (λ o. IfSome o (λ d. IsFaultOf d e)) given.2 fault)
 
-module _ (A B : Type 0) (first mid now : Shown) (T : Recording) (e : SplitError) (r : Result B SplitError) (refused : r ≡ Err e) (so_far : SoFar first mid T) where
+module _ (A B : Type 0) (first mid now : Shown) (T : Recording) (e : TakeError) (r : Result B TakeError) (refused : r ≡ Err e) (so_far : SoFar first mid T) where
   pub refused-fault : IfErr (told_by {A = A} (Err e)) (λ f. IfSome mid.coming (λ c. IsFaultOf c f)) → IfErr (told_by {A = B} r) (λ f. IfSome first.coming (λ c. IsFaultOf c f))
   refused-fault fault = subst (λ q. IfErr (told_by {A = B} q) (λ f. IfSome first.coming (λ c. IsFaultOf c f))) (sym refused) (go e fault)
     where
-      go : (x : SplitError) → IfErr (told_by {A = A} (Err x)) (λ f. IfSome mid.coming (λ c. IsFaultOf c f)) → IfErr (told_by {A = B} (Err x)) (λ f. IfSome first.coming (λ c. IsFaultOf c f))
-      go (splits.Source f) h = fault-before first.coming mid.coming T.events f so_far.given h
-      go splits.OutOfMemory h = tt
+      go : (x : TakeError) → IfErr (told_by {A = A} (Err x)) (λ f. IfSome mid.coming (λ c. IsFaultOf c f)) → IfErr (told_by {A = B} (Err x)) (λ f. IfSome first.coming (λ c. IsFaultOf c f))
+      go (refusals.Source f) h = fault-before first.coming mid.coming T.events f so_far.given h
+      go refusals.OutOfMemory h = tt
 
   pub refused-told : TellsRefusal {A = A} mid.state (Err e) now.state → TellsTaken first.state r now.state
   refused-told told = subst (λ q. TellsTaken {A = B} first.state q now.state) (sym refused) (go e told)
     where
-      go : (x : SplitError) → TellsRefusal {A = A} mid.state (Err x) now.state → TellsTaken {A = B} first.state (Err x) now.state
-      go (splits.Source f) h = subst (λ s. TellsFault s f now.state) so_far.same_state h
-      go splits.OutOfMemory h = inl (subst (λ s. TellsNothing s now.state) so_far.same_state h)
+      go : (x : TakeError) → TellsRefusal {A = A} mid.state (Err x) now.state → TellsTaken {A = B} first.state (Err x) now.state
+      go (refusals.Source f) h = subst (λ s. TellsFault s f now.state) so_far.same_state h
+      go refusals.OutOfMemory h = inl (subst (λ s. TellsNothing s now.state) so_far.same_state h)
 
   pub refused-counted : CountsReads mid.failures (told_by {A = A} (Err e)) now.failures → CountsReads first.failures (told_by r) now.failures
   refused-counted counts = subst (λ q. CountsReads first.failures (told_by {A = B} q) now.failures) (sym refused) (go e counts)
     where
-      go : (x : SplitError) → CountsReads mid.failures (told_by {A = A} (Err x)) now.failures → CountsReads first.failures (told_by {A = B} (Err x)) now.failures
-      go (splits.Source f) h = reads-later first.failures mid.failures now.failures (Err f) so_far.same_reads h
-      go splits.OutOfMemory h = reads-later first.failures mid.failures now.failures untold_fault so_far.same_reads h
+      go : (x : TakeError) → CountsReads mid.failures (told_by {A = A} (Err x)) now.failures → CountsReads first.failures (told_by {A = B} (Err x)) now.failures
+      go (refusals.Source f) h = reads-later first.failures mid.failures now.failures (Err f) so_far.same_reads h
+      go refusals.OutOfMemory h = reads-later first.failures mid.failures now.failures untold_fault so_far.same_reads h
 
 -- ---- A block is added to a trace
 
@@ -265,5 +265,5 @@ fewer-left most mid now B some block = go (length B.events == most) refl
     go false short = omega arith
 
 -- want of memory is no fault of the source
-pub unfaulted : {A : Type 0} (coming : Option Coming) (r : Result A SplitError) → r ≡ Err splits.OutOfMemory → IfErr (told_by r) (λ f. IfSome coming (λ c. IsFaultOf c f))
+pub unfaulted : {A : Type 0} (coming : Option Coming) (r : Result A TakeError) → r ≡ Err refusals.OutOfMemory → IfErr (told_by r) (λ f. IfSome coming (λ c. IsFaultOf c f))
 unfaulted {A = A} coming r refused = subst (λ q. IfErr (told_by {A = A} q) (λ f. IfSome coming (λ c. IsFaultOf c f))) (sym refused) tt

@@ -7,5 +7,4 @@ pub mod Taking
 pub mod Blocks
 pub mod Checks
 pub mod Runs
-pub mod Asking
 pub mod FrontsOf

@@ -1,11 +1,10 @@
 //! The analysis of the trace that a reader or a source gives.
-ghost use Rattle.std.specs.Prelude.{◌≡◌, ◌+◌, ◌-◌, ◌^◌, ◌<◌, ◌↔◌, IfOk, IfErr, IfSome, IsErrOf, IsFalse, true, not};
+ghost use Rattle.std.specs.Prelude.{◌≡◌, ◌+◌, ◌-◌, ◌^◌, ◌<◌, IfOk, IfErr, IfSome, true, not};
 ghost use Rattle.pmt_text.specs.Coming.{ComesWhole};
 ghost use Rattle.pmt_text.specs.Counting.{failure_count, inner_device};
 ghost use Rattle.pmt_text.specs.Sources.{CountsReads};
-ghost use Rattle.pmt_lines.specs.Sourcing.{IsFaultOf};
+ghost use Rattle.pmt_lines.specs.Sourcing.{IsFaultOf, TellsTaken, told_by};
 ghost use Rattle.pmt_analysis.specs.Analysing.{IsAnalysed};
-ghost use Rattle.pmt_workers.specs.Asking.{TellsSource, told_by};
 ghost use Rattle.pmt_workers.specs.Halving.{is_worker_count};
 ghost use Rattle.pmt_report.specs.Runs.{IsAnalysisFault, coming_from_reader, run_read_faults, tells_workers};
 
@@ -13,8 +12,9 @@ use crate::fault::{RunError, run_error};
 use crate::overlapping::swept_beside;
 use crate::swept::swept;
 use pmt_analysis::Analysis;
+use pmt_lines::TakeError;
 use pmt_text::{Counted, EventSource, TextSource};
-use pmt_workers::{AnalyseError, are_allowed};
+use pmt_workers::are_allowed;
 use std::alloc::Global;
 use std::io::Read;
 use std::sync::Wait;
@@ -39,39 +39,33 @@ pub fn analysed<T: Threads + Wait + Sync, R: Read>(
     ensures fault { IfErr result.1 (IsAnalysisFault (coming_from_reader (R.remaining (inner_device reader)))) }
     ensures read_failures { failure_count result.0 ≡ failure_count reader + run_read_faults result.1 }
 {
+    if !are_allowed(workers) {
+        return (reader, Err(RunError::BadWorkers));
+    }
     let mut source = TextSource::new(alloc, reader);
     let found = analysis_from(rt, alloc, &mut source, workers);
     let reader = source.into_input();
     match found {
         Ok(analysis) => (reader, Ok(analysis)),
-        Err(AnalyseError::BadWorkers) => (reader, Err(RunError::BadWorkers)),
-        Err(AnalyseError::Source(fault)) => (reader, Err(run_error(fault))),
-        Err(AnalyseError::OutOfMemory) => (reader, Err(RunError::OutOfMemory)),
+        Err(TakeError::Source(fault)) => (reader, Err(run_error(fault))),
+        Err(TakeError::OutOfMemory) => (reader, Err(RunError::OutOfMemory)),
     }
 }
 
-/// The analysis of the trace whose events the source has still to give, by this many workers. One pass over the events makes it; where
-/// there are two workers or more, one of them reads the next events meanwhile.
-///
-/// # Errors
-/// As `analyse_with`.
-pub(crate) fn analysis_from<T: Threads + Sync, S: EventSource>(
+// The analysis of the trace whose events the source has still to give, by one pass over them; where there are two workers or more, one of
+// them reads the next events meanwhile.
+fn analysis_from<T: Threads + Sync, S: EventSource>(
     rt: &T,
     alloc: Global,
     source: &mut S,
     workers: usize,
-) -> Result<Analysis, AnalyseError>
-    ensures workers { IsErrOf result AnalyseError.BadWorkers ↔ IsFalse (is_worker_count workers) }
-    ensures unasked { IsErrOf result AnalyseError.BadWorkers → source.new ≡ source.old }
+) -> Result<Analysis, TakeError>
     ensures right { IfOk result IsAnalysed }
     ensures whole { IfOk result (λ a. ComesWhole (S.coming source.old) a.trace) }
     ensures fault { IfErr (told_by result) (λ e. IfSome (S.coming source.old) (λ c. IsFaultOf c e)) }
-    ensures told { TellsSource (S.state source.old) result (S.state source.new) }
+    ensures told { TellsTaken (S.state source.old) result (S.state source.new) }
     ensures failures { CountsReads (S.failures source.old) (told_by result) (S.failures source.new) }
 {
-    if !are_allowed(workers) {
-        return Err(AnalyseError::BadWorkers);
-    }
     if workers == 1 {
         return swept(alloc, source);
     }

@@ -8,7 +8,7 @@ use crate::fault::{RunError, run_error};
 use crate::fronts::fronts_of_jobs;
 use crate::output::write_answer;
 use crate::taking::skip_events;
-use pmt_lines::{Jobs, SplitError, split_first};
+use pmt_lines::{Jobs, TakeError, split_first};
 use pmt_text::{Counted, EventSource, TextSource};
 use std::alloc::Global;
 use std::io::{Read, Write};
@@ -52,8 +52,8 @@ fn fronts_of<S: EventSource>(alloc: Global, place: u64, source: &mut S) -> Resul
         fences: _,
     } = match split_first(alloc, source, place) {
         Ok(jobs) => jobs,
-        Err(SplitError::Source(fault)) => return Err(run_error(fault)),
-        Err(SplitError::OutOfMemory) => return Err(RunError::OutOfMemory),
+        Err(TakeError::Source(fault)) => return Err(run_error(fault)),
+        Err(TakeError::OutOfMemory) => return Err(RunError::OutOfMemory),
     };
     let events = trace.len() as u64;
     if events < place {

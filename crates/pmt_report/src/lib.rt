@@ -21,7 +21,7 @@ pub mod trim;
 
 pub use crate::analysing::analysed;
 pub use crate::check::{failed, report_text, run_check};
-pub use crate::explaining::{ExplainError, explain};
+pub use crate::explaining::explain;
 pub use crate::fault::{RunError, fault_text, run_error};
 pub use crate::fronts_run::run_fronts;
 pub use crate::record_fault::RecordFault;

@@ -1,21 +1,19 @@
 //! The analysis of a trace by one pass over its events, which are read while those before them are swept.
-ghost use Rattle.std.specs.Prelude.{◌≡◌, ◌==◌, length, IfOk, IfErr, IfSome, IsErrOf, OnOk};
+ghost use Rattle.std.specs.Prelude.{◌≡◌, ◌==◌, length, IfOk, IfErr, IfSome, OnOk};
 ghost use Rattle.pmt_text.specs.Coming.{ComesWhole};
 ghost use Rattle.pmt_text.specs.Sources.{CountsReads};
-ghost use Rattle.pmt_lines.specs.Sourcing.{IsFaultOf, TellsRefusal, told_by as split_told_by};
+ghost use Rattle.pmt_lines.specs.Sourcing.{IsFaultOf, TellsRefusal, TellsTaken, told_by};
 ghost use Rattle.pmt_analysis.specs.Analysing.{IsAnalysed};
 ghost use Rattle.pmt_sweep.specs.Growing.{HasSwept, HasSweptFirst};
-ghost use Rattle.pmt_workers.specs.Asking.{TellsSource, told_by};
 ghost use Rattle.pmt_lines.proofs.SourceRunLemmas.{shown_by};
-ghost use Rattle.pmt_report.specs.Blocks.{TakesBlock, TellsTaken};
+ghost use Rattle.pmt_report.specs.Blocks.{TakesBlock};
 
 use crate::taking::{append, take_block};
 use pmt_analysis::Analysis;
-use pmt_lines::SplitError;
+use pmt_lines::TakeError;
 use pmt_model::{OutOfMemory, Trace};
 use pmt_sweep::{Sweeper, Swept};
 use pmt_text::EventSource;
-use pmt_workers::AnalyseError;
 use std::alloc::Global;
 use std::thread::{Threads, join_mut};
 
@@ -31,12 +29,11 @@ pub(crate) fn swept_beside<T: Threads + Sync, S: EventSource>(
     rt: &T,
     alloc: Global,
     source: &mut S,
-) -> Result<Analysis, AnalyseError>
-    ensures counted { ¬ IsErrOf result AnalyseError.BadWorkers }
+) -> Result<Analysis, TakeError>
     ensures right { IfOk result IsAnalysed }
     ensures whole { IfOk result (λ a. ComesWhole (S.coming source.old) a.trace) }
     ensures fault { IfErr (told_by result) (λ e. IfSome (S.coming source.old) (λ c. IsFaultOf c e)) }
-    ensures told { TellsSource (S.state source.old) result (S.state source.new) }
+    ensures told { TellsTaken (S.state source.old) result (S.state source.new) }
     ensures failures { CountsReads (S.failures source.old) (told_by result) (S.failures source.new) }
 {
     let SweptTrace { trace, sweeper } = taken_and_swept(rt, alloc, source)?;
@@ -56,12 +53,12 @@ fn taken_and_swept<T: Threads + Sync, S: EventSource>(
     rt: &T,
     alloc: Global,
     source: &mut S,
-) -> Result<SweptTrace, SplitError>
+) -> Result<SweptTrace, TakeError>
     ensures swept { IfOk result (λ s. HasSwept s.trace s.sweeper) }
     ensures whole { IfOk result (λ s. ComesWhole (S.coming source.old) s.trace) }
-    ensures fault { IfErr (split_told_by result) (λ e. IfSome (S.coming source.old) (λ c. IsFaultOf c e)) }
+    ensures fault { IfErr (told_by result) (λ e. IfSome (S.coming source.old) (λ c. IsFaultOf c e)) }
     ensures told { TellsTaken (S.state source.old) result (S.state source.new) }
-    ensures failures { CountsReads (S.failures source.old) (split_told_by result) (S.failures source.new) }
+    ensures failures { CountsReads (S.failures source.old) (told_by result) (S.failures source.new) }
 {
     let mut trace = take_block(alloc, source, BLOCK)?;
     let mut sweeper = Sweeper::new(alloc, trace.format())?;
@@ -91,13 +88,13 @@ fn sweep_and_take<T: Threads + Sync, S: EventSource>(
     trace: &Trace,
     sweeper: &mut Sweeper,
     source: &mut S,
-) -> (Result<(), OutOfMemory>, Result<Trace, SplitError>)
+) -> (Result<(), OutOfMemory>, Result<Trace, TakeError>)
     requires { HasSweptFirst trace.now sweeper.old }
     ensures swept { OnOk result.0 (HasSwept trace.now sweeper.new) }
     ensures block { let shown = shown_by S.coming S.state S.known_format S.failures S.room in IfOk result.1 (TakesBlock BLOCK (shown source.old) (shown source.new)) }
-    ensures fault { IfErr (split_told_by result.1) (λ e. IfSome (S.coming source.old) (λ c. IsFaultOf c e)) }
+    ensures fault { IfErr (told_by result.1) (λ e. IfSome (S.coming source.old) (λ c. IsFaultOf c e)) }
     ensures told { TellsRefusal (S.state source.old) result.1 (S.state source.new) }
-    ensures failures { CountsReads (S.failures source.old) (split_told_by result.1) (S.failures source.new) }
+    ensures failures { CountsReads (S.failures source.old) (told_by result.1) (S.failures source.new) }
 {
     join_mut(
         rt,

@@ -1,29 +1,27 @@
 //! The analysis of a trace by one pass forward over its events, with no job for each line.
-ghost use Rattle.std.specs.Prelude.{◌≡◌, IfOk, IfErr, IfSome, IsErrOf};
+ghost use Rattle.std.specs.Prelude.{◌≡◌, IfOk, IfErr, IfSome};
 ghost use Rattle.pmt_text.specs.Coming.{ComesWhole};
 ghost use Rattle.pmt_text.specs.Sources.{CountsReads};
-ghost use Rattle.pmt_lines.specs.Sourcing.{IsFaultOf};
+ghost use Rattle.pmt_lines.specs.Sourcing.{IsFaultOf, TellsTaken, told_by};
 ghost use Rattle.pmt_analysis.specs.Analysing.{IsAnalysed};
-ghost use Rattle.pmt_workers.specs.Asking.{TellsSource, told_by};
 
 use pmt_analysis::Analysis;
-use pmt_lines::take_trace;
+use pmt_lines::{TakeError, take_trace};
 use pmt_model::{OutOfMemory, Trace};
 use pmt_sweep::{Swept, sweep};
 use pmt_text::EventSource;
-use pmt_workers::AnalyseError;
 use std::alloc::Global;
 
 /// The analysis of the trace whose events the source has still to give, by one thread.
 ///
 /// # Errors
-/// As `analyse_with`, which has `BadWorkers` besides.
-pub(crate) fn swept<S: EventSource>(alloc: Global, source: &mut S) -> Result<Analysis, AnalyseError>
-    ensures counted { ¬ IsErrOf result AnalyseError.BadWorkers }
+/// `Source` with the fault that the source told, or with `Failed` where it had told a fault before. `OutOfMemory` where memory was
+/// refused to the analysis itself; the source told no fault then. The source stands past the events that were taken.
+pub(crate) fn swept<S: EventSource>(alloc: Global, source: &mut S) -> Result<Analysis, TakeError>
     ensures right { IfOk result IsAnalysed }
     ensures whole { IfOk result (λ a. ComesWhole (S.coming source.old) a.trace) }
     ensures fault { IfErr (told_by result) (λ e. IfSome (S.coming source.old) (λ c. IsFaultOf c e)) }
-    ensures told { TellsSource (S.state source.old) result (S.state source.new) }
+    ensures told { TellsTaken (S.state source.old) result (S.state source.new) }
     ensures failures { CountsReads (S.failures source.old) (told_by result) (S.failures source.new) }
 {
     let trace = take_trace(alloc, source)?;

@@ -11,7 +11,7 @@ ghost use Rattle.pmt_lines.proofs.SourceRunLemmas.{shown_by};
 ghost use Rattle.pmt_report.specs.Blocks.{TakesBlock};
 ghost use Rattle.pmt_report.specs.Taking.{EndsAfter, IsTakingFault};
 
-use pmt_lines::SplitError;
+use pmt_lines::TakeError;
 use pmt_model::{Event, OutOfMemory, Trace};
 use pmt_text::{EventSource, SourceError};
 use std::alloc::{AllocError, Global};
@@ -36,7 +36,7 @@ pub(crate) fn take_block<S: EventSource>(
     alloc: Global,
     source: &mut S,
     most: u64,
-) -> Result<Trace, SplitError>
+) -> Result<Trace, TakeError>
     ensures block { let shown = shown_by S.coming S.state S.known_format S.failures S.room in IfOk result (TakesBlock most (shown source.old) (shown source.new)) }
     ensures fault { IfErr (told_by result) (λ e. IfSome (S.coming source.old) (λ c. IsFaultOf c e)) }
     ensures told { TellsRefusal (S.state source.old) result (S.state source.new) }

@@ -7,8 +7,9 @@ ghost use Rattle.pmt_report.specs.Runs.{IsAnalysisFault, Runs, coming_from_reade
 
 use crate::fault::{RunError, run_error};
 use crate::output::write_answer;
+use pmt_lines::TakeError;
 use pmt_text::{Counted, TextSource};
-use pmt_trim::{TrimError, trimmed_text};
+use pmt_trim::trimmed_text;
 use pmt_workers::are_allowed;
 use std::alloc::Global;
 use std::io::{Read, Write};
@@ -44,7 +45,7 @@ pub fn run_trim<T: Threads + Wait + Sync, R: Read, W: Write>(
     let reader = source.into_input();
     match found {
         Ok(text) => (reader, write_answer(writer, text.as_slice())),
-        Err(TrimError::Source(fault)) => (reader, Err(run_error(fault))),
-        Err(TrimError::OutOfMemory) => (reader, Err(RunError::OutOfMemory)),
+        Err(TakeError::Source(fault)) => (reader, Err(run_error(fault))),
+        Err(TakeError::OutOfMemory) => (reader, Err(RunError::OutOfMemory)),
     }
 }

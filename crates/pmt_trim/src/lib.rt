@@ -24,4 +24,4 @@ pub use crate::shortest::{all_events, shortest_selection};
 pub use crate::stream_error::StreamError;
 pub use crate::streaming::trim_stream;
 pub use crate::trimming::{keep, trim};
-pub use crate::whole_text::{TrimError, trimmed_text};
+pub use crate::whole_text::trimmed_text;

@@ -4,54 +4,26 @@ ghost use Rattle.pmt_model.specs.Pushing.{with_event};
 ghost use Rattle.pmt_model.specs.Traces.{Recording, event_limit};
 ghost use Rattle.pmt_text.specs.Spelling.{event_text};
 ghost use Rattle.pmt_text.specs.Sources.{CountsReads};
-ghost use Rattle.pmt_lines.specs.Sourcing.{IsFaultOf};
+ghost use Rattle.pmt_lines.specs.Sourcing.{IsFaultOf, TellsTaken, told_by};
 ghost use Rattle.pmt_trim.specs.Leaving.{IsStream, IsStreamOf};
 ghost use Rattle.pmt_trim.specs.Passing.{taken};
-ghost use Rattle.pmt_trim.specs.WholeTexts.{IsTextOfWhole, TellsText, told_by};
-ghost use Rattle.pmt_trim.specs.declared.whole_text.TrimError.TheVariants.{Source, OutOfMemory};
+ghost use Rattle.pmt_trim.specs.WholeTexts.{IsTextOfWhole};
 
 use crate::stream::Stream;
+use pmt_lines::TakeError;
 use pmt_model::{Event, OutOfMemory};
-use pmt_text::{EventSource, SourceError};
-use std::alloc::{AllocError, Global};
-use thiserror::Error;
-
-/// Why a source was not trimmed.
-#[derive(Clone, Copy, Debug, PartialEq, Eq, Error)]
-pub enum TrimError {
-    /// The source told this fault.
-    #[error("{0}")]
-    Source(SourceError),
-    /// Memory was refused, and not to the source.
-    #[error("out of memory")]
-    OutOfMemory,
-}
-
-impl From<SourceError> for TrimError {
-    ghost from_gives = { λ fault error. error ≡ Source fault };
-
-    fn from(fault: SourceError) -> Self {
-        TrimError::Source(fault)
-    }
-}
-
-impl From<AllocError> for TrimError {
-    ghost from_gives = { λ _ error. error ≡ OutOfMemory };
-
-    fn from(_refused: AllocError) -> Self {
-        TrimError::OutOfMemory
-    }
-}
+use pmt_text::EventSource;
+use std::alloc::Global;
 
 /// The text of the trimmed trace whose events the source has still to give. Memory is that of the text and of the events that wait.
 ///
 /// # Errors
 /// `Source` with the fault that the source told, or with `Failed` where it had told a fault before. `OutOfMemory` where memory was
 /// refused to the trimmer itself; the source told no fault then. The source stands past the events that were taken.
-pub fn trimmed_text<S: EventSource>(alloc: Global, source: &mut S) -> Result<Vec<u8>, TrimError>
+pub fn trimmed_text<S: EventSource>(alloc: Global, source: &mut S) -> Result<Vec<u8>, TakeError>
     ensures text { IfOk result (λ text. IsTextOfWhole (S.coming source.old) text.items) }
     ensures fault { IfErr (told_by result) (λ e. IfSome (S.coming source.old) (λ c. IsFaultOf c e)) }
-    ensures told { TellsText (S.state source.old) result (S.state source.new) }
+    ensures told { TellsTaken (S.state source.old) result (S.state source.new) }
     ensures failures { CountsReads (S.failures source.old) (told_by result) (S.failures source.new) }
 {
     let format = source.format()?;

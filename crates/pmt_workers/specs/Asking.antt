@@ -2,8 +2,8 @@
 use Rattle.std.specs.Prelude.{◌≡◌, ◌⊎◌, Result, Ok, Err}
 use Rattle.pmt_text.specs.declared.kind.SourceError.{SourceError}
 use Rattle.pmt_text.specs.declared.source.SourceState.{SourceState}
-use Rattle.pmt_lines.specs.declared.splitting.SplitError.{SplitError}
-use Rattle.pmt_lines.specs.declared.splitting.SplitError.TheVariants as splits
+use Rattle.pmt_lines.specs.declared.taking.TakeError.{TakeError}
+use Rattle.pmt_lines.specs.declared.taking.TakeError.TheVariants as refusals
 use Rattle.pmt_lines.specs.Sourcing.{TellsEnd, TellsFault, TellsNothing}
 use Rattle.pmt_workers.specs.declared.analyse.AnalyseError.{AnalyseError}
 use Rattle.pmt_workers.specs.declared.analyse.AnalyseError.TheVariants.{BadWorkers, Source, OutOfMemory}
@@ -23,7 +23,7 @@ TellsSource old (Err BadWorkers) new = new ≡ old
 TellsSource old (Err (Source e)) new = TellsFault old e new
 TellsSource old (Err OutOfMemory) new = TellsNothing old new ⊎ TellsEnd old new
 
--- The error of an analysis whose split was refused so.
-abbrev pub error_of : SplitError → AnalyseError
-error_of (splits.Source e) = Source e
-error_of splits.OutOfMemory = OutOfMemory
+-- The error of an analysis whose events were refused so.
+abbrev pub error_of : TakeError → AnalyseError
+error_of (refusals.Source e) = Source e
+error_of refusals.OutOfMemory = OutOfMemory

@@ -17,7 +17,7 @@ use crate::results::taken_apart;
 use crate::shard::ShardGate;
 use pmt_analysis::Analysis;
 use pmt_findings::findings;
-use pmt_lines::{Jobs, SplitError, run_fences, split_trace, take_trace};
+use pmt_lines::{Jobs, TakeError, run_fences, split_trace, take_trace};
 use pmt_model::{OutOfMemory, Trace};
 use pmt_text::{EventSource, SourceError};
 use pmt_trim::liveness;
@@ -39,13 +39,13 @@ pub enum AnalyseError {
     OutOfMemory,
 }
 
-impl From<SplitError> for AnalyseError {
+impl From<TakeError> for AnalyseError {
     ghost from_gives = { λ refused error. error ≡ error_of refused };
 
-    fn from(refused: SplitError) -> Self {
+    fn from(refused: TakeError) -> Self {
         match refused {
-            SplitError::Source(fault) => AnalyseError::Source(fault),
-            SplitError::OutOfMemory => AnalyseError::OutOfMemory,
+            TakeError::Source(fault) => AnalyseError::Source(fault),
+            TakeError::OutOfMemory => AnalyseError::OutOfMemory,
         }
     }
 }

@@ -11,12 +11,12 @@ use crate::ranges::read_ranges;
 use crate::reading::{read_whole, system_fault};
 use crate::refused::{line_of_text, refused_line};
 use pmt_explanation::{ByteRange, Explanation, Labels, Screen, has_failed, json_text, text};
+use pmt_lines::TakeError;
 use pmt_model::OutOfMemory;
-use pmt_report::{ExplainError, RunError, explain};
+use pmt_report::{RunError, explain};
 use pmt_text::{Counted, SourceError, TextError, TextSource};
 use std::alloc::Global;
 use std::io::{Cursor, Read, Write};
-use std::thread::Threads;
 
 // The lines of a text where the words don't say how many entries are shown.
 const ROWS: usize = 60;
@@ -38,7 +38,7 @@ pub fn run_explain<T, O, I, W>(
     out: &mut W,
 ) -> Result<u8, Fault>
 where
-    T: AllocGlobal + Threads + Sync,
+    T: AllocGlobal,
     O: Opener,
     I: Read + Drop,
     W: Write,
@@ -55,7 +55,7 @@ where
     }
     let labels = labels_of(alloc, files, words.labels)?;
     let bytes = bytes_of(alloc, words.file, files, input)?;
-    let explanation = explained(rt, &words, bytes.as_slice(), &labels)?;
+    let explanation = explained(alloc, &words, bytes.as_slice(), &labels)?;
     judge_failure(alloc, &explanation, words.failure)?;
     let status = if has_failed(&explanation) { 1 } else { 0 };
     let answer = answer_of(alloc, files, explanation, &labels, words, bytes)?;
@@ -126,20 +126,17 @@ fn read_file<O: Opener>(alloc: Global, files: &O, name: &str) -> Result<Vec<u8>,
 }
 
 // The explanation of the trace with this text.
-fn explained<T: AllocGlobal + Threads + Sync>(
-    rt: &T,
+fn explained(
+    alloc: Global,
     words: &ExplainWords<'_>,
     bytes: &[u8],
     labels: &Labels,
 ) -> Result<Explanation, Fault> {
-    let alloc = rt.alloc();
     let mut source = TextSource::new(alloc, Counted::new(Cursor::new(bytes)));
-    match explain(rt, alloc, &mut source, labels, &words.options) {
+    match explain(alloc, &mut source, labels, &words.options) {
         Ok(explanation) => Ok(explanation),
-        Err(ExplainError::Source(fault)) => {
-            Err(source_fault(alloc, name_of(words), bytes, fault)?)
-        }
-        Err(ExplainError::OutOfMemory) => Err(Fault::OutOfMemory),
+        Err(TakeError::Source(fault)) => { Err(source_fault(alloc, name_of(words), bytes, fault)?) }
+        Err(TakeError::OutOfMemory) => Err(Fault::OutOfMemory),
     }
 }
 

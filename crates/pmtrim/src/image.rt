@@ -12,7 +12,7 @@ use pmt_image::{
     CopyFault, CountFault, Crash, ImageFault, LineStores, Pool, Stop, crash_at, crash_of_failure,
     write_image,
 };
-use pmt_lines::{SplitError, take_trace};
+use pmt_lines::{TakeError, take_trace};
 use pmt_model::{Format, Trace, line_of};
 use pmt_report::{RunError, analysed, run_error};
 use pmt_text::{Counted, TextSource};
@@ -213,8 +213,8 @@ fn taken<R: Read + Drop>(alloc: Global, reader: R) -> Result<Trace, Fault> {
     let mut source = TextSource::new(alloc, Counted::new(reader));
     match take_trace(alloc, &mut source) {
         Ok(trace) => Ok(trace),
-        Err(SplitError::Source(fault)) => Err(Fault::Run(run_error(fault))),
-        Err(SplitError::OutOfMemory) => Err(Fault::OutOfMemory),
+        Err(TakeError::Source(fault)) => Err(Fault::Run(run_error(fault))),
+        Err(TakeError::OutOfMemory) => Err(Fault::OutOfMemory),
     }
 }
 

@@ -1,5 +1,5 @@
 use Rattle.std.proofs.Common.{◌≡◌, ◌<◌, ◌∷◌, [], length, Err, length-append, arith, rules}
-use Rattle.pmt_lines.specs.declared.splitting.SplitError.TheVariants.{OutOfMemory}
+use Rattle.pmt_lines.specs.declared.taking.TakeError.TheVariants.{OutOfMemory}
 use Rattle.pmt_lines.proofs.SourceRunLemmas.{shown_by, counts-refused, so_far-more, so_far-none, so_far-full, so_far-ended}
 use Rattle.pmt_lines.proofs.splitting.split_first.Goals as goal
 

@@ -1,9 +1,9 @@
-use Rattle.std.proofs.Common.{rules, ◌≡◌, Result, Ok, Err, refl, sym, subst}
+use Rattle.std.proofs.Common.{rules, ◌≡◌, Ok, Err, refl, sym, subst}
 use Rattle.pmt_model.specs.Values.{Layout}
 use Rattle.pmt_model.specs.Pushing.{empty}
 use Rattle.pmt_model.specs.Traces.{Recording}
 use Rattle.pmt_laws.specs.Passing.{with_events}
-use Rattle.pmt_lines.specs.declared.splitting.SplitError.TheVariants.{OutOfMemory}
+use Rattle.pmt_lines.specs.declared.taking.TakeError.TheVariants.{OutOfMemory}
 use Rattle.pmt_lines.proofs.SourceRunLemmas.{shown_by}
 use Rattle.pmt_sweep.specs.Growing.{HasSwept}
 use Rattle.pmt_report.proofs.BlockLemmas.{IsTakenSoFar, first-block, next-block, untold, uncounted, unfaulted, refused-fault, refused-told, refused-counted}

@@ -1,8 +1,8 @@
 use Rattle.std.proofs.Common.{◌≡◌, [], Err, rules}
 use Rattle.pmt_model.specs.Pushing.{empty, with_event}
-use Rattle.pmt_lines.proofs.SourceRunLemmas.{shown_by, so_far-more, so_far-none}
-use Rattle.pmt_trim.specs.declared.whole_text.TrimError.TheVariants.{OutOfMemory}
-use Rattle.pmt_trim.proofs.WholeTextLemmas.{reads-refused, text-whole}
+use Rattle.pmt_lines.specs.declared.taking.TakeError.TheVariants.{OutOfMemory}
+use Rattle.pmt_lines.proofs.SourceRunLemmas.{counts-refused, shown_by, so_far-more, so_far-none}
+use Rattle.pmt_trim.proofs.WholeTextLemmas.{text-whole}
 use Rattle.pmt_trim.proofs.StreamLemmas.{lent-is}
 use Rattle.pmt_trim.proofs.whole_text.trimmed_text.Goals as goal
 
@@ -50,4 +50,4 @@ returns-in_err-take_more-clause-failures g c =
     let reads = g.S.EventSource.failures in
     let counted = rw c.in-Some.is at c.in_ok-event.ensures.failures in
     let refused : c.from_residual-in_err-take_more.result ≡ Err OutOfMemory = search rules in
-    reads-refused (reads c.args.source.now) (reads c.loop-stream.source) (reads c.next.new.self) _ _ c.loop-stream.invariant.1.same_reads counted refused
+    counts-refused (reads c.args.source.now) (reads c.loop-stream.source) (reads c.next.new.self) _ _ c.loop-stream.invariant.1.same_reads counted refused
