@@ -195,10 +195,15 @@ def long_streams():
     """The same for the stream: it has given out what came before the text got too long, but nothing from an open flush on."""
     stores = TRACE[0] + b"store 0 0x0 01\n" * 100
     head = "echo pmtrace 1; yes store 0 0x0 01 | head -n 100"
+    opened = f"{head}; echo clwb 0 0x0"
     letters = "tr '\\0' a < /dev/zero"
     too_long = Answer(3, stores, b"trace too long\n")
     yield f"{head}; {letters}", too_long
-    yield f"{head}; echo clwb 0 0x0; echo store 0 0x8 02; {letters}", too_long
+    yield f"{opened}; echo store 0 0x8 02; {letters}", too_long
+    too_many = b"trace line 1000002: too-many-events\n"
+    all_stores = TRACE[0] + b"store 0 0x0 01\n" * 1_000_000
+    yield "echo pmtrace 1; yes store 0 0x0 01", Answer(3, all_stores, too_many)
+    yield f"{opened}; yes sfence 1", Answer(3, stores, too_many)
 
 
 def differences_over_long_inputs(program, command, inputs):
