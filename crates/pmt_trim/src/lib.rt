@@ -23,5 +23,5 @@ pub use crate::kept::line_kept;
 pub use crate::shortest::{all_events, shortest_selection};
 pub use crate::stream_error::StreamError;
 pub use crate::streaming::trim_stream;
-pub use crate::trimming::{keep, trim};
+pub use crate::trimming::trim;
 pub use crate::whole_text::trimmed_text;

@@ -22,11 +22,8 @@ pub fn trim(alloc: Global, trace: &Trace) -> Result<(Trace, Selection), OutOfMem
     Ok((trimmed, selection))
 }
 
-/// The selection of all that is kept of the trace.
-///
-/// # Errors
-/// Where memory was refused.
-pub fn keep(alloc: Global, trace: &Trace) -> Result<Selection, OutOfMemory>
+// The selection of all that is kept of the trace.
+fn keep(alloc: Global, trace: &Trace) -> Result<Selection, OutOfMemory>
     ensures { IfOk result (λ selection. IsKeep trace.now selection) }
 {
     let kept = kept_flags(alloc, trace)?;
