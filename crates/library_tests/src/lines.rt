@@ -46,8 +46,8 @@ fn steps_of_a_job(rt: HostRuntime) -> Result<(), Fail> {
     assert_eq!(rt; lines[1].line(), 65);
     assert_eq!(rt; lines[0].steps().len(), 3);
     assert_eq!(rt; lines[1].steps().len(), 2);
-    assert_eq!(rt; lines[0].steps()[2].number(), 4);
-    assert!(rt; matches!(lines[0].steps()[2].kind(), StepKind::Fence));
+    assert_eq!(rt; lines[0].steps()[2].number, 4);
+    assert!(rt; matches!(lines[0].steps()[2].kind, StepKind::Fence));
     Ok(())
 }
 

@@ -46,10 +46,10 @@ fn forty_lines(alloc: Global) -> Result<Jobs, Fail> {
 fn has_three_steps(rt: &impl Abort, job: &LineJob) {
     let steps = job.steps();
     assert_eq!(rt; steps.len(), 3);
-    assert!(rt; matches!(steps[0].kind(), StepKind::Store { .. }));
-    assert!(rt; matches!(steps[1].kind(), StepKind::Flush));
-    assert!(rt; matches!(steps[2].kind(), StepKind::Fence));
-    assert_eq!(rt; steps[2].number(), 81);
+    assert!(rt; matches!(steps[0].kind, StepKind::Store { .. }));
+    assert!(rt; matches!(steps[1].kind, StepKind::Flush));
+    assert!(rt; matches!(steps[2].kind, StepKind::Fence));
+    assert_eq!(rt; steps[2].number, 81);
 }
 
 // Each line has its store, its flush and the first fence.

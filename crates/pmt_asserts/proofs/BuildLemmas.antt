@@ -1,16 +1,17 @@
 -- How the table of a line is made.
-use Rattle.std.proofs.Common.{◌≡◌, ℕ, zero, suc, ◌+◌, ◌-◌, ◌<◌, ◌≤◌, ◌⊎◌, ◌↔◌, inl, inr, true, List, [], ◌∷◌, ◌++◌, length, get_or, take, refl, sym, ap, subst, ◌∙◌, arith}
-use Rattle.std.specs.Prelude.{Contains, All}
+use Rattle.std.proofs.Common.{◌≡◌, ℕ, ◌+◌, ◌-◌, ◌<◌, ◌≤◌, ◌⊎◌, ◌↔◌, inl, inr, true, List, [], ◌∷◌, ◌++◌, length, get_or, take, refl, sym, ap, subst, ◌∙◌, arith}
+use Rattle.std.specs.Prelude.{◌^◌, Contains, All}
+use Rattle.std.specs.List.Sorted.{IsPermutation, IsNonDecreasingBy}
+use Rattle.std.proofs.lemmas.List.Sorted.{IsPermutation-sym, Contains-permutation}
 use Rattle.std.proofs.lemmas.Bool.{cases_lt}
 use Rattle.std.proofs.lemmas.List.{take_more}
 use Rattle.std.proofs.lemmas.List.Elements.{Contains-append_left, Contains-push, Contains-push_cases, All-from_recursion}
-use Rattle.pmt_model.specs.Traces.{event_limit}
 use Rattle.pmt_lines.specs.declared.step.StepKind.{StepKind}
 use Rattle.pmt_lines.specs.declared.step.StepKind.TheVariants.{Store, Flush, Clflush, Fence}
 use Rattle.pmt_lines.specs.declared.step.Step.{Step}
 use Rattle.pmt_asserts.specs.declared.put.Put.{Put}
 use Rattle.pmt_asserts.specs.declared.put.Write.{Write}
-use Rattle.pmt_asserts.specs.Puts.{covers, with_put, puts_of, put_at, IsWriteOf, IsInside}
+use Rattle.pmt_asserts.specs.Puts.{covers, with_put, puts_of, put_at, key_of, IsWriteOf, Fits, AreWritesOf}
 use Rattle.pmt_asserts.proofs.RankLemmas.{covers-range, range-covers}
 use Rattle.std.specs.List.{AllByRecursion}
 use Rattle.pmt_lines.specs.Steps.{AreSteps, IsStepKind}
@@ -99,22 +100,25 @@ writes-more puts old new i p read h is added w = (there, back)
           | inr before ↦ (added w).1 (inl ((is w).1 (g.0, before)))
         ]
 
--- a step of a job has a small number, and its store lies inside one word
-pub step-fits : (low : ℕ) (steps : List Step) (i : ℕ) (d : Step) → AreSteps low steps → i < length steps → ((get_or steps i d).number ≤ event_limit) × IsStepKind (get_or steps i d).kind
-step-fits low [] i d are h = absurd (omega arith)
-step-fits low (s ∷ steps) zero d are h = (are.1, are.2)
-step-fits low (s ∷ steps) (suc i) d are h = step-fits s.number steps i d are.3 (omega arith)
-
--- the stores of a job have bytes within the addresses
-pub puts-inside : (low : ℕ) (steps : List Step) → AreSteps low steps → All IsInside (puts_of steps)
-puts-inside low steps are = All-from_recursion IsInside (puts_of steps) (each low steps are)
+-- the stores of a job end within the addresses
+pub puts-fit : (low : ℕ) (steps : List Step) → AreSteps low steps → All Fits (puts_of steps)
+puts-fit low steps are = All-from_recursion Fits (puts_of steps) (each low steps are)
   where
-    one : (n : ℕ) (k : StepKind) (ps : List Put) → IsStepKind k → AllByRecursion IsInside ps → AllByRecursion IsInside (with_put n k ps)
-    one n (Store addr len) ps is rest = (record { some = omega (arith, is.1); within = omega (arith, is.0, is.2) }, rest)
+    one : (n : ℕ) (k : StepKind) (ps : List Put) → IsStepKind k → AllByRecursion Fits ps → AllByRecursion Fits (with_put n k ps)
+    one n (Store addr len) ps is rest = (omega (arith, is.0, is.2), rest)
     one n Flush ps is rest = rest
     one n Clflush ps is rest = rest
     one n Fence ps is rest = rest
 
-    each : (from : ℕ) (ss : List Step) → AreSteps from ss → AllByRecursion IsInside (puts_of ss)
+    each : (from : ℕ) (ss : List Step) → AreSteps from ss → AllByRecursion Fits (puts_of ss)
     each from [] a = tt
     each from (s ∷ ss) a = one s.number s.kind (puts_of ss) a.2 (each s.number ss a.3)
+
+-- sorted, they are all there in order
+pub writes-sorted : (puts : List Put) (old new : List Write) (i : ℕ) → length puts < 2 ^ 64 → length puts ≤ i → HasWrites puts old i → IsPermutation old new → IsNonDecreasingBy key_of new → AreWritesOf puts new
+writes-sorted puts old new i few past has moved sorted = record {
+  few = few;
+  sorted = sorted;
+  just = λ w c. ((has w).0 (Contains-permutation new old w (IsPermutation-sym old new moved) c)).0;
+  all = λ w is. Contains-permutation old new w moved ((has w).1 (is, omega (arith, is.within, past)));
+}

@@ -16,7 +16,7 @@ use Rattle.pmt_asserts.specs.declared.oldest.Oldest.{Oldest}
 use Rattle.pmt_asserts.specs.declared.oldest.Earliest.{Earliest}
 use Rattle.pmt_asserts.specs.Tables.{PersistedBy, RankedBy, IsUnwritten, IsLastAt}
 use Rattle.pmt_asserts.specs.Judging.{IsBare, EachIn, IsOldestIn, EachApart, ComesNoEarlier, IsEarliest, IsEarliestOf, RanksBefore, IsLineInOrder, IsLineOrdered, place_for}
-use Rattle.pmt_asserts.proofs.WordLemmas.{writes-line}
+use Rattle.pmt_lines.proofs.TraceLemmas.{writes-line}
 
 -- The last store to a byte is to the byte's line.
 abbrev pub IsOwn : Recording → ℕ → List Act → Type 0

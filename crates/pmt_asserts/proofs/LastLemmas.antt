@@ -11,7 +11,7 @@ use Rattle.pmt_laws.proofs.BoxLemmas.{count-store, count-store_other}
 use Rattle.pmt_asserts.specs.declared.put.Put.{Put}
 use Rattle.pmt_asserts.specs.Puts.{covers, put_at, last_in}
 use Rattle.pmt_asserts.proofs.TraceLemmas.{ArePuts, put-at, puts-length, same-store, count_at-le_length, count_at-store}
-use Rattle.pmt_asserts.proofs.WordLemmas.{writes-line}
+use Rattle.pmt_lines.proofs.TraceLemmas.{writes-line}
 
 -- What the first c stores of line l tell of the last one to the byte at b after a history, at the latest at place n.
 pub data LastIs (T : Recording) (l : ℕ) (puts : List Put) (b n c : ℕ) (h : List Act) : Type 0 where

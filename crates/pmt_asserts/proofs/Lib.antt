@@ -1,13 +1,10 @@
 pub mod TraceLemmas
-pub mod WordLemmas
 pub mod LastLemmas
 pub mod RaiseLemmas
 pub mod RankLemmas
 pub mod TableLemmas
 pub mod BuildLemmas
 pub mod PlacingLemmas
-pub mod EndLemmas
-pub mod CodeLemmas
 pub mod PartLemmas
 pub mod JudgeLemmas
 pub mod EarliestLemmas

@@ -1,49 +1,59 @@
-//! The stores of a line's steps.
-ghost use Rattle.std.specs.Prelude.{◌≡◌, ◌≤◌, ◌++◌, ◌∷◌, [], IfOk, OnOk};
-ghost use Rattle.pmt_model.specs.Traces.{event_limit};
-ghost use Rattle.pmt_lines.specs.Steps.{AreSteps, IsStepKind};
-ghost use Rattle.pmt_asserts.specs.Puts.{puts_of};
+//! The stores of a line's steps, and the bytes that they write.
+ghost use Rattle.std.specs.Prelude.{◌≡◌, ◌+◌, ◌^◌, ◌<◌, ◌++◌, ◌∷◌, [], ◌⊎◌, ◌↔◌, true, IfOk, OnOk, All, Contains};
+ghost use Rattle.pmt_asserts.specs.declared.put.Write.{Write as Written};
+ghost use Rattle.pmt_asserts.specs.Puts.{covers, puts_of, Fits, AreWritesOf};
 
-use crate::put::Put;
-use crate::small_put::SmallPut;
-use pmt_lines::{SmallStep, Step, StepKind};
+use crate::put::{Put, Write};
+use pmt_lines::{Step, StepKind};
 use pmt_model::OutOfMemory;
 use std::alloc::Global;
 
 // The stores among the steps.
-pub fn collect_puts(alloc: Global, steps: &[SmallStep]) -> Result<Vec<SmallPut>, OutOfMemory>
-    requires { AreSteps 0 steps.now }
+pub fn collect_puts(alloc: Global, steps: &[Step]) -> Result<Vec<Put>, OutOfMemory>
     ensures { IfOk result (λ puts. puts.items ≡ puts_of steps.now) }
 {
-    let mut puts = Vec::with_capacity(alloc, stores_in(steps))?;
+    let mut puts = Vec::new(alloc);
     for step in steps {
-        push_put(&mut puts, step.step())?;
+        push_put(&mut puts, step)?;
     }
     Ok(puts)
 }
 
-// How many of the steps are stores: the room to ask for, of which nothing is promised.
-fn stores_in(steps: &[SmallStep]) -> usize {
-    steps
-        .iter()
-        .filter(|step| matches!(step.kind(), StepKind::Store { .. }))
-        .count()
-}
-
 // Adds the step, if it is a store.
-fn push_put(puts: &mut Vec<SmallPut>, step: Step) -> Result<(), OutOfMemory>
-    requires within { step.number ≤ event_limit }
-    requires inside { IsStepKind step.kind }
-    ensures { OnOk result (puts.new.items ≡ puts.old.items ++ puts_of (step ∷ [])) }
+fn push_put(puts: &mut Vec<Put>, step: &Step) -> Result<(), OutOfMemory>
+    ensures { OnOk result (puts.new.items ≡ puts.old.items ++ puts_of (step.now ∷ [])) }
 {
-    let Step { number, kind, .. } = step;
-    match kind {
+    let number = step.number;
+    match &step.kind {
         StepKind::Store { addr, len } => {
-            puts.push(SmallPut::new(Put { number, addr, len }))?;
+            let (addr, len) = (*addr, *len);
+            puts.push(Put { number, addr, len })?;
             Ok(())
         }
-        StepKind::Flush => Ok(()),
-        StepKind::Clflush => Ok(()),
-        StepKind::Fence => Ok(()),
+        StepKind::Flush | StepKind::Clflush | StepKind::Fence => Ok(()),
     }
+}
+
+// All bytes that the stores write, by byte and then by rank.
+pub fn collect_writes(alloc: Global, puts: &[Put]) -> Result<Vec<Write>, OutOfMemory>
+    requires { All Fits puts.now }
+    ensures { IfOk result (λ writes. AreWritesOf puts.now writes.items) }
+{
+    let mut writes = Vec::new(alloc);
+    for (index, put) in puts.iter().enumerate() {
+        add_writes(&mut writes, *put, index as u64 + 1)?;
+    }
+    writes.sort_unstable_by_key(Write::key);
+    Ok(writes)
+}
+
+// Adds the bytes that the store with this rank writes.
+fn add_writes(writes: &mut Vec<Write>, put: Put, rank: u64) -> Result<(), OutOfMemory>
+    requires { put.addr + put.len < 2 ^ 64 }
+    ensures { OnOk result ((w : Written) → Contains writes.new.items w ↔ (Contains writes.old.items w ⊎ ((w.rank ≡ rank) × (covers put w.byte ≡ true)))) }
+{
+    for byte in put.addr..put.addr + put.len {
+        writes.push(Write { byte, rank })?;
+    }
+    Ok(())
 }

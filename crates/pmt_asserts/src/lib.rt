@@ -5,17 +5,14 @@
 
 mod answers;
 mod build;
-mod ends;
 mod judge;
 mod lines;
 mod oldest;
 mod part;
 mod put;
-mod small_put;
 mod stretch;
 mod table;
 mod tables;
-mod writes;
 
 pub use crate::judge::{has_assertion, verdict, verdict_by, verdicts};
 pub use crate::lines::LineAnswers;

@@ -6,23 +6,20 @@ use Rattle.std.proofs.lemmas.List.{get_or-replicate, drop_more, drop_all}
 use Rattle.pmt_model.specs.declared.finding.Finding.{Finding}
 use Rattle.pmt_model.specs.Machine.{Stores, Flushes, Clflushes}
 use Rattle.pmt_model.specs.Traces.{Recording, IsTrace, history}
-use Rattle.pmt_model.specs.Fronts.{front_at}
 use Rattle.pmt_model.specs.Findings.{last_flush}
 use Rattle.pmt_model.specs.Analyses.{reported_at, InReportOrder, HasFinding}
 use Rattle.pmt_laws.proofs.Histories.{act-within}
 use Rattle.pmt_marks.proofs.FollowLemmas.{follows-start}
-use Rattle.pmt_lines.specs.declared.raises.Raise.{Raise}
 use Rattle.pmt_lines.specs.declared.step.StepKind.{StepKind}
 use Rattle.pmt_lines.specs.declared.step.StepKind.TheVariants.{Store, Flush, Clflush, Fence}
 use Rattle.pmt_lines.specs.declared.step.Step.{Step}
 use Rattle.pmt_lines.specs.declared.line_findings.Scan.{Scan}
 use Rattle.pmt_lines.specs.declared.line_findings.Ending.{Ending}
-use Rattle.pmt_lines.specs.Steps.{LineWork, AreSteps}
+use Rattle.pmt_lines.specs.Steps.{AreSteps}
 use Rattle.pmt_lines.specs.Jobs.{IsKind, IsStepOf, Touches, ByStore, ByFlush, ByClflush, IsWalkFrom, IsJobOf}
-use Rattle.pmt_lines.specs.Raises.{RaisesBetween, IsRaises, FindsLine}
 use Rattle.pmt_lines.specs.Running.{TakesStep}
 use Rattle.pmt_lines.specs.LineFindings.{IsLineFinding, AreLineFindings}
-use Rattle.pmt_lines.specs.Scans.{IsEnding, FindsBefore, last_front_of, last_flush_of, flush_after, AreStoresAt, TakesBytes, Reports, ReportsKind}
+use Rattle.pmt_lines.specs.Scans.{IsEnding, last_flush_of, flush_after, AreStoresAt, TakesBytes, Reports, ReportsKind}
 use Rattle.pmt_lines.proofs.RunLemmas.{kind-within}
 use Rattle.pmt_lines.proofs.ScanLemmas.{IsScan, scan-over, scan-kind, flush-over, flush-kind}
 use Rattle.pmt_lines.proofs.FindingLists.{has-append, has-left, has-right, ordered-append}
@@ -138,14 +135,8 @@ scanned-start T l steps scan state stores flush job = record {
     none : (f : Finding) → IsLineFinding T l f → reported_at f ≤ 0 → ⊥
     none f h first = omega (arith, first, finding-numbered T l f h)
 
--- the front after the last raise is that of the end
-pub ending-front : (T : Recording) (l low high : ℕ) (raises : List Raise) → RaisesBetween T l low high raises → last_front_of (front_at T l low) raises ≡ front_at T l high
-ending-front T l low high [] r = sym (r.1 high r.0 (omega arith))
-ending-front T l low high (x ∷ raises) r =
-    ap (λ f. last_front_of f raises) (sym r.3) ∙ ending-front T l x.place high raises r.4
-
 -- the last flush of the job is that of the trace
-ending-flush : (T : Recording) (l low : ℕ) (steps : List Step) → low ≤ length T.events → IsWalkFrom (IsStepOf T l) (Touches T l) low steps → last_flush_of (last_flush l (history T low)) steps ≡ last_flush l (history T (length T.events))
+pub ending-flush : (T : Recording) (l low : ℕ) (steps : List Step) → low ≤ length T.events → IsWalkFrom (IsStepOf T l) (Touches T l) low steps → last_flush_of (last_flush l (history T low)) steps ≡ last_flush l (history T (length T.events))
 ending-flush T l low [] within walk = sym (flush-over T l low (length T.events) within (λ k a b. walk k a))
 ending-flush T l low (s ∷ steps) within walk =
     ap (λ last. last_flush_of last steps) (go (s.number - 1) (omega (arith, walk.0)))
@@ -158,18 +149,6 @@ ending-flush T l low (s ∷ steps) within walk =
         ∙ ap (λ last. flush_after last (suc n) s.kind) (sym (flush-over T l low n (omega (arith, walk.0)) (λ k a b. walk.2 k a (omega arith))))
         ∙ sym (flush-kind T l n s.thread s.kind kind)
         ∙ ap (λ k. last_flush l (history T k)) (sym is)
-
--- What is known of the line at the end of the trace, from its job and its raises.
-ending-from_raises : (T : Recording) (l : ℕ) (steps : List Step) (raises : List Raise) (ending : Ending) → ending.front ≡ last_front_of 0 raises → ending.flush ≡ last_flush_of 0 steps → IsJobOf T l steps → IsRaises T l raises → IsEnding T l ending
-ending-from_raises T l steps raises ending front flush job right = record {
-  front = front ∙ ending-front T l 0 (length T.events) raises right;
-  flush = flush ∙ ending-flush T l 0 steps (omega arith) job;
-}
-
--- The findings that the end of the line tells are those that its raises tell.
-pub finds-line : (job : LineWork) (raises : List Raise) (ending : Ending) (found : List Finding) → ending.front ≡ last_front_of 0 raises → ending.flush ≡ last_flush_of 0 job.steps → FindsBefore job ending found → FindsLine job raises found
-finds-line job raises ending found front flush finds = λ T is_trace of_line right.
-    finds T is_trace of_line (ending-from_raises T job.line job.steps raises ending front flush of_line right)
 
 -- A pass in whatever trace the job is of, with the rest of the job to come.
 pub record Scanning (l : ℕ) (steps rest : List Step) (ending : Ending) (scan : Scan) (found : List Finding) : Type 0 where

@@ -3,14 +3,12 @@ pub mod RunLemmas
 pub mod FenceLemmas
 pub mod FenceRunLemmas
 pub mod RisingLemmas
-pub mod EndLemmas
 pub mod TraceLemmas
 pub mod ScanLemmas
 pub mod FindingLists
 pub mod ReportLemmas
 pub mod StoreLemmas
 pub mod FoundLemmas
-pub mod LoneLemmas
 pub mod PlaceLemmas
 pub mod GrowLemmas
 pub mod LineActLemmas

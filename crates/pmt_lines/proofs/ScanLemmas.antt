@@ -79,7 +79,7 @@ pub record IsScan (T : Recording) (l n : ℕ) (scan : Scan) : Type 0 where
   pub flush : scan.flush ≡ last_flush l (history T n)
 
 -- the table stays right while no event matters to the line
-pub table-over : (T : Recording) (l low n : ℕ) (table : List ℕ) → IsTrace T → low ≤ n → ((k : ℕ) → low < k → k ≤ n → ¬ Touches T l k) → IsTable T l low table → IsTable T l n table
+table-over : (T : Recording) (l low n : ℕ) (table : List ℕ) → IsTrace T → low ≤ n → ((k : ℕ) → low < k → k ≤ n → ¬ Touches T l k) → IsTable T l low table → IsTable T l n table
 table-over T l low n table is_trace h untouched before b line =
     before b line ∙ ap (λ o. unwrap_or o 0) (sym (stays-over T l (last_store_number b) (bytes-alone T l b is_trace line) low n h untouched))
 
@@ -126,7 +126,7 @@ table-other : (T : Recording) (l n : ℕ) (a : Act) (old new : List ℕ) → IsA
 table-other T l n a old new is same kept before b line =
     ap (λ (t : List ℕ). get_or t (b % 256) 0) kept ∙ before b line ∙ ap (λ o. unwrap_or o 0) (sym (ap (last_store_number b) (history-act T n a is) ∙ same b))
 
-pub table-kind : (T : Recording) (l n t : ℕ) (kind : StepKind) (old new : List ℕ) → IsTrace T → IsKind T l (suc n) t kind → TakesBytes old new (suc n) kind → IsTable T l n old → IsTable T l (suc n) new
+table-kind : (T : Recording) (l n t : ℕ) (kind : StepKind) (old new : List ℕ) → IsTrace T → IsKind T l (suc n) t kind → TakesBytes old new (suc n) kind → IsTable T l n old → IsTable T l (suc n) new
 table-kind T l n t (Store addr len) old new is_trace is takes before =
     let takes' : StoresBytes old new is.0.addr (length is.0.bytes) (suc n) = rw (is.2, is.3) takes in
     table-store T l n is.0 old new is_trace is.1 takes' before

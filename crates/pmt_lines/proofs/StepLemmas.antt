@@ -3,10 +3,8 @@ use Rattle.std.proofs.Common.{◌≡◌, ℕ, zero, suc, ◌+◌, ◌<◌, ◌�
 use Rattle.std.specs.Prelude.{slice_get}
 use Rattle.std.proofs.lemmas.Option.{none-some, same_Some}
 use Rattle.pmt_model.specs.Traces.{event_limit}
-use Rattle.pmt_lines.specs.declared.step.StepKind.{StepKind}
-use Rattle.pmt_lines.specs.declared.step.StepKind.TheVariants.{Store, Flush, Clflush, Fence}
+use Rattle.pmt_lines.specs.declared.step.StepKind.TheVariants.{Store}
 use Rattle.pmt_lines.specs.declared.step.Step.{Step}
-use Rattle.pmt_lines.specs.FenceSteps.{IsFlushOrFence}
 use Rattle.pmt_lines.specs.Steps.{IsStepKind, AreSteps, last_number}
 
 -- a later step keeps the order
@@ -29,9 +27,6 @@ last_number-at low (x ∷ steps) (suc k) s last is = last_number-at x.number ste
 pub last_number-from_last : (low : ℕ) (steps : List Step) (k : ℕ) (s : Step) → k + 1 ≡ length steps → slice_get steps k ≡ Some s → s.number ≡ last_number low steps
 last_number-from_last low steps k s last is = last_number-at low steps k s (omega arith) is
 
--- a flush or a fence is a kind of step
-pub kind-inside : (k : StepKind) → IsFlushOrFence k → IsStepKind k
-kind-inside (Store addr len) is = absurd is
-kind-inside Flush is = tt
-kind-inside Clflush is = tt
-kind-inside Fence is = tt
+-- what is read past the end of a list of steps
+abbrev pub no_step : Step
+no_step = record { number = 0; thread = 0; kind = Store 0 0 }

@@ -70,6 +70,10 @@ size-of_format f h = go (f.version == 1) (f.line_size == 64) (f.version == 2) re
     go false b true e h = second-size f.line_size h
     go false b false e h = absurd (true≢false (sym h))
 
+-- a line has bytes
+pub size-some : (f : Layout) → IsFormat f → 0 < f.line_size
+size-some f h = elim (size-of_format f h) [ Bytes32 e ↦ omega (arith, e) | Bytes64 e ↦ omega (arith, e) | Bytes128 e ↦ omega (arith, e) | Bytes256 e ↦ omega (arith, e) ]
+
 -- addresses of one word are of one line
 pub same-line : (f : Layout) (a b : ℕ) → IsSize f.line_size → a / 8 ≡ b / 8 → line_of f a ≡ line_of f b
 same-line f a b size h = go f.line_size size
@@ -111,3 +115,7 @@ byte-line f l b w size store h =
     let at = byte-from_writes w b h in
     let word : b / 8 ≡ w.addr / 8 = omega (arith, store.store.inside, at.0, at.1) in
     same-line f b w.addr size word ∙ store.line
+
+-- so does a store of a trace
+pub writes-line : (T : Recording) (n l : ℕ) (w : Written) (b : ℕ) → IsTrace T → IsAct T n (Stores l w) → writes w b ≡ true → line_of T.format b ≡ l
+writes-line T n l w b is_trace is = byte-line T.format l b w (size-of_format T.format is_trace.format) (store-of_trace T n l w is_trace is)

@@ -1,6 +1,4 @@
 pub mod Steps
-pub mod Packing
-pub mod FenceSteps
 pub mod Jobs
 pub mod Running
 pub mod LineFindings

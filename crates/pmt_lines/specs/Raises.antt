@@ -19,11 +19,6 @@ RaisesBetween T l low high (r ∷ raises) =
 abbrev pub IsRaises : Recording → ℕ → List Raise → Type 0
 IsRaises T l raises = RaisesBetween T l 0 (length T.events) raises
 
--- In whatever trace the job and the raises are of the line, these are its findings.
-abbrev pub FindsLine : LineWork → List Raise → List Finding → Type 0
-FindsLine job raises findings =
-    (T : Recording) → IsTrace T → IsJobOf T job.line job.steps → IsRaises T job.line raises → AreLineFindings T job.line findings
-
 -- What contracts see of the result of a line's job.
 pub record LineFound : Type 0 where
   pub job : LineWork

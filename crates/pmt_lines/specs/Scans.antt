@@ -7,7 +7,6 @@ use Rattle.pmt_model.specs.Fronts.{front_at}
 use Rattle.pmt_model.specs.Findings.{last_flush}
 use Rattle.pmt_model.specs.Selections.{IsRising, Has}
 use Rattle.pmt_marks.specs.Lines.{Line, mark_in}
-use Rattle.pmt_lines.specs.declared.raises.Raise.{Raise}
 use Rattle.pmt_lines.specs.declared.step.StepKind.{StepKind}
 use Rattle.pmt_lines.specs.declared.step.StepKind.TheVariants.{Store, Flush, Clflush, Fence}
 use Rattle.pmt_lines.specs.declared.step.Step.{Step}
@@ -16,11 +15,6 @@ use Rattle.pmt_lines.specs.declared.line_findings.Ending.{Ending}
 use Rattle.pmt_lines.specs.Steps.{LineWork}
 use Rattle.pmt_lines.specs.Jobs.{IsJobOf}
 use Rattle.pmt_lines.specs.LineFindings.{AreLineFindings}
-
--- The front after the last raise, or this one where there is none.
-abbrev pub last_front_of : ℕ → List Raise → ℕ
-last_front_of front [] = front
-last_front_of front (r ∷ raises) = last_front_of r.front raises
 
 abbrev pub flush_after : ℕ → ℕ → StepKind → ℕ
 flush_after last n (Store addr len) = last
@@ -32,17 +26,6 @@ flush_after last n Fence = last
 abbrev pub last_flush_of : ℕ → List Step → ℕ
 last_flush_of last [] = last
 last_flush_of last (s ∷ steps) = last_flush_of (flush_after last s.number s.kind) steps
-
-abbrev pub stores_by : StepKind → ℕ
-stores_by (Store addr len) = 1
-stores_by Flush = 0
-stores_by Clflush = 0
-stores_by Fence = 0
-
--- How many of the steps are stores.
-abbrev pub store_count : List Step → ℕ
-store_count [] = 0
-store_count (s ∷ steps) = stores_by s.kind + store_count steps
 
 -- What is known of line l at the end of the trace.
 pub record IsEnding (T : Recording) (l : ℕ) (ending : Ending) : Type 0 where
@@ -111,13 +94,6 @@ ReportsKind scan ending n t (Store addr len) old new = ReportsStore scan ending 
 ReportsKind scan ending n t Flush old new = new ≡ old ++ found_if (is_flush_covered scan.state t) (RedundantFlush n)
 ReportsKind scan ending n t Clflush old new = new ≡ old ++ found_if (nat_le scan.state.count scan.state.front) (RedundantFlush n)
 ReportsKind scan ending n t Fence old new = new ≡ old
-
--- What is found at event n, a step of this kind by thread t, apart from overwritten stores, is added.
-abbrev pub ReportsOthers : Line → Ending → ℕ → ℕ → StepKind → List Finding → List Finding → Type 0
-ReportsOthers line ending n t (Store addr len) old new = new ≡ old ++ never_persisted_of ending (line.count + 1) n
-ReportsOthers line ending n t Flush old new = new ≡ old ++ found_if (is_flush_covered line t) (RedundantFlush n)
-ReportsOthers line ending n t Clflush old new = new ≡ old ++ found_if (nat_le line.count line.front) (RedundantFlush n)
-ReportsOthers line ending n t Fence old new = new ≡ old
 
 abbrev pub Reports : Scan → Ending → Step → List Finding → List Finding → Type 0
 Reports scan ending s old new = ReportsKind scan ending s.number s.thread s.kind old new

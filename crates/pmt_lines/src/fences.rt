@@ -2,7 +2,6 @@
 ghost use Rattle.std.specs.Prelude.{◌≡◌, IfOk};
 ghost use Rattle.pmt_lines.specs.Fences.{IsThreadResult};
 
-use crate::step::Step;
 use crate::thread_job::ThreadJob;
 use pmt_model::OutOfMemory;
 use std::alloc::Global;
@@ -56,15 +55,10 @@ pub fn run_fences(alloc: Global, job: ThreadJob) -> Result<ThreadResult, OutOfMe
     let mut empty = Vec::new(alloc);
     let steps = job.steps();
     for step in steps {
-        let Step {
-            number,
-            thread,
-            kind,
-        } = step.step();
-        let has_flushed = flushed[thread as usize];
-        flushed[thread as usize] = kind.is_flush();
-        if kind.is_fence() && !has_flushed {
-            empty.push(number as u32)?;
+        let has_flushed = flushed[step.thread as usize];
+        flushed[step.thread as usize] = step.kind.is_flush();
+        if step.kind.is_fence() && !has_flushed {
+            empty.push(step.number as u32)?;
         }
     }
     Ok(ThreadResult { job, empty })

@@ -3,7 +3,6 @@
 //! The definitions stand in `specs/`.
 #![tactic(auto)]
 
-pub mod fence_step;
 pub mod fences;
 pub mod job;
 mod last_stores;
@@ -11,22 +10,18 @@ pub mod line_findings;
 pub mod open;
 pub mod playing;
 pub mod raises;
-pub mod small_step;
 mod splitter;
 pub mod splitting;
 pub mod step;
-mod survey;
 pub mod taking;
 pub mod thread_job;
 
-pub use crate::fence_step::FenceStep;
 pub use crate::fences::{ThreadResult, run_fences};
 pub use crate::job::LineJob;
 pub use crate::line_findings::{push_if, push_overwritten};
 pub use crate::open::OpenFlushes;
 pub use crate::playing::last_state;
 pub use crate::raises::{LineResult, Raise, run_line};
-pub use crate::small_step::SmallStep;
 pub use crate::splitting::{Jobs, split, split_first, split_trace};
 pub use crate::step::{Step, StepKind};
 pub use crate::taking::{TakeError, take_trace};

@@ -4,7 +4,6 @@ ghost use Rattle.pmt_lines.specs.Running.{IsLastState};
 
 use crate::job::LineJob;
 use crate::raises::take_step;
-use crate::step::Step;
 use pmt_marks::LineState;
 use pmt_model::OutOfMemory;
 use std::alloc::Global;
@@ -19,19 +18,7 @@ pub fn last_state(alloc: Global, job: &LineJob) -> Result<LineState, OutOfMemory
     let steps = job.steps();
     let mut state = LineState::new(alloc);
     for step in steps {
-        let Step {
-            number,
-            thread,
-            kind,
-        } = step.step();
-        take_step(
-            &mut state,
-            Step {
-                number,
-                thread,
-                kind,
-            },
-        )?;
+        take_step(&mut state, step)?;
     }
     Ok(state)
 }

@@ -5,17 +5,12 @@ ghost use Rattle.pmt_lines.specs.Running.{TakesStep};
 ghost use Rattle.pmt_lines.specs.Raises.{IsLineResult};
 
 use crate::job::LineJob;
-use crate::line_findings::line_findings;
+use crate::line_findings::{Ending, last_flush, line_findings};
 use crate::step::{Step, StepKind};
-use crate::survey::Survey;
 use pmt_marks::LineState;
 use pmt_model::{Finding, OutOfMemory};
-use smallvec::SmallVec;
 use std::alloc::Global;
 use std::marker::Model;
-
-// Most lines have at most this many raises, and hold them with no block of memory.
-const FEW: usize = 2;
 
 /// A place where the front of a line rose.
 #[derive(Clone, Copy, Debug, Default, PartialEq, Eq)]
@@ -30,7 +25,7 @@ pub struct Raise {
 #[derive(Debug, Drop)]
 pub struct LineResult {
     job: LineJob,
-    raises: SmallVec<Raise, FEW>,
+    raises: Vec<Raise>,
     findings: Vec<Finding>,
 }
 
@@ -79,30 +74,21 @@ pub fn run_line(alloc: Global, job: LineJob) -> Result<LineResult, OutOfMemory>
     ensures right { IfOk result IsLineResult }
 {
     let steps = job.steps();
-    let survey = Survey::of(steps);
     let mut state = LineState::new(alloc);
-    let mut raises = SmallVec::with_capacity(alloc, survey.completions)?;
+    let mut raises = Vec::new(alloc);
     for step in steps {
-        let Step {
-            number,
-            thread,
-            kind,
-        } = step.step();
-        if take_step(
-            &mut state,
-            Step {
-                number,
-                thread,
-                kind,
-            },
-        )? {
+        if take_step(&mut state, step)? {
             raises.push(Raise {
-                place: number as u32,
+                place: step.number as u32,
                 front: state.front() as u32,
             })?;
         }
     }
-    let findings = line_findings(alloc, &job, raises.as_slice(), survey)?;
+    let ending = Ending {
+        front: state.front(),
+        flush: last_flush(job.steps()),
+    };
+    let findings = line_findings(alloc, &job, ending)?;
     Ok(LineResult {
         job,
         raises,
@@ -112,13 +98,13 @@ pub fn run_line(alloc: Global, job: LineJob) -> Result<LineResult, OutOfMemory>
 
 // What the step does to the line's state: true where the front rose.
 #[inline(always)]
-pub(crate) fn take_step(state: &mut LineState, step: Step) -> Result<bool, OutOfMemory>
+pub(crate) fn take_step(state: &mut LineState, step: &Step) -> Result<bool, OutOfMemory>
     requires { state.old.count < event_limit }
-    ensures takes { OnOk result (TakesStep step state.old state.new) }
+    ensures takes { OnOk result (TakesStep step.now state.old state.new) }
     ensures rose { IfOk result (λ rose. IsTrue rose ↔ (state.old.front < state.new.front)) }
     ensures counted { OnOk result (state.new.count ≤ state.old.count + 1) }
 {
-    match step.kind {
+    match &step.kind {
         StepKind::Store { .. } => {
             state.on_store();
             Ok(false)

@@ -29,8 +29,6 @@ pub(crate) struct Splitter {
     jobs: Vec<LineJob>,
     open_flushes: OpenFlushes,
     fences: ThreadJob,
-    // The place of the line that was stored or flushed last: often the next one is the same.
-    last: usize,
 }
 
 impl Splitter {
@@ -45,7 +43,6 @@ impl Splitter {
             jobs: Vec::new(alloc),
             open_flushes: OpenFlushes::new(alloc)?,
             fences: ThreadJob::new(alloc),
-            last: 0,
         })
     }
 
@@ -92,7 +89,6 @@ impl Splitter {
             jobs,
             open_flushes: _,
             fences,
-            last: _,
         } = self;
         Jobs {
             trace,
@@ -114,8 +110,7 @@ impl Splitter {
             thread,
             kind,
         };
-        let place = take_on_line(&mut self.lines, &mut self.jobs, self.last, line, &step)?;
-        self.last = place;
+        take_on_line(&mut self.lines, &mut self.jobs, line, &step)?;
         self.taken = number;
         Ok(())
     }
@@ -133,8 +128,7 @@ impl Splitter {
             thread,
             kind,
         };
-        let place = take_on_line(&mut self.lines, &mut self.jobs, self.last, line, &step)?;
-        self.last = place;
+        let place = take_on_line(&mut self.lines, &mut self.jobs, line, &step)?;
         self.open_flushes.add(thread, place)?;
         self.fences.push(&step)?;
         self.taken = number;
@@ -171,28 +165,10 @@ impl Splitter {
     }
 }
 
-// The place of the line, which it gets if it has none yet, and whether it is new. It is looked up where it is not the line at the
-// place `last`.
-fn place_of(lines: &mut IndexSet<u64>, last: usize, line: u64) -> Result<(usize, bool), OutOfMemory>
-    ensures added { IfOk result (λ found. found.1 ≡ not (list_any (nat_eq line) lines.old.keys)) }
-    ensures keys { OnOk result (lines.new.keys ≡ insert_key nat_eq lines.old.keys line) }
-    ensures stored { IfOk result (λ found. (k : ℕ) × (slice_get lines.new.keys found.0 ≡ Some k) × (nat_eq line k ≡ true)) }
-    ensures unique { OnOk result (IsDistinct nat_eq lines.new.keys) }
-{
-    let _is_unique = lines.len();
-    match lines.get_index(last) {
-        Some(known) if *known == line => return Ok((last, false)),
-        _ => {}
-    }
-    let found = lines.insert_full(line)?;
-    Ok(found)
-}
-
 // Adds the step to the job of the line, which it makes if there is none yet: the place of the job.
 fn take_on_line(
     lines: &mut IndexSet<u64>,
     jobs: &mut Vec<LineJob>,
-    last: usize,
     line: u64,
     step: &Step,
 ) -> Result<usize, OutOfMemory>
@@ -203,7 +179,7 @@ fn take_on_line(
     requires kind { IsStepKind step.now.kind }
     ensures { IfOk result (λ place. TakesOnLine line step.now place lines.old.keys lines.new.keys jobs.old.items jobs.new.items) }
 {
-    let (place, is_new) = place_of(lines, last, line)?;
+    let (place, is_new) = lines.insert_full(line)?;
     if is_new {
         jobs.push(LineJob::new(*jobs.allocator(), line))?;
     }

@@ -1,10 +1,8 @@
 //! The job of the fences: all flushes and fences.
 ghost use Rattle.std.specs.Prelude.{◌≡◌, ◌<◌, ◌≤◌, OnOk, OnErr, [], ◌∷◌, ◌++◌};
 ghost use Rattle.pmt_model.specs.Traces.{event_limit};
-ghost use Rattle.pmt_lines.specs.FenceSteps.{IsFlushOrFence};
-ghost use Rattle.pmt_lines.specs.Steps.{AreSteps, last_number};
+ghost use Rattle.pmt_lines.specs.Steps.{IsStepKind, AreSteps, last_number};
 
-use crate::fence_step::FenceStep;
 use crate::step::Step;
 use pmt_model::OutOfMemory;
 use std::alloc::Global;
@@ -13,7 +11,7 @@ use std::marker::Model;
 /// The flushes and fences of a trace, in order.
 #[derive(Debug, Drop)]
 pub struct ThreadJob {
-    steps: Vec<FenceStep>,
+    steps: Vec<Step>,
 }
 
 impl Model for ThreadJob {
@@ -39,7 +37,7 @@ impl ThreadJob {
     }
 
     /// The flushes and fences, by rising numbers from 1 to 1,000,000.
-    pub fn steps(&self) -> &[FenceStep]
+    pub fn steps(&self) -> &[Step]
         ensures value { result.now ≡ self.now }
         ensures rising { AreSteps 0 self.now }
     {
@@ -50,11 +48,11 @@ impl ThreadJob {
     pub(crate) fn push(&mut self, step: &Step) -> Result<(), OutOfMemory>
         requires later { last_number 0 self.old < step.now.number }
         requires within { step.now.number ≤ event_limit }
-        requires kind { IsFlushOrFence step.now.kind }
+        requires kind { IsStepKind step.now.kind }
         ensures ok { OnOk result (self.new ≡ self.old ++ step.now ∷ []) }
         ensures err { OnErr result (self.new ≡ self.old) }
     {
-        self.steps.push(FenceStep::new(step))?;
+        self.steps.push(*step)?;
         Ok(())
     }
 }

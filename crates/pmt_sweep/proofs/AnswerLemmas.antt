@@ -14,6 +14,7 @@ use Rattle.pmt_laws.proofs.Histories.{history-act, history-step, count-grows, co
 use Rattle.pmt_laws.proofs.BoxLemmas.{count-store}
 use Rattle.pmt_laws.proofs.AssertLemmas.{last_rank}
 use Rattle.pmt_lines.proofs.PlaceLemmas.{has_line-push, has_line-push_same}
+use Rattle.pmt_lines.proofs.TraceLemmas.{size-some}
 use Rattle.pmt_asserts.specs.declared.oldest.Oldest.{Oldest}
 use Rattle.pmt_asserts.specs.declared.oldest.Part.{Part}
 use Rattle.pmt_asserts.specs.Tables.{ComesFrom, IsLastAt, IsUnwritten, PersistedBy, RankedBy}
@@ -21,7 +22,6 @@ use Rattle.pmt_asserts.specs.Judging.{EachIn, IsOldestOfLine}
 use Rattle.pmt_asserts.proofs.JudgeLemmas.{own-line}
 use Rattle.pmt_asserts.proofs.PartLemmas.{IsPartOf}
 use Rattle.pmt_asserts.proofs.TraceLemmas.{count_at-before}
-use Rattle.pmt_asserts.proofs.WordLemmas.{size-some}
 use Rattle.pmt_marks.specs.Lines.{Line, Follows}
 use Rattle.pmt_sweep.specs.declared.judging.Judging.{Judging}
 use Rattle.pmt_sweep.specs.declared.rows.LineRow.{LineRow}

@@ -1,9 +1,9 @@
 //! What is kept of one line.
-ghost use Rattle.std.specs.Prelude.{◌≡◌, reverse, IfOk, MatchOption};
+ghost use Rattle.std.specs.Prelude.{◌≡◌, ◌<◌, reverse, IfOk, MatchOption};
 ghost use Rattle.pmt_trim.specs.Kept.{IsJobKept};
 ghost use Rattle.pmt_trim.specs.Backwards.{is_kept, waiting_before, LastIsAt, LastIsElsewhere};
 
-use pmt_lines::{LineResult, Raise, Step, StepKind};
+use pmt_lines::{LineResult, Raise, StepKind};
 use pmt_model::OutOfMemory;
 use std::alloc::Global;
 
@@ -15,9 +15,6 @@ use std::alloc::Global;
 pub fn line_kept(alloc: Global, found: &LineResult) -> Result<Vec<u64>, OutOfMemory>
     ensures { IfOk result (λ kept. IsJobKept found.now.job kept.items) }
 {
-    if found.raises().is_empty() {
-        return Ok(Vec::new(alloc));
-    }
     let mut kept = kept_back(alloc, found)?;
     kept.reverse();
     Ok(kept)
@@ -32,15 +29,11 @@ fn kept_back(alloc: Global, found: &LineResult) -> Result<Vec<u64>, OutOfMemory>
     let mut waiting = [false; 256];
     let mut kept = Vec::with_capacity(alloc, raises.len().saturating_mul(2))?;
     for i in (0..steps.len()).rev() {
-        let Step {
-            number,
-            thread,
-            kind,
-        } = steps[i].step();
-        let before = raises_before(raises, number);
+        let step = steps[i];
+        let before = raises_before(raises, step.number);
         raises = before.unwrap_or(raises);
-        if go_back(kind, thread, before.is_some(), &mut waiting) {
-            kept.push(number)?;
+        if go_back(step.kind, step.thread, before.is_some(), &mut waiting) {
+            kept.push(step.number)?;
         }
     }
     Ok(kept)
@@ -62,6 +55,7 @@ fn raises_before(raises: &[Raise], place: u64) -> Option<&[Raise]>
 fn go_back(kind: StepKind, thread: u8, rises: bool, waiting: &mut [bool; 256]) -> bool
     ensures kept { result ≡ is_kept kind thread rises waiting.old }
     ensures waits { waiting.new ≡ waiting_before kind thread rises waiting.old }
+    ensures small { thread < 256 }
 {
     let thread = thread as usize;
     match kind {

@@ -1,10 +1,11 @@
-use Rattle.std.proofs.Common.{◌≡◌, ◌+◌, ◌<◌, ◌∷◌, false, not, get_or, drop, refl, sym, subst, ◌∙◌, arith}
+use Rattle.std.proofs.Common.{◌≡◌, ◌+◌, ◌<◌, false, not, get_or, drop, refl, sym, ◌∙◌, arith}
 use Rattle.std.proofs.lemmas.List.{get_or-replicate}
 use Rattle.std.proofs.lemmas.Bool.{and_from, and_left, and_right, not_from_true, not_from_false}
 use Rattle.pmt_lines.specs.Steps.{AreSteps, is_fence}
 use Rattle.pmt_lines.specs.Jobs.{IsThreadJobOf}
 use Rattle.pmt_lines.specs.Fences.{IsThreadResult, IsEmptyFences}
-use Rattle.pmt_lines.proofs.FenceRunLemmas.{FencesRunning, fences-start, fences-next, fences-past, fences-quiet, fences-told, fences-end}
+use Rattle.pmt_lines.proofs.StepLemmas.{no_step}
+use Rattle.pmt_lines.proofs.FenceRunLemmas.{fences-start, fences-next, fences-past, fences-quiet, fences-told, fences-end}
 use Rattle.pmt_lines.proofs.fences.run_fences.Goals as goal
 use Rattle.pmt_lines.proofs.fences.run_fences.Goals.{then-is_fence+then-not-has_flushed+in_ok-push, else-is_fence, else-is_fence-via-then-is_fence+else-not-has_flushed, else-is_fence-via-else-is_fence, After-loop-step}
 
@@ -18,10 +19,10 @@ pub loop-step-preserved : goal.loop-step-preserved
 loop-step-preserved c =
     let steps = c.steps-steps.result.now in
     let i = c.loop-step.step-index in
-    let s = c.step-number.result in
+    let s = get_or steps i no_step in
     let flags = c.loop-step.flushed in
     let empty = c.loop-step.empty.items in
-    let running = subst (λ x. FencesRunning steps (x ∷ drop (i + 1) steps) flags empty) (sym (c.step-number.ensures.value ∙ c.step-item.is)) (fences-next steps i c.step-item.result flags empty c.loop-step-test.true c.loop-step.invariant) in
+    let running = fences-next steps i no_step flags empty c.loop-step-test.true c.loop-step.invariant in
     let thread : s.thread < 256 = omega arith in
     let kind : is_fence s.kind ≡ c.is_fence.result = sym c.is_fence.ensures in
     elim c.if-is_fence.branch [

@@ -1,15 +1,28 @@
-use Rattle.std.specs.Prelude.{Result, Ok, Err, IfOk}
-use Rattle.pmt_lines.proofs.FoundLemmas.{finds-line}
+use Rattle.std.proofs.Common.{◌+◌, drop, sym, append-nil}
+use Rattle.pmt_lines.specs.Steps.{AreSteps}
+use Rattle.pmt_lines.specs.Jobs.{IsJobOf}
+use Rattle.pmt_lines.proofs.FoundLemmas.{scanning-start, scanning-next, scanning-end, scanning-at, scanning-past}
 use Rattle.pmt_lines.proofs.line_findings.line_findings.Goals as goal
 
-told : {X E : Type 0} (r : Result X E) (P Q : X → Type 0) → ((x : X) → P x → Q x) → IfOk r P → IfOk r Q
-told (Ok x) P Q to it = to x it
-told (Err e) P Q to it = tt
+pub loop-step-init : goal.loop-step-init
+loop-step-init c =
+    let said = c.new-scan.ensures in
+    let rising : AreSteps 0 c.steps-steps.result.now = rw c.steps-steps.ensures.value c.steps-steps.ensures.rising in
+    rw c.new-found.ensures.items (scanning-start c.args.job.now.line c.steps-steps.result.now _ c.new-scan.result rising said.state said.stores said.flush)
 
-pub returns-then-survey-lt2 : goal.returns-then-survey-lt2
-returns-then-survey-lt2 c =
-    told c.findings_of_lone_store.result _ _ (λ found finds. finds-line c.args.job.now c.args.raises.now _ found.items c.last_front.ensures c.requires.flush finds) c.findings_of_lone_store.ensures
+pub loop-step-preserved : goal.loop-step-preserved
+loop-step-preserved c =
+    let line = c.args.job.now.line in
+    let steps = c.steps-steps.result.now in
+    let i = c.loop-step.step-index in
+    let said = c.in_ok-take.ensures in
+    scanning-next line steps _ (drop (i + 1) steps) _ c.loop-step.scan c.take.new.self c.loop-step.found.items c.report.new.found.items (sym (append-nil c.loop-step.found.items)) said.counted c.in_ok-report.ensures
+    (record { takes = said.takes; bytes = said.bytes; flush = said.flush })
+    (scanning-at line steps i _ _ c.loop-step.scan c.loop-step.found.items c.loop-step-test.true c.loop-step.invariant)
 
-pub returns-else-survey-lt2 : goal.returns-else-survey-lt2
-returns-else-survey-lt2 c =
-    told c.findings_of_stores.result _ _ (λ found finds. finds-line c.args.job.now c.args.raises.now _ found.items c.last_front.ensures c.requires.flush finds) c.findings_of_stores.ensures
+pub returns : goal.returns
+returns c = λ T is_trace job end.
+    let job' : IsJobOf T c.args.job.now.line c.steps-steps.result.now = rw c.steps-steps.ensures.value job in
+    scanning-end c.args.job.now.line c.steps-steps.result.now _ c.loop-step.scan c.loop-step.found.items
+    (scanning-past c.args.job.now.line c.steps-steps.result.now c.loop-step.step-index _ c.loop-step.scan c.loop-step.found.items c.loop-step-test.false c.loop-step.invariant)
+    T is_trace end job'

@@ -1,7 +1,8 @@
-use Rattle.std.proofs.Common.{◌+◌, ◌∷◌, ◌∙◌, drop, get_or, sym, subst}
+use Rattle.std.proofs.Common.{◌+◌, drop}
 use Rattle.pmt_lines.specs.Steps.{AreSteps}
 use Rattle.pmt_lines.specs.Jobs.{IsJobOf}
-use Rattle.pmt_lines.proofs.RunLemmas.{Playing, playing-start, playing-next, playing-end, running-next, running-past, running-room}
+use Rattle.pmt_lines.proofs.StepLemmas.{no_step}
+use Rattle.pmt_lines.proofs.RunLemmas.{playing-start, playing-next, playing-end, running-next, running-past, running-room}
 use Rattle.pmt_lines.proofs.playing.last_state.Goals as goal
 
 pub loop-step-init : goal.loop-step-init
@@ -15,8 +16,8 @@ take_step-requires c =
     let steps = c.steps-steps.result.now in
     let i = c.loop-step.step-index in
     let played = c.loop-step.invariant in
-    running-room line steps (get_or steps i c.step-item.result) (drop (i + 1) steps) c.loop-step.state played.0
-    (running-next line steps i c.step-item.result c.loop-step.state played.0 c.loop-step-test.true played.1)
+    running-room line steps _ (drop (i + 1) steps) c.loop-step.state played.0
+    (running-next line steps i no_step c.loop-step.state played.0 c.loop-step-test.true played.1)
 
 pub loop-step-preserved : goal.loop-step-preserved
 loop-step-preserved c =
@@ -26,9 +27,7 @@ loop-step-preserved c =
     let old = c.loop-step.state in
     let played = c.loop-step.invariant in
     let said = c.in_ok-take_step.ensures in
-    let here : Playing line steps (c.step-number.result ∷ drop (i + 1) steps) old =
-    subst (λ x. Playing line steps (x ∷ drop (i + 1) steps) old) (sym (c.step-number.ensures.value ∙ c.step-item.is)) (played.0, running-next line steps i c.step-item.result old played.0 c.loop-step-test.true played.1) in
-    playing-next line steps c.step-number.result (drop (i + 1) steps) old c.take_step.new.state here said.takes said.counted
+    playing-next line steps _ (drop (i + 1) steps) old c.take_step.new.state (played.0, running-next line steps i _ old played.0 c.loop-step-test.true played.1) said.takes said.counted
 
 pub returns : goal.returns
 returns c = λ T job.

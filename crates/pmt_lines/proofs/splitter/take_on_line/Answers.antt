@@ -24,7 +24,7 @@ jobs_then c =
     ]
 
 -- the lines once it is among them
-keys_then : (c : After-index_mut) → c.place_of.new.lines.keys ≡ with_line c.args.line c.args.lines.now.keys
+keys_then : (c : After-index_mut) → c.insert_full.new.self.keys ≡ with_line c.args.line c.args.lines.now.keys
 keys_then c = c.in_ok-place.ensures.keys ∙ insert_key-with_line c.args.line c.args.lines.now.keys
 
 taken : (c : After-index_mut) → TakesOnLine c.args.line c.args.step.now c.in_ok-place.place c.args.lines.now.keys (with_line c.args.line c.args.lines.now.keys) c.args.jobs.now.items (set (with_job c.args.line c.args.lines.now.keys c.args.jobs.now.items) c.in_ok-place.place (with_step (get_or (with_job c.args.line c.args.lines.now.keys c.args.jobs.now.items) c.in_ok-place.place (record { line = c.args.line; steps = [] })) c.args.step.now))

@@ -1,8 +1,9 @@
-use Rattle.std.proofs.Common.{◌≡◌, ◌<◌, length, reverse, true, false, refl, sym, ap, subst, ◌∙◌, arith}
+use Rattle.std.proofs.Common.{◌≡◌, ◌-◌, ◌<◌, length, get_or, reverse, true, false, refl, sym, ap, subst, ◌∙◌, arith}
 use Rattle.std.proofs.lemmas.List.{take_all}
 use Rattle.pmt_lines.specs.declared.step.Step.{Step}
 use Rattle.pmt_lines.specs.Steps.{LineWork}
 use Rattle.pmt_lines.specs.Raises.{IsRaises}
+use Rattle.pmt_lines.proofs.StepLemmas.{no_step}
 use Rattle.pmt_trim.proofs.BackLemmas.{passed-turn, passed-none, turn, reverse-push}
 use Rattle.pmt_trim.proofs.KeptLemmas.{all-kept, step-at}
 use Rattle.pmt_trim.proofs.kept.kept_back.Goals as goal
@@ -28,8 +29,8 @@ loop-i-preserved c =
     let job = c.args.found.now.job in
     let steps = c.steps-steps.result.now in
     let steps_are : steps ≡ job.steps = c.steps-steps.ensures.value ∙ ap (λ (w : LineWork). w.steps) c.job.ensures.value in
-    let s : Step = c.step-number.result in
-    let small : s.thread < 256 = omega arith in
+    let s : Step = get_or steps (c.loop-i.i - 1) no_step in
+    let small : s.thread < 256 = c.go_back.ensures.small in
     let before = reverse c.loop-i.kept.items in
     record {
       size = c.type_inv.waiting;
@@ -37,7 +38,7 @@ loop-i-preserved c =
           before before
           (turn s c.raises_before-before.result c.loop-i.raises c.unwrap_or-raises.result c.is_some.result false c.loop-i.waiting c.go_back.new.waiting before before
           c.raises_before-before.ensures c.unwrap_or-raises.ensures c.is_some.ensures (sym c.if-go_back.false ∙ c.go_back.ensures.kept) c.go_back.ensures.waits refl)
-          own (omega arith) (step-at job steps c.loop-i.i c.index-steps-i.result s steps_are (omega arith) (c.step-number.ensures.value ∙ c.index-steps-i.is)) small c.loop-i.invariant.size
+          own (omega arith) (step-at job steps c.loop-i.i no_step s steps_are (omega arith) refl) small c.loop-i.invariant.size
           (c.loop-i.invariant.passed T own);
     }
 
@@ -46,8 +47,8 @@ loop-i-preserved-in-Continue-branch-2 c =
     let job = c.args.found.now.job in
     let steps = c.steps-steps.result.now in
     let steps_are : steps ≡ job.steps = c.steps-steps.ensures.value ∙ ap (λ (w : LineWork). w.steps) c.job.ensures.value in
-    let s : Step = c.step-number.result in
-    let small : s.thread < 256 = omega arith in
+    let s : Step = get_or steps (c.loop-i.i - 1) no_step in
+    let small : s.thread < 256 = c.go_back.ensures.small in
     let before = reverse c.loop-i.kept.items in
     let after = reverse c.push.new.self.items in
     record {
@@ -57,6 +58,6 @@ loop-i-preserved-in-Continue-branch-2 c =
           (turn s c.raises_before-before.result c.loop-i.raises c.unwrap_or-raises.result c.is_some.result true c.loop-i.waiting c.go_back.new.waiting before after
           c.raises_before-before.ensures c.unwrap_or-raises.ensures c.is_some.ensures (sym c.if-go_back.true ∙ c.go_back.ensures.kept) c.go_back.ensures.waits
           (ap reverse c.in_ok-push.ensures.items ∙ reverse-push c.loop-i.kept.items s.number))
-          own (omega arith) (step-at job steps c.loop-i.i c.index-steps-i.result s steps_are (omega arith) (c.step-number.ensures.value ∙ c.index-steps-i.is)) small c.loop-i.invariant.size
+          own (omega arith) (step-at job steps c.loop-i.i no_step s steps_are (omega arith) refl) small c.loop-i.invariant.size
           (c.loop-i.invariant.passed T own);
     }

@@ -7,7 +7,7 @@ use Rattle.pmt_lines.specs.Raises.{LineFound, IsLineResult}
 use Rattle.pmt_lines.specs.declared.raises.Raise.{Raise}
 use Rattle.pmt_lines.specs.Splitting.{IsJob}
 use Rattle.pmt_asserts.proofs.RaiseLemmas.{front_after}
-use Rattle.pmt_asserts.proofs.TableLemmas.{raises-partitioned, front-found, front_after-some, front-all}
+use Rattle.pmt_asserts.proofs.TableLemmas.{raises-partitioned, front-found, front_after-some}
 use Rattle.pmt_asserts.proofs.table.LineTable.front_at.Goals as goal
 use Rattle.pmt_asserts.proofs.table.LineTable.front_at.Goals.{After-partition_point-count}
 
@@ -28,10 +28,3 @@ returns-then-count-eq0 c = λ T trace job by_end. found (goal.at.returns-then-co
 pub returns-else-count-eq0 : goal.returns-else-count-eq0
 returns-else-count-eq0 c = λ T trace job by_end.
     found (goal.at.returns-else-count-eq0 c).After-partition_point-count T job by_end ∙ front_after-some c.raises-raises.result.now c.partition_point-count.result (omega (arith, c.if-count-eq0.false))
-
-pub returns-then-raises-all : goal.returns-then-raises-all
-returns-then-raises-all c = λ T trace job by_end.
-    let raises = c.raises-raises.result.now in
-    let same : raises ≡ c.args.self.now.raises = c.raises-raises.ensures.value ∙ ap (λ (g : LineFound). g.raises) c.self.view_is in
-    let right : IsLineResult c.args.self.now = subst IsLineResult c.self.view_is c.raises-raises.ensures.right in
-    front-all T c.args.self.now raises c.args.place same right job by_end (omega (arith, c.if-all-eq0.false)) c.if-raises-all.true

@@ -1,20 +1,21 @@
-use Rattle.std.proofs.Common.{◌∙◌, ap, arith}
-use Rattle.pmt_lines.specs.Raises.{LineFound}
-use Rattle.pmt_asserts.specs.Puts.{puts_of}
-use Rattle.pmt_asserts.proofs.RankLemmas.{last_in-le}
-use Rattle.pmt_asserts.proofs.EndLemmas.{least-found}
+use Rattle.std.proofs.Common.{arith, refl, subst}
+use Rattle.pmt_asserts.specs.Puts.{puts_of, IsLesser}
+use Rattle.pmt_asserts.proofs.RankLemmas.{least-none, least-more, least-end}
 use Rattle.pmt_asserts.proofs.table.LineTable.least.Goals as goal
 
-pub returns-then-count-eq0 : goal.returns-then-count-eq0
-returns-then-count-eq0 c = λ b above below. omega (arith, c.if-count-eq0.true, last_in-le (puts_of c.args.self.now.job.steps) b c.args.count)
+pub loop-byte-init : goal.loop-byte-init
+loop-byte-init c = (least-none (puts_of c.args.self.now.job.steps) c.args.count c.args.low, λ h. refl)
 
-pub index-requires : goal.index-requires
-index-requires c =
-    let all = c.len.ensures ∙ c.self.inside.oldest.ok.0 in
-    omega (arith, all, c.if-count-len.true, c.if-count-eq0.false)
+pub loop-byte-preserved : goal.loop-byte-preserved
+loop-byte-preserved c =
+    let low = c.loop-byte.auto.byte in
+    let below = c.loop-byte-test.true in (
+      least-more (puts_of c.args.self.now.job.steps) c.args.count c.args.low c.loop-byte.byte c.loop-byte.least c.lesser-least.result low c.loop-byte.invariant.0
+          (subst (λ v. IsLesser c.loop-byte.least v c.lesser-least.result) c.last.ensures c.lesser-least.ensures),
+      λ h. absurd (omega (arith, h, low, below)),
+    )
 
-pub returns-then-lies_between : goal.returns-then-lies_between
-returns-then-lies_between c =
-    least-found c.self.inside.puts.items (puts_of c.args.self.now.job.steps) c.self.inside.oldest.items c.args.count c.args.low c.args.high c.index.result.now
-    (c.self.invariant.stores ∙ ap (λ (g : LineFound). puts_of g.job.steps) c.self.view_is) (c.self.invariant.ready.leasts (let all = c.len.ensures ∙ c.self.inside.oldest.ok.0 in omega (arith, all, c.if-count-len.true, c.if-count-eq0.false)))
-    (omega (arith, c.if-count-eq0.false)) c.requires c.index.ensures (c.lies_between.ensures c.if-lies_between.true)
+pub returns : goal.returns
+returns c =
+    least-end (puts_of c.args.self.now.job.steps) c.args.count c.args.low c.loop-byte.byte c.args.high c.loop-byte.least c.loop-byte-test.false c.loop-byte.auto.byte-end
+    c.loop-byte.invariant.1 c.loop-byte.invariant.0

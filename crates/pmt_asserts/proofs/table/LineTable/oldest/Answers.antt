@@ -33,5 +33,5 @@ returns-in-Some c = λ T trace job lie.
     let within = least-within puts c.count_at.result c.args.low c.args.high m is in
     let stores = c.self.invariant.stores ∙ ap (λ (g : LineFound). puts_of g.job.steps) c.self.view_is in
     let read = put-read c.self.inside.puts.items puts (m - 1) c.index.result.now stores (omega (arith, within, c.count_at.ensures.within, is.some)) c.index.ensures in
-    subst (λ n. IsOldest T c.args.place f.job.line c.args.low c.args.high (record { rank = m; number = n })) (ap (λ (p : Put). p.number) (sym read) ∙ sym c.number-number.ensures)
+    subst (λ n. IsOldest T c.args.place f.job.line c.args.low c.args.high (record { rank = m; number = n })) (ap (λ (p : Put). p.number) (sym read))
     (oldest-found T f.job.line f.job.steps c.args.place c.args.low c.args.high m trace job lie (subst (λ k. IsLeastIn puts k c.args.low c.args.high m) (sym count) is))

@@ -8,6 +8,6 @@ pub returns-in-Some : goal.returns-in-Some
 returns-in-Some c =
     let steps = c.self.inside.steps.items in
     let last = length steps - 1 in
-    let is : slice_get steps last ≡ Some c.in-Some.step.now = rw c.deref.ensures at (sym c.in-Some.ensures.value) in
+    let is : slice_get steps last ≡ Some c.in-Some.step.now = rw c.deref.ensures.value at (sym c.in-Some.ensures.value) in
     let within = slice_get_within steps last c.in-Some.step.now is in
-    rw (← c.self.view_is, c.number.ensures) (last_number-from_last 0 steps last c.in-Some.step.now (omega (arith, within)) is)
+    rw (← c.self.view_is) (last_number-from_last 0 steps last c.in-Some.step.now (omega (arith, within)) is)

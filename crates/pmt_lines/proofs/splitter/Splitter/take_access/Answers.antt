@@ -15,5 +15,5 @@ returns c = λ T e thread is before.
     record {
       format = before.format;
       taken = omega (arith, before.taken, length-grown T e);
-      so_far = access-taken T e s.lines.keys s.jobs.items s.open_flushes s.fences before.so_far c.args.line _ _ _ _ c.in_ok-place.ensures (omega (arith, before.taken)) thread is;
+      so_far = access-taken T e s.lines.keys s.jobs.items s.open_flushes s.fences before.so_far c.args.line _ _ _ _ c.in_ok-take_on_line.ensures (omega (arith, before.taken)) thread is;
     }

@@ -1,6 +1,0 @@
-use Rattle.std.proofs.Common.{drop}
-use Rattle.pmt_lines.proofs.LoneLemmas.{Scanning}
-use Rattle.pmt_lines.proofs.line_findings.findings_of_lone_store.Given as goal
-
-abbrev pub invariant-loop-step : goal.invariant-loop-step
-invariant-loop-step l = Scanning l.job.line l.steps (drop l.step-index l.steps) l.ending l.state l.found.items
