@@ -3,8 +3,6 @@
 //! The definitions stand in `specs/` and in pmt_model.
 #![tactic(auto)]
 
-mod by_event;
 pub mod merge;
-mod survey;
 
 pub use crate::merge::findings;
