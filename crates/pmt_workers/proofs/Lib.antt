@@ -1,4 +1,3 @@
 pub mod AnswerLemmas
 pub mod CutLemmas
-pub mod JudgingLemmas
 pub mod ResultLemmas

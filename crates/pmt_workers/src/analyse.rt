@@ -12,10 +12,10 @@ ghost use Rattle.pmt_workers.specs.declared.analyse.AnalyseError.TheVariants.{Ou
 ghost use Rattle.pmt_workers.specs.Halving.{is_worker_count};
 
 use crate::halves::run_in_halves;
-use crate::judging::judged;
 use crate::results::taken_apart;
 use crate::shard::ShardGate;
 use pmt_analysis::Analysis;
+use pmt_asserts::{Tables, verdicts};
 use pmt_findings::findings;
 use pmt_lines::{Jobs, TakeError, run_fences, split_trace, take_trace};
 use pmt_model::{OutOfMemory, Trace};
@@ -138,6 +138,7 @@ fn analysis_of_jobs<R: Threads + Sync, G: ShardGate + Sync>(
     drop(lists);
     let threads = run_fences(alloc, fences)?;
     let found = findings(alloc, results.as_slice(), &threads)?;
-    let verdicts = judged(rt, alloc, results, &trace)?;
-    Ok(Analysis::new(trace, touched, found, verdicts, selection))
+    let tables = Tables::merge(alloc, results)?;
+    let judged = verdicts(rt, alloc, &tables, &trace)?;
+    Ok(Analysis::new(trace, touched, found, judged, selection))
 }

@@ -4,7 +4,6 @@
 pub mod analyse;
 mod cut;
 mod halves;
-mod judging;
 mod results;
 pub mod shard;
 pub mod trimming;

@@ -24,12 +24,12 @@ liveness-requires g c =
     subst (λ (ls : List (List ℕ)). AreAllKept T ls) (sym lists)
     (subst (λ (ls : List ℕ). AreLinesKept T ls (map kept_in answers)) c.requires.apart.covering each)
 
-pub judged-requires-after_bounds : goal.judged-requires-after_bounds
-judged-requires-after_bounds g c κs within =
+pub verdicts-requires-after_bounds : goal.verdicts-requires-after_bounds
+verdicts-requires-after_bounds g c κs within =
     let T : Recording = c.args.jobs.trace in
     let jobs : List LineWork = c.args.jobs.lines.items in
     let answers = flat_map (λ (part : Vec LineAnswer Global). part.items) c.in_ok-parts.parts.items in
-    subst (λ (rs : List LineFound). AreResultsOf T rs) (sym c.in_ok-results.ensures.results)
+    subst (λ (rs : List LineFound). AreResultsOf T rs) (sym (c.in_ok-tables.ensures ∙ c.in_ok-results.ensures.results))
     (results-of T jobs answers c.requires.apart.covering c.requires.apart.jobs c.in_ok-parts.ensures)
 
 pub new-requires : goal.new-requires
@@ -45,6 +45,6 @@ new-requires g c =
     record {
       touched = c.len-touched.ensures ∙ c.args.jobs.lines.ok.0 ∙ sym (length-map jobs line_in) ∙ ap length c.requires.apart.covering;
       found = c.in_ok-found.ensures T is_trace split;
-      judged = c.in_ok-verdicts.ensures;
+      judged = c.in_ok-judged.ensures;
       kept = c.in_ok-selection.ensures;
     }
