@@ -1,10 +1,10 @@
 -- How many numbers pass a test.
-use Rattle.std.proofs.Common.{◌≡◌, ℕ, zero, suc, ◌+◌, ◌-◌, ◌<◌, ◌≤◌, ◌⊎◌, inl, inr, Bool, true, false, List, length, take, min, refl, sym, ap, subst, ◌∙◌, arith}
-use Rattle.std.specs.Prelude.{if◌then◌else◌, ◌&&◌, nat_lt}
+use Rattle.std.proofs.Common.{◌≡◌, ℕ, zero, suc, ◌+◌, ◌-◌, ◌<◌, ◌≤◌, ◌⊎◌, inl, inr, Bool, true, false, List, length, take, min, get_or, refl, sym, ap, subst, ◌∙◌, arith}
+use Rattle.std.specs.Prelude.{if◌then◌else◌, ◌&&◌, nat_le, nat_lt}
 use Rattle.std.specs.List.{count_by}
-use Rattle.std.specs.List.Sorted.{IsPartitionPoint}
-use Rattle.std.proofs.lemmas.Bool.{cases_lt, lt-ltb, le-ltb}
-use Rattle.std.proofs.lemmas.List.{take_all}
+use Rattle.std.specs.List.Sorted.{IsNonDecreasingBy, IsPartitionPoint}
+use Rattle.std.proofs.lemmas.Bool.{cases_lt, le-leb, lt-leb, lt-ltb, le-ltb}
+use Rattle.std.proofs.lemmas.List.{get_or_default, take_all}
 use Rattle.std.proofs.lemmas.List.Sums.{count_by_more_yes, count_by_more_no}
 use Rattle.pmt_causes.specs.Counted.{counted}
 
@@ -77,3 +77,16 @@ count-partition p xs i d within point = let all : take (length xs) xs ≡ xs = t
         go : (j < i) ⊎ (i ≤ j) → count_by p (take j xs) ≡ min j i → count_by p (take (suc j) xs) ≡ min (suc j) i
         go (inl below) rest = omega (arith, ap (λ k. count_by p (take k xs)) next, count_by_more_yes p xs j d (omega arith) (point.0 j d (omega arith) below), rest)
         go (inr above) rest = omega (arith, ap (λ k. count_by p (take k xs)) next, count_by_more_no p xs j d (omega arith) (point.1 j d above (omega arith)), rest)
+
+-- so many of these rising numbers come by the place, where the last of them does and the next one does not
+pub counted-at : (list : List ℕ) (count place : ℕ) → IsNonDecreasingBy (λ k. k) list → count ≤ length list → (count < length list → place < get_or list count 0) →
+    (0 < count → get_or list (count - 1) 0 ≤ place) → count ≡ count_by (λ k. nat_le k place) list
+counted-at list count place order within next last = sym (count-partition (λ k. nat_le k place) list count 0 within (below, above))
+  where
+    below : (j d : ℕ) → 0 ≤ j → j < count → nat_le (get_or list j d) place ≡ true
+    below j d from early =
+        le-leb (get_or list j d) place (omega (arith, order j (count - 1) d (omega arith) (omega arith), get_or_default list (count - 1) d 0 (omega arith), last (omega arith)))
+
+    above : (j d : ℕ) → count ≤ j → j < length list → nat_le (get_or list j d) place ≡ false
+    above j d from inside =
+        lt-leb (get_or list j d) place (omega (arith, order count j d from inside, get_or_default list count d 0 (omega arith), next (omega arith)))

@@ -1,6 +1,6 @@
 //! Stores that are saved late.
 
-ghost use Rattle.std.specs.Prelude.{◌≡◌, ◌<◌, ◌∷◌, [], ◌++◌, length, map, replicate, nat_le, IfOk, OnOk};
+ghost use Rattle.std.specs.Prelude.{◌≡◌, ◌<◌, ◌∷◌, [], ◌++◌, length, map, replicate, nat_le, IfOk, IsTrue, OnOk};
 ghost use Rattle.std.specs.List.{count_by};
 ghost use Rattle.std.specs.List.Sorted.{IsNonDecreasingBy};
 ghost use Rattle.pmt_explain.specs.Saving.{AreSafePlaces};
@@ -12,6 +12,9 @@ use crate::labels::label_of;
 use pmt_explain::safe_places;
 use pmt_model::{Format, Op, OutOfMemory, Trace, line_of};
 use std::alloc::Global;
+
+// How many fences are looked at before all of them are searched.
+const NEAR: usize = 16;
 
 /// Where late stores stand.
 #[derive(Clone, Copy, Debug, PartialEq, Eq, Hash)]
@@ -26,7 +29,7 @@ pub enum LateSpot {
 /// every run has it persisted; before the end where there is none. A fence by which it is persisted does not count, so a store
 /// that is flushed and fenced next has 0. Of another event 0.
 ///
-/// It takes four looks at each event, and two searches in the fences of its thread at each store.
+/// It takes four looks at each event, and at each store a few looks at the fences of its thread, or a search in them.
 ///
 /// # Errors
 /// Where memory was refused.
@@ -48,10 +51,13 @@ pub fn fences_waited_by(alloc: Global, trace: &Trace, safe: &[u64]) -> Result<Ve
     let fences = all_fences(alloc, trace)?;
     let events = trace.events();
     let mut waited = vec![in alloc; 0; events.len()]?;
+    // of each thread how many of its fences came by its last store so far
+    let mut passed = [0; 256];
     for index in 0..events.len() {
         let event = events[index];
         let list = list_of(&fences, event.thread);
-        waited[index] = fences_of(list, event.op, index as u64 + 1, safe[index]);
+        let from = &mut passed[event.thread as usize];
+        waited[index] = fences_of(list, from, event.op, index as u64 + 1, safe[index]);
     }
     Ok(waited)
 }
@@ -151,15 +157,18 @@ fn list_of(fences: &Vec<Vec<u64>>, thread: u8) -> &[u64]
     fences[thread as usize].as_slice()
 }
 
-// How many of these fences of its thread come after the op with this number and before its safe place, if it is a store.
-fn fences_of(fences: &[u64], op: Op, number: u64, safe: u64) -> u64
+// How many of these fences of its thread come after the op with this number and before its safe place, if it is a store. The search
+// begins at the fence `from`, and moves it to the first one after the store.
+fn fences_of(fences: &[u64], from: &mut usize, op: Op, number: u64, safe: u64) -> u64
     requires { IsNonDecreasingBy (λ k. k) fences.now }
     ensures { result ≡ wait_of fences.now op number safe }
 {
     match op {
         Op::Store(_) => {
             let last = safe.saturating_sub(1);
-            fences_by(fences, last).saturating_sub(fences_by(fences, number))
+            let before = fences_by(fences, *from, number);
+            *from = before;
+            fences_by(fences, before, last).saturating_sub(before) as u64
         }
         Op::Clwb(_)
         | Op::ClflushOpt(_)
@@ -171,12 +180,37 @@ fn fences_of(fences: &[u64], op: Op, number: u64, safe: u64) -> u64
     }
 }
 
-// How many of these fences, whose numbers rise, come by the place.
-fn fences_by(fences: &[u64], place: u64) -> u64
+// How many of these fences, whose numbers rise, come by the place. It looks for the last of them from `from` on, and then at the end.
+fn fences_by(fences: &[u64], from: usize, place: u64) -> usize
     requires { IsNonDecreasingBy (λ k. k) fences.now }
     ensures { result ≡ count_by (λ k. nat_le k place) fences.now }
 {
-    fences.partition_point(|fence| *fence <= place) as u64
+    for count in from..from.saturating_add(NEAR) {
+        if are_by(fences, count, place) {
+            return count;
+        }
+    }
+    if are_by(fences, fences.len(), place) {
+        return fences.len();
+    }
+    fences.partition_point(|fence| *fence <= place)
+}
+
+// Whether so many of these fences come by the place, and no more.
+fn are_by(fences: &[u64], count: usize, place: u64) -> bool
+    requires { IsNonDecreasingBy (λ k. k) fences.now }
+    ensures { IsTrue result → count ≡ count_by (λ k. nat_le k place) fences.now }
+{
+    if fences.len() < count {
+        return false;
+    }
+    if count < fences.len() && fences[count] <= place {
+        return false;
+    }
+    if 0 < count && place < fences[count - 1] {
+        return false;
+    }
+    true
 }
 
 // The late stores with their spots, by the fences for which each event waited.

@@ -9,5 +9,5 @@ returns-in-Store c =
     let list = c.args.fences.now in
     let last : c.saturating_sub-last.result ≡ c.args.safe - 1 = omega arith in
     let value : c.saturating_sub.result ≡ count_by (λ k. nat_le k (c.args.safe - 1)) list - count_by (λ k. nat_le k c.args.number) list =
-    omega (arith, c.fences_by.ensures ∙ ap (λ q. count_by (λ k. nat_le k q) list) last, c.fences_by-in-Store.ensures) in
+    omega (arith, c.fences_by.ensures ∙ ap (λ q. count_by (λ k. nat_le k q) list) last, c.fences_by-before.ensures) in
     subst (λ o. c.saturating_sub.result ≡ wait_of list o c.args.number c.args.safe) (sym c.in-Store.is) value
