@@ -82,7 +82,7 @@ impl LastWriters {
         let mut last = Vec::with_capacity(alloc, range.len() as usize)?;
         let mut numbers = word_of(&self.words, first / 8);
         for byte in first..end {
-            numbers = word_after(&self.words, numbers, byte);
+            read_word(&self.words, &mut numbers, byte);
             last.push(number_at(&numbers, byte))?;
         }
         Ok(last)
@@ -158,13 +158,11 @@ fn number_at(numbers: &[u64; 8], byte: u64) -> u64
     numbers[(byte % 8) as usize]
 }
 
-// The word of the byte, where these numbers are those of the word of the byte before it.
-fn word_after(words: &Words, numbers: [u64; 8], byte: u64) -> [u64; 8]
-    ensures { result ≡ (if byte % 8 == 0 then word_in words.now (byte / 8) else numbers) }
+// Reads the word of the byte, where these numbers are those of the word of the byte before it.
+fn read_word(words: &Words, numbers: &mut [u64; 8], byte: u64)
+    ensures { numbers.new ≡ (if byte % 8 == 0 then word_in words.now (byte / 8) else numbers.old) }
 {
     if byte % 8 == 0 {
-        word_of(words, byte / 8)
-    } else {
-        numbers
+        *numbers = word_of(words, byte / 8);
     }
 }

@@ -9,7 +9,7 @@ loop-byte-preserved c =
     let byte = c.loop-byte.byte in
     let last = c.loop-byte.last.items in
     let x = c.number_at.result in
-    let is : c.word_after-numbers.result ≡ word_in words (byte / 8) = c.word_after-numbers.ensures ∙ word-next words c.loop-byte.numbers byte c.loop-byte.invariant.word in
+    let is : c.read_word.new.numbers ≡ word_in words (byte / 8) = c.read_word.ensures ∙ word-next words c.loop-byte.numbers byte c.loop-byte.invariant.word in
     let value : c.number_at.result ≡ number_in words byte = c.number_at.ensures ∙ ap (λ xs. get_or xs (byte % 8) 0) is in
     let items = c.in_ok-push.ensures.items in
     let grown = length-append last (x ∷ []) in
@@ -18,7 +18,7 @@ loop-byte-preserved c =
       upto = omega arith;
       size = rw items (omega (arith, grown, c.loop-byte.invariant.size, c.loop-byte.invariant.from));
       each = rw items (numbers-more words c.get-first.result byte x last c.loop-byte.invariant.from c.loop-byte.invariant.size c.loop-byte.invariant.each value);
-      word = word-known words c.word_after-numbers.result byte is;
+      word = word-known words c.read_word.new.numbers byte is;
     }
 
 pub returns : goal.returns
