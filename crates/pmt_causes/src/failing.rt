@@ -14,7 +14,7 @@ use crate::failure_keys::{AssertionKind, FailureKey, key_of};
 use crate::flushing::next_flushes;
 use crate::grouping::{Group, Keyed, groups};
 use crate::writers::LastWriters;
-use pmt_explain::{ordered_failure, persist_failure, safe_places};
+use pmt_explain::{SafePlaces, ordered_failure, persist_failure};
 use pmt_model::{Op, OutOfMemory, Range, Trace};
 use pmt_reasons::Failure;
 use std::alloc::Global;
@@ -22,37 +22,19 @@ use std::alloc::Global;
 /// Those of these events that are assertions and fail, in groups by their keys: those with most members first, and of as many
 /// members that with the lowest first one. The failure of each is that which `pmt_explain::failure` tells.
 ///
-/// It takes at most four looks at each event, where the numbers rise, and one at each byte of the ranges of these assertions.
+/// It takes at most two looks at each event, where the numbers rise, and one at each byte of the ranges of these assertions.
 ///
 /// # Errors
 /// Where memory was refused.
 pub fn failure_groups(
     alloc: Global,
-    trace: &Trace,
+    safe: &SafePlaces<'_>,
     labels: &[Option<u64>],
     numbers: &[u64],
 ) -> Result<Vec<Group<FailureKey>>, OutOfMemory>
-    ensures { IfOk result (λ gs. AreFailureGroups trace.now labels.now numbers.now gs.items) }
+    ensures { IfOk result (λ gs. AreFailureGroups safe.now.trace.now labels.now numbers.now gs.items) }
 {
-    let safe = safe_places(alloc, trace)?;
-    failure_groups_by(alloc, trace, safe.as_slice(), labels, numbers)
-}
-
-/// What `failure_groups` tells, where `safe` has the places that `safe_places` of pmt_explain gives.
-///
-/// # Errors
-/// Where memory was refused.
-pub fn failure_groups_by(
-    alloc: Global,
-    trace: &Trace,
-    safe: &[u64],
-    labels: &[Option<u64>],
-    numbers: &[u64],
-) -> Result<Vec<Group<FailureKey>>, OutOfMemory>
-    requires { AreSafePlaces trace.now safe.now }
-    ensures { IfOk result (λ gs. AreFailureGroups trace.now labels.now numbers.now gs.items) }
-{
-    let items = failure_items(alloc, trace, safe, labels, numbers)?;
+    let items = failure_items(alloc, safe.trace(), safe.places(), labels, numbers)?;
     groups(alloc, items.as_slice())
 }
 

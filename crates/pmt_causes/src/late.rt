@@ -9,7 +9,7 @@ ghost use Rattle.pmt_causes.specs.Late.{AreLateGroups, AreWaited, late_items as 
 
 use crate::grouping::{Group, Keyed, groups};
 use crate::labels::label_of;
-use pmt_explain::safe_places;
+use pmt_explain::{SafePlaces, safe_places};
 use pmt_model::{Format, Op, OutOfMemory, Trace, line_of};
 use std::alloc::Global;
 
@@ -29,8 +29,6 @@ pub enum LateSpot {
 /// every run has it persisted; before the end where there is none. A fence by which it is persisted does not count, so a store
 /// that is flushed and fenced next has 0. Of another event 0.
 ///
-/// It takes four looks at each event, and at each store a few looks at the fences of its thread, or a search in them.
-///
 /// # Errors
 /// Where memory was refused.
 pub fn fences_waited(alloc: Global, trace: &Trace) -> Result<Vec<u64>, OutOfMemory>
@@ -40,11 +38,9 @@ pub fn fences_waited(alloc: Global, trace: &Trace) -> Result<Vec<u64>, OutOfMemo
     fences_waited_by(alloc, trace, safe.as_slice())
 }
 
-/// What `fences_waited` tells, where `safe` has the places that `safe_places` of pmt_explain gives.
-///
-/// # Errors
-/// Where memory was refused.
-pub fn fences_waited_by(alloc: Global, trace: &Trace, safe: &[u64]) -> Result<Vec<u64>, OutOfMemory>
+// The same, where these are the safe places. It takes two looks at each event, and at each store a few looks at the fences of its
+// thread, or a search in them.
+fn fences_waited_by(alloc: Global, trace: &Trace, safe: &[u64]) -> Result<Vec<u64>, OutOfMemory>
     requires { AreSafePlaces trace.now safe.now }
     ensures { IfOk result (λ list. AreWaited trace.now list.items) }
 {
@@ -60,6 +56,35 @@ pub fn fences_waited_by(alloc: Global, trace: &Trace, safe: &[u64]) -> Result<Ve
         waited[index] = fences_of(list, from, event.op, index as u64 + 1, safe[index]);
     }
     Ok(waited)
+}
+
+/// Stores that are saved late.
+#[derive(Drop)]
+pub struct LateStores {
+    /// What `fences_waited` tells of the trace.
+    pub waited: Vec<u64>,
+    /// What `late_groups` tells of it.
+    pub groups: Vec<Group<LateSpot>>,
+}
+
+/// The late stores of the trace of these places, and for how many fences each of its stores waits.
+///
+/// It takes three looks at each event, and at each store a few looks at the fences of its thread, or a search in them.
+///
+/// # Errors
+/// Where memory was refused.
+pub fn late_stores(
+    alloc: Global,
+    safe: &SafePlaces<'_>,
+    labels: &[Option<u64>],
+) -> Result<LateStores, OutOfMemory>
+    ensures waited { IfOk result (λ late. AreWaited safe.now.trace.now late.waited.items) }
+    ensures groups { IfOk result (λ late. AreLateGroups safe.now.trace.now labels.now late.groups.items) }
+{
+    let trace = safe.trace();
+    let waited = fences_waited_by(alloc, trace, safe.places())?;
+    let groups = late_groups_by(alloc, trace, labels, waited.as_slice())?;
+    Ok(LateStores { waited, groups })
 }
 
 /// The stores whose own thread made two fences or more before they were safe, in groups by spot: those with most members first,
@@ -78,11 +103,8 @@ pub fn late_groups(
     late_groups_by(alloc, trace, labels, waited.as_slice())
 }
 
-/// What `late_groups` tells, where `waited` has the counts that `fences_waited` gives.
-///
-/// # Errors
-/// Where memory was refused.
-pub fn late_groups_by(
+// The same, where the stores wait for so many fences.
+fn late_groups_by(
     alloc: Global,
     trace: &Trace,
     labels: &[Option<u64>],

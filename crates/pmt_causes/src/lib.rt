@@ -15,8 +15,8 @@ pub mod tables;
 mod writers;
 
 pub use crate::dropping::{DropWord, DroppedKey, ReasonKind, Spot, dropped_groups};
-pub use crate::failing::{failure_groups, failure_groups_by};
+pub use crate::failing::failure_groups;
 pub use crate::failure_keys::{AssertionKind, CauseKind, FailureKey, Origin, RangePart};
 pub use crate::grouping::{Group, Keyed, groups};
-pub use crate::late::{LateSpot, fences_waited, fences_waited_by, late_groups, late_groups_by};
+pub use crate::late::{LateSpot, LateStores, fences_waited, late_groups, late_stores};
 pub use crate::tables::{Row, label_table, thread_table};

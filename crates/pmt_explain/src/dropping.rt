@@ -3,11 +3,11 @@
 ghost use Rattle.std.specs.Prelude.{◌≡◌, IfOk, OnOk};
 ghost use Rattle.pmt_explain.specs.Dropping.{AreDropped, with_listed};
 ghost use Rattle.pmt_explain.specs.Following.{AreFollowing};
-ghost use Rattle.pmt_explain.specs.Saving.{AreSafePlaces};
 
 use crate::dropped_event::Dropped;
 use crate::following::{Following, all_coming};
 use crate::known::Known;
+use crate::saving::SafePlaces;
 use pmt_model::{OutOfMemory, Trace};
 use pmt_reasons::Reason;
 use std::alloc::Global;
@@ -27,26 +27,26 @@ pub fn dropped(alloc: Global, trace: &Trace) -> Result<Vec<Dropped>, OutOfMemory
 
 /// What is dropped of a trace, and from which place on each of its stores is safe.
 #[derive(Drop)]
-pub struct EventEffects {
+pub struct EventEffects<'a> {
     /// What `dropped` tells.
     pub dropped: Vec<Dropped>,
-    /// What `safe_places` tells.
-    pub safe: Vec<u64>,
+    /// What `SafePlaces::of` tells.
+    pub safe: SafePlaces<'a>,
 }
 
-/// What `dropped` and `safe_places` tell of the trace. It takes the time of `dropped` alone.
+/// What `dropped` and `SafePlaces::of` tell of the trace. It takes the time of `dropped` alone.
 ///
 /// # Errors
 /// Where memory was refused.
-pub fn effects(alloc: Global, trace: &Trace) -> Result<EventEffects, OutOfMemory>
+pub fn effects<'a>(alloc: Global, trace: &'a Trace) -> Result<EventEffects<'a>, OutOfMemory>
     ensures dropped { IfOk result (λ found. AreDropped trace.now found.dropped.items) }
-    ensures safe { IfOk result (λ found. AreSafePlaces trace.now found.safe.items) }
+    ensures safe { IfOk result (λ found. found.safe.trace.now ≡ trace.now) }
 {
     let coming = all_coming(alloc, trace)?;
     let dropped = dropped_before(alloc, trace, coming.following.as_slice())?;
     Ok(EventEffects {
         dropped,
-        safe: coming.safe,
+        safe: SafePlaces::new(trace, coming.safe),
     })
 }
 

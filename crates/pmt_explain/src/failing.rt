@@ -13,7 +13,7 @@ ghost use Rattle.pmt_explain.specs.Saving.{AreSafePlaces};
 
 use crate::last_stores::last_stores;
 use crate::lost::{comes_first, first_lost, line_of_store};
-use crate::saving::safe_places;
+use crate::saving::SafePlaces;
 use pmt_model::{Op, OutOfMemory, Range, Trace};
 use pmt_reasons::{ByteStore, Failure};
 use std::alloc::Global;
@@ -30,23 +30,23 @@ use std::alloc::Global;
 pub fn failure(alloc: Global, trace: &Trace, number: u64) -> Result<Option<Failure>, OutOfMemory>
     ensures { IfOk result (IsFailureAt trace.now number) }
 {
-    let safe = safe_places(alloc, trace)?;
-    failure_by(alloc, trace, safe.as_slice(), number)
+    let safe = SafePlaces::of(alloc, trace)?;
+    failure_by(alloc, &safe, number)
 }
 
-/// What `failure` tells, where `safe` has the places that `safe_places` gives. It takes at most two looks at each event.
+/// What `failure` tells of the trace of these places. It takes at most two looks at each event.
 ///
 /// # Errors
 /// Where memory was refused.
 pub fn failure_by(
     alloc: Global,
-    trace: &Trace,
-    safe: &[u64],
+    safe: &SafePlaces<'_>,
     number: u64,
 ) -> Result<Option<Failure>, OutOfMemory>
-    requires { AreSafePlaces trace.now safe.now }
-    ensures { IfOk result (IsFailureAt trace.now number) }
+    ensures { IfOk result (IsFailureAt safe.now.trace.now number) }
 {
+    let trace = safe.trace();
+    let safe = safe.places();
     let Some(event) = trace.get(number) else {
         return Ok(None);
     };

@@ -32,4 +32,4 @@ pub use crate::lines::{LineCount, crash_lines};
 pub use crate::losing::lost_in_range;
 pub use crate::lost_grouping::{LostGroup, lost_groups};
 pub use crate::overwritten_grouping::{Overwriting, OverwrittenGroup, overwritten_groups};
-pub use crate::saving::safe_places;
+pub use crate::saving::{SafePlaces, safe_places};

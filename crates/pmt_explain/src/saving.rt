@@ -1,11 +1,54 @@
 //! From which place on each store is safe.
 
-ghost use Rattle.std.specs.Prelude.{IfOk};
+ghost use Rattle.std.specs.Prelude.{◌≡◌, IfOk};
 ghost use Rattle.pmt_explain.specs.Saving.{AreSafePlaces};
 
 use crate::following::Ahead;
 use pmt_model::{OutOfMemory, Trace};
 use std::alloc::Global;
+
+/// From which place on each store of a trace is safe.
+#[derive(Drop)]
+pub struct SafePlaces<'a> {
+    trace: &'a Trace,
+    places: Vec<u64>,
+    ghost are_safe: { AreSafePlaces trace.now places.items },
+}
+
+impl<'a> SafePlaces<'a> {
+    // These places of the stores of the trace.
+    pub(crate) fn new(trace: &'a Trace, places: Vec<u64>) -> Self
+        requires { AreSafePlaces trace.now places.items }
+        ensures { result.trace.now ≡ trace.now }
+    {
+        SafePlaces { trace, places }
+    }
+
+    /// Those of the trace's stores, by one look at each event.
+    ///
+    /// # Errors
+    /// Where memory was refused.
+    pub fn of(alloc: Global, trace: &'a Trace) -> Result<Self, OutOfMemory>
+        ensures { IfOk result (λ safe. safe.trace.now ≡ trace.now) }
+    {
+        let places = safe_places(alloc, trace)?;
+        Ok(SafePlaces::new(trace, places))
+    }
+
+    /// The trace.
+    pub fn trace(&self) -> &'a Trace
+        ensures { result.now ≡ self.now.trace.now }
+    {
+        self.trace
+    }
+
+    /// The places of all events, in order, as `safe_places` gives them.
+    pub fn places(&self) -> &[u64]
+        ensures { AreSafePlaces self.now.trace.now result.now }
+    {
+        self.places.as_slice()
+    }
+}
 
 /// Of each event that is a store, in order, the first place from which on every run has it persisted; one more than the last number
 /// where there is none. Of another event any number.

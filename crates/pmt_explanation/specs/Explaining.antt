@@ -8,6 +8,7 @@ use Rattle.pmt_explain.specs.OverwrittenGroups.{AreOverwrittenGroups}
 use Rattle.pmt_causes.specs.Dropped.{dropped_item}
 use Rattle.pmt_causes.specs.FailureKeys.{AreFailureGroups}
 use Rattle.pmt_causes.specs.Groups.{AreGrouped}
+use Rattle.pmt_causes.specs.Late.{AreWaited}
 use Rattle.pmt_causes.specs.Tables.{AreLabelRows, AreThreadRows}
 use Rattle.pmt_analysis.specs.Analysing.{Analysed}
 use Rattle.pmt_explanation.specs.declared.explaining.Explanation.{Explanation}
@@ -37,6 +38,7 @@ pub record IsExplanation (a : Analysed) (labels : Labels) (o : Options) (x : Exp
   pub asked_dropped : x.asked_dropped.items ≡ asked_dropped a.trace labels o.choice x.dropped.items
   pub dropped_groups : AreGrouped (filter_map (dropped_item a.trace x.label_numbers.items) x.asked_dropped.items) x.dropped_groups.items
   pub late : AreAskedLate a.trace x.label_numbers.items (is_asked_for a.trace labels o.choice kinds.Late) x.late.items
+  pub waited : AreWaited a.trace x.waited.items
   pub threads : AreThreadRows a.trace x.dropped.items x.threads.items
   pub labelled : AreLabelRows a.trace x.label_numbers.items x.dropped.items x.labelled.items
   pub overwritten : AreOverwrittenGroups a.trace (asked_pairs a.trace labels o.choice (told_pairs a.trace o.ignored.items a.findings)) x.overwritten.items

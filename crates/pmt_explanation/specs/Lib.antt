@@ -5,6 +5,7 @@ pub mod Counting
 pub mod Entries
 pub mod Explaining
 pub mod Failing
+pub mod Finding
 pub mod Groups
 pub mod Ignoring
 pub mod Labelling

@@ -2,6 +2,7 @@
 ghost use Rattle.std.specs.Prelude.{◌≡◌, ◌++◌, IfOk, OnOk};
 ghost use Rattle.pmt_causes.specs.FailureKeys.{AreFailureGroups};
 ghost use Rattle.pmt_causes.specs.Groups.{first_in};
+ghost use Rattle.pmt_causes.specs.Late.{AreWaited};
 ghost use Rattle.pmt_explanation.specs.Asking.{is_asked_for as asked_for};
 ghost use Rattle.pmt_explanation.specs.Causing.{AreAskedLate, asked_members, asked_of, first_members as first_members_of};
 ghost use Rattle.pmt_explanation.specs.declared.choosing.Kind.TheVariants.{Late};
@@ -9,23 +10,26 @@ ghost use Rattle.pmt_explanation.specs.declared.choosing.Kind.TheVariants.{Late}
 use crate::asking::asked_numbers;
 use crate::choosing::{Choice, Kind};
 use crate::labels::Labels;
-use pmt_causes::{FailureKey, Group, Keyed, LateSpot, failure_groups, groups, late_groups};
+use pmt_causes::{
+    FailureKey, Group, Keyed, LateSpot, LateStores, failure_groups, groups, late_stores,
+};
+use pmt_explain::SafePlaces;
 use pmt_model::{OutOfMemory, Trace};
 use std::alloc::Global;
 
 // Those of these events that fail, by cause. The trace is looked at only where there are any.
 pub(crate) fn causes_of(
     alloc: Global,
-    trace: &Trace,
+    safe: &SafePlaces<'_>,
     label_numbers: &[Option<u64>],
     failing: &[u64],
 ) -> Result<Vec<Group<FailureKey>>, OutOfMemory>
-    ensures { IfOk result (λ causes. AreFailureGroups trace.now label_numbers.now failing.now causes.items) }
+    ensures { IfOk result (λ causes. AreFailureGroups safe.now.trace.now label_numbers.now failing.now causes.items) }
 {
     if failing.is_empty() {
         return Ok(Vec::new(alloc));
     }
-    failure_groups(alloc, trace, label_numbers, failing)
+    failure_groups(alloc, safe, label_numbers, failing)
 }
 
 // The first member of each of these groups.
@@ -45,19 +49,21 @@ pub(crate) fn first_of<K>(group: &Group<K>) -> u64
     }
 }
 
-// The late stores that are asked for, by spot.
+// The late stores that are asked for, by spot, and for how many fences each store of the trace waits.
 pub(crate) fn asked_late(
     alloc: Global,
-    trace: &Trace,
+    safe: &SafePlaces<'_>,
     labels: &Labels,
     label_numbers: &[Option<u64>],
     choice: &Choice,
-) -> Result<Vec<Group<LateSpot>>, OutOfMemory>
-    ensures { IfOk result (λ late. AreAskedLate trace.now label_numbers.now (asked_for trace.now labels.now choice.now Late) late.items) }
+) -> Result<LateStores, OutOfMemory>
+    ensures waited { IfOk result (λ late. AreWaited safe.now.trace.now late.waited.items) }
+    ensures groups { IfOk result (λ late. AreAskedLate safe.now.trace.now label_numbers.now (asked_for safe.now.trace.now labels.now choice.now Late) late.groups.items) }
 {
-    let all = late_groups(alloc, trace, label_numbers)?;
-    let asked = asked_stores(alloc, trace, labels, choice, all.as_slice())?;
-    groups(alloc, asked.as_slice())
+    let LateStores { waited, groups: all } = late_stores(alloc, safe, label_numbers)?;
+    let asked = asked_stores(alloc, safe.trace(), labels, choice, all.as_slice())?;
+    let groups = groups(alloc, asked.as_slice())?;
+    Ok(LateStores { waited, groups })
 }
 
 // The members of these groups that are asked for, each with its spot.

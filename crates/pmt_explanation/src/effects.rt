@@ -3,8 +3,8 @@ ghost use Rattle.std.specs.Prelude.{◌≡◌, IfOk};
 ghost use Rattle.std.specs.List.{filter_map};
 ghost use Rattle.pmt_causes.specs.Dropped.{dropped_item};
 ghost use Rattle.pmt_causes.specs.Groups.{AreGrouped};
+ghost use Rattle.pmt_causes.specs.Late.{AreWaited};
 ghost use Rattle.pmt_causes.specs.Tables.{AreLabelRows, AreThreadRows};
-ghost use Rattle.pmt_explain.specs.Dropping.{AreDropped};
 ghost use Rattle.pmt_explanation.specs.Asking.{asked_dropped as drops_asked, is_asked_for};
 ghost use Rattle.pmt_explanation.specs.Causing.{AreAskedLate};
 ghost use Rattle.pmt_explanation.specs.declared.choosing.Kind.TheVariants.{Late};
@@ -14,54 +14,55 @@ use crate::causing::asked_late;
 use crate::explaining::Options;
 use crate::labels::Labels;
 use pmt_causes::{DroppedKey, Group, LateSpot, Row, dropped_groups, label_table, thread_table};
-use pmt_explain::{Dropped, dropped};
-use pmt_model::{OutOfMemory, Trace};
+use pmt_explain::{Dropped, SafePlaces};
+use pmt_model::OutOfMemory;
 use std::alloc::Global;
 
 /// What flushes and fences do, and for whom.
 #[derive(Drop)]
 pub(crate) struct Effects {
-    /// The flushes and fences that are dropped, by rising event number.
-    pub(crate) dropped: Vec<Dropped>,
-    /// Those of them that are asked for.
+    /// The flushes and fences that are dropped and asked for, by rising event number.
     pub(crate) asked_dropped: Vec<Dropped>,
     /// Those in groups by place, word and reason.
     pub(crate) dropped_groups: Vec<Group<DroppedKey>>,
     /// The late stores that are asked for, by place.
     pub(crate) late: Vec<Group<LateSpot>>,
+    /// For how many fences each event waits.
+    pub(crate) waited: Vec<u64>,
     /// What each thread has in the trace.
     pub(crate) threads: Vec<Row<u8>>,
     /// What each label has in the trace, by its number.
     pub(crate) labelled: Vec<Row<u64>>,
 }
 
-// What flushes and fences do in the trace, where the events have these numbers of labels.
+// What flushes and fences do in the trace of these places, where these are dropped, and where the events have these numbers of labels.
 pub(crate) fn effects_of(
     alloc: Global,
-    trace: &Trace,
+    safe: &SafePlaces<'_>,
+    dropped: &[Dropped],
     labels: &Labels,
     numbers: &[Option<u64>],
     options: &Options,
 ) -> Result<Effects, OutOfMemory>
-    ensures dropped { IfOk result (λ e. AreDropped trace.now e.dropped.items) }
-    ensures asked { IfOk result (λ e. e.asked_dropped.items ≡ drops_asked trace.now labels.now options.now.choice e.dropped.items) }
-    ensures groups { IfOk result (λ e. AreGrouped (filter_map (dropped_item trace.now numbers.now) e.asked_dropped.items) e.dropped_groups.items) }
-    ensures late { IfOk result (λ e. AreAskedLate trace.now numbers.now (is_asked_for trace.now labels.now options.now.choice Late) e.late.items) }
-    ensures threads { IfOk result (λ e. AreThreadRows trace.now e.dropped.items e.threads.items) }
-    ensures labelled { IfOk result (λ e. AreLabelRows trace.now numbers.now e.dropped.items e.labelled.items) }
+    ensures asked { IfOk result (λ e. e.asked_dropped.items ≡ drops_asked safe.now.trace.now labels.now options.now.choice dropped.now) }
+    ensures groups { IfOk result (λ e. AreGrouped (filter_map (dropped_item safe.now.trace.now numbers.now) e.asked_dropped.items) e.dropped_groups.items) }
+    ensures late { IfOk result (λ e. AreAskedLate safe.now.trace.now numbers.now (is_asked_for safe.now.trace.now labels.now options.now.choice Late) e.late.items) }
+    ensures waited { IfOk result (λ e. AreWaited safe.now.trace.now e.waited.items) }
+    ensures threads { IfOk result (λ e. AreThreadRows safe.now.trace.now dropped.now e.threads.items) }
+    ensures labelled { IfOk result (λ e. AreLabelRows safe.now.trace.now numbers.now dropped.now e.labelled.items) }
 {
+    let trace = safe.trace();
     let choice = &options.choice;
-    let dropped = dropped(alloc, trace)?;
-    let asked_dropped = asked_drops(alloc, trace, labels, choice, dropped.as_slice())?;
+    let asked_dropped = asked_drops(alloc, trace, labels, choice, dropped)?;
     let dropped_groups = dropped_groups(alloc, trace, numbers, asked_dropped.as_slice())?;
-    let late = asked_late(alloc, trace, labels, numbers, choice)?;
-    let threads = thread_table(alloc, trace, dropped.as_slice())?;
-    let labelled = label_table(alloc, trace, numbers, dropped.as_slice())?;
+    let late = asked_late(alloc, safe, labels, numbers, choice)?;
+    let threads = thread_table(alloc, trace, dropped)?;
+    let labelled = label_table(alloc, trace, numbers, dropped)?;
     Ok(Effects {
-        dropped,
         asked_dropped,
         dropped_groups,
-        late,
+        late: late.groups,
+        waited: late.waited,
         threads,
         labelled,
     })

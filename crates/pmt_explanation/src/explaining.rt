@@ -6,9 +6,8 @@ ghost use Rattle.pmt_explanation.specs.Unwriting.{unwritten_of};
 
 use crate::asking::asked_unwrittens;
 use crate::choosing::Choice;
-use crate::effects::effects_of;
-use crate::failed::failed_of;
 use crate::failures::ShownFailure;
+use crate::found::found_of;
 use crate::ignoring::ByteRange;
 use crate::labels::Labels;
 use crate::losses::losses_of;
@@ -62,6 +61,8 @@ pub struct Explanation {
     pub dropped_groups: Vec<Group<DroppedKey>>,
     /// The late stores that are asked for, by place.
     pub late: Vec<Group<LateSpot>>,
+    /// Of each event, in order, for how many fences of its thread it is left unsafe; 0 of an event that is no store.
+    pub waited: Vec<u64>,
     /// What each thread has in the trace.
     pub threads: Vec<Row<u8>>,
     /// What each label has in the trace, by its number.
@@ -90,27 +91,27 @@ pub fn explanation_of(
 {
     let label_numbers = label_numbers(alloc, labels, analysis.trace().len())?;
     let numbers = label_numbers.as_slice();
-    let failed = failed_of(alloc, &analysis, labels, numbers, options)?;
+    let found = found_of(alloc, &analysis, labels, numbers, options)?;
     let lost = losses_of(alloc, &analysis, labels, options)?;
-    let effects = effects_of(alloc, analysis.trace(), labels, numbers, options)?;
     let unwritten = unwritten_asked(alloc, analysis.trace(), labels, &options.choice)?;
     Ok(Explanation {
         analysis,
         limit: options.limit,
-        failing: failed.failing,
-        asked_failing: failed.asked,
+        failing: found.failed.failing,
+        asked_failing: found.failed.asked,
         label_numbers,
-        causes: failed.causes,
-        failures: failed.shown,
+        causes: found.failed.causes,
+        failures: found.failed.shown,
         stores: lost.stores,
         ignored_never_persisted: lost.ignored_stores,
         lost: lost.groups,
-        dropped: effects.dropped,
-        asked_dropped: effects.asked_dropped,
-        dropped_groups: effects.dropped_groups,
-        late: effects.late,
-        threads: effects.threads,
-        labelled: effects.labelled,
+        dropped: found.dropped,
+        asked_dropped: found.effects.asked_dropped,
+        dropped_groups: found.effects.dropped_groups,
+        late: found.effects.late,
+        waited: found.effects.waited,
+        threads: found.effects.threads,
+        labelled: found.effects.labelled,
         overwritten: lost.overwritten,
         ignored_overwritten: lost.ignored_pairs,
         unwritten,

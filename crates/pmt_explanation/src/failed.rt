@@ -13,9 +13,9 @@ use crate::choosing::Kind;
 use crate::explaining::Options;
 use crate::failures::{ShownFailure, failing_events, shown_failures};
 use crate::labels::Labels;
-use pmt_analysis::Analysis;
 use pmt_causes::{FailureKey, Group};
-use pmt_model::OutOfMemory;
+use pmt_explain::SafePlaces;
+use pmt_model::{OutOfMemory, Verdict};
 use std::alloc::Global;
 
 /// Assertions that fail.
@@ -31,32 +31,32 @@ pub(crate) struct Failed {
     pub(crate) shown: Vec<ShownFailure>,
 }
 
-// The assertions that fail, where the events have these numbers of labels.
+// The assertions that fail by these verdicts of the trace of these places, where the events have these numbers of labels.
 pub(crate) fn failed_of(
     alloc: Global,
-    analysis: &Analysis,
+    safe: &SafePlaces<'_>,
+    verdicts: &[Verdict],
     labels: &Labels,
     numbers: &[Option<u64>],
     options: &Options,
 ) -> Result<Failed, OutOfMemory>
-    ensures failing { IfOk result (λ f. f.failing.items ≡ failing_of analysis.now.verdicts) }
-    ensures asked { IfOk result (λ f. f.asked.items ≡ numbers_asked analysis.now.trace labels.now options.now.choice Failure f.failing.items) }
-    ensures causes { IfOk result (λ f. AreFailureGroups analysis.now.trace numbers.now f.asked.items f.causes.items) }
-    ensures shown { IfOk result (λ f. AreShown analysis.now.trace (take options.now.limit (firsts_of f.causes.items)) f.shown.items) }
+    ensures failing { IfOk result (λ f. f.failing.items ≡ failing_of verdicts.now) }
+    ensures asked { IfOk result (λ f. f.asked.items ≡ numbers_asked safe.now.trace.now labels.now options.now.choice Failure f.failing.items) }
+    ensures causes { IfOk result (λ f. AreFailureGroups safe.now.trace.now numbers.now f.asked.items f.causes.items) }
+    ensures shown { IfOk result (λ f. AreShown safe.now.trace.now (take options.now.limit (firsts_of f.causes.items)) f.shown.items) }
 {
-    let trace = analysis.trace();
-    let failing = failing_events(alloc, analysis.verdicts())?;
+    let failing = failing_events(alloc, verdicts)?;
     let asked = asked_numbers(
         alloc,
-        trace,
+        safe.trace(),
         labels,
         &options.choice,
         Kind::Failure,
         failing.as_slice(),
     )?;
-    let causes = causes_of(alloc, trace, numbers, asked.as_slice())?;
+    let causes = causes_of(alloc, safe, numbers, asked.as_slice())?;
     let firsts = first_members(alloc, causes.as_slice())?;
-    let shown = shown_failures(alloc, trace, firsts.as_slice(), options.limit)?;
+    let shown = shown_failures(alloc, safe, firsts.as_slice(), options.limit)?;
     Ok(Failed {
         failing,
         asked,

@@ -6,7 +6,9 @@ ghost use Rattle.pmt_explanation.specs.Showing.{AreRangesAfter, AreShown, IsRang
 
 use crate::counting::first;
 use crate::mending::mend_for;
-use pmt_explain::{CrashByte, LineCount, cause, crash_bytes, crash_lines, failure};
+use pmt_explain::{
+    CrashByte, LineCount, SafePlaces, cause, crash_bytes, crash_lines, failure_by,
+};
 use pmt_model::{Op, OutOfMemory, Range, Trace, Verdict, line_of};
 use pmt_reasons::{Cause, Failure, Mend};
 use std::alloc::Global;
@@ -53,22 +55,23 @@ pub fn failing_events(alloc: Global, verdicts: &[Verdict]) -> Result<Vec<u64>, O
         .collect(alloc)
 }
 
-/// Of the first `limit` of these events those that are assertions and fail, in the same order, each with its failure in full.
+/// Of the first `limit` of these events of the trace of these places, those that are assertions and fail, in the same order, each
+/// with its failure in full.
 ///
 /// # Errors
 /// Where memory was refused.
 pub fn shown_failures(
     alloc: Global,
-    trace: &Trace,
+    safe: &SafePlaces<'_>,
     failing: &[u64],
     limit: usize,
 ) -> Result<Vec<ShownFailure>, OutOfMemory>
-    ensures { IfOk result (λ shown. AreShown trace.now (take limit failing.now) shown.items) }
+    ensures { IfOk result (λ shown. AreShown safe.now.trace.now (take limit failing.now) shown.items) }
 {
     let few = first(failing, limit);
     let mut shown = Vec::new(alloc);
     for number in few {
-        if let Some(found) = shown_failure(alloc, trace, *number)? {
+        if let Some(found) = shown_failure(alloc, safe, *number)? {
             shown.push(found)?;
         }
     }
@@ -78,12 +81,13 @@ pub fn shown_failures(
 // The failure of the assertion, if it fails.
 fn shown_failure(
     alloc: Global,
-    trace: &Trace,
+    safe: &SafePlaces<'_>,
     number: u64,
 ) -> Result<Option<ShownFailure>, OutOfMemory>
-    ensures { IfOk result (λ o. MatchOption o (IsFailureAt trace.now number None) (λ s. IsShown trace.now s × (s.event ≡ number))) }
+    ensures { IfOk result (λ o. MatchOption o (IsFailureAt safe.now.trace.now number None) (λ s. IsShown safe.now.trace.now s × (s.event ≡ number))) }
 {
-    let Some(found) = failure(alloc, trace, number)? else {
+    let trace = safe.trace();
+    let Some(found) = failure_by(alloc, safe, number)? else {
         return Ok(None);
     };
     let Some(why) = cause(trace, found.lost.store, found.place) else {

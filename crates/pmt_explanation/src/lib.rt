@@ -12,6 +12,7 @@ mod effects;
 pub mod explaining;
 mod failed;
 pub mod failures;
+mod found;
 pub mod ignoring;
 mod json_causes;
 mod json_entries;

@@ -5,21 +5,17 @@ use crate::json_parts::line_address;
 use crate::people_parts::{first_member, plural, push_label};
 use crate::screen::Section;
 use crate::telling::Telling;
-use pmt_causes::{Group, LateSpot, fences_waited};
+use pmt_causes::{Group, LateSpot};
 use pmt_model::OutOfMemory;
 
 // What is saved late.
 pub(crate) fn late_section(told: &Telling<'_>) -> Result<Section, OutOfMemory> {
     let groups = told.explanation.late.as_slice();
-    let waited = if groups.is_empty() {
-        Vec::new(told.alloc)
-    } else {
-        fences_waited(told.alloc, told.trace)?
-    };
+    let waited = told.explanation.waited.as_slice();
     let mut entries = Vec::new(told.alloc);
     for group in first(groups, told.explanation.limit) {
         let mut entry = String::new(told.alloc);
-        push_late(&mut entry, told, group, waited.as_slice())?;
+        push_late(&mut entry, told, group, waited)?;
         entries.push(entry)?;
     }
     Ok(Section {

@@ -2,8 +2,9 @@
 
 use crate::explain_words::ExplainWords;
 use crate::page_labels::size_on_page;
+use pmt_explain::SafePlaces;
 use pmt_explanation::failures::shown_failures;
-use pmt_explanation::{Explanation, Labels, Options, explanation_of, json_text};
+use pmt_explanation::{Explanation, Labels, Options, ShownFailure, explanation_of, json_text};
 use pmt_model::OutOfMemory;
 use pmt_page::explained_text;
 use std::alloc::Global;
@@ -112,11 +113,19 @@ fn with_each_failure(
     alloc: Global,
     mut explanation: Explanation,
 ) -> Result<Explanation, OutOfMemory> {
-    let trace = explanation.analysis.trace();
-    let asked = explanation.asked_failing.as_slice();
-    let failures = shown_failures(alloc, trace, asked, explanation.limit)?;
+    let failures = each_failure(alloc, &explanation)?;
     explanation.failures = failures;
     Ok(explanation)
+}
+
+// Each failed assertion that is asked for, up to the limit.
+fn each_failure(
+    alloc: Global,
+    explanation: &Explanation,
+) -> Result<Vec<ShownFailure>, OutOfMemory> {
+    let safe = SafePlaces::of(alloc, explanation.analysis.trace())?;
+    let asked = explanation.asked_failing.as_slice();
+    shown_failures(alloc, &safe, asked, explanation.limit)
 }
 
 // The explanation of the same trace with these options.

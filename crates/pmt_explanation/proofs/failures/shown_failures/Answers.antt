@@ -10,7 +10,7 @@ use Rattle.pmt_explanation.proofs.failures.shown_failures.Goals.{in-Some+in_ok-p
 
 pub loop-number-preserved : goal.loop-number-preserved
 loop-number-preserved c =
-    let T = c.args.trace.now in
+    let T = c.args.safe.now.trace.now in
     let i = c.loop-number.number-index in
     let few : List ℕ = c.first-few.result.now in
     let n : ℕ = get_or few i 0 in

@@ -3,4 +3,4 @@ use Rattle.pmt_explanation.specs.Showing.{AreShown}
 use Rattle.pmt_explanation.proofs.failures.shown_failures.Given as goal
 
 abbrev pub invariant-loop-number : goal.invariant-loop-number
-invariant-loop-number l = AreShown l.trace (take l.number-index l.few) l.shown.items
+invariant-loop-number l = AreShown l.safe.trace.now (take l.number-index l.few) l.shown.items
