@@ -6,12 +6,13 @@ use Rattle.std.proofs.lemmas.Bool.{cases_lt, cases_eq, ne_eqb}
 use Rattle.std.proofs.lemmas.List.{length-set, get_or-replicate, length-replicate}
 use Rattle.std.specs.HashMap.{get, Updates}
 use Rattle.pmt_model.specs.Machine.{Act, Flushes, Clflushes, Fences}
+use Rattle.pmt_model.specs.Findings.{IsFlushOf, ByFlush, ByClflush, IsFlushedAfter}
 use Rattle.pmt_model.specs.declared.event.Event.{Event}
 use Rattle.pmt_model.specs.Values.{Layout}
 use Rattle.pmt_model.specs.Traces.{Recording, IsAct, act_of}
 use Rattle.pmt_laws.proofs.Histories.{act-unique, act-within}
 use Rattle.pmt_explain.specs.declared.following.Ahead.{Ahead}
-use Rattle.pmt_explain.specs.Numbers.{Numbers, number_at, Puts}
+use Rattle.pmt_explain.specs.Numbers.{Numbers, HasNumber, number_at, Puts}
 use Rattle.pmt_explain.specs.Following.{IsFirst, past_of, IsFenceAfter, IsFlushAfter, IsCompleteBy, ByFence, ByItself, IsCompletedAfter, pair_of, IsAhead}
 use Rattle.pmt_explain.proofs.FirstLemmas.{first-same, first-either, first-none, first-here, first-over}
 
@@ -82,6 +83,36 @@ completed-clflush T l n is = record {
     early p below i after (ByFence t j flush f later by_now) = absurd (omega arith)
     early p below i after (ByItself flush by_now) = absurd (omega arith)
 
+-- a line that is flushed after an event is flushed after the one before it
+pub flushed-before : (T : Recording) (l n : ℕ) → IsFlushedAfter T l (suc n) → IsFlushedAfter T l n
+flushed-before T l n f = (f.0, omega (arith, f.1), f.2)
+
+-- and after it too, where the event is none of its flushes
+flushed-over : (T : Recording) (l n : ℕ) (a : Act) → IsAct T (suc n) a → ((t : ℕ) → a ≢ Flushes t l) → a ≢ Clflushes l → IsFlushedAfter T l n → IsFlushedAfter T l (suc n)
+flushed-over T l n a is no_flush no_clflush f = (f.0, later (cases_lt (suc n) f.0), f.2)
+  where
+    not_here : IsFlushOf T l (suc n) → ⊥
+    not_here (ByFlush t flush) = no_flush t (act-unique T (suc n) a (Flushes t l) is flush)
+    not_here (ByClflush flush) = no_clflush (act-unique T (suc n) a (Clflushes l) is flush)
+
+    later : (suc n < f.0) ⊎ (f.0 ≤ suc n) → suc n < f.0
+    later (inl after) = after
+    later (inr here) = let e : f.0 ≡ suc n = omega (arith, f.1) in absurd (not_here (subst (IsFlushOf T l) e f.2))
+
+flushed-never : (T : Recording) (l : ℕ) → IsFlushedAfter T l (length T.events) → ⊥
+flushed-never T l f = never f.0 f.1 f.2
+  where
+    never : (i : ℕ) → length T.events < i → IsFlushOf T l i → ⊥
+    never i later (ByFlush t flush) = absurd (omega (arith, (act-within T i (Flushes t l) flush).1))
+    never i later (ByClflush flush) = absurd (omega (arith, (act-within T i (Clflushes l) flush).1))
+
+-- which lines have a number, after one is put
+has-put : (old new : Numbers) (l number k : ℕ) → Puts l number old new → (k ≢ l → HasNumber old k) → HasNumber new k
+has-put old new l number k put before = elim (cases_eq k l) [
+  | inl e ↦ subst (HasNumber new) (sym e) (put.here 0 ∙ sym (put.here 1))
+  | inr apart ↦ put.others 0 k apart ∙ before apart ∙ sym (put.others 1 k apart)
+]
+
 -- no thread and line have the number of others
 pair-same : (t u l k : ℕ) → t < 256 → u < 256 → pair_of t l ≡ pair_of u k → (t ≡ u) × (l ≡ k)
 pair-same t u l k small below e = let line : l ≡ k = omega arith in let thread : t ≡ u = omega arith in (thread, line)
@@ -108,6 +139,7 @@ ahead-start T a past fences flushes completed = record {
   completed = λ l.
       let value : number_at (past_of T) a.completed l ≡ past_of T = rw completed refl in
       subst (IsFirst (IsCompletedAfter T l (length T.events)) (past_of T)) (sym value) (first-none (IsCompletedAfter T l (length T.events)) (past_of T) (λ p c. none p c.0 c.1 c.2));
+  flushed = λ l f. absurd (flushed-never T l f);
 }
   where
     none : {l : ℕ} (p i : ℕ) → length T.events < i → IsCompleteBy T l i p → ⊥
@@ -123,6 +155,7 @@ ahead-other T n a x is no_flush no_clflush no_fence old = record {
   fences = λ t small. first-over (λ k. IsAct T k (Fences t)) (past_of T) n _ (λ f. no_fence t (act-unique T (suc n) x (Fences t) is f)) (old.fences t small);
   flushes = λ t l small. first-over (λ k. IsAct T k (Flushes t l)) (past_of T) n _ (λ f. no_flush t l (act-unique T (suc n) x (Flushes t l) is f)) (old.flushes t l small);
   completed = λ l. completed-over T l n (past_of T) _ x is (λ t. no_flush t l) (no_clflush l) (old.completed l);
+  flushed = λ l f. old.flushed l (flushed-over T l n x is (λ t. no_flush t l) (no_clflush l) f);
 }
 
 -- over a fence
@@ -134,6 +167,7 @@ ahead-fence T n t number a small is same old = record {
   fences = λ u below. fence u below (cases_eq u t);
   flushes = λ u l below. first-over (λ k. IsAct T k (Flushes u l)) (past_of T) n _ (λ f. let e = act-unique T (suc n) (Fences t) (Flushes u l) is f in cc) (old.flushes u l below);
   completed = λ l. completed-over T l n (past_of T) _ (Fences t) is (λ u e. cc) (λ e. cc) (old.completed l);
+  flushed = λ l f. old.flushed l (flushed-over T l n (Fences t) is (λ u e. cc) (λ e. cc) f);
 }
   where
     fence : (u : ℕ) → u < 256 → (u ≡ t) ⊎ (u ≢ t) → IsFirst (IsFenceAfter T u n) (past_of T) (get_or (set a.fences t number) u 0)
@@ -161,6 +195,7 @@ ahead-clflush T n l number a completed is same old put = record {
         subst (IsFirst (IsCompletedAfter T k n) (past_of T)) (sym (put.others (past_of T) k apart))
         (completed-over T k n (past_of T) _ (Clflushes l) is (λ t e. cc) (λ e. apart (cc)) (old.completed k))
   ];
+  flushed = λ k f. has-put a.completed completed l number k put (λ apart. old.flushed k (flushed-over T k n (Clflushes l) is (λ t e. cc) (λ e. apart (cc)) f));
 }
 
 -- over a flush
@@ -185,6 +220,7 @@ ahead-flush T n t l key number fence first a b small is same old pair next so_fa
         subst (IsFirst (IsCompletedAfter T k n) (past_of T)) (sym (put.others (past_of T) k apart))
         (completed-over T k n (past_of T) _ (Flushes t l) is (λ u e. apart (cc)) (λ e. cc) (old.completed k))
   ];
+  flushed = λ k f. has-put a.completed b.completed l (min first fence) k put (λ apart. old.flushed k (flushed-over T k n (Flushes t l) is (λ u e. apart (cc)) (λ e. cc) f));
 }
   where
     flush : (u k : ℕ) → u < 256 →

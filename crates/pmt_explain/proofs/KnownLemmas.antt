@@ -7,6 +7,7 @@ use Rattle.pmt_model.specs.Values.{Written}
 use Rattle.pmt_model.specs.Machine.{Act, Stores, Flushes, Clflushes, Fences, Asserts, count}
 use Rattle.pmt_model.specs.Traces.{Recording, IsAct, history, count_at}
 use Rattle.pmt_model.specs.Fronts.{front, mark, front_at}
+use Rattle.pmt_model.specs.Findings.{IsFlushedAfter}
 use Rattle.pmt_model.specs.Keeping.{IsKept, ByFlush}
 use Rattle.pmt_laws.proofs.Histories.{act-unique, act-within, history-act, count-mono, front-mono}
 use Rattle.pmt_laws.proofs.BoxLemmas.{count-store, count-store_other}
@@ -24,7 +25,7 @@ use Rattle.pmt_explain.specs.Numbers.{Numbers, number_at, Puts}
 use Rattle.pmt_explain.specs.Following.{IsFirst, past_of, IsFenceAfter, IsCompleteBy}
 use Rattle.pmt_explain.specs.Known.{IsSafeBy, IsSinceFence, IsDone, done_with, IsKnown, TellsReason}
 use Rattle.pmt_explain.proofs.FirstLemmas.{first-same, first-either, first-none}
-use Rattle.pmt_explain.proofs.FollowingLemmas.{flushes-act, own-flush, own-clflush}
+use Rattle.pmt_explain.proofs.FollowingLemmas.{flushed-before, flushes-act, own-flush, own-clflush}
 use Rattle.pmt_explain.proofs.ReachLemmas.{safe-before, unsafe-before}
 
 -- stores to a line, where the next event neither stores to it nor flushes it
@@ -183,7 +184,7 @@ pub known-start : (T : Recording) (k : Known) → k.past ≡ past_of T → k.thr
 known-start T k past threads safe = record {
   past = past;
   size = ap (λ xs. length xs) threads ∙ length-replicate 256 since.Nothing;
-  safe = λ l. let value : number_at 0 k.safe l ≡ 0 = rw safe refl in subst (IsFirst (IsSafeBy T l 0) (past_of T)) (sym value) (record {
+  safe = λ l f. let value : number_at 0 k.safe l ≡ 0 = rw safe refl in subst (IsFirst (IsSafeBy T l 0) (past_of T)) (sym value) (record {
     within = omega arith;
     has = λ h. inl refl;
     none_before = λ p below x. absurd (omega arith);
@@ -198,23 +199,36 @@ pub known-other : (T : Recording) (n : ℕ) (k : Known) → IsAct T (suc n) Asse
 known-other T n k is old = record {
   past = old.past;
   size = old.size;
-  safe = λ l. safe-over T l n _ Asserts is (ap (count l) (history-act T n Asserts is)) (λ t e. cc) (λ e. cc) (old.safe l);
+  safe = λ l f. safe-over T l n _ Asserts is (ap (count l) (history-act T n Asserts is)) (λ t e. cc) (λ e. cc) (old.safe l (flushed-before T l n f));
   threads = λ t small. done-over T t n Asserts _ is (λ l e. cc) (λ e. cc) (old.threads t small);
 }
 
--- after a store
+-- after a store to a line that is not flushed later
+pub known-store_unflushed : (T : Recording) (n l : ℕ) (w : Written) (k : Known) → IsAct T (suc n) (Stores l w) → ¬ IsFlushedAfter T l (suc n) → IsKnown T n k → IsKnown T (suc n) k
+known-store_unflushed T n l w k is none old = record {
+  past = old.past;
+  size = old.size;
+  safe = λ j f. elim (cases_eq j l) [
+    | inl e ↦ absurd (none (subst (λ m. IsFlushedAfter T m (suc n)) e f))
+    | inr apart ↦
+        safe-over T j n _ (Stores l w) is (ap (count j) (history-act T n (Stores l w) is) ∙ count-store_other j l w (history T n) apart) (λ t e. cc) (λ e. cc) (old.safe j (flushed-before T j n f))
+  ];
+  threads = λ t small. done-over T t n (Stores l w) _ is (λ m e. cc) (λ e. cc) (old.threads t small);
+}
+
+-- after another one
 pub known-store : (T : Recording) (n l : ℕ) (w : Written) (k : Known) (safe : Numbers) → IsAct T (suc n) (Stores l w) → IsKnown T n k → Puts l k.past k.safe safe →
     IsKnown T (suc n) (record { past = k.past; safe = safe; threads = k.threads })
 known-store T n l w k safe is old put = record {
   past = old.past;
   size = old.size;
-  safe = λ j. elim (cases_eq j l) [
+  safe = λ j f. elim (cases_eq j l) [
     | inl e ↦
         let value : number_at 0 safe j ≡ past_of T = ap (number_at 0 safe) e ∙ put.here 0 ∙ old.past in
         subst (IsFirst (IsSafeBy T j (suc n)) (past_of T)) (sym value) (safe-store T j n w (subst (λ m. IsAct T (suc n) (Stores m w)) (sym e) is))
     | inr apart ↦
         subst (IsFirst (IsSafeBy T j (suc n)) (past_of T)) (sym (put.others 0 j apart))
-        (safe-over T j n _ (Stores l w) is (ap (count j) (history-act T n (Stores l w) is) ∙ count-store_other j l w (history T n) apart) (λ t e. cc) (λ e. cc) (old.safe j))
+        (safe-over T j n _ (Stores l w) is (ap (count j) (history-act T n (Stores l w) is) ∙ count-store_other j l w (history T n) apart) (λ t e. cc) (λ e. cc) (old.safe j (flushed-before T j n f)))
   ];
   threads = λ t small. done-over T t n (Stores l w) _ is (λ m e. cc) (λ e. cc) (old.threads t small);
 }
@@ -222,14 +236,14 @@ known-store T n l w k safe is old put = record {
 -- the stores that are safe after a flush of a line
 safe-flushed : (T : Recording) (n l first own : ℕ) (a : Act) (k : Known) (safe : Numbers) → IsAct T (suc n) a → ((j : ℕ) (h : List Act) → count j (a ∷ h) ≡ count j h) →
     ((j t : ℕ) → j ≢ l → a ≢ Flushes t j) → ((j : ℕ) → j ≢ l → a ≢ Clflushes j) → IsKnown T n k → first ≡ number_at 0 k.safe l → IsFirst (IsCompleteBy T l (suc n)) (past_of T) own →
-    Puts l (min first own) k.safe safe → (j : ℕ) → IsFirst (IsSafeBy T j (suc n)) (past_of T) (number_at 0 safe j)
-safe-flushed T n l first own a k safe is counts no_flush no_clflush old so_far completes put j = elim (cases_eq j l) [
+    Puts l (min first own) k.safe safe → (j : ℕ) → IsFlushedAfter T j (suc n) → IsFirst (IsSafeBy T j (suc n)) (past_of T) (number_at 0 safe j)
+safe-flushed T n l first own a k safe is counts no_flush no_clflush old so_far completes put j flushed = elim (cases_eq j l) [
   | inl e ↦
       let value : number_at 0 safe j ≡ min first own = ap (number_at 0 safe) e ∙ put.here 0 in
       subst (IsFirst (IsSafeBy T j (suc n)) (past_of T)) (sym value)
-      (safe-flush T j n first own (same j) (subst (IsFirst (IsSafeBy T j n) (past_of T)) (ap (number_at 0 k.safe) e ∙ sym so_far) (old.safe j))
+      (safe-flush T j n first own (same j) (subst (IsFirst (IsSafeBy T j n) (past_of T)) (ap (number_at 0 k.safe) e ∙ sym so_far) (old.safe j (flushed-before T j n flushed)))
       (subst (λ m. IsFirst (IsCompleteBy T m (suc n)) (past_of T) own) (sym e) completes))
-  | inr apart ↦ subst (IsFirst (IsSafeBy T j (suc n)) (past_of T)) (sym (put.others 0 j apart)) (safe-over T j n _ a is (same j) (λ t. no_flush j t apart) (no_clflush j apart) (old.safe j))
+  | inr apart ↦ subst (IsFirst (IsSafeBy T j (suc n)) (past_of T)) (sym (put.others 0 j apart)) (safe-over T j n _ a is (same j) (λ t. no_flush j t apart) (no_clflush j apart) (old.safe j (flushed-before T j n flushed)))
 ]
   where
     same : (j : ℕ) → count_at T j (suc n) ≡ count_at T j n
@@ -262,7 +276,7 @@ pub known-fence : (T : Recording) (n t : ℕ) (k : Known) → t < 256 → IsAct 
 known-fence T n t k small is old = record {
   past = old.past;
   size = length-set k.threads t since.Nothing ∙ old.size;
-  safe = λ l. safe-over T l n _ (Fences t) is (ap (count l) (history-act T n (Fences t) is)) (λ u e. cc) (λ e. cc) (old.safe l);
+  safe = λ l f. safe-over T l n _ (Fences t) is (ap (count l) (history-act T n (Fences t) is)) (λ u e. cc) (λ e. cc) (old.safe l (flushed-before T l n f));
   threads = done-set T n t k.threads since.Nothing old.size (λ u below apart. done-over T u n (Fences t) _ is (λ l e. cc) (λ e. apart (cc)) (old.threads u below)) (done-fence T t n is);
 }
 

@@ -4,7 +4,7 @@ use Rattle.std.specs.Prelude.{IsTrue, nat_lt, if◌then◌else◌}
 use Rattle.std.proofs.lemmas.Bool.{cases_lt, ltb-true, lt-ltb}
 use Rattle.std.proofs.lemmas.Option.{slice_get-get_or}
 use Rattle.pmt_model.specs.Values.{Written}
-use Rattle.pmt_model.specs.Machine.{Act, Stores, Flushes, Clflushes, Fences, Asserts}
+use Rattle.pmt_model.specs.Machine.{Stores, Flushes, Clflushes}
 use Rattle.pmt_model.specs.Traces.{Recording, IsAct, count_at}
 use Rattle.pmt_model.specs.Fronts.{front_at}
 use Rattle.pmt_laws.proofs.Histories.{act-unique, act-within, count-mono, front-mono}
@@ -13,8 +13,8 @@ use Rattle.pmt_reasons.specs.Failures.{IsLost}
 use Rattle.pmt_reasons.proofs.CauseLemmas.{pending_by_fronts, rank-store, rank-above, marks-later}
 use Rattle.pmt_explain.specs.declared.following.Ahead.{Ahead}
 use Rattle.pmt_explain.specs.Numbers.{number_at}
-use Rattle.pmt_explain.specs.Following.{IsFirst, past_of, IsCompleteBy, ByFence, ByItself, IsCompletedAfter, IsAhead}
-use Rattle.pmt_explain.specs.Saving.{IsSafePlace, TellsSafe, AreSafePlaces, safe_in, loses}
+use Rattle.pmt_explain.specs.Following.{past_of, IsCompleteBy, ByFence, ByItself, IsCompletedAfter, IsAhead}
+use Rattle.pmt_explain.specs.Saving.{IsSafePlace, TellsSafe, AreSafePlaces, loses}
 use Rattle.pmt_explain.proofs.FirstLemmas.{first-same}
 use Rattle.pmt_explain.proofs.ReachLemmas.{complete-front, front-complete}
 
@@ -46,18 +46,11 @@ safe-later T l i p w is safe = elim (cases_lt (front_at T l p) (count_at T l i))
     after j marks (ByItself flush by_now) = marks-later T l i j w (Clflushes l) is flush (λ e. cc) marks
 
 -- what comes after a store tells its safe place
-pub safe-told : (T : Recording) (n : ℕ) (a : Act) (ahead : Ahead) → IsAct T (suc n) a → IsAhead T (suc n) ahead → TellsSafe T (suc n) (safe_in ahead a)
-safe-told T n (Stores k v) ahead is x l w at =
-    let same = act-unique T (suc n) (Stores k v) (Stores l w) is at in
-    let line : l ≡ k = cc in
-    let first : IsFirst (IsCompletedAfter T l (suc n)) (past_of T) (number_at (past_of T) ahead.completed l) = x.completed l in
-    subst (λ p. IsSafePlace T l (suc n) (number_at p ahead.completed k)) (sym x.past)
-    (subst (λ m. IsSafePlace T l (suc n) (number_at (past_of T) ahead.completed m)) line
-    (first-same (IsCompletedAfter T l (suc n)) (λ p. ¬ IsPending T l p (suc n)) (past_of T) _ (λ p c. later-safe T l (suc n) p c) (λ p s. safe-later T l (suc n) p w at s) first))
-safe-told T n (Flushes t k) ahead is x l w at = let same = act-unique T (suc n) (Flushes t k) (Stores l w) is at in absurd (cc)
-safe-told T n (Clflushes k) ahead is x l w at = let same = act-unique T (suc n) (Clflushes k) (Stores l w) is at in absurd (cc)
-safe-told T n (Fences t) ahead is x l w at = let same = act-unique T (suc n) (Fences t) (Stores l w) is at in absurd (cc)
-safe-told T n Asserts ahead is x l w at = let same = act-unique T (suc n) Asserts (Stores l w) is at in absurd (cc)
+pub safe-told : (T : Recording) (n l p : ℕ) (w : Written) (ahead : Ahead) → IsAct T (suc n) (Stores l w) → IsAhead T (suc n) ahead → p ≡ number_at (past_of T) ahead.completed l →
+    IsSafePlace T l (suc n) p
+safe-told T n l p w ahead at x is =
+    subst (IsSafePlace T l (suc n)) (sym is)
+    (first-same (IsCompletedAfter T l (suc n)) (λ q. ¬ IsPending T l q (suc n)) (past_of T) _ (λ q c. later-safe T l (suc n) q c) (λ q s. safe-later T l (suc n) q w at s) (x.completed l))
 
 -- a store is missing exactly before its safe place
 pub pending-before : (T : Recording) (l n i s : ℕ) → n ≤ length T.events → IsSafePlace T l i s → (n < s) ↔ (front_at T l n < count_at T l i)

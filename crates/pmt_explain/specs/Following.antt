@@ -3,9 +3,10 @@ use Rattle.std.specs.Prelude.{◌≡◌, ℕ, suc, ◌+◌, ◌*◌, ◌<◌, �
 use Rattle.std.specs.HashMap.{get}
 use Rattle.pmt_model.specs.Machine.{Flushes, Clflushes, Fences}
 use Rattle.pmt_model.specs.Traces.{Recording, IsAct}
+use Rattle.pmt_model.specs.Findings.{IsFlushedAfter}
 use Rattle.pmt_explain.specs.declared.following.Following.{Following}
 use Rattle.pmt_explain.specs.declared.following.Ahead.{Ahead}
-use Rattle.pmt_explain.specs.Numbers.{number_at}
+use Rattle.pmt_explain.specs.Numbers.{HasNumber, number_at}
 
 -- This is the first number below `past` that has the property, or `past` where none has it.
 pub record IsFirst (P : ℕ → Type 0) (past first : ℕ) : Type 0 where
@@ -59,3 +60,4 @@ pub record IsAhead (T : Recording) (n : ℕ) (a : Ahead) : Type 0 where
   pub fences : (t : ℕ) → t < 256 → IsFirst (IsFenceAfter T t n) (past_of T) (slice_index a.fences t)
   pub flushes : (t l : ℕ) → t < 256 → IsFirst (IsFlushAfter T t l n) (past_of T) (unwrap_or (get nat_eq a.flushes (pair_of t l)) (past_of T))
   pub completed : (l : ℕ) → IsFirst (IsCompletedAfter T l n) (past_of T) (number_at (past_of T) a.completed l)
+  pub flushed : (l : ℕ) → IsFlushedAfter T l n → HasNumber a.completed l

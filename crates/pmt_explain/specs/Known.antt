@@ -2,6 +2,7 @@
 use Rattle.std.specs.Prelude.{◌≡◌, ◌⊎◌, ℕ, ◌<◌, ◌≤◌, Bool, true, false, length, Option, MatchOption, slice_index_or}
 use Rattle.pmt_model.specs.Machine.{Flushes, Fences}
 use Rattle.pmt_model.specs.Traces.{Recording, IsAct, count_at}
+use Rattle.pmt_model.specs.Findings.{IsFlushedAfter}
 use Rattle.pmt_model.specs.Keeping.{IsKept}
 use Rattle.pmt_reasons.specs.declared.reason.Reason.{Reason}
 use Rattle.pmt_reasons.specs.Reasons.{IsReason}
@@ -39,7 +40,7 @@ done_with false since.Kept = since.Kept
 pub record IsKnown (T : Recording) (n : ℕ) (known : Known) : Type 0 where
   pub past : known.past ≡ past_of T
   pub size : length known.threads ≡ 256
-  pub safe : (l : ℕ) → IsFirst (IsSafeBy T l n) (past_of T) (number_at 0 known.safe l)
+  pub safe : (l : ℕ) → IsFlushedAfter T l n → IsFirst (IsSafeBy T l n) (past_of T) (number_at 0 known.safe l)
   pub threads : (t : ℕ) → t < 256 → IsDone T t n (slice_index_or known.threads t since.Nothing)
 
 -- Event i is kept, or this is why it is dropped.

@@ -1,12 +1,12 @@
 -- From which place on stores are safe.
 use Rattle.std.specs.Prelude.{◌≡◌, ℕ, suc, ◌==◌, Bool, if◌then◌else◌, List, length, slice_get, Option, None, Some, nat_lt}
 use Rattle.pmt_model.specs.Values.{Written}
-use Rattle.pmt_model.specs.Machine.{Act, Stores, Flushes, Clflushes, Fences, Asserts}
+use Rattle.pmt_model.specs.Machine.{Stores}
 use Rattle.pmt_model.specs.Traces.{Recording, IsAct}
+use Rattle.pmt_model.specs.Findings.{IsFlushedAfter}
 use Rattle.pmt_reasons.specs.Causes.{IsPending}
-use Rattle.pmt_explain.specs.declared.following.Ahead.{Ahead}
+use Rattle.pmt_explain.specs.declared.following.Following.{Following}
 use Rattle.pmt_explain.specs.Following.{IsFirst, past_of}
-use Rattle.pmt_explain.specs.Numbers.{number_at}
 
 -- Store i to line l is persisted at the end of every run to place p or a later one, and p is the first such place; one more than the
 -- number of the last event where there is none.
@@ -22,13 +22,18 @@ pub record AreSafePlaces (T : Recording) (places : List ℕ) : Type 0 where
   pub size : length places ≡ length T.events
   pub each : (n p : ℕ) → slice_get places n ≡ Some p → TellsSafe T (suc n) p
 
--- The safe place of the act by what comes after it.
-abbrev pub safe_in : Ahead → Act → ℕ
-safe_in ahead (Stores l w) = number_at ahead.past ahead.completed l
-safe_in ahead (Flushes t l) = ahead.past
-safe_in ahead (Clflushes l) = ahead.past
-safe_in ahead (Fences t) = ahead.past
-safe_in ahead Asserts = ahead.past
+-- This is what comes after the store to line l at i: its safe place, and whether a flush of the line does.
+pub record IsStored (T : Recording) (l i : ℕ) (f : Following) : Type 0 where
+  pub safe : IsSafePlace T l i f.completed
+  pub flushed : f.again ≡ past_of T → ¬ IsFlushedAfter T l i
+
+-- This is what comes after event i, if it is a store.
+abbrev pub TellsStored : Recording → ℕ → Following → Type 0
+TellsStored T i f = (l : ℕ) (w : Written) → IsAct T i (Stores l w) → IsStored T l i f
+
+-- What comes after each event that is a store, the first one being event 1.
+abbrev pub AreStored : Recording → List Following → Type 0
+AreStored T list = (n : ℕ) (f : Following) → slice_get list n ≡ Some f → TellsStored T (suc n) f
 
 -- The crash at place n, with all stores to the full line, loses store x to line l, which is safe from place s on.
 abbrev pub loses : ℕ → Option ℕ → ℕ → ℕ → ℕ → Bool

@@ -3,6 +3,7 @@
 ghost use Rattle.std.specs.Prelude.{◌≡◌, IfOk, OnOk};
 ghost use Rattle.pmt_explain.specs.Dropping.{AreDropped, with_listed};
 ghost use Rattle.pmt_explain.specs.Following.{AreFollowing};
+ghost use Rattle.pmt_explain.specs.Saving.{AreStored};
 
 use crate::dropped_event::Dropped;
 use crate::following::{Following, all_coming};
@@ -50,13 +51,14 @@ pub fn effects<'a>(alloc: Global, trace: &'a Trace) -> Result<EventEffects<'a>, 
     })
 }
 
-// The events that are dropped, where this is what comes after each flush.
+// The events that are dropped, where this is what comes after each flush and each store.
 fn dropped_before(
     alloc: Global,
     trace: &Trace,
     after: &[Following],
 ) -> Result<Vec<Dropped>, OutOfMemory>
-    requires { AreFollowing trace.now after.now }
+    requires following { AreFollowing trace.now after.now }
+    requires stored { AreStored trace.now after.now }
     ensures { IfOk result (λ list. AreDropped trace.now list.items) }
 {
     let format = trace.format();

@@ -1,22 +1,23 @@
-//! What comes after each flush of a trace.
+//! What comes after each flush and each store of a trace.
 
 ghost use Rattle.std.specs.Prelude.{◌≡◌, ℕ, ◌+◌, suc, length, IfOk, OnOk};
-ghost use Rattle.pmt_model.specs.Machine.{Flushes, Clflushes, Fences};
+ghost use Rattle.pmt_model.specs.Values.{Written};
+ghost use Rattle.pmt_model.specs.Machine.{Stores, Flushes, Clflushes, Fences};
 ghost use Rattle.pmt_model.specs.Traces.{Recording, IsAct, act_of};
 ghost use Rattle.pmt_explain.specs.Following.{past_of, pair_of as pair_in, TellsFollowing, AreFollowing, IsAhead};
-ghost use Rattle.pmt_explain.specs.Saving.{AreSafePlaces, safe_in};
+ghost use Rattle.pmt_explain.specs.Saving.{AreSafePlaces, AreStored, IsStored, TellsStored};
 
 use crate::numbers::{Numbers, number_of, put};
 use pmt_model::{Format, Op, OutOfMemory, Trace, line_of};
 use std::alloc::Global;
 use std::collections::HashMap;
 
-/// What comes after a flush, by numbers of events; one more than the last number where there is no such event.
+/// What comes after a flush or a store, by numbers of events; one more than the last number where there is no such event.
 #[derive(Clone, Copy, Debug, PartialEq, Eq)]
 pub(crate) struct Following {
-    /// The next fence of its thread.
+    /// The next fence of a flush's thread.
     pub(crate) fence: u64,
-    /// The next flush of its line by its thread.
+    /// The next flush of a flush's line by its thread. Of a store 0, where a flush of its line follows.
     pub(crate) again: u64,
     /// The first event that completes a later flush of its line: a fence by that one's thread, or a clflush.
     pub(crate) completed: u64,
@@ -37,7 +38,7 @@ pub(crate) struct Ahead {
 /// What comes after the events of a trace, in their order.
 #[derive(Drop)]
 pub(crate) struct Coming {
-    /// Of each flush what comes after it; of another event any numbers.
+    /// Of each flush and each store what comes after it; of another event any numbers.
     pub(crate) following: Vec<Following>,
     /// Of each store the first place from which on every run has it persisted; of another event any number.
     pub(crate) safe: Vec<u64>,
@@ -46,6 +47,7 @@ pub(crate) struct Coming {
 // What comes after all events, by one look at each.
 pub(crate) fn all_coming(alloc: Global, trace: &Trace) -> Result<Coming, OutOfMemory>
     ensures following { IfOk result (λ coming. AreFollowing trace.now coming.following.items) }
+    ensures stored { IfOk result (λ coming. AreStored trace.now coming.following.items) }
     ensures safe { IfOk result (λ coming. AreSafePlaces trace.now coming.safe.items) }
 {
     let format = trace.format();
@@ -56,14 +58,18 @@ pub(crate) fn all_coming(alloc: Global, trace: &Trace) -> Result<Coming, OutOfMe
     let mut safe = vec![in alloc; past; events.len()]?;
     for index in (0..events.len()).rev() {
         let event = events[index];
-        safe[index] = ahead.safe_place(format, event.op);
-        following[index] = ahead.go_back(format, event.thread, event.op, index as u64 + 1)?;
+        let after = ahead.go_back(format, event.thread, event.op, index as u64 + 1)?;
+        safe[index] = after.completed;
+        following[index] = after;
     }
     Ok(Coming { following, safe })
 }
 
 // Nothing comes.
-fn none(past: u64) -> Following {
+fn none(past: u64) -> Following
+    ensures again { result.again ≡ past }
+    ensures completed { result.completed ≡ past }
+{
     Following {
         fence: past,
         again: past,
@@ -91,25 +97,7 @@ impl Ahead {
         }
     }
 
-    // The first place at which the op is safe, if it is a store and comes right before the place.
-    pub(crate) fn safe_place(&self, format: Format, op: Op) -> u64
-        ensures { (t : ℕ) → result ≡ safe_in self.now (act_of format t op) }
-    {
-        match op {
-            Op::Store(store) => {
-                number_of(&self.completed, line_of(format, store.addr()), self.past)
-            }
-            Op::Clwb(_)
-            | Op::ClflushOpt(_)
-            | Op::Clflush(_)
-            | Op::Sfence
-            | Op::Mfence
-            | Op::IsPersist(_)
-            | Op::IsOrderedBefore(_, _) => self.past,
-        }
-    }
-
-    // Goes back over the event with this number: what comes after it, if it is a flush.
+    // Goes back over the event with this number: what comes after it, if it is a flush or a store.
     pub(crate) fn go_back(
         &mut self,
         format: Format,
@@ -118,6 +106,7 @@ impl Ahead {
         number: u64,
     ) -> Result<Following, OutOfMemory>
         ensures tells { (T : Recording) (n : ℕ) → IsAct T (suc n) (act_of format thread op) → number ≡ suc n → IsAhead T (suc n) self.old → IfOk result (TellsFollowing T (suc n)) }
+        ensures stored { (T : Recording) (n : ℕ) → IsAct T (suc n) (act_of format thread op) → IsAhead T (suc n) self.old → IfOk result (TellsStored T (suc n)) }
         ensures ahead { (T : Recording) (n : ℕ) → IsAct T (suc n) (act_of format thread op) → number ≡ suc n → IsAhead T (suc n) self.old → OnOk result (IsAhead T n self.new) }
     {
         match op {
@@ -126,15 +115,30 @@ impl Ahead {
             Op::Clflush(addr) => self.over_clflush(line_of(format, addr), number),
             Op::Sfence => Ok(self.over_fence(thread, number)),
             Op::Mfence => Ok(self.over_fence(thread, number)),
-            Op::Store(_) => Ok(none(self.past)),
+            Op::Store(store) => Ok(self.over_store(line_of(format, store.addr()))),
             Op::IsPersist(_) => Ok(none(self.past)),
             Op::IsOrderedBefore(_, _) => Ok(none(self.past)),
+        }
+    }
+
+    // A store to the line.
+    fn over_store(&self, line: u64) -> Following
+        ensures { (T : Recording) (n : ℕ) (w : Written) → IsAct T (suc n) (Stores line w) → IsAhead T (suc n) self.now → IsStored T line (suc n) result }
+    {
+        match self.completed.get(&line) {
+            None => none(self.past),
+            Some(place) => Following {
+                fence: self.past,
+                again: 0,
+                completed: *place,
+            },
         }
     }
 
     // A flush of the line by the thread.
     fn over_flush(&mut self, thread: u8, line: u64, number: u64) -> Result<Following, OutOfMemory>
         ensures tells { (T : Recording) (n : ℕ) → IsAct T (suc n) (Flushes thread line) → number ≡ suc n → IsAhead T (suc n) self.old → IfOk result (TellsFollowing T (suc n)) }
+        ensures stored { (T : Recording) (n : ℕ) → IsAct T (suc n) (Flushes thread line) → IfOk result (TellsStored T (suc n)) }
         ensures ahead { (T : Recording) (n : ℕ) → IsAct T (suc n) (Flushes thread line) → number ≡ suc n → IsAhead T (suc n) self.old → OnOk result (IsAhead T n self.new) }
     {
         let fence = self.fences[thread as usize];
@@ -151,6 +155,7 @@ impl Ahead {
     // A clflush of the line.
     fn over_clflush(&mut self, line: u64, number: u64) -> Result<Following, OutOfMemory>
         ensures tells { (T : Recording) (n : ℕ) → IsAct T (suc n) (Clflushes line) → number ≡ suc n → IsAhead T (suc n) self.old → IfOk result (TellsFollowing T (suc n)) }
+        ensures stored { (T : Recording) (n : ℕ) → IsAct T (suc n) (Clflushes line) → IfOk result (TellsStored T (suc n)) }
         ensures ahead { (T : Recording) (n : ℕ) → IsAct T (suc n) (Clflushes line) → number ≡ suc n → IsAhead T (suc n) self.old → OnOk result (IsAhead T n self.new) }
     {
         put(&mut self.completed, line, number)?;

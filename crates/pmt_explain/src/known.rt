@@ -6,6 +6,7 @@ ghost use Rattle.pmt_model.specs.Traces.{Recording, IsAct, act_of};
 ghost use Rattle.pmt_model.specs.Values.{Written};
 ghost use Rattle.pmt_explain.specs.Following.{IsFirst, IsFollowing, TellsFollowing, past_of};
 ghost use Rattle.pmt_explain.specs.Known.{IsKnown, IsSafeBy, TellsReason, done_with};
+ghost use Rattle.pmt_explain.specs.Saving.{IsStored, TellsStored};
 
 use crate::following::Following;
 use crate::numbers::{Numbers, number_of, put};
@@ -29,7 +30,7 @@ pub(crate) enum Since {
 #[derive(Drop)]
 pub(crate) struct Known {
     past: u64,
-    // of each line, the first place at which every store to it is safe by the flushes so far
+    // of each line that is flushed later, the first place at which every store to it is safe by the flushes so far
     safe: Numbers,
     threads: [Since; 256],
 }
@@ -55,11 +56,11 @@ impl Known {
         number: u64,
         after: Following,
     ) -> Result<Option<Reason>, OutOfMemory>
-        ensures tells { (T : Recording) (n : ℕ) → IsAct T (suc n) (act_of format thread op) → number ≡ suc n → TellsFollowing T (suc n) after → IsKnown T n self.old → IfOk result (TellsReason T (suc n)) }
-        ensures known { (T : Recording) (n : ℕ) → IsAct T (suc n) (act_of format thread op) → number ≡ suc n → TellsFollowing T (suc n) after → IsKnown T n self.old → OnOk result (IsKnown T (suc n) self.new) }
+        ensures tells { (T : Recording) (n : ℕ) → IsAct T (suc n) (act_of format thread op) → number ≡ suc n → TellsFollowing T (suc n) after → TellsStored T (suc n) after → IsKnown T n self.old → IfOk result (TellsReason T (suc n)) }
+        ensures known { (T : Recording) (n : ℕ) → IsAct T (suc n) (act_of format thread op) → number ≡ suc n → TellsFollowing T (suc n) after → TellsStored T (suc n) after → IsKnown T n self.old → OnOk result (IsKnown T (suc n) self.new) }
     {
         match op {
-            Op::Store(store) => self.take_store(line_of(format, store.addr())),
+            Op::Store(store) => self.take_store(line_of(format, store.addr()), after),
             Op::Clwb(addr) => self.take_flush(thread, line_of(format, addr), number, after),
             Op::ClflushOpt(addr) => self.take_flush(thread, line_of(format, addr), number, after),
             Op::Clflush(addr) => self.take_clflush(line_of(format, addr), number),
@@ -70,11 +71,14 @@ impl Known {
         }
     }
 
-    // A store to the line.
-    fn take_store(&mut self, line: u64) -> Result<Option<Reason>, OutOfMemory>
+    // A store to the line. Of a line that is not flushed later nothing is kept.
+    fn take_store(&mut self, line: u64, after: Following) -> Result<Option<Reason>, OutOfMemory>
         ensures tells { (T : Recording) (n : ℕ) → (w : Written) → IsAct T (suc n) (Stores line w) → IsKnown T n self.old → IfOk result (TellsReason T (suc n)) }
-        ensures known { (T : Recording) (n : ℕ) → (w : Written) → IsAct T (suc n) (Stores line w) → IsKnown T n self.old → OnOk result (IsKnown T (suc n) self.new) }
+        ensures known { (T : Recording) (n : ℕ) → (w : Written) → IsAct T (suc n) (Stores line w) → IsStored T line (suc n) after → IsKnown T n self.old → OnOk result (IsKnown T (suc n) self.new) }
     {
+        if after.again == self.past {
+            return Ok(None);
+        }
         put(&mut self.safe, line, self.past)?;
         Ok(None)
     }

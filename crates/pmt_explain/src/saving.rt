@@ -67,8 +67,8 @@ pub fn safe_places(alloc: Global, trace: &Trace) -> Result<Vec<u64>, OutOfMemory
     let mut places = vec![in alloc; past; events.len()]?;
     for index in (0..events.len()).rev() {
         let event = events[index];
-        places[index] = ahead.safe_place(format, event.op);
-        ahead.go_back(format, event.thread, event.op, index as u64 + 1)?;
+        let after = ahead.go_back(format, event.thread, event.op, index as u64 + 1)?;
+        places[index] = after.completed;
     }
     Ok(places)
 }

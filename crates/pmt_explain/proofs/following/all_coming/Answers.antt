@@ -1,11 +1,9 @@
 use Rattle.std.proofs.Common.{◌≡◌, ◌-◌, suc, ◌<◌, length, subst, sym, ap, ◌∙◌, arith}
 use Rattle.std.proofs.lemmas.List.{length-set}
 use Rattle.std.proofs.lemmas.Option.{slice_get_within}
-use Rattle.pmt_model.specs.Traces.{act_of}
 use Rattle.pmt_explain.specs.Following.{IsAhead, TellsFollowing}
-use Rattle.pmt_explain.specs.Saving.{TellsSafe}
+use Rattle.pmt_explain.specs.Saving.{TellsSafe, TellsStored}
 use Rattle.pmt_explain.proofs.FollowingLemmas.{event-at, told-set}
-use Rattle.pmt_explain.proofs.SavingLemmas.{safe-told}
 use Rattle.pmt_explain.proofs.following.all_coming.Goals as goal
 
 pub loop-index-init : goal.loop-index-init
@@ -18,6 +16,7 @@ loop-index-init c =
       places = places;
       ahead = subst (λ xs. IsAhead T (length xs) c.new-ahead.result) (sym c.events-events.ensures.value) (c.new-ahead.ensures T (omega (arith, ap (λ xs. length xs) c.events-events.ensures.value)));
       each = λ n f from is. absurd (omega (arith, slice_get_within c.in_ok-following.following.items n f is, size, ap (λ xs. length xs) c.events-events.ensures.value));
+      stored = λ n f from is. absurd (omega (arith, slice_get_within c.in_ok-following.following.items n f is, size, ap (λ xs. length xs) c.events-events.ensures.value));
       safe = λ n p from is. absurd (omega (arith, slice_get_within c.in_ok-safe.safe.items n p is, places, ap (λ xs. length xs) c.events-events.ensures.value));
     }
 
@@ -28,23 +27,27 @@ loop-index-preserved c =
     let before : c.loop-index.index ≡ suc (c.loop-index.index - 1) = omega arith in
     let within : c.loop-index.index - 1 < length c.events-events.result.now = omega arith in
     let inside : c.loop-index.index - 1 < length c.loop-index.following.items = omega (arith, c.loop-index.invariant.size, ap (λ xs. length xs) c.events-events.ensures.value) in
-    let stored : c.loop-index.index - 1 < length c.loop-index.safe.items = omega (arith, c.loop-index.invariant.places, ap (λ xs. length xs) c.events-events.ensures.value) in
+    let places : c.loop-index.index - 1 < length c.loop-index.safe.items = omega (arith, c.loop-index.invariant.places, ap (λ xs. length xs) c.events-events.ensures.value) in
     let is = event-at T c.format-format.result c.events-events.result.now i c.index-events-index.result c.format-format.ensures.value c.events-events.ensures.value within c.index-events-index.is in
     let old = subst (λ k. IsAhead T k c.loop-index.ahead) before c.loop-index.invariant.ahead in
-    let a = act_of c.format-format.result c.index-events-index.result.thread c.index-events-index.result.op in
-    let tells : TellsSafe T (suc i) c.safe_place.result = subst (TellsSafe T (suc i)) (sym (c.safe_place.ensures c.index-events-index.result.thread)) (safe-told T i a c.loop-index.ahead is old) in
+    let after = c.in_ok-after.after in
+    let stored : TellsStored T (suc i) c.in_ok-after.after = c.in_ok-after.ensures.stored T i is old in
     record {
-      size = length-set c.loop-index.following.items i c.in_ok-following-2.field-0 ∙ c.loop-index.invariant.size;
-      places = length-set c.loop-index.safe.items i c.safe_place.result ∙ c.loop-index.invariant.places;
-      ahead = c.in_ok-following-2.ensures.ahead T i is (omega arith) old;
+      size = length-set c.loop-index.following.items i after ∙ c.loop-index.invariant.size;
+      places = length-set c.loop-index.safe.items i after.completed ∙ c.loop-index.invariant.places;
+      ahead = c.in_ok-after.ensures.ahead T i is (omega arith) old;
       each = λ n f from at.
-          told-set (TellsFollowing T) c.loop-index.following.items i n c.in_ok-following-2.field-0 f inside (c.in_ok-following-2.ensures.tells T i is (omega arith) old)
+          told-set (TellsFollowing T) c.loop-index.following.items i n after f inside (c.in_ok-after.ensures.tells T i is (omega arith) old)
           (λ m g later here. c.loop-index.invariant.each m g (omega arith) here) from at;
-      safe = λ n p from at. told-set (TellsSafe T) c.loop-index.safe.items i n c.safe_place.result p stored tells (λ m q later here. c.loop-index.invariant.safe m q (omega arith) here) from at;
+      stored = λ n f from at. told-set (TellsStored T) c.loop-index.following.items i n after f inside stored (λ m g later here. c.loop-index.invariant.stored m g (omega arith) here) from at;
+      safe = λ n p from at. told-set (TellsSafe T) c.loop-index.safe.items i n after.completed p places (λ l w at_store. (stored l w at_store).safe) (λ m q later here. c.loop-index.invariant.safe m q (omega arith) here) from at;
     }
 
 pub returns-clause-following : goal.returns-clause-following
 returns-clause-following c = record { size = c.loop-index.invariant.size; each = λ n f is. c.loop-index.invariant.each n f (omega arith) is }
+
+pub returns-clause-stored : goal.returns-clause-stored
+returns-clause-stored c = λ n f is. c.loop-index.invariant.stored n f (omega arith) is
 
 pub returns-clause-safe : goal.returns-clause-safe
 returns-clause-safe c = record { size = c.loop-index.invariant.places; each = λ n p is. c.loop-index.invariant.safe n p (omega arith) is }

@@ -1,4 +1,5 @@
-use Rattle.std.proofs.Common.{sym, subst, arith}
+use Rattle.std.proofs.Common.{suc, sym, subst, arith}
+use Rattle.pmt_model.specs.Findings.{ByFlush}
 use Rattle.pmt_model.specs.Machine.{Flushes}
 use Rattle.pmt_explain.specs.Following.{IsFirst, past_of}
 use Rattle.pmt_explain.specs.Known.{IsSafeBy}
@@ -9,7 +10,7 @@ pub returns-clause-tells : goal.returns-clause-tells
 returns-clause-tells c = λ T n is number after before.
     let l = c.args.line in
     let safe = c.number_of-safe.result in
-    let first = subst (IsFirst (IsSafeBy T l n) (past_of T)) (sym c.number_of-safe.ensures) (before.safe l) in
+    let first = subst (IsFirst (IsSafeBy T l n) (past_of T)) (sym c.number_of-safe.ensures) (before.safe l (suc n, omega arith, ByFlush c.args.thread is)) in
     c.flush_reason-reason.ensures T c.args.thread l n is number before.past (subst (λ p. IsFirst (IsSafeBy T l n) p safe) (sym before.past) first) after
 
 pub returns-clause-known : goal.returns-clause-known
@@ -17,7 +18,7 @@ returns-clause-known c = λ T n is number after before.
     let l = c.args.line in
     let safe = c.number_of-safe.result in
     let kept = c.is_none.result in
-    let first = subst (IsFirst (IsSafeBy T l n) (past_of T)) (sym c.number_of-safe.ensures) (before.safe l) in
+    let first = subst (IsFirst (IsSafeBy T l n) (past_of T)) (sym c.number_of-safe.ensures) (before.safe l (suc n, omega arith, ByFlush c.args.thread is)) in
     let told = c.flush_reason-reason.ensures T c.args.thread l n is number before.past (subst (λ p. IsFirst (IsSafeBy T l n) p safe) (sym before.past) first) after in
     rw c.done_after.ensures
     (known-flush T n c.args.thread l c.args.after.fence safe kept c.args.self.now c.put.new.numbers (omega arith) is before c.number_of-safe.ensures after.fence (rw c.min.ensures at c.in_ok-put.ensures)
