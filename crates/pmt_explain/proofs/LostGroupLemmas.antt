@@ -1,5 +1,5 @@
 -- Groups of stores that are never persisted, with one more store.
-use Rattle.std.proofs.Common.{◌≡◌, ℕ, suc, ◌+◌, ◌-◌, ◌^◌, ◌<◌, ◌⊎◌, inl, inr, List, [], ◌∷◌, ◌++◌, length, length-append, get_or, Option, None, Some, refl, sym, ap, ap₂, subst, ◌∙◌, arith}
+use Rattle.std.proofs.Common.{◌≡◌, ℕ, suc, ◌+◌, ◌-◌, ◌^◌, ◌<◌, ◌≤◌, ◌⊎◌, inl, inr, List, [], ◌∷◌, ◌++◌, length, length-append, get_or, Option, None, Some, refl, sym, ap, ap₂, subst, ◌∙◌, arith}
 use Rattle.std.specs.Prelude.{slice_get, All}
 use Rattle.std.proofs.lemmas.Bool.{cases_eq}
 use Rattle.std.proofs.lemmas.Option.{none-some, same_Some, slice_get-get_or}
@@ -16,7 +16,7 @@ use Rattle.pmt_explain.specs.declared.lost_grouping.Key.{Key}
 use Rattle.pmt_explain.specs.declared.lost_grouping.Key.TheVariants.{Flush, Line}
 use Rattle.pmt_explain.specs.declared.lost_grouping.Places.{Places}
 use Rattle.pmt_explain.specs.CauseOf.{IsCauseOf}
-use Rattle.pmt_explain.specs.AtEnd.{AreCausesAtEnd}
+use Rattle.pmt_explain.specs.AtEnd.{TellCauses}
 use Rattle.pmt_explain.specs.Grouping.{Picks}
 use Rattle.pmt_explain.specs.LostGroups.{IsLostFor, IsLostStore, IsInGroup, TellsStores, AreLostGroups, IsLostAlone, key_for, group_key, place_in, with_store, AddsStore}
 use Rattle.pmt_explain.proofs.GroupingLemmas.{picks-more, picks-other, picks-length, groups-told, get-last, first-more, IsGathered, places-within, gathered-adds}
@@ -119,13 +119,8 @@ pub safe-lost : (T : Recording) (i : ℕ) → IsCauseOf T (length T.events) i No
 safe-lost T i safe (l, c, x) = safe l x.what x.is_store ((cause_exists T l (length T.events) i x.what x.is_store).1 (c, x.why))
 
 -- the cause that is read of an event
-pub cause-read : (T : Recording) (causes : List (Option Cause)) (i l : ℕ) (w : Written) (d o : Option Cause) → AreCausesAtEnd T causes → IsAct T i (Stores l w) → get_or causes (i - 1) d ≡ o →
-    IsCauseOf T (length T.events) i o
-cause-read T causes i l w d o are store read =
-    let within = act-within T i (Stores l w) store in
-    let inside : i - 1 < length causes = omega (arith, are.all) in
-    let number : suc (i - 1) ≡ i = omega arith in
-    subst (λ k. IsCauseOf T (length T.events) k o) number (are.each (i - 1) o (slice_get-get_or causes (i - 1) d inside ∙ ap Some read))
+pub cause-read : (T : Recording) (causes : List (Option Cause)) (i : ℕ) (o : Option Cause) → TellCauses T causes → 1 ≤ i → slice_get causes (i - 1) ≡ Some o → IsCauseOf T (length T.events) i o
+cause-read T causes i o tell first read = let number : suc (i - 1) ≡ i = omega arith in subst (λ k. IsCauseOf T (length T.events) k o) number (tell (i - 1) o read)
 
 -- a store with a cause is lost
 pub lost-alone : (T : Recording) (i l : ℕ) (c : Cause) (w : Written) → IsAct T i (Stores l w) → IsCauseOf T (length T.events) i (Some c) →

@@ -9,10 +9,14 @@ use Rattle.pmt_reasons.specs.declared.cause.Cause.{Cause}
 use Rattle.pmt_reasons.specs.declared.cause.Cause.TheVariants.{Unflushed, Unfenced}
 use Rattle.pmt_explain.specs.CauseOf.{IsCauseOf}
 
--- Of each event, in order, its cause at the end of the trace, if it has one.
+-- Of the first events, in order, their causes at the end of the trace, where they have one.
+abbrev pub TellCauses : Recording → List (Option Cause) → Type 0
+TellCauses T causes = (k : ℕ) (o : Option Cause) → slice_get causes k ≡ Some o → IsCauseOf T (length T.events) (suc k) o
+
+-- Those of all events.
 pub record AreCausesAtEnd (T : Recording) (causes : List (Option Cause)) : Type 0 where
   pub all : length causes ≡ length T.events
-  pub each : (k : ℕ) (o : Option Cause) → slice_get causes k ≡ Some o → IsCauseOf T (length T.events) (suc k) o
+  pub each : TellCauses T causes
 
 -- Of each line that is flushed after a place, the cause of a store to it there; none where it would be safe.
 abbrev pub Causes : Type 0

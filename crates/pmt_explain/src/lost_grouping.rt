@@ -1,10 +1,12 @@
 //! Stores that are never persisted, in groups.
 
-ghost use Rattle.std.specs.Prelude.{◌≡◌, ◌+◌, ◌^◌, ◌<◌, ℕ, None, Some, length, All, IfOk, OnOk, MatchOption};
-ghost use Rattle.pmt_explain.specs.AtEnd.{AreCausesAtEnd};
+ghost use Rattle.std.specs.Prelude.{◌≡◌, ◌+◌, ◌^◌, ◌<◌, ◌≤◌, ℕ, None, Some, length, All, IfOk, OnOk, MatchOption};
+ghost use Rattle.pmt_explain.specs.AtEnd.{TellCauses};
+ghost use Rattle.pmt_explain.specs.CauseOf.{IsCauseOf};
 ghost use Rattle.pmt_explain.specs.LostGroups.{AreLostGroups, IsLostStore, IsLostAlone, key_for, group_key, place_in, AddsStore};
 
 use crate::at_end::causes_at_end;
+use crate::causing::cause as cause_at;
 use crate::lost::line_of_store;
 use indexmap::IndexMap;
 use pmt_model::{OutOfMemory, Trace};
@@ -28,7 +30,7 @@ pub struct LostGroup {
 
 /// The groups of these stores by their line and their cause at the trace's end, in the order of their first stores. Stores go by
 /// their numbers; a number that is of no store, or of one that every run persists, is in no group. The trace is looked at only
-/// where there are any.
+/// where there are any, and from the first one on where they are few and near the end.
 ///
 /// # Errors
 /// Where memory was refused.
@@ -42,7 +44,7 @@ pub fn lost_groups(
     if stores.is_empty() {
         return Ok(Vec::new(alloc));
     }
-    let causes = causes_at_end(alloc, trace)?;
+    let causes = causes_for(alloc, trace, stores)?;
     let mut groups = Vec::new(alloc);
     let mut places = Places::new(alloc);
     for store in stores {
@@ -53,13 +55,51 @@ pub fn lost_groups(
     Ok(groups)
 }
 
-// The group of this store alone, if it is never persisted; its cause is in the list.
+// The causes of all events at the trace's end. None are listed where it takes less time to ask for those of these stores alone.
+fn causes_for(
+    alloc: Global,
+    trace: &Trace,
+    stores: &[u64],
+) -> Result<Vec<Option<Cause>>, OutOfMemory>
+    ensures { IfOk result (λ causes. TellCauses trace.now causes.items) }
+{
+    if are_near_end(stores, trace.len() as u64) {
+        return Ok(Vec::new(alloc));
+    }
+    causes_at_end(alloc, trace)
+}
+
+// Whether so many times the events after the first of these stores are no more than all events.
+fn are_near_end(stores: &[u64], events: u64) -> bool {
+    match stores.first() {
+        None => true,
+        Some(first) => {
+            let after = events.saturating_sub(*first);
+            after.saturating_mul(stores.len() as u64) <= events
+        }
+    }
+}
+
+// Why the event with this number is not safe at the trace's end, if it is a store: by the list, where it has the event.
+fn cause_of(trace: &Trace, causes: &[Option<Cause>], store: u64) -> Option<Cause>
+    requires causes { TellCauses trace.now causes.now }
+    requires first { 1 ≤ store }
+    ensures { IsCauseOf trace.now (length trace.now.events) store result }
+{
+    let index = (store - 1) as usize;
+    if index < causes.len() {
+        return causes[index];
+    }
+    cause_at(trace, store, trace.len() as u64)
+}
+
+// The group of this store alone, if it is never persisted.
 fn group_of(trace: &Trace, causes: &[Option<Cause>], store: u64) -> Option<LostGroup>
-    requires { AreCausesAtEnd trace.now causes.now }
+    requires { TellCauses trace.now causes.now }
     ensures { MatchOption result (¬ IsLostStore trace.now store) (IsLostAlone trace.now store) }
 {
     let line = line_of_store(trace, store)?;
-    let cause = causes[store as usize - 1]?;
+    let cause = cause_of(trace, causes, store)?;
     Some(LostGroup {
         line,
         cause,
