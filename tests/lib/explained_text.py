@@ -8,6 +8,7 @@ from explained import NOTHING
 from machine import FENCES, FLUSHES, spelled
 
 SCREEN = 60
+MOST = 8
 DROPPED = "note: flushes and fences that do nothing, most first:"
 OVERWRITTEN = "note: stores overwritten before any flush of their cache line, those with other bytes first:"
 LATE = "note: stores that two fences or more of their own thread left unsafe, most first:"
@@ -39,12 +40,17 @@ def title(explained, number):
     return f"{word} of {explained.address(explained.trace.line(number))} by thread {thread}"
 
 
+def dropped_groups(explained):
+    """What is dropped, by title and reason, most first."""
+    reasons = ((entry["event"]["event"], entry["reason"]["reason"]) for entry in explained.dropped())
+    return grouped.grouped(((title(explained, number), reason), number) for number, reason in reasons)
+
+
 def dropped_lines(explained):
-    """A line for all events of one title and reason, most first."""
+    """A line for all events of one title and reason."""
     reasons = {entry["event"]["event"]: entry["reason"] for entry in explained.dropped()}
-    groups = grouped.grouped(((title(explained, number), reason["reason"]), number) for number, reason in reasons.items())
     lines = []
-    for (what, reason), numbers in groups:
+    for (what, reason), numbers in dropped_groups(explained):
         by = reasons[numbers[0]]["by"]
         behind = f" (event {by['event']})" if by else ""
         lines.append(f"  {times(len(numbers))} {what}, first event {numbers[0]}: {REASONS[reason]}{behind}")
@@ -102,18 +108,27 @@ def placed(event):
     return f"event {event['event']}" + (f" at {event['label']}" if event["label"] else "")
 
 
+def overwritten_groups(explained):
+    """What is overwritten, by cache line: most pairs with other bytes first, then most pairs."""
+    return sorted(explained.overwritten(), key=lambda group: (group["same"] - group["count"], -group["count"]))
+
+
 def overwritten_lines(explained):
-    """A line for each cache line: most pairs with other bytes first, then most pairs."""
-    groups = sorted(explained.overwritten(), key=lambda group: (group["same"] - group["count"], -group["count"]))
+    """A line for each cache line."""
     return [
         f"  {times(group['count'])} in cache line {group['cache_line']}, {group['count'] - group['same']} with other bytes,"
         f" first {placed(group['earlier'])} by {placed(group['later'])}"
-        for group in groups
+        for group in overwritten_groups(explained)
     ]
 
 
+def plural(count, noun):
+    return f"{count} {noun}" if count == 1 else f"{count} {noun}s"
+
+
 def lost_bytes(explained, failure):
-    """The rows of lost bytes of the range that is to be kept: bytes in a row that are from one store, or none, and lose one store."""
+    """The rows of lost bytes of the range that is to be kept: bytes in a row that are from one store, or none, and lose one store. Of
+    many the first ones, and how many bytes the others have."""
     rows, number = [], failure["event"]["event"]
     for part in failure["ranges"][:1]:
         start, before, shown = int(part["address"], 16), None, 0
@@ -125,22 +140,39 @@ def lost_bytes(explained, failure):
                 shown = 0
             rows[-1][3].append("--" if value is None else f"{value:02x}")
             before, shown = (store, lost), shown + 1
-    for start, store, lost, held in rows:
-        if lost is not None:
-            yield f"    {start:#x}: {' '.join(held)}" + (f" from event {store}" if store else "") + f", lost: event {lost}"
+    losing = [row for row in rows if row[2] is not None]
+    for start, store, lost, held in losing[:MOST]:
+        yield f"    {start:#x}: {' '.join(held)}" + (f" from event {store}" if store else "") + f", lost: event {lost}"
+    left = sum(len(held) for _, _, _, held in losing[MOST:])
+    if left:
+        yield f"    and {plural(left, 'more byte')} that lose a store (--json has all)"
 
 
 def range_lines(explained, failure):
-    """A line for each cache line of the range that is to be kept: whether the crash keeps it, its last flush and the fence of that flush."""
+    """A line for each cache line of the range that is to be kept: whether the crash keeps it, its last flush and the fence of that flush.
+    Of many those that lose a store, and how many others there are."""
     trace, place, part = explained.trace, failure["place"], failure["ranges"][0]
     start, end = int(part["address"], 16), int(part["address"], 16) + part["length"]
-    rows = []
+    rows, losing = [], []
     for line in range(start // trace.size, (end - 1) // trace.size + 1):
         inside = range(max(start, line * trace.size), min(end, (line + 1) * trace.size))
         held = [(part["stores"][byte - start], trace.last_store(byte, failure["event"]["event"])) for byte in inside]
         lost = [last for kept, last in held if last not in (None, kept)]
         rows.append(f"    {explained.address(line)}: {f'loses event {min(lost)}' if lost else 'kept'}; {flush_words(trace, line, place)}")
-    return rows
+        losing += rows[-1:] * bool(lost)
+    if len(rows) <= MOST:
+        return rows
+    more = max(0, len(losing) - MOST)
+    return [*losing[:MOST], f"    and {more} more that lose stores, {len(rows) - len(losing)} that are kept"]
+
+
+def range_block(explained, failure):
+    """What an entry says of the range that is to be kept: its cache lines, and then its lost bytes."""
+    part = failure["ranges"][0]
+    yield f"  the {plural(part['length'], 'byte')} from {part['address']} on, by cache line, at the crash:"
+    yield from range_lines(explained, failure)
+    yield "  lost bytes of it, with what memory then holds (-- where the crash keeps no store):"
+    yield from lost_bytes(explained, failure)
 
 
 def flush_words(trace, line, place):
@@ -183,9 +215,49 @@ def cause_lines(explained, key, members):
     yield f"  loses:  byte {byte:#x}, in the {key[2]} cache line of its range, of {named(explained, store)}"
 
 
+def errors_of(lines):
+    """The lines of each error, from its first one to the last of its own."""
+    starts = [at for at, line in enumerate(lines) if line.startswith("error: ")]
+    ends = [next((at for at in range(start + 1, len(lines)) if not lines[at].startswith("  ")), len(lines)) for start in starts]
+    return [lines[start:end] for start, end in zip(starts, ends)]
+
+
+def told_of_range(entry):
+    """Of the entry of a failed assertion the lines of its range and of its lost bytes."""
+    first = next(at for at, line in enumerate(entry) if line.endswith(" on, by cache line, at the crash:"))
+    return entry[first : next(at for at, line in enumerate(entry) if line.startswith("  kept:  "))]
+
+
+def wrong_draws(explained, entries):
+    """Each error ends with the command of its picture."""
+    failing = [("--failure", members[0]) for _, members in explained.causes]
+    lost = [("--around", group["last"]["event"]) for group in explained.never_persisted()]
+    wanted = [(f"  draw:   pmtrim draw {option} {number} ", f" > event{number}.svg") for option, number in (*failing, *lost)]
+    ends = [entry[-1] for entry in entries]
+    if len(ends) != len(wanted) or not all(end.startswith(first) and end.endswith(last) for end, (first, last) in zip(ends, wanted)):
+        return f"pictures: wanted {wanted}, in {ends}"
+    return None
+
+
+def asked_lines(explained):
+    """What the summary says of what is asked for."""
+    asked, span = explained.asked, explained.asked["range"] or {"length": 0, "address": 0}
+    words = {
+        "only": f"{asked['only']} alone",
+        "thread": f"of thread {asked['thread']} alone",
+        "range": f"of the {plural(span['length'], 'byte')} from {span['address']:#x} on alone",
+        "from": f"from event {asked['from']} on alone",
+        "to": f"up to event {asked['to']} alone",
+        "label": f"of labels with '{asked['label']}' in them alone",
+    }
+    return [f"  told below: {told} (--{word})" for word, told in words.items() if asked[word] is not None]
+
+
 def wrong_text(explained, told):
     """What is wrong with the text that shows all."""
     lines = told.decode().splitlines()
+    if [line for line in lines if line.startswith("  told below: ")] != asked_lines(explained):
+        return f"what is asked for: wanted {asked_lines(explained)}, in\n{told.decode()}"
     sections = [(DROPPED, dropped_lines), (OVERWRITTEN, overwritten_lines), (LATE, late_lines), (GUESSES, guess_lines)]
     for heading, wanted in (*((heading, of(explained)) for heading, of in sections), *tables(explained)):
         if below(lines, heading) != wanted:
@@ -195,12 +267,12 @@ def wrong_text(explained, told):
     wanted = [line for key, members in causes for line in cause_lines(explained, key, members)]
     if heads != wanted:
         return f"causes: wanted {wanted}, in\n{told.decode()}"
-    for failure in (explained.failure(members[0]) for _, members in causes):
-        by_line, by_byte = range_lines(explained, failure), list(lost_bytes(explained, failure))
-        wanted = [*(by_line if len(by_line) <= 8 else []), *by_byte[:8]]
-        if not by_byte or not all(row in lines for row in wanted):
+    entries = errors_of(lines)
+    for (_, members), entry in zip(causes, entries):
+        wanted = list(range_block(explained, explained.failure(members[0])))
+        if told_of_range(entry) != wanted or not any(", lost: event " in row for row in wanted):
             return f"the range: wanted {wanted}, in\n{told.decode()}"
-    return None
+    return wrong_draws(explained, entries)
 
 
 def wrong_screen(explained, told):

@@ -14,12 +14,16 @@ from examples import Counts
 from explained import Explained, judged
 from explained_text import wrong_text
 from machine import FENCES, FLUSHES, Trace, entries_at, is_faithful, is_kept, least, none_can_go, random_trace, spelled, text_of
+from planted import JSON, TEXT, in_json, in_text
 
 # As many entries as `--limit all` stands for.
 ALL = 1_000_000
 TRACES = 400
 GROUPED = 300
+LONG = 12
 PLACES = ("put.c:12 record", "put.c:14", "list.c:7 insert")
+# How often each fault is to be noticed.
+NOTICED = 3
 
 
 def answers(head, trace):
@@ -80,19 +84,54 @@ def grouped_trace(choose):
     return f"pmtrace 2 {size}", Trace(size, [make[kind]() for kind in kinds])
 
 
-def explanation_is_right(program, file, trace, choose):
-    """What `explain` tells of all findings, their groups and the tables; half of the traces have labels."""
-    often = choose.choice((0, 0, 0.5, 1))
-    labels = {number: choose.choice(PLACES) for number in trace.numbers if choose.random() < often}
-    names = file.with_name("labels")
-    names.write_bytes(text_of(f"{number} {label}" for number, label in labels.items()))
-    explained = Explained(trace, [], labels)
-    words = ["--labels", names] * bool(labels) + ["--limit", "all", file]
-    text, entries = (subprocess.run([program, "explain", *form, *words], capture_output=True, timeout=120).stdout for form in ([], ["--json"]))
-    wrong = wrong_text(explained, text) or judged(explained, entries, ALL)
-    if wrong:
-        print(f"{labels}: {wrong}")
-    return not wrong
+def long_trace(choose):
+    """The header and events of a range of many cache lines, most of which lose a store; some are flushed, and some of those fenced."""
+    size, stored = choose.choice((32, 64)), choose.randrange(7, 11)
+    lines = [0x1000 + size * line for line in range(12)]
+    events = [("store", 0, at + 8 * choose.randrange(2), bytes([1, 2])) for at in choose.sample(lines, stored)]
+    for at in choose.sample(lines, choose.randrange(4)):
+        events.insert(choose.randrange(len(events)), (choose.choice(FLUSHES), choose.randrange(2), at))
+    events.insert(choose.randrange(len(events)), ("sfence", choose.randrange(2)))
+    return f"pmtrace 2 {size}", Trace(size, [*events, ("isPersist", 0, 0x1000 + choose.randrange(2), 12 * size - 1)])
+
+
+class Explaining:
+    """What `explain` tells of all findings, their groups and the tables; and which planted faults were noticed, and how often."""
+
+    def __init__(self, program, file, choose):
+        self.program, self.file, self.choose = program, file, choose
+        self.noticed = {("text", name): 0 for name in TEXT} | {("JSON", name): 0 for name in JSON}
+        self.missed = []
+
+    def told(self, *words):
+        return subprocess.run([self.program, "explain", *words], capture_output=True, timeout=120).stdout
+
+    def is_right(self, trace):
+        """Whether all is told rightly; half of the traces have labels. Of what is right one copy is spoilt, and judged too."""
+        often = self.choose.choice((0, 0, 0.5, 1))
+        labels = {number: self.choose.choice(PLACES) for number in trace.numbers if self.choose.random() < often}
+        names = self.file.with_name("labels")
+        names.write_bytes(text_of(f"{number} {label}" for number, label in labels.items()))
+        explained = Explained(trace, [], labels)
+        words = ["--labels", names] * bool(labels) + ["--limit", "all", self.file]
+        text, entries = self.told(*words), self.told("--json", *words)
+        wrong = wrong_text(explained, text) or judged(explained, entries, ALL)
+        if wrong:
+            print(f"{labels}: {wrong}")
+        else:
+            self.spoil(explained, text, entries)
+        return not wrong
+
+    def spoil(self, explained, text, entries):
+        """Plants of the faults that have room the one that was noticed least often."""
+        for form, name in sorted(self.noticed, key=self.noticed.get):
+            bad = in_text(name, text) if form == "text" else in_json(name, entries)
+            if bad:
+                right = wrong_text(explained, bad) if form == "text" else judged(explained, bad, ALL)
+                self.noticed[form, name] += 1
+                if right is None:
+                    self.missed.append(f"{form}: {name}, in\n{bad.decode()}")
+                return
 
 
 def answers_are_right(program, file, head, trace):
@@ -110,14 +149,17 @@ def main():
     choose, by_groups = random.Random(20), random.Random(21)
     with tempfile.TemporaryDirectory() as folder:
         file = pathlib.Path(folder, "trace")
-        for head, trace in (random_trace(choose) for _ in range(TRACES)):
-            file.write_bytes(text_of([head, *map(spelled, trace.events)]))
-            for what, right in answers_are_right(program, file, head, trace):
-                counts.expect(what, right, f"of\n{file.read_text()}")
-            counts.expect("explain", explanation_is_right(program, file, trace, by_groups), f"of\n{file.read_text()}")
-        for head, trace in (grouped_trace(by_groups) for _ in range(GROUPED)):
-            file.write_bytes(text_of([head, *map(spelled, trace.events)]))
-            counts.expect("explain", explanation_is_right(program, file, trace, by_groups), f"of\n{file.read_text()}")
+        explaining = Explaining(program, file, by_groups)
+        made = [(random_trace, choose, TRACES), (grouped_trace, by_groups, GROUPED), (long_trace, by_groups, LONG)]
+        for make, chosen, count in made:
+            for head, trace in (make(chosen) for _ in range(count)):
+                file.write_bytes(text_of([head, *map(spelled, trace.events)]))
+                for what, right in answers_are_right(program, file, head, trace) if make is random_trace else ():
+                    counts.expect(what, right, f"of\n{file.read_text()}")
+                counts.expect("explain", explaining.is_right(trace), f"of\n{file.read_text()}")
+        for (form, name), times in explaining.noticed.items():
+            counts.expect(f"{form}: {name}", times >= NOTICED, f"planted {times} times")
+        counts.expect("planted faults", not explaining.missed, "\n".join(explaining.missed))
     print(f"{counts.passed} passed, {counts.failed} failed")
     return 1 if counts.failed else 0
 

@@ -1,0 +1,117 @@
+"""Faults that are planted into what `explain` told rightly of a trace: the judges have to notice each of them."""
+import json
+import re
+
+from explained_text import LABELS, LATE, THREADS, errors_of, told_of_range
+
+
+def first_at(lines, part):
+    """Where the first line with this part stands."""
+    return next((at for at, line in enumerate(lines) if part in line), None)
+
+
+def below_at(lines, heading, rows):
+    """Where the line stands so many rows below the heading."""
+    at = first_at(lines, heading)
+    return None if at is None else at + rows
+
+
+def range_at(lines):
+    """Where the first cache line of the range of the last failed assertion stands."""
+    failing = [entry for entry in errors_of(lines) if first_at(entry, ", by cache line, at the crash:") is not None]
+    if not failing:
+        return None
+    entry = failing[-1]
+    start = max(at for at in range(len(lines)) if lines[at : at + len(entry)] == entry)
+    return start + entry.index(told_of_range(entry)[0]) + 1
+
+
+def raised(pattern):
+    """Of a line another one, in which the number there is greater by one."""
+    return lambda line: re.sub(pattern, lambda found: str(int(found[0]) + 1), line, count=1)
+
+
+def turned(line):
+    """A cache line of a range that is kept where it is lost, and the other way round."""
+    return line.replace("kept;", "loses event 1;") if "kept;" in line else re.sub(r"loses event \d+", "kept", line)
+
+
+# What is changed in the text: which line, and to what; None leaves it out.
+TEXT = {
+    "a member of a group": (lambda lines: first_at(lines, "  also: "), raised(r"\d+(?= and |$)")),
+    "the size of a group": (lambda lines: first_at(lines, " assertions fail for this cause"), raised(r"\d+(?= assertions)")),
+    "where the lost line lies": (lambda lines: first_at(lines, "in the last cache line"), lambda line: line.replace("the last", "the inner")),
+    "a line of a range": (range_at, turned),
+    "a line of a range left out": (range_at, None),
+    "the flush of a line": (range_at, raised(r"(?<=last flush event )\d+")),
+    "the fence of a line": (range_at, raised(r"(?<=, fence event )\d+")),
+    "how many stores are late": (lambda lines: below_at(lines, LATE, 1), raised(r"\d+(?= store)")),
+    "the first late store": (lambda lines: below_at(lines, LATE, 1), raised(r"(?<=first event )\d+")),
+    "for how many fences": (lambda lines: below_at(lines, LATE, 1), raised(r"\d+(?= fences of its thread)")),
+    "late stores left out": (lambda lines: below_at(lines, LATE, 1), None),
+    "a thread's row": (lambda lines: below_at(lines, THREADS, 2), raised(r"\d+(?=  thread)")),
+    "a thread's row left out": (lambda lines: below_at(lines, THREADS, 2), None),
+    "a label's row": (lambda lines: below_at(lines, LABELS, 2), raised(r"\d+(?=  at )")),
+}
+
+
+def swapped(entries):
+    entries[:2] = entries[1::-1]
+
+
+def with_more(member):
+    """Adds one to the member of the first entry."""
+    return lambda entries: entries[0].update({member: entries[0][member] + 1})
+
+
+def without_last(entries):
+    """Leaves out the last member of the first cause that has several."""
+    cause = next((entry for entry in entries if entry["count"] > 1), None)
+    if cause:
+        cause.update(count=cause["count"] - 1, events=cause["events"][:-1])
+
+
+def with_other_store(entries):
+    stores = entries[-1]["ranges"][0]["stores"]
+    stores[0] = None if stores[0] else 1
+
+
+# What is changed in the JSON: of which kind, and what of its entries.
+JSON = {
+    "a cause's last member left out": ("cause", without_last),
+    "a cause's size": ("cause", with_more("count")),
+    "the order of causes": ("cause", swapped),
+    "a cause's part": ("cause", lambda entries: entries[0].update(part="inner")),
+    "the store of a byte": ("failure", with_other_store),
+    "a late count": ("late", with_more("count")),
+    "a late place left out": ("late", list.clear),
+    "the order of late places": ("late", swapped),
+    "what a thread has": ("thread", with_more("dropped")),
+    "a thread left out": ("thread", list.clear),
+    "what a label has": ("label", with_more("stores")),
+    "the order of labels": ("label", swapped),
+}
+
+
+def in_text(name, told):
+    """The text with the fault; none where it has no room."""
+    lines = told.decode().splitlines()
+    find, change = TEXT[name]
+    at = find(lines)
+    if at is None:
+        return None
+    changed = [*lines[:at], *([] if change is None else [change(lines[at])]), *lines[at + 1 :]]
+    return None if changed == lines else "".join(f"{line}\n" for line in changed).encode()
+
+
+def in_json(name, told):
+    """The JSON with the fault; none where it has no room."""
+    entries = [json.loads(line) for line in told.decode().splitlines()]
+    kind, change = JSON[name]
+    same, others = ([entry for entry in entries if (entry["kind"] == kind) == is_same] for is_same in (True, False))
+    if same:
+        change(same)
+    at = next((at for at, entry in enumerate(entries) if entry["kind"] == kind), 0)
+    changed = [*others[:at], *same, *others[at:]]
+    before = [json.loads(line) for line in told.decode().splitlines()]
+    return None if changed == before else "".join(json.dumps(entry) + "\n" for entry in changed).encode()
