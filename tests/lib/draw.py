@@ -19,6 +19,7 @@ from drawn_rules import (
     extent,
     flushes_are_right,
     is_on_page,
+    lanes_of,
     legend_is_right,
     losses_are_marked,
     range_is_shown,
@@ -197,6 +198,21 @@ def judge_range(program):
     judge_page(program, "a range", picture)
 
 
+def judge_crowd(program):
+    """More bars than a row has room for: those of the stores that the crash loses or keeps are there all the same."""
+    sizes = {"isPersist 0 0x1000 64": 8, "isOrderedBefore 0 0x1018 8 0x1000 8": 1}
+    for claim, count in sizes.items():
+        events = [event for n in range(20) for event in (f"store {n} {0x1000 + 8 * (n % 8):#x} 0102030405060708", f"clwb {n} 0x1000")]
+        program.file.write_bytes(text_of(["pmtrace 1", *events, claim]))
+        picture = program.drawn()
+        crash = next(crash for crash in picture.crashes if crash.get("data-event") == "41")
+        told = {int(mark.get("data-store")) for band in picture.bands for mark in of_class(band.root, "path", "lost-store")}
+        kept = {int(crash.get("data-kept"))} if crash.get("data-kept") else set()
+        program.judge(f"lost stores of a crowd, {claim}", len(told) == count and "Bars that have no room in their rows" in told_words(picture))
+        program.judge(f"their bars, {claim}", all(lanes_of(picture.band(store), store, 0x1000) for store in told | kept))
+        judge_page(program, f"a crowd, {claim}", picture)
+
+
 def judge_fold(program):
     """Stores that share their states share a bar, with a tick for each; a long history is folded into bands, and stays small."""
     stores = [f"store 0 {0x1000 + n % 8:#x} 01" for n in range(100)]
@@ -206,6 +222,8 @@ def judge_fold(program):
     ticks = sorted(int(tick.get("data-store")) for band in picture.bands for tick in of_class(band.root, "path", "stored"))
     program.judge("ticks", ticks == list(range(2, 101)))
     program.judge("bands", len(picture.bands) > 1 and int(picture.root.get("height")) < 300 * len(picture.bands) + 200)
+    sizes = [len(band.middle) for band in picture.bands]
+    program.judge(f"bands alike: {sizes}", max(sizes) - min(sizes) < len(sizes))
     judge_page(program, "one bar", picture)
     steps = [f"{word} {n % 3} {0x1000 + 64 * (n % 40):#x}{' 01' * (word == 'store')}" for n in range(300) for word in ("store", "clwb")]
     program.file.write_bytes(text_of(["pmtrace 1", *steps]))
@@ -238,11 +256,15 @@ def judge_labels(program):
         ("src/engine/recovery.c:57 insert", "ry.c:57 insert"),
         ("Ждать_записи_всех", "ть_записи_всех"),
         ("记录先写入内存然后", "先写入内存然后"),
+        ("redo.c:118 redo_commit < list_add redo.c:215 < main redo.c:463", " redo_commit …"),
     ):
         labels.write_text(f"1 {long}\n2 {long}\n", encoding="utf-8")
         picture = program.drawn("--labels", labels)
         texts = [text.text for text in picture.of_class("text", "label")]
         program.judge(f"cut labels {texts}", texts == ["…" + shown] * 2 and marks_are_apart(picture))
+    labels.write_text("1 redo.c:118 < main redo.c:463\n2 a.c:1 < b.c:2\n", encoding="utf-8")
+    texts = [text.text for text in program.drawn("--labels", labels).of_class("text", "label")]
+    program.judge(f"callers left out: {texts}", texts == ["redo.c:118 …", "a.c:1 < b.c:2"])
     labels.write_text("1 \u202eevil\ufffe\u0085\n2 fifteen letters\n", encoding="utf-8")
     picture = program.drawn("--labels", labels)
     program.judge("odd letters", [text.text for text in picture.of_class("text", "label")] == ["?evil??", "fifteen letters"])
@@ -297,6 +319,7 @@ def main():
         judge_limits(program)
         judge_threads(program)
         judge_range(program)
+        judge_crowd(program)
         judge_fold(program)
         judge_crashes(program)
         judge_labels(program)

@@ -173,7 +173,18 @@ def losses_are_marked(picture, trace):
             tags = {int(tag.get("y")) for tag in of_class(crash, "rect", "tag-lost")}
             if tags != {lane - 2 for store in lost for lane in lanes_of(band, store, trace.line(store) * trace.size)}:
                 return False
+            if not losses_have_bars(picture, trace, crash, lost):
+                return False
     return True
+
+
+def losses_have_bars(picture, trace, crash, lost):
+    """Of the crash that the picture is about each lost store that is drawn has a bar, however many others have none."""
+    subject = re.fullmatch(r"is\w+ (\d+) fails\.", title_of(picture.root))
+    if crash.get("data-event") != (subject and subject[1]):
+        return True
+    drawn = [store for store in lost if store in picture.numbers]
+    return all(lanes_of(picture.band(store), store, trace.line(store) * trace.size) for store in drawn)
 
 
 def lanes_of(band, store, line):

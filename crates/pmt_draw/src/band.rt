@@ -1,6 +1,6 @@
 //! A band of a picture: columns that stand side by side, with the rows that have something there.
 use crate::bars::{Bar, Row};
-use crate::layout::{CONTENT, GAP, LANE, LEFT, NAME, STRIP, TAG, THREAD};
+use crate::layout::{GAP, LANE, LEFT, NAME, STRIP, TAG, THREAD, content};
 use crate::picture::{Column, Picture};
 use crate::spans::line_of_op;
 use pmt_model::OutOfMemory;
@@ -63,12 +63,13 @@ pub struct Band {
 }
 
 impl Band {
-    /// The band that starts there, with columns of this width: as many as have room, and one at least.
+    /// The band that starts there, with columns of this width: as many as have room, at most so many, and one at least.
     pub fn new(
         alloc: Global,
         picture: &Picture,
         start: Start,
         column: u64,
+        most: usize,
     ) -> Result<Self, OutOfMemory> {
         let mut band = Band {
             start,
@@ -82,7 +83,8 @@ impl Band {
             others: false,
         };
         for place in picture.columns.iter().skip(start.column) {
-            if !band.slots.is_empty() && !band.has_room(picture, place.number) {
+            let is_full = band.slots.len() >= most || !band.has_room(picture, place.number);
+            if is_full && !band.slots.is_empty() {
                 break;
             }
             band.push_column(picture, place.number)?;
@@ -94,18 +96,23 @@ impl Band {
         Ok(band)
     }
 
-    // Whether the column of the event has room, with its crashes and what is left out before it.
+    // Whether the column of the event has room, with its crashes and what is left out before it; behind the last one also with what stands
+    // at the end.
     fn has_room(&self, picture: &Picture, number: u64) -> bool {
+        let is_last = picture.columns.last().map(|column| column.number) == Some(number);
         let mut need = self.column;
         if number != self.next.before.saturating_add(1) {
             need = need.saturating_add(GAP);
         }
+        if is_last && number < picture.events {
+            need = need.saturating_add(GAP);
+        }
         for crash in picture.crashes.iter().skip(self.next.crash) {
-            if crash.failure.place <= number {
+            if is_last || crash.failure.place <= number {
                 need = need.saturating_add(TAG);
             }
         }
-        self.right.saturating_add(need) <= LEFT + CONTENT
+        self.right.saturating_add(need) <= LEFT.saturating_add(content(picture))
     }
 
     // Adds the column of the event, with what stands before it and the crashes right after it.

@@ -5,7 +5,7 @@ use crate::waiting::{is_fence, is_flush};
 use pmt_model::{OutOfMemory, Trace};
 use std::alloc::Global;
 
-/// The most lanes of a row.
+/// The most lanes of a row, beside those of stores that the picture tells of.
 pub const MOST_LANES: usize = 8;
 
 /// A flush of a line.
@@ -29,6 +29,8 @@ pub struct Saver {
 /// Stores that are one after another to their line and share their states, from the first one on: pending, then flushed, then safe.
 #[derive(Clone, Copy)]
 pub struct Bar {
+    /// The number of their line.
+    pub line: u64,
     /// The first store's number.
     pub store: u64,
     /// The last store's number.
@@ -65,7 +67,7 @@ pub struct Row {
     pub bars: Vec<Bar>,
     /// The flushes of the line that are drawn.
     pub flushes: Vec<Flush>,
-    /// How many lanes there are, at most `MOST_LANES`.
+    /// How many lanes there are.
     pub lanes: usize,
     /// How many bars have no lane left.
     pub crowded: u64,
@@ -95,6 +97,8 @@ pub struct Drawn<'a> {
     pub columns: &'a [u64],
     /// The crashes' places, rising. Stores before one share no bar with stores after it.
     pub places: &'a [u64],
+    /// The stores that the picture tells of, rising. Their bars have room in any case.
+    pub told: &'a [u64],
 }
 
 impl Drawn<'_> {
@@ -138,6 +142,8 @@ pub fn row_of(alloc: Global, drawn: Drawn<'_>, line: u64) -> Result<Row, OutOfMe
 // The stores and the flushes of a line up to the last event that is drawn.
 #[derive(Drop)]
 struct LineEvents {
+    // The number of the line.
+    line: u64,
     // The numbers of the stores, rising.
     stores: Vec<u64>,
     // The flushes, by rising number.
@@ -165,7 +171,11 @@ fn events_of(alloc: Global, drawn: Drawn<'_>, line: u64) -> Result<LineEvents, O
             stores.push(number)?;
         }
     }
-    Ok(LineEvents { stores, flushes })
+    Ok(LineEvents {
+        line,
+        stores,
+        flushes,
+    })
 }
 
 // The bar of the stores from this index on that are left out before the event `next`, those that are not safe when it comes.
@@ -202,6 +212,7 @@ fn bar_of(drawn: Drawn<'_>, events: &LineEvents, store: u64) -> Bar {
         .flushes
         .partition_point(|flush| flush.number <= store);
     Bar {
+        line: events.line,
         store,
         last: store,
         drawn: 1,
@@ -220,7 +231,8 @@ fn push_bar(row: &mut Row, drawn: Drawn<'_>, bar: Bar) -> Result<(), OutOfMemory
         return Ok(());
     }
     let lane = take_lane(row.bars.as_mut_slice(), row.lanes, bar.store);
-    if lane >= MOST_LANES {
+    let is_told = bar.drawn > 0 && is_listed(drawn.told, bar.store);
+    if lane >= MOST_LANES.max(row.lanes) && !is_told {
         row.crowded = row.crowded.saturating_add(1);
         return Ok(());
     }

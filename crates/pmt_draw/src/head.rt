@@ -119,7 +119,8 @@ fn push_left(pen: &mut Pen, picture: &Picture, letters: u64, top: u64) -> u64 {
     );
     let left = picture.events.saturating_sub(columns);
     if left > 0 {
-        words.fill(" Left out: # events", &[left]);
+        words.fill(" Left out: #", &[left]);
+        words.put(if left == 1 { " event" } else { " events" });
         words.put(if columns > 0 {
             ", where the dots stand."
         } else {
@@ -152,10 +153,12 @@ fn push_cut(words: &mut Pen, picture: &Picture) {
 // Adds what of the drawn events has no room.
 fn push_unshown(words: &mut Pen, picture: &Picture) {
     if picture.hidden > 0 {
-        words.fill(
-            " # more lines that these events touch have no room.",
-            &[picture.hidden],
-        );
+        words.fill(" #", &[picture.hidden]);
+        words.put(if picture.hidden == 1 {
+            " more line that these events touch has no room."
+        } else {
+            " more lines that these events touch have no room."
+        });
     }
     let mut crowded: u64 = 0;
     for row in &picture.rows {

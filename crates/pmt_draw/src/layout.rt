@@ -19,7 +19,7 @@ pub const THREAD: u64 = 24;
 /// The height of a bar, and the room of a lane.
 pub const BAR: u64 = 14;
 
-pub const LANE: u64 = 18;
+pub const LANE: u64 = 22;
 
 /// The height of the strip over the lanes of a row, where flushes stand.
 pub const STRIP: u64 = 24;
@@ -30,8 +30,8 @@ pub const TAG: u64 = 48;
 /// The room between two columns whose events don't follow one another.
 pub const GAP: u64 = 22;
 
-/// The room of all columns of a band.
-pub const CONTENT: u64 = 984;
+// The room of all columns of a band, beside the name of a crash.
+const CONTENT: u64 = 984;
 
 /// The room of a crash's name, right of its line.
 pub const NAME: u64 = 260;
@@ -63,28 +63,32 @@ pub struct Layout {
 impl Layout {
     /// The places for the picture.
     pub fn new(alloc: Global, picture: &Picture) -> Result<Self, OutOfMemory> {
-        let column = column_width(picture);
-        let mut bands = Vec::new(alloc);
-        let mut start = Start {
-            column: 0,
-            crash: 0,
-            before: 0,
-        };
-        let mut width = PAGE;
-        for _ in 0..picture.columns.len().max(1) {
-            let band = Band::new(alloc, picture, start, column)?;
-            start = band.next;
-            width = width.max(band.wide().saturating_add(EDGE));
-            bands.push(band)?;
-            if start.column >= picture.columns.len() {
-                break;
+        let column = column_width(picture, 1);
+        let bands = bands_of(alloc, picture, column, picture.columns.len())?;
+        let count = bands.len();
+        if count > 1 {
+            let most = picture.columns.len().div_ceil(count);
+            for wider in [column_width(picture, count as u64), column] {
+                let even = bands_of(alloc, picture, wider, most)?;
+                if even.len() == count {
+                    return Ok(Layout::of(even, wider));
+                }
             }
         }
-        Ok(Layout {
+        Ok(Layout::of(bands, column))
+    }
+
+    // The places of these bands, with columns of this width.
+    fn of(bands: Vec<Band>, column: u64) -> Self {
+        let mut width = PAGE;
+        for band in &bands {
+            width = width.max(band.wide().saturating_add(EDGE));
+        }
+        Layout {
             bands,
             column,
             width,
-        })
+        }
     }
 
     /// Whether the words over the columns stand side by side, and not upright.
@@ -93,8 +97,41 @@ impl Layout {
     }
 }
 
-// The width of each column: as wide as one band has room for, or the least.
-fn column_width(picture: &Picture) -> u64 {
+// The bands of the picture, with columns of this width, at most so many in each.
+fn bands_of(
+    alloc: Global,
+    picture: &Picture,
+    column: u64,
+    most: usize,
+) -> Result<Vec<Band>, OutOfMemory> {
+    let mut bands = Vec::new(alloc);
+    let mut start = Start {
+        column: 0,
+        crash: 0,
+        before: 0,
+    };
+    for _ in 0..picture.columns.len().max(1) {
+        let band = Band::new(alloc, picture, start, column, most)?;
+        start = band.next;
+        bands.push(band)?;
+        if start.column >= picture.columns.len() {
+            break;
+        }
+    }
+    Ok(bands)
+}
+
+/// The room of all columns of a band of the picture: where it names no crash, also that of a name.
+pub fn content(picture: &Picture) -> u64 {
+    if picture.crashes.is_empty() {
+        CONTENT + NAME
+    } else {
+        CONTENT
+    }
+}
+
+// The width of each column: as wide as so many bands have room for, or the least.
+fn column_width(picture: &Picture, bands: u64) -> u64 {
     let columns = picture.columns.len() as u64;
     let narrow = narrowest(picture);
     if columns == 0 {
@@ -102,7 +139,10 @@ fn column_width(picture: &Picture) -> u64 {
     }
     let crashes = TAG.saturating_mul(picture.crashes.len() as u64);
     let gaps = GAP.saturating_mul(gaps_of(picture));
-    let free = CONTENT.saturating_sub(crashes).saturating_sub(gaps);
+    let free = content(picture)
+        .saturating_mul(bands)
+        .saturating_sub(crashes)
+        .saturating_sub(gaps);
     (free / columns).max(narrow).min(WIDE)
 }
 

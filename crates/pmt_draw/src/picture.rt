@@ -114,7 +114,14 @@ pub fn picture_of(alloc: Global, known: Known<'_>, view: &View) -> Result<Pictur
     let asserted = asserted_in(alloc, trace, focus.as_ref())?;
     let crashes = crashes_of(alloc, known, numbers, focus)?;
     let untold = failing_of(columns.as_slice()).saturating_sub(failures_in(crashes.as_slice()));
-    let rows = rows_of(alloc, trace, chosen.as_slice(), numbers, crashes.as_slice())?;
+    let rows = rows_of(
+        alloc,
+        trace,
+        chosen.as_slice(),
+        numbers,
+        crashes.as_slice(),
+        subject,
+    )?;
     Ok(Picture {
         format,
         events: trace.len() as u64,
@@ -312,6 +319,27 @@ fn places_of(alloc: Global, crashes: &[Crash]) -> Result<Vec<u64>, OutOfMemory> 
     Ok(places)
 }
 
+// The stores that the crash of the subject loses or keeps, rising.
+fn told_stores(
+    alloc: Global,
+    crashes: &[Crash],
+    subject: Subject,
+) -> Result<Vec<u64>, OutOfMemory> {
+    let mut told = Vec::new(alloc);
+    for crash in crashes {
+        if is_crash_of(crash, subject) {
+            for store in &crash.lost {
+                told.push(*store)?;
+            }
+            if let Some(kept) = crash.failure.kept {
+                told.push(kept.store)?;
+            }
+        }
+    }
+    told.sort_unstable();
+    Ok(told)
+}
+
 // The rows of these lines, up to the last of these events.
 fn rows_of(
     alloc: Global,
@@ -319,14 +347,17 @@ fn rows_of(
     lines: &[u64],
     numbers: &[u64],
     crashes: &[Crash],
+    subject: Subject,
 ) -> Result<Vec<Row>, OutOfMemory> {
     let safe = safe_places(alloc, trace)?;
     let places = places_of(alloc, crashes)?;
+    let told = told_stores(alloc, crashes, subject)?;
     let drawn = Drawn {
         trace,
         safe: safe.as_slice(),
         columns: numbers,
         places: places.as_slice(),
+        told: told.as_slice(),
     };
     let mut rows = Vec::with_capacity(alloc, lines.len())?;
     for line in lines {

@@ -200,11 +200,41 @@ fn push_halo(pen: &mut Pen, words: &str, start: u64, top: u64) {
     }
 }
 
+// Where the last store of a bar of several begins in the band, if one does.
+fn last_tick(page: Page<'_>, bar: &Bar) -> Option<u64> {
+    if bar.drawn < 2 {
+        return None;
+    }
+    let slot = page
+        .band
+        .slots
+        .iter()
+        .rev()
+        .find(|slot| is_store_of(page, bar, slot.number))?;
+    if slot.number > bar.store {
+        Some(page.band.middle(slot.number))
+    } else {
+        None
+    }
+}
+
+// Whether the event is drawn, and a store of the bar.
+fn is_store_of(page: Page<'_>, bar: &Bar, number: u64) -> bool {
+    match page.picture.column(number) {
+        Some(column) => {
+            let op = column.event.op;
+            let is_store = matches!(op, Op::Store(_));
+            is_store && bar.has(number) && line_of_op(page.picture.format, op) == Some(bar.line)
+        }
+        None => false,
+    }
+}
+
 // Where words of the bar have room between these sides, and how much: no crash line crosses them, and no tick of a store.
 fn room_in(page: Page<'_>, bar: &Bar, left: u64, right: u64) -> (u64, u64) {
     let (mut from, mut to) = (left, right);
-    if bar.drawn > 1 && page.band.has_event(bar.last) {
-        let last = page.band.middle(bar.last).saturating_add(4);
+    if let Some(last) = last_tick(page, bar) {
+        let last = last.saturating_add(4);
         if left < last {
             from = last.min(right);
         }

@@ -155,7 +155,7 @@ fn push_lost_store(pen: &mut Pen, page: Page<'_>, store: u64, lane: u64) {
     if page.band.has_event(store) {
         let x = page.band.middle(store);
         let (left, right) = (x.saturating_sub(3), x.saturating_add(3));
-        let (top, low) = (lane.saturating_sub(6), lane);
+        let (top, low) = (lane.saturating_sub(8), lane.saturating_sub(3));
         pen.fill(
             "<path class='lost-store' data-store='#' d='M# #L# #M# #L# #'/>",
             &[store, left, top, right, low, right, top, left, low],
