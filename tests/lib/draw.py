@@ -231,6 +231,32 @@ def judge_fold(program):
         judge_page(program, f"a long history {words}", program.drawn(*words))
 
 
+# Traces of which explain tells no error, and the headline of the picture of what it tells first; the answers are written by hand.
+SAVED = ["clwb 0 0x1000", "sfence 0"]
+FIRST = [
+    (["isPersist 0 0x1000 1", "store 0 0x1000 01", *SAVED, *["isPersist 1 0x1000 1"] * 2], "The assertion of event 1 speaks of bytes that no store has written"),
+    (["store 0 0x1040 01", "store 0 0x1000 01", *SAVED, "store 0 0x1000 02", *SAVED, "clwb 0 0x1040", "sfence 0"], "Store 1 is saved late"),
+    (["store 0 0x1000 01", *SAVED, "clwb 0 0x1040", "sfence 1", "sfence 1", "sfence 0"], "Event 5 has no effect"),
+    (["store 0 0x1000 01", "store 0 0x1000 01", "store 0 0x1040 01", "store 0 0x1040 02", *SAVED, "clwb 0 0x1040", "sfence 0"], "Store 3 is written over by store 4 before any flush"),
+    (["store 0 0x1000 01", *SAVED], "Events 1 to 3"),
+]
+
+
+def judge_first(program):
+    """What is told first is drawn: of failed assertions the cause with most members, and where there is no error the first note."""
+    for events, headline in FIRST:
+        program.file.write_bytes(text_of(["pmtrace 1", *events]))
+        picture = program.drawn()
+        program.judge(f"told first: {title_of(picture.root)}", title_of(picture.root) == headline)
+        judge_page(program, headline, picture)
+    several = ["store 0 0x1000 01", "isPersist 0 0x1000 1", "store 1 0x1000 01", "clwb 1 0x1000", "isPersist 0 0x1000 1", "isPersist 0 0x1000 1"]
+    program.file.write_bytes(text_of(["pmtrace 1", *several]))
+    program.judge("the cause with most members", title_of(program.drawn().root) == "isPersist 5 fails.")
+    labels = program.file.with_name("labels")
+    labels.write_text("2 a.c:1\n5 a.c:2\n6 a.c:3\n")
+    program.judge("the causes by label", title_of(program.drawn("--labels", labels).root) == "isPersist 2 fails.")
+
+
 def judge_crashes(program):
     """Crashes in narrow columns, some at one place, stand apart; what has no room is told."""
     spread = [f"store 0 {0x1000 + 64 * n:#x} 01" for n in range(30)]
@@ -320,6 +346,7 @@ def main():
         judge_threads(program)
         judge_range(program)
         judge_crowd(program)
+        judge_first(program)
         judge_fold(program)
         judge_crashes(program)
         judge_labels(program)

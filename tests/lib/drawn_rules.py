@@ -5,8 +5,11 @@ The state of a store after an event is the part of its bar that stands right of 
 import re
 import unicodedata
 
+import grouped
 from drawn import SVG, of_class, shown_stores, title_of
-from machine import FENCES, FLUSHES, is_kept, of_store, spelled, verdict
+from explained import Explained
+from explained_text import dropped_groups, overwritten_groups
+from machine import FENCES, FLUSHES, is_kept, spelled, verdict
 
 COLUMNS = 120
 CRASHES = 12
@@ -219,46 +222,61 @@ def crashes_are_right(picture, trace):
     return told == failing[:len(told)] and len(told) >= min(len(failing), CRASHES) and all(crash_is_right(crash, trace) for crash in crashes)
 
 
-def first_failure(trace):
-    for number in trace.numbers:
-        if trace.event(number)[0].startswith("is") and verdict(trace, number).endswith("fail"):
-            return number
-    return None
-
-
 def story_is_right(picture, trace):
-    """Without words: what touches the lines of the first failure, up to it; else the stores to a line that are never persisted; else what
-    has no effect; else the first events."""
-    number = first_failure(trace)
-    if number is None:
-        return told_first_is_right(picture, trace)
+    """Without words: what explain tells first. Of a failure what touches its lines, up to it; else the stores to a line that are never
+    persisted; else what has no effect, is written over, saved late or never stored; else the first events."""
+    explained = Explained(trace, [], {})
+    if not explained.causes:
+        return told_first_is_right(picture, explained)
+    number = explained.causes[0][1][0]
     event = trace.event(number)
     ranges = [(event[2], event[3])] + ([(event[4], event[5])] if len(event) > 4 else [])
     lines = {byte // trace.size for start, length in ranges for byte in range(start, start + length)}
     touching = touching_of(trace, lines, number)
     shown = set(picture.numbers)
     strays = {n for n in shown - touching - {number} if trace.event(n)[0] not in FENCES and not trace.event(n)[0].startswith("is")}
-    return touching <= shown and number == max(shown) and not strays and picture.numbers == sorted(shown)
+    is_told = title_of(picture.root) == f"{event[0]} {number} fails."
+    return is_told and touching <= shown and number == max(shown) and not strays and picture.numbers == sorted(shown)
 
 
 def touching_of(trace, lines, end):
     return {n for n in range(1, end) if trace.event(n)[0] in ("store", "clflush", *FLUSHES) and trace.line(n) in lines}
 
 
-def told_first_is_right(picture, trace):
-    end = len(trace.events)
-    lost = [store for store in trace.numbers if trace.event(store)[0] == "store" and not trace.is_safe(store, end)]
+def told_first_is_right(picture, explained):
+    trace, end = explained.trace, explained.end
+    lost = explained.never_persisted()
     if lost:
-        line = trace.line(lost[0])
+        first, line = lost[0]["first"]["event"], int(lost[0]["cache_line"], 16) // trace.size
         crash = picture.crashes[0]
-        told = crash.get("data-event") is None and int(crash.get("data-place")) == end and int(crash.get("data-lost")) == lost[0]
+        told = crash.get("data-event") is None and int(crash.get("data-place")) == end and int(crash.get("data-lost")) == first
         headline = re.fullmatch(r"Never persisted: (\d+) stores? to line (0x[0-9a-f]+)", title_of(picture.root))
         return told and headline and int(headline[2], 16) == line * trace.size and touching_of(trace, {line}, end + 1) <= set(picture.numbers)
-    dropped = [number for number in trace.numbers if worth(trace, number) != "counts"]
-    if dropped:
-        return title_of(picture.root) == f"Event {dropped[0]} has no effect" and dropped[0] in picture.numbers
-    overwritten = [entry for number in trace.numbers if trace.event(number)[0] == "store" for entry in of_store(trace, number) if entry.startswith("overwritten")]
-    return "is written over" in title_of(picture.root) if overwritten else picture.numbers == list(trace.numbers)[:COLUMNS]
+    about = first_note(explained)
+    if about is None:
+        return picture.numbers == list(trace.numbers)[:COLUMNS]
+    return title_of(picture.root) == about[0] and set(about[1:]) <= set(picture.numbers)
+
+
+def first_note(explained):
+    """Of what explain tells first, where that is no error, the headline, and the events that it speaks of."""
+    for _, numbers in dropped_groups(explained):
+        return f"Event {numbers[0]} has no effect", numbers[0]
+    for group in overwritten_groups(explained):
+        earlier, later = group["earlier"]["event"], group["later"]["event"]
+        return f"Store {earlier} is written over by store {later} before any flush", earlier, later
+    for _, stores in grouped.late(explained):
+        return f"Store {stores[0]} is saved late", stores[0], *fences_after(explained.trace, stores[0])
+    for entry in explained.unwritten():
+        number = entry["event"]["event"]
+        return f"The assertion of event {number} speaks of bytes that no store has written", number
+    return None
+
+
+def fences_after(trace, store):
+    """The first two fences of the store's thread after it."""
+    later = range(store + 1, len(trace.events) + 1)
+    return [number for number in later if trace.event(number)[0] in FENCES and trace.event(number)[1] == trace.event(store)[1]][:2]
 
 
 def extent(text):

@@ -51,6 +51,11 @@ fn push_headline(pen: &mut Pen, picture: &Picture) {
             "Store # is written over by store # before any flush",
             &[pair.earlier, pair.later],
         ),
+        Subject::Late(store) => pen.fill("Store # is saved late", &[store]),
+        Subject::Unwritten(number) => pen.fill(
+            "The assertion of event # speaks of bytes that no store has written",
+            &[number],
+        ),
         Subject::Events => push_events_headline(pen, picture),
     }
 }
@@ -91,15 +96,31 @@ fn push_focus(pen: &mut Pen, picture: &Picture, crash: &Crash, letters: u64, top
 // Adds what is told of what the picture is about, where that is no crash, and answers where that ends.
 fn push_about(pen: &mut Pen, picture: &Picture, letters: u64, top: u64) -> u64 {
     let mut words = Pen::new(pen.alloc());
-    if let Subject::Dropped(event) = picture.subject {
-        if let Some(column) = picture.column(event.event) {
-            push_event(&mut words, column);
-            words.put(": ");
+    match picture.subject {
+        Subject::Dropped(event) => {
+            push_subject(&mut words, picture, event.event);
+            push_reason(&mut words, event.reason);
+            words.put(".");
         }
-        push_reason(&mut words, event.reason);
-        words.put(".");
+        Subject::Late(store) => {
+            push_subject(&mut words, picture, store);
+            words.put("two fences or more of its own thread come after it and leave it unsafe.");
+        }
+        Subject::Unwritten(number) => {
+            push_subject(&mut words, picture, number);
+            words.put("it checks nothing there.");
+        }
+        _ => {}
     }
     push_told(pen, "told", &words, letters, top)
+}
+
+// Adds the event that the picture is about, if it is drawn.
+fn push_subject(words: &mut Pen, picture: &Picture, number: u64) {
+    if let Some(column) = picture.column(number) {
+        push_event(words, column);
+        words.put(": ");
+    }
 }
 
 // Adds what is drawn and what is left out, and answers where that ends.

@@ -20,8 +20,14 @@ pub struct Known<'a> {
     pub lost: &'a [LostGroup],
     /// The events that are dropped, by rising number, each with its reason.
     pub dropped: &'a [Dropped],
+    /// The numbers of these events, those first that are told first.
+    pub useless: &'a [u64],
     /// The groups of stores that are written over, those first that are told first.
     pub overwritten: &'a [OverwrittenGroup],
+    /// The stores that are saved late, those first that are told first.
+    pub late: &'a [u64],
+    /// The assertions on bytes that no store has written by then, by rising number.
+    pub unwritten: &'a [u64],
 }
 
 impl Known<'_> {

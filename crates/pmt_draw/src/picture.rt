@@ -91,7 +91,11 @@ fn is_crash_of(crash: &Crash, subject: Subject) -> bool {
     match subject {
         Subject::Failure(number) => crash.is_of(number),
         Subject::Lost(_) => crash.assertion.is_none(),
-        Subject::Dropped(_) | Subject::Overwritten(_) | Subject::Events => false,
+        Subject::Dropped(_)
+        | Subject::Overwritten(_)
+        | Subject::Late(_)
+        | Subject::Unwritten(_)
+        | Subject::Events => false,
     }
 }
 
@@ -150,7 +154,11 @@ fn focus_of(
             let crash = crash_at_end(alloc, known, group)?;
             Ok(Some(crash))
         }
-        Subject::Dropped(_) | Subject::Overwritten(_) | Subject::Events => Ok(None),
+        Subject::Dropped(_)
+        | Subject::Overwritten(_)
+        | Subject::Late(_)
+        | Subject::Unwritten(_)
+        | Subject::Events => Ok(None),
     }
 }
 

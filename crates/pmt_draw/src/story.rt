@@ -5,8 +5,8 @@ use crate::numbered::{count_before, push_once};
 use crate::related::related;
 use crate::spans::{line_of_op, lines_of_assertion, push_ends};
 use crate::subject::Subject;
-use crate::view::{MOST_COLUMNS, Span};
-use crate::waiting::{is_fence, is_flush};
+use crate::view::{MOST_COLUMNS, MOST_ROWS, Span};
+use crate::waiting::{is_fence, is_flush, waits_for_fence};
 use crate::window::{Aim, cut_of, window};
 use pmt_explain::Overwriting;
 use pmt_model::{OutOfMemory, Trace};
@@ -15,6 +15,9 @@ use std::alloc::Global;
 
 // The most lost stores that a story needs, from the first and from the last on.
 const MOST_LOST: usize = 8;
+
+// How many events of its thread are drawn before a fence that has flushed nothing, and after.
+const NEAR_FENCE: usize = 10;
 
 // The most flushes just before a crash that a story needs.
 const MOST_NEAR: usize = 8;
@@ -65,6 +68,11 @@ pub fn story_of(
             event.reason,
         )?,
         (Subject::Overwritten(pair), _) => overwritten_events(alloc, known.trace, pair)?,
+        (Subject::Late(store), _) => late_events(alloc, known.trace, store)?,
+        (Subject::Unwritten(number), _) => {
+            let all = related(alloc, known.trace, kept)?;
+            window(alloc, Aim::Around(number), all.as_slice(), &[number])?
+        }
         _ => return asked_events(alloc, known.trace, span, kept),
     };
     Ok(Story { numbers, cut: 0 })
@@ -164,12 +172,12 @@ fn dropped_events(
         Reason::Safe | Reason::Unfenced | Reason::Empty | Reason::Useless => {}
     }
     needed.sort_unstable();
-    let line = match trace.get(number) {
-        Some(event) => line_of_op(trace.format(), event.op),
-        None => None,
+    let Some(event) = trace.get(number) else {
+        return Ok(needed);
     };
-    let all = match line {
+    let all = match line_of_op(trace.format(), event.op) {
         Some(line) => related(alloc, trace, &[line])?,
+        None if kept.is_empty() => fence_events(alloc, trace, event.thread, number)?,
         None => related(alloc, trace, kept)?,
     };
     window(
@@ -178,6 +186,40 @@ fn dropped_events(
         all.as_slice(),
         needed.as_slice(),
     )
+}
+
+// The events that tell of a fence without effect: those that matter to the lines that its thread flushed since its last fence; where it
+// flushed none, the events of the thread near the fence.
+fn fence_events(
+    alloc: Global,
+    trace: &Trace,
+    thread: u8,
+    number: u64,
+) -> Result<Vec<u64>, OutOfMemory> {
+    let mut own = Vec::new(alloc);
+    let mut lines = Vec::new(alloc);
+    for (index, event) in trace.events().iter().enumerate() {
+        if event.thread == thread {
+            let at = (index as u64).saturating_add(1);
+            own.push(at)?;
+            let op = event.op;
+            if at < number && is_fence(&op) {
+                lines = Vec::new(alloc);
+            }
+            if at < number && waits_for_fence(&op) && lines.len() < MOST_ROWS {
+                push_line_of(&mut lines, trace, at)?;
+            }
+        }
+    }
+    if !lines.is_empty() {
+        return related(alloc, trace, lines.as_slice());
+    }
+    let first = count_before(own.as_slice(), number).saturating_sub(NEAR_FENCE);
+    let mut near = Vec::with_capacity(alloc, 2 * NEAR_FENCE)?;
+    for at in own.iter().skip(first).take(2 * NEAR_FENCE) {
+        near.push(*at)?;
+    }
+    Ok(near)
 }
 
 // The events around a store that is written over.
@@ -197,6 +239,32 @@ fn overwritten_events(
         all.as_slice(),
         needed.as_slice(),
     )
+}
+
+// The events from a store on that is saved late: that matter to its line, with the fences of its thread that leave it unsafe.
+fn late_events(alloc: Global, trace: &Trace, number: u64) -> Result<Vec<u64>, OutOfMemory> {
+    let mut needed = vec![in alloc; number]?;
+    let mut lines = Vec::new(alloc);
+    push_line_of(&mut lines, trace, number)?;
+    push_fences(&mut needed, trace, number)?;
+    let all = related(alloc, trace, lines.as_slice())?;
+    window(alloc, Aim::From(number), all.as_slice(), needed.as_slice())
+}
+
+// Adds the first fences of the store's thread after it.
+fn push_fences(needed: &mut Vec<u64>, trace: &Trace, store: u64) -> Result<(), OutOfMemory> {
+    let Some(first) = trace.get(store) else {
+        return Ok(());
+    };
+    let mut left = MOST_NEAR;
+    for (index, event) in trace.events().iter().enumerate().skip(store as usize) {
+        let op = event.op;
+        if is_fence(&op) && event.thread == first.thread && left > 0 {
+            left -= 1;
+            needed.push((index as u64).saturating_add(1))?;
+        }
+    }
+    Ok(())
 }
 
 // The events that the crash's story needs, rising and each once.

@@ -18,13 +18,17 @@ pub enum Subject {
     Dropped(Dropped),
     /// A store whose bytes are written over before any flush.
     Overwritten(Overwriting),
+    /// The store with this number, which fences of its own thread leave unsafe.
+    Late(u64),
+    /// The assertion with this number, on bytes that no store has written by then.
+    Unwritten(u64),
     /// The events that are asked for, or the first ones.
     Events,
 }
 
 /// What the picture of this span is about. Of the trace's findings it is the first that speaks of the kept lines, in the order in which
-/// they are told: failures, stores that are never persisted, what is dropped, what is written over. All lines are kept, if none is
-/// named.
+/// they are told: failures, stores that are never persisted, what is dropped, what is written over, what is saved late, what was never
+/// stored. All lines are kept, if none is named.
 pub fn subject_of(
     alloc: Global,
     known: Known<'_>,
@@ -50,14 +54,32 @@ fn first_subject(alloc: Global, known: Known<'_>, kept: &[u64]) -> Result<Subjec
             return Ok(Subject::Lost(*group));
         }
     }
-    for event in known.dropped {
-        if is_kept_event(known.trace, event.event, kept) {
-            return Ok(Subject::Dropped(*event));
+    for number in known.useless {
+        if is_kept_event(known.trace, *number, kept) {
+            if let Some(reason) = known.reason(*number) {
+                let event = *number;
+                return Ok(Subject::Dropped(Dropped { event, reason }));
+            }
         }
     }
     for group in known.overwritten {
         if is_kept(kept, group.line) {
             return Ok(Subject::Overwritten(group.first));
+        }
+    }
+    last_subject(alloc, known, kept)
+}
+
+// The first of what is saved late or was never stored that speaks of the kept lines.
+fn last_subject(alloc: Global, known: Known<'_>, kept: &[u64]) -> Result<Subject, OutOfMemory> {
+    for number in known.late {
+        if is_kept_event(known.trace, *number, kept) {
+            return Ok(Subject::Late(*number));
+        }
+    }
+    for number in known.unwritten {
+        if speaks_of(alloc, known.trace, *number, kept)? {
+            return Ok(Subject::Unwritten(*number));
         }
     }
     Ok(Subject::Events)

@@ -7,11 +7,10 @@ use crate::fault::Fault;
 use crate::opener::Opener;
 use crate::writing::write_whole;
 use pmt_analysis::Analysis;
+use pmt_causes::Group;
 use pmt_draw::{Known, Label, Picture, Refusal, Span, View, picture_of, refusal_of, svg_text};
-use pmt_explain::{dropped, lost_groups, overwritten_groups};
-use pmt_explanation::Labels;
-use pmt_explanation::failures::failing_events;
-use pmt_explanation::ignoring::{lost_stores, overwritings};
+use pmt_explain::OverwrittenGroup;
+use pmt_explanation::{Choice, Explanation, Kind, Labels, Options, Unwritten, explanation_of};
 use pmt_model::OutOfMemory;
 use pmt_report::{RunError, analysed};
 use pmt_text::{Counted, SourceError};
@@ -40,14 +39,20 @@ where
 {
     let alloc = rt.alloc();
     let labels = labels_of(alloc, files, drawing.labels)?;
-    let drawn = drawn_of(rt, drawing, files, input)?;
+    let drawn = drawn_of(rt, drawing, &labels, files, input)?;
     let text = svg_of(alloc, &drawn, &labels)?;
     write_whole(out, text.as_bytes())?;
     Ok(0)
 }
 
 // What is drawn of the trace of the file or of `input`.
-fn drawn_of<T, O, I>(rt: &T, drawing: &Drawing<'_>, files: &O, input: I) -> Result<Picture, Fault>
+fn drawn_of<T, O, I>(
+    rt: &T,
+    drawing: &Drawing<'_>,
+    labels: &Labels,
+    files: &O,
+    input: I,
+) -> Result<Picture, Fault>
 where
     T: AllocGlobal + Threads + Wait + Sync,
     O: Opener,
@@ -57,7 +62,28 @@ where
     let bytes = bytes_of(alloc, drawing.file, files, input)?;
     let name = drawing.file.unwrap_or(STANDARD_INPUT);
     let analysis = analysis_of(rt, name, bytes.as_slice())?;
-    picture(alloc, &analysis, &drawing.view)
+    let options = Options {
+        ignored: Vec::new(alloc),
+        limit: 0,
+        choice: needed_by(drawing.view.span),
+    };
+    let explanation = explanation_of(alloc, analysis, labels, &options)?;
+    picture(alloc, &explanation, &drawing.view)
+}
+
+// The findings that a picture of the span needs: to draw what is told first all of them, and else those of the signs.
+fn needed_by(span: Span) -> Choice {
+    Choice {
+        only: match span {
+            Span::First => None,
+            Span::Failure(_) | Span::Around(_) | Span::Between { .. } => Some(Kind::Dropped),
+        },
+        thread: None,
+        range: None,
+        from: None,
+        to: None,
+        label: None,
+    }
 }
 
 // The analysis of the trace with this text and name.
@@ -77,43 +103,87 @@ where
     }
 }
 
-/// The picture that `draw` makes of the analysed trace where the words name no event and no line, as SVG.
+/// The picture of what the explanation tells first, as SVG.
 ///
 /// # Errors
 /// `OutOfMemory`.
-pub fn first_picture(alloc: Global, analysis: &Analysis, labels: &Labels) -> Result<String, Fault> {
+pub fn first_picture(
+    alloc: Global,
+    explanation: &Explanation,
+    labels: &Labels,
+) -> Result<String, Fault> {
     let view = View {
         span: Span::First,
         kept: Vec::new(alloc),
     };
-    let drawn = picture(alloc, analysis, &view)?;
+    let drawn = picture(alloc, explanation, &view)?;
     Ok(svg_of(alloc, &drawn, labels)?)
 }
 
-// The picture of the analysis, of which the view speaks.
-fn picture(alloc: Global, analysis: &Analysis, view: &View) -> Result<Picture, Fault> {
-    let trace = analysis.trace();
-    let findings = analysis.findings();
-    let failing = failing_events(alloc, analysis.verdicts())?;
-    let never = lost_stores(alloc, trace, findings, &[])?;
-    let lost = lost_groups(alloc, trace, never.as_slice())?;
-    let reasons = dropped(alloc, trace)?;
-    let pairs = overwritings(alloc, trace, findings, &[])?;
-    let overwritten = overwritten_groups(alloc, trace, pairs.as_slice())?;
+// The picture of what is explained, of which the view speaks.
+fn picture(alloc: Global, explanation: &Explanation, view: &View) -> Result<Picture, Fault> {
+    let analysis = &explanation.analysis;
+    let failing = members_of(alloc, explanation.causes.as_slice())?;
+    let useless = members_of(alloc, explanation.dropped_groups.as_slice())?;
+    let late = members_of(alloc, explanation.late.as_slice())?;
+    let overwritten = told_overwritten(alloc, explanation.overwritten.as_slice())?;
+    let unwritten = events_of(alloc, explanation.unwritten.as_slice())?;
     let known = Known {
-        trace,
+        trace: analysis.trace(),
         lines: analysis.lines() as u64,
         verdicts: analysis.verdicts(),
         failing: failing.as_slice(),
-        never: never.as_slice(),
-        lost: lost.as_slice(),
-        dropped: reasons.as_slice(),
+        never: explanation.stores.as_slice(),
+        lost: explanation.lost.as_slice(),
+        dropped: explanation.dropped.as_slice(),
+        useless: useless.as_slice(),
         overwritten: overwritten.as_slice(),
+        late: late.as_slice(),
+        unwritten: unwritten.as_slice(),
     };
     match refusal_of(known, view.span, view.kept.as_slice()) {
-        Some(refusal) => Err(refused(alloc, refusal, trace.len())?),
+        Some(refusal) => Err(refused(alloc, refusal, analysis.trace().len())?),
         None => Ok(picture_of(alloc, known, view)?),
     }
+}
+
+// The members of these groups, in their order.
+fn members_of<K>(alloc: Global, groups: &[Group<K>]) -> Result<Vec<u64>, OutOfMemory> {
+    let mut members = Vec::new(alloc);
+    for group in groups {
+        for number in group.members.as_slice() {
+            members.push(*number)?;
+        }
+    }
+    Ok(members)
+}
+
+// These groups, those first with most pairs that write other bytes, and then those with most pairs.
+fn told_overwritten(
+    alloc: Global,
+    groups: &[OverwrittenGroup],
+) -> Result<Vec<OverwrittenGroup>, OutOfMemory> {
+    let mut told = Vec::from_slice(alloc, groups)?;
+    told.sort_by_key(|group| rank_of(group))?;
+    Ok(told)
+}
+
+// The least of the group that stands first.
+fn rank_of(group: &OverwrittenGroup) -> (u64, u64) {
+    let differing = group.count.saturating_sub(group.same);
+    (
+        u64::MAX.saturating_sub(differing),
+        u64::MAX.saturating_sub(group.count),
+    )
+}
+
+// The events of these assertions.
+fn events_of(alloc: Global, found: &[Unwritten]) -> Result<Vec<u64>, OutOfMemory> {
+    let mut events = Vec::with_capacity(alloc, found.len())?;
+    for assertion in found {
+        events.push(assertion.event)?;
+    }
+    Ok(events)
 }
 
 // The fault of words that are not of the trace with so many events.

@@ -24,7 +24,7 @@ pub fn draw_command<'a>(alloc: Global) -> Result<Command<'a>, AllocError> {
         )
         .about("Draws what is safe when, as one SVG.")
         .after_help(
-            "Without --failure, --around and --from it draws what explain tells first: an assertion that fails, with what led to it; else stores that are never persisted; else what has no effect or is written over; else the first events. At most 120 events and 30 lines are drawn; the picture says what is left out.{n}Statuses: 0 done; 2 wrong words, or they are not of this trace; 3 trace or labels refused; 4 file fault; 5 out of memory{n}Example: pmtrim draw run.trace > run.svg",
+            "Without --failure, --around and --from it draws what explain tells first: an assertion that fails, with what led to it; else stores that are never persisted; else what has no effect, is written over, saved late or never stored; else the first events. At most 120 events and 30 lines are drawn; the picture says what is left out.{n}Statuses: 0 done; 2 wrong words, or they are not of this trace; 3 trace or labels refused; 4 file fault; 5 out of memory{n}Example: pmtrim draw run.trace > run.svg",
         );
     let placed = with_places(alloc, command)?;
     with_names(alloc, placed)

@@ -78,7 +78,7 @@ pub fn page_of<O: Opener>(
     bytes: &[u8],
 ) -> Result<Vec<u8>, Fault> {
     let text = people_text(alloc, &explanation, labels, &words)?;
-    let picture = first_picture(alloc, &explanation.analysis, labels)?;
+    let picture = first_picture(alloc, &explanation, labels)?;
     let digest = digest_of(bytes);
     let asked = Asked {
         text: whole_lines(text.as_slice()),
