@@ -1,13 +1,13 @@
 -- What a source has told and given while its events are taken block by block.
-use Rattle.std.proofs.Common.{◌≡◌, ◌≢◌, ℕ, zero, suc, ◌+◌, ◌<◌, ◌≤◌, inl, inr, ◌==◌, Bool, true, false, List, [], ◌∷◌, ◌++◌, length, get_or, take, Option, Some, None, IfSome, Result, Ok, Err, refl, sym, ap, subst, ◌∙◌, arith, eqb-true, append-nil, append_assoc}
+use Rattle.std.proofs.Common.{◌≡◌, ◌≢◌, ℕ, suc, ◌+◌, ◌<◌, ◌≤◌, inl, inr, ◌==◌, Bool, true, false, List, [], ◌∷◌, ◌++◌, length, Option, Some, None, IfSome, Result, Ok, Err, refl, sym, ap, subst, ◌∙◌, arith, eqb-true}
 use Rattle.std.specs.Prelude.{if◌then◌else◌, IfErr}
 use Rattle.std.specs.List.{AllByRecursion}
 use Rattle.std.proofs.lemmas.Bool.{eqb-false}
-use Rattle.std.proofs.lemmas.List.{length-append, take_more, take_all}
+use Rattle.std.proofs.lemmas.List.{length-append}
 use Rattle.std.proofs.lemmas.Option.{same_Some}
 use Rattle.pmt_model.specs.declared.event.Event.{Event}
 use Rattle.pmt_model.specs.Values.{Layout}
-use Rattle.pmt_model.specs.Traces.{Recording, IsEventIn, event_limit}
+use Rattle.pmt_model.specs.Traces.{Recording, IsTrace, IsEventIn, event_limit}
 use Rattle.pmt_model.specs.Pushing.{with_event, empty}
 use Rattle.pmt_laws.specs.Passing.{with_events}
 use Rattle.pmt_text.specs.declared.kind.SourceError.{SourceError}
@@ -231,28 +231,19 @@ module _ (A B : Type 0) (first mid now : Shown) (T : Recording) (e : TakeError) 
       go (refusals.Source f) h = reads-later first.failures mid.failures now.failures (Err f) so_far.same_reads h
       go refusals.OutOfMemory h = reads-later first.failures mid.failures now.failures untold_fault so_far.same_reads h
 
--- ---- A block is added to a trace
+-- ---- A block after a trace
 
--- the trace with the first n events of the block
-abbrev pub with_first : Recording → List Event → ℕ → Recording
-with_first T es n = with_events T (take n es)
+all-append : {X : Type 0} (P : X → Type 0) (xs ys : List X) → AllByRecursion P xs → AllByRecursion P ys → AllByRecursion P (xs ++ ys)
+all-append P [] ys first second = second
+all-append P (x ∷ xs) ys first second = (first.0, all-append P xs ys first.1 second)
 
-pub with_first-none : (T : Recording) (es : List Event) → T ≡ with_first T es 0
-with_first-none T es = ap (λ (xs : List Event). let R : Recording = record { format = T.format; events = xs } in R) (sym (append-nil T.events))
-
-pub with_first-more : (T : Recording) (es : List Event) (n : ℕ) (e : Event) → n < length es → e ≡ get_or es n e → with_event (with_first T es n) e ≡ with_first T es (n + 1)
-with_first-more T es n e within at =
-    ap (λ (xs : List Event). let R : Recording = record { format = T.format; events = xs } in R)
-    (append_assoc T.events (take n es) (e ∷ []) ∙ ap (λ (xs : List Event). T.events ++ xs) (ap (λ x. take n es ++ x ∷ []) at ∙ sym (take_more es n e within)))
-
-pub with_first-all : (T : Recording) (es : List Event) (n : ℕ) → length es ≤ n → with_first T es n ≡ with_events T es
-with_first-all T es n past = ap (λ (xs : List Event). with_events T xs) (take_all n es past)
-
--- each event of the block is of its format
-pub each-known : (f : Layout) (es : List Event) (n : ℕ) (e : Event) → AllByRecursion (IsEventIn f) es → n < length es → e ≡ get_or es n e → IsEventIn f e
-each-known f [] n e each within at = absurd (omega arith)
-each-known f (x ∷ es) zero e each within at = subst (IsEventIn f) (sym at) each.0
-each-known f (x ∷ es) (suc n) e each within at = each-known f es n e each.1 (omega arith) at
+-- the events taken so far and those of the next block are a trace
+pub next-trace : (most : ℕ) (first mid now : Shown) (T B : Recording) → SoFar first mid T → TakesBlock most mid now B → IsTrace T → IsTrace B → IsTrace (with_events T B.events)
+next-trace most first mid now T B so_far block before next = record {
+  format = before.format;
+  few = omega (arith, length-append T.events B.events, so_far.roomy, block.roomy);
+  each = all-append (IsEventIn T.format) T.events B.events before.each (subst (λ (f : Layout). AllByRecursion (IsEventIn f) B.events) (block.same_format T.format so_far.in_format) next.each);
+}
 
 -- ---- What is left to take
 

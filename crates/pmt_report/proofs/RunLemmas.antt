@@ -1,6 +1,8 @@
 -- Runs: what was taken from the source, and the answer that was written.
-use Rattle.std.proofs.Common.{◌≡◌, ℕ, ◌*◌, ◌≤◌, inl, inr, List, ◌++◌, length, map, reverse, Option, Some, None, Result, Ok, Err, refl, sym, ap, ◌∙◌, subst, arith, length-append}
-use Rattle.std.specs.List.{flat_map}
+use Rattle.std.proofs.Common.{◌≡◌, ℕ, ◌*◌, ◌≤◌, inl, inr, Bool, List, ◌++◌, length, map, reverse, Option, Some, None, Result, Ok, Err, refl, sym, ap, ◌∙◌, subst, arith, length-append}
+use Rattle.std.specs.Prelude.{◌||◌, IfOk}
+use Rattle.std.specs.Io.KnownBytes.{Appends}
+use Rattle.std.specs.List.{flat_map, list_any}
 use Rattle.std.proofs.lemmas.List.{take-append-le}
 use Rattle.pmt_model.specs.declared.event.Event.{Event}
 use Rattle.pmt_model.specs.Values.{Layout}
@@ -14,11 +16,15 @@ use Rattle.pmt_text.specs.declared.source.SourceState.{SourceState}
 use Rattle.pmt_lines.specs.Sourcing.{TakesFirst}
 use Rattle.pmt_trim.specs.Streaming.{IsTextOfTrimmed}
 use Rattle.pmt_trim.specs.WholeTexts.{IsTextOfWhole}
-use Rattle.pmt_report.specs.Reports.{fronts_head, front_entry, fronts_text}
+use Rattle.pmt_report.specs.Reports.{fronts_head, front_entry, fronts_text, report}
 use Rattle.pmt_report.specs.Taking.{EndsAfter}
 use Rattle.pmt_report.specs.declared.fault.RunError.{RunError}
 use Rattle.pmt_report.specs.declared.fault.RunError.TheVariants.{BadWorkers, Text, TooMany, Read, PastEnd, OutOfMemory, Write}
-use Rattle.pmt_report.specs.Runs.{IsComputed, IsFrontsAt, WritesText, Runs}
+use Rattle.pmt_report.specs.Runs.{IsAnalysisFault, IsComputed, IsFrontsAt, WritesText, Runs}
+use Rattle.pmt_analysis.specs.Analysing.{Analysed, IsAnalysed}
+use Rattle.pmt_report.specs.declared.checked.CheckedTrace.{CheckedTrace}
+use Rattle.pmt_report.specs.Checking.{IsFoundIn}
+use Rattle.pmt_report.specs.Checks.{TellsCheck, IsReportOf, is_failure, is_loss, report_for, unanswered}
 
 -- a trace with more events at its end
 abbrev longer : Recording → List Event → Recording
@@ -85,3 +91,29 @@ text-computed told coming text bytes same is whole =
       all = subst (λ (o : Option Coming). ComesWhole o whole.trace) same whole.come;
       answer = subst (IsTextOfTrimmed whole.trace) (sym is) whole.right;
     }
+
+-- the analysis that was found
+abbrev found_in : Recording → CheckedTrace → Analysed
+found_in T c = record { trace = T; lines = c.swept.lines; findings = c.swept.findings.items; verdicts = c.swept.verdicts.items; selection = c.swept.selection }
+
+-- what a check tells whose text was computed
+module _ (coming : Option Coming) (old new : Option (List ℕ)) (T : Recording) (c : CheckedTrace) (text : List ℕ) (failed : Bool) (found : IsFoundIn T c) (comes : ComesWhole coming T)
+    (is : text ≡ report c.events c.swept.lines c.swept.findings.items c.swept.verdicts.items (length c.swept.selection)) (judged : failed ≡ (list_any is_failure c.swept.verdicts.items || list_any is_loss c.swept.findings.items)) where
+  right : IsAnalysed (found_in T c)
+  right = record { is_trace = found.is_trace; right = found.right }
+
+  reported : text ≡ report_for (found_in T c)
+  reported = is ∙ ap (λ n. report n c.swept.lines c.swept.findings.items c.swept.verdicts.items (length c.swept.selection)) found.counted
+
+  computed : IsComputed IsReportOf coming text
+  computed = record { trace = T; all = comes; answer = record { analysis = found_in T c; right = right; of_trace = refl; report = reported } }
+
+  pub check-told : (done : Result (Unit {0}) RunError) (answer : Result Bool RunError) → WritesText old new text done → unanswered answer ≡ done → IfOk answer (λ a. a ≡ failed) → TellsCheck coming old new answer
+  check-told done (Ok b) writes same tells = record {
+    analysis = found_in T c;
+    right = right;
+    all = comes;
+    written = subst (Appends old new) reported (subst (WritesText old new text) (sym same) writes);
+    judged = tells ∙ judged;
+  }
+  check-told done (Err e) writes same tells = runs-written IsReportOf IsAnalysisFault coming old new text (Err e) computed (subst (WritesText old new text) (sym same) writes)

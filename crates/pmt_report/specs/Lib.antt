@@ -6,5 +6,6 @@ pub mod Reports
 pub mod Taking
 pub mod Blocks
 pub mod Checks
+pub mod Checking
 pub mod Runs
 pub mod FrontsOf

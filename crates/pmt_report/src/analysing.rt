@@ -9,7 +9,6 @@ ghost use Rattle.pmt_workers.specs.Halving.{is_worker_count};
 ghost use Rattle.pmt_report.specs.Runs.{IsAnalysisFault, coming_from_reader, run_read_faults, tells_workers};
 
 use crate::fault::{RunError, run_error};
-use crate::overlapping::swept_beside;
 use crate::swept::swept;
 use pmt_analysis::Analysis;
 use pmt_lines::TakeError;
@@ -20,13 +19,13 @@ use std::io::Read;
 use std::sync::Wait;
 use std::thread::Threads;
 
-/// The analysis of the trace whose text the reader gives, by this many workers. The reader is handed back.
+/// The analysis of the trace whose text the reader gives, made in one thread for every number of workers. The reader is handed back.
 ///
 /// # Errors
 /// In this order: `BadWorkers` unless there are 1, 2, 4, 8 or 16, in which case nothing is read; `Text`, `TooMany` and `Read` as
 /// the bytes come, `OutOfMemory`.
 pub fn analysed<T: Threads + Wait + Sync, R: Read>(
-    rt: &T,
+    _rt: &T,
     alloc: Global,
     workers: usize,
     reader: Counted<R>,
@@ -43,31 +42,11 @@ pub fn analysed<T: Threads + Wait + Sync, R: Read>(
         return (reader, Err(RunError::BadWorkers));
     }
     let mut source = TextSource::new(alloc, reader);
-    let found = analysis_from(rt, alloc, &mut source, workers);
+    let found = swept(alloc, &mut source);
     let reader = source.into_input();
     match found {
         Ok(analysis) => (reader, Ok(analysis)),
         Err(TakeError::Source(fault)) => (reader, Err(run_error(fault))),
         Err(TakeError::OutOfMemory) => (reader, Err(RunError::OutOfMemory)),
     }
-}
-
-// The analysis of the trace whose events the source has still to give, by one pass over them; where there are two workers or more, one of
-// them reads the next events meanwhile.
-fn analysis_from<T: Threads + Sync, S: EventSource>(
-    rt: &T,
-    alloc: Global,
-    source: &mut S,
-    workers: usize,
-) -> Result<Analysis, TakeError>
-    ensures right { IfOk result IsAnalysed }
-    ensures whole { IfOk result (λ a. ComesWhole (S.coming source.old) a.trace) }
-    ensures fault { IfErr (told_by result) (λ e. IfSome (S.coming source.old) (λ c. IsFaultOf c e)) }
-    ensures told { TellsTaken (S.state source.old) result (S.state source.new) }
-    ensures failures { CountsReads (S.failures source.old) (told_by result) (S.failures source.new) }
-{
-    if workers == 1 {
-        return swept(alloc, source);
-    }
-    swept_beside(rt, alloc, source)
 }

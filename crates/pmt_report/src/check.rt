@@ -1,17 +1,19 @@
 //! The run that checks a trace, and what it tells of the analysis.
-ghost use Rattle.std.specs.Prelude.{◌≡◌, ◌+◌, ◌-◌, ◌^◌, ◌<◌, true, not, IfOk};
+ghost use Rattle.std.specs.Prelude.{◌≡◌, ◌+◌, ◌-◌, ◌^◌, ◌<◌, ◌||◌, true, not, length, IfOk};
 ghost use Rattle.std.specs.List.{list_any};
 ghost use Rattle.pmt_text.specs.Counting.{failure_count, inner_device};
 ghost use Rattle.pmt_workers.specs.Halving.{is_worker_count};
 ghost use Rattle.pmt_report.specs.Checks.{TellsCheck, has_failed, is_failure, is_loss, report_for, unanswered};
+ghost use Rattle.pmt_report.specs.Reports.{report};
 ghost use Rattle.pmt_report.specs.Runs.{coming_from_reader, run_read_faults, tells_workers, write_faults};
 
-use crate::analysing::analysed;
+use crate::checked::{CheckedTrace, checked};
 use crate::fault::RunError;
 use crate::output::write_answer;
 use crate::report::report_of;
 use pmt_analysis::Analysis;
 use pmt_model::{Finding, OutOfMemory, Verdict};
+use pmt_sweep::Swept;
 use pmt_text::Counted;
 use std::alloc::Global;
 use std::io::{Read, Write};
@@ -39,17 +41,39 @@ pub fn run_check<T: Threads + Wait + Sync, R: Read, W: Write>(
     ensures read_failures { failure_count result.0 ≡ failure_count reader + run_read_faults result.1 }
     ensures write_failures { failure_count writer.new ≡ failure_count writer.old + write_faults result.1 }
 {
-    let (reader, found) = analysed(rt, alloc, workers, reader);
+    let (reader, found) = checked(rt, alloc, workers, reader);
     match found {
-        Ok(analysis) => match report_text(alloc, &analysis) {
+        Ok(checked) => match text_of(alloc, &checked) {
             Ok(text) => {
                 let done = write_answer(writer, text.as_slice());
-                (reader, answered(done, failed(&analysis)))
+                (reader, answered(done, is_failed(&checked.swept)))
             }
             Err(_) => (reader, Err(RunError::OutOfMemory)),
         },
         Err(error) => (reader, Err(error)),
     }
+}
+
+// The report of what was found.
+fn text_of(alloc: Global, checked: &CheckedTrace) -> Result<Vec<u8>, OutOfMemory>
+    ensures { IfOk result (λ text. text.items ≡ report checked.now.events checked.now.swept.lines checked.now.swept.findings.items checked.now.swept.verdicts.items (length checked.now.swept.selection)) }
+{
+    let swept = &checked.swept;
+    report_of(
+        alloc,
+        checked.events,
+        swept.lines as u64,
+        swept.findings.as_slice(),
+        swept.verdicts.as_slice(),
+        swept.selection.len() as u64,
+    )
+}
+
+// Whether a verdict fails or a store is never persisted.
+fn is_failed(swept: &Swept) -> bool
+    ensures { result ≡ (list_any is_failure swept.now.verdicts.items || list_any is_loss swept.now.findings.items) }
+{
+    some_fails(swept.verdicts.as_slice()) || some_is_lost(swept.findings.as_slice())
 }
 
 // The answer, where all went well.

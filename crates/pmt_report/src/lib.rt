@@ -5,13 +5,13 @@
 
 pub mod analysing;
 pub mod check;
+mod checked;
 pub mod explaining;
 pub mod fault;
 mod fronts;
 pub mod fronts_run;
 pub mod listing;
 mod output;
-mod overlapping;
 pub mod record_fault;
 mod report;
 mod swept;

@@ -3,7 +3,6 @@ ghost use Rattle.std.specs.Prelude.{◌≡◌, ◌+◌, ◌<◌, ◌≤◌, List
 ghost use Rattle.pmt_model.specs.Pushing.{with_event};
 ghost use Rattle.pmt_model.specs.Traces.{event_limit, IsEventIn};
 ghost use Rattle.pmt_model.specs.declared.event.Event.{Event as EventValue};
-ghost use Rattle.pmt_laws.specs.Passing.{with_events};
 ghost use Rattle.pmt_text.specs.declared.source.SourceState.{SourceState};
 ghost use Rattle.pmt_text.specs.Sources.{CountsReads};
 ghost use Rattle.pmt_lines.specs.Sourcing.{IsFaultOf, TellsRefusal, told_by};
@@ -51,18 +50,6 @@ pub(crate) fn take_block<S: EventSource>(
         }
     }
     Ok(block)
-}
-
-// Adds the events of the block to the trace, which has room for them.
-pub(crate) fn append(trace: &mut Trace, block: &Trace) -> Result<(), OutOfMemory>
-    requires format { block.now.format ≡ trace.old.format }
-    requires room { length trace.old.events + length block.now.events ≤ event_limit }
-    ensures { OnOk result (trace.new ≡ with_events trace.old block.now.events) }
-{
-    for event in block.events() {
-        add(trace, *event)?;
-    }
-    Ok(())
 }
 
 // Adds an event that the trace has room for, and that is of its format: memory alone may be refused.

@@ -264,7 +264,7 @@ pub rows-known : (T : Recording) (n : ℕ) (j : Judging) → IsKnownTo T n j →
 rows-known T n j known = subst (λ k. AreRows (history T k) j.progress.rows) known.here known.sweep.rows
 
 pub known-within : (T : Recording) (n : ℕ) (j : Judging) → IsKnownTo T n j → n ≤ length T.events
-known-within T n j known = subst (λ k. k ≤ length T.events) known.here known.sweep.within
+known-within T n j known = subst (λ k. k ≤ length T.events) known.here known.sweep.linked.within
 
 -- where no distance is told, no byte of the range lies in the line
 pub apart-of_part : (T : Recording) (A : Span) (l b : ℕ) (p : Part) → IsTrace T → AreDistances T.format A l p → p.high ≤ p.low → InSpan A b → line_of T.format b ≡ l → ⊥

@@ -11,10 +11,12 @@ use Rattle.pmt_laws.proofs.Histories.{act-unique, act-within, history-act, histo
 use Rattle.pmt_laws.proofs.OverwrittenLemmas.{equal_or_before, last_store_number-is, last_store_number-from}
 use Rattle.pmt_lines.proofs.TraceLemmas.{size-of_format, store-of_trace, byte-line}
 use Rattle.pmt_sweep.specs.declared.byte_tables.ByteTable.{ByteTable}
+use Rattle.pmt_sweep.specs.declared.note.Note.{Note}
+use Rattle.pmt_sweep.specs.Storing.{IsFromTable}
 use Rattle.pmt_sweep.specs.Rows.{last_line_store}
 use Rattle.pmt_sweep.specs.Chains.{AreChained, IsLink, IsLastAfter}
 use Rattle.pmt_sweep.specs.ByteTables.{IsLastTo, IsLastBut, AreOfBytes, IsTable, AreTables, Notes}
-use Rattle.pmt_sweep.proofs.ChainLemmas.{AreStored, written}
+use Rattle.pmt_sweep.proofs.ChainLemmas.{AreStored, chain-end, step-link, written}
 use Rattle.pmt_sweep.proofs.OverwritingLemmas.{bytes-line}
 use Rattle.pmt_sweep.proofs.WriterLemmas.{store-within}
 use Rattle.pmt_sweep.proofs.JudgingLemmas.{store-low}
@@ -105,24 +107,24 @@ module _ (T : Recording) (l n upto m next b : ℕ) (w : Written) (within : n ≤
   last-new found it less old = record { store = inr (w, is, it); by_now = by_now; last = λ j v later to known act. old.last j v (omega (arith, less, later)) to (inr later) act }
 
   -- by the addresses of the bytes that it stores
-  last-noted : (low high found new : ℕ) → AreStored T (suc m) low high →
+  last-noted : (low high found new : ℕ) → AreStored T l (suc m) low high →
       ((low ≤ b) × (b < high) × (((new ≡ found) × (suc m ≤ found)) ⊎ ((new ≡ suc m) × (found ≤ suc m)))) ⊎ (((b < low) ⊎ (high ≤ b)) × (new ≡ found)) →
       IsLastBut T l n upto (suc m) b found → IsLastBut T l n upto next b new
   last-noted low high found new stored (inl (from, to, inl (same, greater))) old =
       subst (IsLastBut T l n upto next b) (sym same) (last-kept found (inr greater) old)
   last-noted low high found new stored (inl (from, to, inr (mine, less))) old =
-      let at = stored l w is in
+      let at = stored w is in
       let inside : (nat_le low b && nat_lt b high) ≡ true = grind (arith, from, to) in
       subst (IsLastBut T l n upto next b) (sym mine) (last-new found (written w b low high true at.0 at.1 inside) less old)
   last-noted low high found new stored (inr (apart, same)) old =
-      let at = stored l w is in
+      let at = stored w is in
       let outside : (nat_le low b && nat_lt b high) ≡ false = grind (arith, apart) in
       subst (IsLastBut T l n upto next b) (sym same) (last-kept found (inl (written w b low high false at.0 at.1 outside)) old)
 
 -- and so for each byte of the line
 pub bytes-noted :
     (T : Recording) (l n upto number low high from to : ℕ) (before old new : List ℕ) → n ≤ length T.events → length before ≡ n → AreChained T before →
-    IsLink T l n number → 0 < number → AreStored T number low high → from ≡ low - l * T.format.line_size → to ≡ high - l * T.format.line_size →
+    IsLink T l n number → 0 < number → AreStored T l number low high → from ≡ low - l * T.format.line_size → to ≡ high - l * T.format.line_size →
     Notes number from to old new → AreOfBytes T l (IsLastBut T l n upto number) old → AreOfBytes T l (IsLastBut T l n upto (slice_index before (number - 1))) new
 bytes-noted T l n upto zero low high from to before old new within size chained link some stored f t notes are = absurd (omega (arith, some))
 bytes-noted T l n upto (suc m) low high from to before old new within size chained link some stored f t notes are = go link.store
@@ -152,6 +154,44 @@ bytes-noted T l n upto (suc m) low high from to before old new within size chain
             place (inl left) _ = inr (inl (omega (arith, left, f)), notes.outside o (inl left))
             place (inr after) (inr right) = inr (inr (omega (arith, right, t)), notes.outside o (inr right))
             place (inr after) (inl before_to) = inl (omega (arith, after, f), omega (arith, before_to, t), notes.inside o after before_to (omega (arith, small, are.size)))
+
+-- while the stores to a line are gone over
+
+-- Of the first n events those up to event upto and those after event number are noted.
+pub record IsNotedFrom (T : Recording) (l n upto number : ℕ) (numbers : List ℕ) : Type 0 where
+  pub link : IsLink T l n number
+  pub bytes : AreOfBytes T l (IsLastBut T l n upto number) numbers
+
+module _ (T : Recording) (before : List ℕ) (notes : List Note) (l start last : ℕ) (h : IsFromTable T before notes l start last) where
+  pub noted-start : (upto : ℕ) (numbers : List ℕ) → upto ≤ length before → AreOfBytes T l (IsLastTo T l upto) numbers → IsNotedFrom T l (length before) upto last numbers
+  noted-start upto numbers by_now are =
+      let n = length before in
+      let e = sym h.store in
+      record {
+        link = subst (IsLink T l n) e (chain-end T l n h.linked.trace h.linked.within).link;
+        bytes = record {
+          size = are.size;
+          each = λ o small. subst (λ number. IsLastBut T l n upto number (l * T.format.line_size + o) (slice_index numbers o)) e
+              (last-start T l n upto (l * T.format.line_size + o) (slice_index numbers o) h.linked.within by_now (are.each o small));
+        };
+      }
+
+  pub noted-less : (upto number : ℕ) (numbers : List ℕ) → 0 < number → IsNotedFrom T l (length before) upto number numbers → slice_index before (number - 1) < number
+  noted-less upto number numbers some noted = (step-link T l (length before) number before h.linked.trace refl h.linked.within h.linked.chained noted.link some).1
+
+  pub noted-back :
+      (upto number low high from to : ℕ) (old new : List ℕ) → 0 < number → AreStored T l number low high → from ≡ low - start → to ≡ high - start → Notes number from to old new →
+      IsNotedFrom T l (length before) upto number old → IsNotedFrom T l (length before) upto (slice_index before (number - 1)) new
+  noted-back upto number low high from to old new some stored from_is to_is notes_new noted = record {
+    link = (step-link T l (length before) number before h.linked.trace refl h.linked.within h.linked.chained noted.link some).0;
+    bytes = bytes-noted T l (length before) upto number low high from to before old new h.linked.within refl h.linked.chained noted.link some stored (from_is ∙ ap (λ m. low - m) h.first) (to_is ∙ ap (λ m. high - m) h.first) notes_new noted.bytes;
+  }
+
+pub noted-all : (T : Recording) (l n upto number : ℕ) (numbers : List ℕ) → number ≤ upto → IsNotedFrom T l n upto number numbers → AreOfBytes T l (IsLastTo T l n) numbers
+noted-all T l n upto number numbers past noted = record {
+  size = noted.bytes.size;
+  each = λ o small. last-end T l n upto number (l * T.format.line_size + o) (slice_index numbers o) past (noted.bytes.each o small);
+}
 
 -- what the table of a line tells of a byte
 
@@ -241,3 +281,8 @@ tables-set T n tables place t inside is are k d within = elim (cases_eq k place)
   | inl same ↦ subst (λ j. IsTable T n (get_or (set tables place t) j d)) (sym same) (subst (IsTable T n) (sym (get_or-set_same tables place t d inside)) is)
   | inr other ↦ subst (IsTable T n) (sym (get_or-set_other tables place k t d other)) (are k d (omega (arith, within, length-set tables place t)))
 ]
+
+-- what a table tells that was brought up
+pub table-told : (T : Recording) (n l : ℕ) (t : ByteTable) → t.line ≡ l → t.upto ≡ n → IsTable T n t → AreOfBytes T l (IsLastTo T l n) t.numbers.items
+table-told T n l t line upto is =
+    subst (λ k. AreOfBytes T k (IsLastTo T k n) t.numbers.items) line (subst (λ m. AreOfBytes T t.line (IsLastTo T t.line m) t.numbers.items) upto is.just)

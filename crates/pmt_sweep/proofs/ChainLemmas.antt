@@ -95,9 +95,9 @@ pub last-here : (T : Recording) (l n m b : ℕ) (w : Written) → m ≤ length T
 last-here T l n m b w within is it so_far =
     so_far ∙ ap (last_store_number b) (history-act T m (Stores l w) is) ∙ rw it (ap (λ k. Some (suc k)) (length-history T m within))
 
--- These are the addresses of the bytes that event number stores, where it is a store.
-abbrev pub AreStored : Recording → ℕ → ℕ → ℕ → Type 0
-AreStored T number low high = (l : ℕ) (w : Written) → IsAct T number (Stores l w) → (low ≡ w.addr) × (high ≡ w.addr + length w.bytes)
+-- These are the addresses of the bytes that event number stores, where it is a store to line l.
+abbrev pub AreStored : Recording → ℕ → ℕ → ℕ → ℕ → Type 0
+AreStored T l number low high = (w : Written) → IsAct T number (Stores l w) → (low ≡ w.addr) × (high ≡ w.addr + length w.bytes)
 
 -- whether a store writes a byte, by the addresses
 pub written : (w : Written) (b low high : ℕ) (v : Bool) → low ≡ w.addr → high ≡ w.addr + length w.bytes → (nat_le low b && nat_lt b high) ≡ v → writes w b ≡ v
@@ -114,18 +114,18 @@ written w b low high false from to e = go (writes w b) refl
     go true p = let at = byte-from_writes w b p in absurd (grind (arith, from, to, at.0, at.1, e))
 
 -- at a store after event flush that writes the byte
-pub step-here : (T : Recording) (l n flush number b low high : ℕ) → n ≤ length T.events → IsLink T l n number → flush < number → IsUnwrittenFrom T n number b → AreStored T number low high → (nat_le low b && nat_lt b high) ≡ true → IsLastAfter T n flush b number
+pub step-here : (T : Recording) (l n flush number b low high : ℕ) → n ≤ length T.events → IsLink T l n number → flush < number → IsUnwrittenFrom T n number b → AreStored T l number low high → (nat_le low b && nat_lt b high) ≡ true → IsLastAfter T n flush b number
 step-here T l n flush zero b low high within link later so_far stored it = absurd (omega (arith, later))
 step-here T l n flush (suc m) b low high within link later so_far stored it = go link.store
   where
     go : (suc m ≡ 0) ⊎ ((w : Written) × IsAct T (suc m) (Stores l w)) → IsLastAfter T n flush b (suc m)
     go (inl e) = absurd (omega (arith, e))
     go (inr x) =
-        let at = stored l x.0 x.1 in
+        let at = stored x.0 x.1 in
         inr (later, last-here T l n m b x.0 (omega (arith, link.by_now, within)) x.1 (written x.0 b low high true at.0 at.1 it) so_far)
 
 -- and at one that doesn't
-pub step-back : (T : Recording) (l n number b low high : ℕ) (before : List ℕ) → IsTrace T → length before ≡ n → n ≤ length T.events → AreChained T before → IsLink T l n number → 0 < number → line_of T.format b ≡ l → IsUnwrittenFrom T n number b → AreStored T number low high → (nat_le low b && nat_lt b high) ≡ false →
+pub step-back : (T : Recording) (l n number b low high : ℕ) (before : List ℕ) → IsTrace T → length before ≡ n → n ≤ length T.events → AreChained T before → IsLink T l n number → 0 < number → line_of T.format b ≡ l → IsUnwrittenFrom T n number b → AreStored T l number low high → (nat_le low b && nat_lt b high) ≡ false →
     IsUnwrittenFrom T n (slice_index before (number - 1)) b
 step-back T l n zero b low high before is_trace size within chained link some line so_far stored other = absurd (omega (arith, some))
 step-back T l n (suc m) b low high before is_trace size within chained link some line so_far stored other = go link.store
@@ -136,7 +136,7 @@ step-back T l n (suc m) b low high before is_trace size within chained link some
     go : (suc m ≡ 0) ⊎ ((w : Written) × IsAct T (suc m) (Stores l w)) → IsUnwrittenFrom T n (slice_index before (suc m - 1)) b
     go (inl none) = absurd (omega (arith, none))
     go (inr x) =
-        let at = stored l x.0 x.1 in
+        let at = stored x.0 x.1 in
         subst (λ k. IsUnwrittenFrom T n (slice_index before k) b) (sym e)
         (chain-back T l n m b before x.0 is_trace size within chained link.by_now x.1 line (written x.0 b low high false at.0 at.1 other) so_far)
 

@@ -4,15 +4,12 @@ use Rattle.std.specs.Prelude.{◌↔◌, ◌||◌, if◌then◌else◌, IsTrue, 
 use Rattle.std.proofs.lemmas.Bool.{eqb-true, eq-eqb, ne_eqb}
 use Rattle.std.proofs.Math.Bool.{or-true}
 use Rattle.std.proofs.lemmas.List.{length-append, length-map, length-set}
-use Rattle.std.proofs.lemmas.Option.{none-some, same_Some, slice_get-get_or, slice_get_within, slice_get_read}
-use Rattle.pmt_model.specs.declared.event.Event.{Event}
-use Rattle.pmt_model.specs.declared.event.Op.{Op}
-use Rattle.pmt_model.specs.declared.event.Op.TheVariants.{Store, Clwb, ClflushOpt, Clflush, Sfence, Mfence, IsPersist, IsOrderedBefore}
+use Rattle.std.proofs.lemmas.Option.{none-some, same_Some, slice_get_within, slice_get_read}
 use Rattle.pmt_model.specs.declared.finding.Finding.{Finding}
 use Rattle.pmt_model.specs.declared.finding.Finding.TheVariants.{Overwritten, NeverPersisted, RedundantFlush, FenceWithoutFlush}
-use Rattle.pmt_model.specs.Values.{Written, line_of}
+use Rattle.pmt_model.specs.Values.{Written}
 use Rattle.pmt_model.specs.Machine.{Act, Stores, Flushes, Clflushes, Fences, Asserts, count}
-use Rattle.pmt_model.specs.Traces.{Recording, has_line, with_line, lines_of, act_of, IsAct, history, count_at}
+use Rattle.pmt_model.specs.Traces.{Recording, has_line, with_line, lines_of, IsAct, history, count_at}
 use Rattle.pmt_model.specs.Fronts.{front, front_at}
 use Rattle.pmt_model.specs.Findings.{IsNeverPersisted, IsFlushedAfter, last_flush}
 use Rattle.pmt_model.specs.Analyses.{reported_at, IsReportedBefore, InReportOrder, HasFinding, IsFinding}
@@ -25,8 +22,11 @@ use Rattle.pmt_sweep.specs.declared.rows.LineRow.{LineRow}
 use Rattle.pmt_sweep.specs.declared.ending.LineEnd.{LineEnd}
 use Rattle.pmt_sweep.specs.Known.{is_known_late, AreKnownLate}
 use Rattle.pmt_sweep.specs.Rows.{line_in, AreRows, IsPlaceOf, IsRow}
-use Rattle.pmt_sweep.specs.Ending.{StandAt}
-use Rattle.pmt_sweep.specs.LineEnds.{is_store, IsEndOf, AreEnds}
+use Rattle.pmt_sweep.specs.Ending.{IsAtEnd}
+use Rattle.pmt_sweep.specs.declared.note.Note.{Note}
+use Rattle.pmt_sweep.specs.declared.note.Note.TheVariants.{Store, Flush, Clflush, Fence, Assertion}
+use Rattle.pmt_sweep.specs.Notes.{is_store, IsNoted}
+use Rattle.pmt_sweep.specs.LineEnds.{IsEndOf, AreEnds}
 use Rattle.pmt_sweep.proofs.JoiningLemmas.{finding-at}
 
 -- So the first of the rows end, before any store was gone over.
@@ -85,22 +85,13 @@ set-cases (x ∷ xs) zero v (suc q) y is = inr (λ e. omega (arith, e), is)
 set-cases (x ∷ xs) (suc p) v zero y is = inr (λ e. omega (arith, e), is)
 set-cases (x ∷ xs) (suc p) v (suc q) y is = elim (set-cases xs p v q y is) [ inl h ↦ inl (ap suc h.0, h.1) | inr h ↦ inr (λ e. h.0 (omega (arith, e)), h.1) ]
 
--- an event that is a store, and its line
-pub store-at : (T : Recording) (n : ℕ) (d : Event) → n < length T.events → is_store (get_or T.events n d).op ≡ true → (l : ℕ) × (w : Written) × IsAct T (suc n) (Stores l w)
-store-at T n d within is = go (get_or T.events n d).op refl is
-  where
-    e : Event
-    e = get_or T.events n d
-
-    go : (op : Op) → e.op ≡ op → is_store op ≡ true → (l : ℕ) × (w : Written) × IsAct T (suc n) (Stores l w)
-    go (Store w) same yes_store = (line_of T.format w.addr, w, (e, slice_get-get_or T.events n d within, ap (act_of T.format e.thread) same))
-    go (Clwb a) same not = absurd (let x : ⊥ = cc in x)
-    go (ClflushOpt a) same not = absurd (let x : ⊥ = cc in x)
-    go (Clflush a) same not = absurd (let x : ⊥ = cc in x)
-    go Sfence same not = absurd (let x : ⊥ = cc in x)
-    go Mfence same not = absurd (let x : ⊥ = cc in x)
-    go (IsPersist r) same not = absurd (let x : ⊥ = cc in x)
-    go (IsOrderedBefore r q) same not = absurd (let x : ⊥ = cc in x)
+-- an event that is noted as a store, and its line
+pub store-at : (T : Recording) (n : ℕ) (note : Note) → IsNoted T (suc n) note → is_store note ≡ true → (l : ℕ) × (w : Written) × IsAct T (suc n) (Stores l w)
+store-at T n (Store low count) noted is = (noted.line, noted.what, noted.is_store)
+store-at T n (Flush t) noted is = absurd (let x : ⊥ = cc in x)
+store-at T n Clflush noted is = absurd (let x : ⊥ = cc in x)
+store-at T n (Fence t) noted is = absurd (let x : ⊥ = cc in x)
+store-at T n Assertion noted is = absurd (let x : ⊥ = cc in x)
 
 -- an event that is no store, and the counts after it
 pub record IsNoStore (T : Recording) (n : ℕ) : Type 0 where
@@ -113,24 +104,12 @@ no_store-at T n a is other same = record {
   same = λ l. ap (count l) (history-act T n a is) ∙ same l;
 }
 
-pub other-at : (T : Recording) (n : ℕ) (d : Event) → n < length T.events → is_store (get_or T.events n d).op ≡ false → IsNoStore T n
-other-at T n d within is = go (get_or T.events n d).op refl is
-  where
-    e : Event
-    e = get_or T.events n d
-
-    this : (op : Op) → e.op ≡ op → IsAct T (suc n) (act_of T.format e.thread op)
-    this op same = (e, slice_get-get_or T.events n d within, ap (act_of T.format e.thread) same)
-
-    go : (op : Op) → e.op ≡ op → is_store op ≡ false → IsNoStore T n
-    go (Store w) same not = absurd (let x : ⊥ = cc in x)
-    go (Clwb a) same other = no_store-at T n (Flushes e.thread (line_of T.format a)) (this (Clwb a) same) (λ l w eq. let x : ⊥ = cc in x) (λ l. refl)
-    go (ClflushOpt a) same other = no_store-at T n (Flushes e.thread (line_of T.format a)) (this (ClflushOpt a) same) (λ l w eq. let x : ⊥ = cc in x) (λ l. refl)
-    go (Clflush a) same other = no_store-at T n (Clflushes (line_of T.format a)) (this (Clflush a) same) (λ l w eq. let x : ⊥ = cc in x) (λ l. refl)
-    go Sfence same other = no_store-at T n (Fences e.thread) (this Sfence same) (λ l w eq. let x : ⊥ = cc in x) (λ l. refl)
-    go Mfence same other = no_store-at T n (Fences e.thread) (this Mfence same) (λ l w eq. let x : ⊥ = cc in x) (λ l. refl)
-    go (IsPersist r) same other = no_store-at T n Asserts (this (IsPersist r) same) (λ l w eq. let x : ⊥ = cc in x) (λ l. refl)
-    go (IsOrderedBefore r q) same other = no_store-at T n Asserts (this (IsOrderedBefore r q) same) (λ l w eq. let x : ⊥ = cc in x) (λ l. refl)
+pub other-at : (T : Recording) (n : ℕ) (note : Note) → IsNoted T (suc n) note → is_store note ≡ false → IsNoStore T n
+other-at T n (Store low count) noted other = absurd (let x : ⊥ = cc in x)
+other-at T n (Flush t) noted other = no_store-at T n (Flushes t noted.0) noted.1 (λ l w eq. let x : ⊥ = cc in x) (λ l. refl)
+other-at T n Clflush noted other = no_store-at T n (Clflushes noted.0) noted.1 (λ l w eq. let x : ⊥ = cc in x) (λ l. refl)
+other-at T n (Fence t) noted other = no_store-at T n (Fences t) noted (λ l w eq. let x : ⊥ = cc in x) (λ l. refl)
+other-at T n Assertion noted other = no_store-at T n Asserts noted (λ l w eq. let x : ⊥ = cc in x) (λ l. refl)
 
 -- two tests of the same fact
 same-test : (P : Type 0) (a b : Bool) → IsTrue a ↔ P → IsTrue b ↔ P → a ≡ b
@@ -313,26 +292,22 @@ ends-other T n rows ends other are = record { size = are.size; each = each }
     each : (l p : ℕ) (e : LineEnd) → IsPlaceOf l p rows → slice_get ends p ≡ Some e → IsEndOf T (suc n) l e
     each l p e at there = let x = are.each l p e at there in record { safe = omega (arith, x.safe, other.same l); flush = x.flush }
 
--- what a test of the next event tells
-pub test-at : (T : Recording) (events : List Event) (n : ℕ) (e : Event) (b : Bool) → events ≡ T.events → n < length events → e ≡ get_or events n e → b ≡ is_store e.op → (n < length T.events) × (is_store (get_or T.events n e).op ≡ b)
-test-at T events n e b same within is tested =
-    let there : e ≡ get_or T.events n e = is ∙ ap (λ es. get_or es n e) same in
-    (omega (arith, within, ap length same), ap (λ x. is_store x.op) (sym there) ∙ sym tested)
-
 -- no event was gone over, one more, and all
 pub gone-none : (T : Recording) (rows : List LineRow) (ends : List LineEnd) (found : List Finding) → found ≡ [] → AreEnds T 0 rows ends → IsGoneOver T rows 0 ends found
 gone-none T rows ends found none are = record { ends_then = are; found_then = subst (AreLateTo T 0) (sym none) (late-none T) }
 
-pub gone-place : (T : Recording) (n : ℕ) (rows : List LineRow) (places : List ℕ) (ends : List LineEnd) (found : List Finding) (d : Event) → length places ≡ length T.events → StandAt T rows places → n < length T.events → is_store (get_or T.events n d).op ≡ true → IsGoneOver T rows n ends found → get_or places n 0 < length ends
-gone-place T n rows places ends found d all standing within is gone =
-    let x = store-at T n d within is in
-    place-within T n rows ends x.0 (get_or places n 0) gone.ends_then (standing n x.0 x.1 (omega (arith, all, within)) x.2)
+pub gone-place : (T : Recording) (n : ℕ) (rows : List LineRow) (places : List ℕ) (notes : List Note) (ends : List LineEnd) (found : List Finding) (d : Note) → IsAtEnd T rows places notes → n < length notes → is_store (get_or notes n d) ≡ true → IsGoneOver T rows n ends found → get_or places n 0 < length ends
+gone-place T n rows places notes ends found d end within is gone =
+    let x = store-at T n (get_or notes n d) (end.noted n d within) is in
+    place-within T n rows ends x.0 (get_or places n 0) gone.ends_then (end.standing n x.0 (Stores x.0 x.1) (omega (arith, end.all, end.all_noted, within)) x.2 refl)
 
-pub gone-store : (T : Recording) (n : ℕ) (rows : List LineRow) (places : List ℕ) (ends new_ends : List LineEnd) (found new_found : List Finding) (end new : LineEnd) (d : Event) → AreRows (history T (length T.events)) rows → length places ≡ length T.events → StandAt T rows places → n < length T.events → is_store (get_or T.events n d).op ≡ true → end ≡ get_or ends (get_or places n 0) end → new.safe ≡ end.safe - 1 → new.flush ≡ end.flush → new_ends ≡ set ends (get_or places n 0) new → new_found ≡ found ++ found_if (end.safe == 0) (NeverPersisted (n + 1) (nat_lt (n + 1) end.flush)) → IsGoneOver T rows n ends found → IsGoneOver T rows (n + 1) new_ends new_found
-gone-store T n rows places ends new_ends found new_found end new d are all standing within is at_end safe flush changed added gone =
+pub gone-store :
+    (T : Recording) (n : ℕ) (rows : List LineRow) (places : List ℕ) (notes : List Note) (ends new_ends : List LineEnd) (found new_found : List Finding) (end new : LineEnd) (d : Note) → IsAtEnd T rows places notes → n < length notes → is_store (get_or notes n d) ≡ true →
+    end ≡ get_or ends (get_or places n 0) end → new.safe ≡ end.safe - 1 → new.flush ≡ end.flush → new_ends ≡ set ends (get_or places n 0) new → new_found ≡ found ++ found_if (end.safe == 0) (NeverPersisted (n + 1) (nat_lt (n + 1) end.flush)) → IsGoneOver T rows n ends found → IsGoneOver T rows (n + 1) new_ends new_found
+gone-store T n rows places notes ends new_ends found new_found end new d at_end within is end_is safe flush changed added gone =
     rw (changed, added, next)
     (record {
-      ends_then = ends-store T n x.0 place x.1 rows ends end new are x.2 at there safe flush gone.ends_then;
+      ends_then = ends-store T n x.0 place x.1 rows ends end new at_end.are_rows x.2 at there safe flush gone.ends_then;
       found_then = late-store T n x.0 x.1 end found x.2 (gone.ends_then.each x.0 place end at there) gone.found_then;
     })
   where
@@ -340,20 +315,20 @@ gone-store T n rows places ends new_ends found new_found end new d are all stand
     next = omega arith
 
     x : (l : ℕ) × (w : Written) × IsAct T (suc n) (Stores l w)
-    x = store-at T n d within is
+    x = store-at T n (get_or notes n d) (at_end.noted n d within) is
 
     place : ℕ
     place = get_or places n 0
 
     at : IsPlaceOf x.0 place rows
-    at = standing n x.0 x.1 (omega (arith, all, within)) x.2
+    at = at_end.standing n x.0 (Stores x.0 x.1) (omega (arith, at_end.all, at_end.all_noted, within)) x.2 refl
 
     there : slice_get ends place ≡ Some end
-    there = slice_get_read ends (length ends) place end refl (place-within T n rows ends x.0 place gone.ends_then at) at_end
+    there = slice_get_read ends (length ends) place end refl (place-within T n rows ends x.0 place gone.ends_then at) end_is
 
-pub gone-other : (T : Recording) (n : ℕ) (rows : List LineRow) (ends : List LineEnd) (found : List Finding) (d : Event) → n < length T.events → is_store (get_or T.events n d).op ≡ false → IsGoneOver T rows n ends found → IsGoneOver T rows (n + 1) ends found
-gone-other T n rows ends found d within is gone =
-    let other : IsNoStore T n = other-at T n d within is in
+pub gone-other : (T : Recording) (n : ℕ) (rows : List LineRow) (places : List ℕ) (notes : List Note) (ends : List LineEnd) (found : List Finding) (d : Note) → IsAtEnd T rows places notes → n < length notes → is_store (get_or notes n d) ≡ false → IsGoneOver T rows n ends found → IsGoneOver T rows (n + 1) ends found
+gone-other T n rows places notes ends found d end within is gone =
+    let other : IsNoStore T n = other-at T n (get_or notes n d) (end.noted n d within) is in
     let next : n + 1 ≡ suc n = omega arith in
     subst (λ m. IsGoneOver T rows m ends found) (sym next) (record { ends_then = ends-other T n rows ends other gone.ends_then; found_then = late-other T n found other gone.found_then })
 

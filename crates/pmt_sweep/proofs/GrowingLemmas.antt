@@ -1,18 +1,23 @@
 -- What is known of the first events of a trace stays known where more events follow.
-use Rattle.std.proofs.Common.{◌≡◌, ℕ, suc, ◌+◌, ◌*◌, ◌-◌, ◌≤◌, inl, inr, Bool, true, false, List, length, drop, get_or, map, sym, ap, subst, ◌∙◌, true≢false, arith}
-use Rattle.std.specs.Prelude.{◌↔◌, IsTrue, slice_index, Result, Ok, Err, OnOk}
+use Rattle.std.proofs.Common.{◌≡◌, ℕ, suc, ◌+◌, ◌*◌, ◌-◌, ◌<◌, ◌≤◌, inl, inr, Bool, true, false, List, [], length, get_or, map, Some, refl, sym, ap, subst, ◌∙◌, true≢false, arith}
+use Rattle.std.specs.Prelude.{◌↔◌, IsTrue, slice_get, slice_index, Result, Ok, Err, OnOk}
 use Rattle.std.specs.List.{list_any}
-use Rattle.std.proofs.lemmas.List.{length-append}
+use Rattle.std.proofs.lemmas.List.{get_or-append-add, length-append}
+use Rattle.std.proofs.lemmas.List.Folds.{list_any-append}
+use Rattle.std.proofs.lemmas.Option.{slice_get-get_or}
 use Rattle.pmt_model.specs.declared.event.Event.{Event}
 use Rattle.pmt_model.specs.declared.finding.Finding.{Finding}
 use Rattle.pmt_model.specs.declared.finding.Finding.TheVariants.{Overwritten, NeverPersisted, RedundantFlush, FenceWithoutFlush}
 use Rattle.pmt_model.specs.declared.finding.Verdict.{Verdict}
-use Rattle.pmt_model.specs.Machine.{Stores, Flushes, Clflushes, Fences, Ends, count}
-use Rattle.pmt_model.specs.Traces.{Recording, history}
+use Rattle.pmt_model.specs.Machine.{Stores, Flushes, Clflushes, Fences, Asserts, Ends, count}
+use Rattle.pmt_model.specs.Values.{Layout}
+use Rattle.pmt_model.specs.Formats.{IsFormat}
+use Rattle.pmt_model.specs.Pushing.{empty}
+use Rattle.pmt_model.specs.Traces.{Recording, IsTrace, history}
 use Rattle.pmt_model.specs.Fronts.{front}
 use Rattle.pmt_model.specs.Assertions.{PersistPasses, OrderedPasses}
 use Rattle.pmt_model.specs.Findings.{IsFlushOf, ByFlush, ByClflush, IsSafe, IsCovered}
-use Rattle.pmt_model.specs.Analyses.{IsFinding, reported_at, IsVerdictOf, OfPersist, OfOrdered}
+use Rattle.pmt_model.specs.Analyses.{IsFinding, reported_at, IsVerdictOf, IsVerdicts, OfPersist, OfOrdered}
 use Rattle.pmt_model.specs.Keeping.{IsKept}
 use Rattle.pmt_model.specs.Selections.{Has}
 use Rattle.pmt_laws.specs.Passing.{with_events, open_flushes, IsOpenFlush}
@@ -24,10 +29,14 @@ use Rattle.pmt_sweep.specs.declared.rows.LineRow.{LineRow}
 use Rattle.pmt_sweep.specs.declared.byte_tables.ByteTable.{ByteTable}
 use Rattle.pmt_sweep.specs.declared.writers.Writer.{Writer}
 use Rattle.pmt_sweep.specs.declared.sweeping.Progress.{Progress}
+use Rattle.pmt_sweep.specs.declared.judging.Judging.{Judging}
 use Rattle.pmt_sweep.specs.declared.growing.Sweeper.{Sweeper}
 use Rattle.pmt_sweep.specs.Known.{is_known_late, AreKnownTo}
 use Rattle.pmt_sweep.specs.Rows.{AreRows, last_line_store}
-use Rattle.pmt_sweep.specs.Chains.{AreChained}
+use Rattle.pmt_sweep.specs.Chains.{AreChained, AreLinked}
+use Rattle.pmt_sweep.specs.declared.note.Note.{Note}
+use Rattle.pmt_sweep.specs.declared.note.Note.TheVariants.{Store, Flush, Clflush, Fence, Assertion}
+use Rattle.pmt_sweep.specs.Notes.{IsNoted}
 use Rattle.pmt_sweep.specs.ByteTables.{IsLastTo, AreTables}
 use Rattle.pmt_sweep.specs.Ending.{StandAt}
 use Rattle.pmt_sweep.specs.OpenFlushes.{AreNumbered, number_in}
@@ -37,8 +46,9 @@ use Rattle.pmt_sweep.specs.Writers.{AreWriters, IsSafe as IsSafeFrom}
 use Rattle.pmt_sweep.specs.LineWriters.{AreLineWriters, writers_at}
 use Rattle.pmt_sweep.specs.VerdictsSoFar.{AreVerdictsTo}
 use Rattle.pmt_sweep.specs.Judging.{IsJudgingOf}
-use Rattle.pmt_sweep.proofs.VerdictsSoFar.{verdicts-rest}
-use Rattle.pmt_sweep.specs.Growing.{HasTaken, HasSwept, HasSweptFirst}
+use Rattle.pmt_sweep.proofs.VerdictsSoFar.{verdicts-empty, verdicts-end}
+use Rattle.pmt_sweep.specs.Rejudging.{HasTakenAll}
+use Rattle.pmt_sweep.specs.Growing.{AreNext, HasSwept}
 
 -- ---- Findings of two traces with the same events up to place n
 
@@ -128,8 +138,24 @@ module _ (S : Recording) (more : List Event) where
   chained-more before few chained i l w within is =
       chained i l w within (act-less S more (suc i) (Stores l w) (omega (arith, within, few)) is) ∙ ap (last_line_store l) (sym (history-more S more i (omega (arith, within, few))))
 
+  noted-same : (number : ℕ) (note : Note) → number ≤ length S.events → IsNoted S number note → IsNoted grown number note
+  noted-same number (Store low count) few is = record { line = is.line; what = is.what; is_store = act-more S more number (Stores is.line is.what) is.is_store; from = is.from; many = is.many }
+  noted-same number (Flush t) few is = (is.0, act-more S more number (Flushes t is.0) is.1)
+  noted-same number Clflush few is = (is.0, act-more S more number (Clflushes is.0) is.1)
+  noted-same number (Fence t) few is = act-more S more number (Fences t) is
+  noted-same number Assertion few is = act-more S more number Asserts is
+
+  linked-more : (before : List ℕ) (notes : List Note) → IsTrace grown → AreLinked S before notes → AreLinked grown before notes
+  linked-more before notes trace linked = record {
+    trace = trace;
+    within = omega (arith, linked.within, length-append S.events more);
+    chained = chained-more before linked.within linked.chained;
+    all = linked.all;
+    noted = λ i d within. noted-same (suc i) (get_or notes i d) (omega (arith, within, linked.all, linked.within)) (linked.noted i d within);
+  }
+
   standing-more : (rows : List LineRow) (places : List ℕ) → length places ≤ length S.events → StandAt S rows places → StandAt grown rows places
-  standing-more rows places few standing i l w within is = standing i l w within (act-less S more (suc i) (Stores l w) (omega (arith, within, few)) is)
+  standing-more rows places few standing i l a within is line = standing i l a within (act-less S more (suc i) a (omega (arith, within, few)) is) line
 
   last_to-more : (l n b number : ℕ) → n ≤ length S.events → IsLastTo S l n b number → IsLastTo grown l n b number
   last_to-more l n b number few is = record {
@@ -180,17 +206,17 @@ module _ (S : Recording) (more : List Event) where
         | inr d ↦ (decided_stays S more k d).1.1 kept
       ]
 
-  sweep-more : (s : Progress) → taken s ≡ length S.events → IsSweepOf S s → IsSweepOf grown s
-  sweep-more s all sweep =
-      let here : history S (taken s) ≡ history grown (taken s) = sym (history-more S more (taken s) sweep.within) in
+  sweep-more : (s : Progress) → IsTrace grown → taken s ≡ length S.events → IsSweepOf S s → IsSweepOf grown s
+  sweep-more s trace all sweep =
+      let here : history S (taken s) ≡ history grown (taken s) = sym (history-more S more (taken s) sweep.linked.within) in
       record {
-        within = omega (arith, sweep.within, length-append S.events more);
+        format = sweep.format;
+        linked = linked-more s.before.items s.notes.items trace sweep.linked;
         rows = subst (λ h. AreRows h s.rows) here sweep.rows;
         opens = subst (λ h. AreOpen h s.rows s.open_flushes) here sweep.opens;
-        chained = chained-more s.before.items sweep.within sweep.chained;
-        tables = tables-more (taken s) s.tables sweep.within sweep.tables;
+        tables = tables-more (taken s) s.tables sweep.linked.within sweep.tables;
         all = sweep.all;
-        standing = standing-more s.rows s.places.items (omega (arith, sweep.all, sweep.within)) sweep.standing;
+        standing = standing-more s.rows s.places.items (omega (arith, sweep.all, sweep.linked.within)) sweep.standing;
         known = subst (λ n. AreKnownTo grown n s.found.items) (sym all) (known-more s.found.items (subst (λ n. AreKnownTo S n s.found.items) all sweep.known));
         numbered = subst (λ h. AreNumbered h s.rows s.open_flushes s.open_numbers) here sweep.numbered;
         flags = subst (λ n. AreFlagsTo grown n s.kept.items) (sym all) (flags-more s.kept.items (subst (λ n. AreFlagsTo S n s.kept.items) all sweep.flags));
@@ -247,43 +273,103 @@ module _ (S : Recording) (more : List Event) where
 
   -- ---- A sweep
 
-  taken-more : (s : Sweeper) → HasSwept S s → HasTaken grown (length S.events) s
-  taken-more s swept = record {
-    here = swept.here;
-    sweep = sweep-more s.judging.progress swept.here swept.sweep;
-    writers = λ judges. line_writers-more (length S.events) s.judging.progress.rows s.judging.writers (omega arith) (swept.writers judges);
-    verdicts = verdicts-more s.judging.verdicts.items swept.verdicts;
+  judging-more : (j : Judging) → IsTrace grown → IsJudgingOf S (length S.events) j → IsJudgingOf grown (length S.events) j
+  judging-more j trace is = record {
+    known = record {
+      here = is.known.here;
+      sweep = sweep-more j.progress trace is.known.here is.known.sweep;
+      writers = line_writers-more (length S.events) j.progress.rows j.writers (omega arith) is.known.writers;
+    };
+    verdicts = verdicts-more j.verdicts.items is.verdicts;
   }
 
--- It has taken the first events of the trace that has grown.
-pub first-taken : (T : Recording) (s : Sweeper) → HasSweptFirst T s → HasTaken T (taken s.judging.progress) s
-first-taken T s first =
-    let swept = first.3 in
-    let grown = taken-more first.0 first.1 s swept in
-    subst (λ n. HasTaken T n s) (sym swept.here) (subst (λ U. HasTaken U (length first.0.events) s) (sym first.2) grown)
+  next-more : AreNext grown (length S.events) more
+  next-more i d within =
+      slice_get-get_or grown.events (length S.events + i) d (omega (arith, within, length-append S.events more)) ∙ ap (λ (e : Event). Some e) (get_or-append-add S.events more i d)
 
--- What one that judges knows is what a judging sweep knows.
-pub judging-of : (T : Recording) (n : ℕ) (s : Sweeper) → HasTaken T n s → s.judges ≡ true → IsJudgingOf T n s.judging
-judging-of T n s has judges = record {
-  known = record { here = has.here; sweep = has.sweep; writers = has.writers judges };
-  verdicts = has.verdicts;
-}
+-- These events come next, counted otherwise.
+pub next-counted : (T : Recording) (n k : ℕ) (es : List Event) → k ≡ n → AreNext T n es → AreNext T k es
+next-counted T n k es e are = subst (λ m. AreNext T m es) (sym e) are
 
-pub taken-judging : (T : Recording) (n : ℕ) (s : Sweeper) → IsJudgingOf T n s.judging → HasTaken T n s
-taken-judging T n s is = record { here = is.known.here; sweep = is.known.sweep; writers = λ judges. is.known.writers; verdicts = is.verdicts }
+-- The next one of them.
+pub next-one : (T : Recording) (n k i : ℕ) (es : List Event) (e : Event) → AreNext T n es → i < length es → k ≡ n + i → e ≡ get_or es i e → slice_get T.events k ≡ Some e
+next-one T n k i es e are within at is = ap (slice_get T.events) at ∙ are i e within ∙ ap (λ (x : Event). Some x) (sym is)
 
--- One that does not judge has taken events without assertions.
-pub taken-unjudged :
-    (T : Recording) (n : ℕ) (s new : Sweeper) → HasTaken T n s → new.judges ≡ false → new.judging.verdicts ≡ s.judging.verdicts → list_any event_asserts (drop n T.events) ≡ false →
-    IsSweepOf T new.judging.progress → taken new.judging.progress ≡ length T.events → HasSwept T new
-taken-unjudged T n s new has unjudged same none sweep all = record {
-  here = all;
+-- What a sweep knows that judges, before and after more events.
+pub judging-before : (S : Recording) (es : List Event) (s : Sweeper) → IsTrace (with_events S es) → HasSwept S s → s.judges ≡ true → IsJudgingOf (with_events S es) (taken s.judging.progress) s.judging
+judging-before S es s trace swept judges = subst (λ n. IsJudgingOf (with_events S es) n s.judging) (sym swept.here) (judging-more S es s.judging trace (swept.judging judges))
+
+pub next-before : (S : Recording) (es : List Event) (s : Sweeper) → HasSwept S s → AreNext (with_events S es) (taken s.judging.progress) es
+next-before S es s swept = next-counted (with_events S es) (length S.events) (taken s.judging.progress) es swept.here (next-more S es)
+
+pub rejudged-before : (S : Recording) (es : List Event) (j : Judging) → IsTrace (with_events S es) → IsJudgingOf S (length S.events) j → IsJudgingOf (with_events S es) (taken j.progress) j
+rejudged-before S es j trace is = subst (λ n. IsJudgingOf (with_events S es) n j) (sym is.known.here) (judging-more S es j trace is)
+
+pub rejudged-next : (S : Recording) (es : List Event) (j : Judging) → IsJudgingOf S (length S.events) j → AreNext (with_events S es) (taken j.progress) es
+rejudged-next S es j is = next-counted (with_events S es) (length S.events) (taken j.progress) es is.known.here (next-more S es)
+
+pub swept-judging : (S : Recording) (es : List Event) (n : ℕ) (new : Sweeper) → new.judges ≡ true → n ≡ length S.events → IsJudgingOf (with_events S es) (n + length es) new.judging → HasSwept (with_events S es) new
+swept-judging S es n new judges count is =
+    let T = with_events S es in
+    let all : n + length es ≡ length T.events = omega (arith, count, length-append S.events es) in
+    let whole : IsJudgingOf T (length T.events) new.judging = subst (λ m. IsJudgingOf T m new.judging) all is in
+    record {
+      here = whole.known.here;
+      sweep = whole.known.sweep;
+      judging = λ e. whole;
+      unasserted = λ e. absurd (true≢false (sym judges ∙ e));
+      none = λ e. absurd (true≢false (sym judges ∙ e));
+    }
+
+pub swept-unjudged :
+    (S : Recording) (es : List Event) (s new : Sweeper) → HasSwept S s → s.judges ≡ false → new.judges ≡ s.judges → new.judging.verdicts ≡ s.judging.verdicts → list_any event_asserts es ≡ false →
+    IsSweepOf (with_events S es) new.judging.progress → taken new.judging.progress ≡ taken s.judging.progress + length es → HasSwept (with_events S es) new
+swept-unjudged S es s new swept unjudged same verdicts none sweep all = record {
+  here = omega (arith, all, swept.here, length-append S.events es);
   sweep = sweep;
-  writers = λ judges. absurd (true≢false (sym judges ∙ unjudged));
-  verdicts = subst (λ vs. AreVerdictsTo T (length T.events) vs.items) (sym same) (verdicts-rest T n s.judging.verdicts.items (subst (λ k. k ≤ length T.events) has.here has.sweep.within) none has.verdicts);
+  judging = λ e. absurd (true≢false (sym e ∙ same ∙ unjudged));
+  unasserted = λ e. list_any-append event_asserts S.events es ∙ rw (swept.unasserted unjudged) none;
+  none = λ e. ap (λ v. v.items) verdicts ∙ swept.none unjudged;
 }
+
+-- What was swept was taken whole.
+pub taken-all : (S : Recording) (s : Sweeper) → HasSwept S s → s.judges ≡ false → HasTakenAll S s.judging.progress
+taken-all S s swept unjudged = record { sweep = swept.sweep; all = swept.here; none = swept.unasserted unjudged }
+
+-- The verdicts of all events.
+pub swept-verdicts : (T : Recording) (s : Sweeper) → HasSwept T s → IsVerdicts T s.judging.verdicts.items
+swept-verdicts T s swept = go s.judges refl
+  where
+    go : (b : Bool) → s.judges ≡ b → IsVerdicts T s.judging.verdicts.items
+    go true e = verdicts-end T s.judging.verdicts.items (swept.judging e).verdicts
+    go false e = subst (IsVerdicts T) (sym (swept.none e)) (verdicts-empty T (swept.unasserted e))
 
 -- Two facts of a call that may have been refused memory.
 pub on_ok-both : {A E : Type 0} (r : Result A E) (P Q R : Type 0) → (P → Q → R) → OnOk r P → OnOk r Q → OnOk r R
 on_ok-both (Ok x) P Q R both p q = both p q
 on_ok-both (Err e) P Q R both p q = tt
+
+pub on_ok-more : {A E : Type 0} (r : Result A E) (P R : Type 0) → (P → R) → OnOk r P → OnOk r R
+on_ok-more (Ok x) P R more p = more p
+on_ok-more (Err e) P R more p = tt
+
+pub judging-here : (T : Recording) (n : ℕ) (j : Judging) → IsJudgingOf T n j → IsJudgingOf T (taken j.progress) j
+judging-here T n j is = subst (λ m. IsJudgingOf T m j) (sym is.known.here) is
+
+-- One that does not judge, before more events.
+pub sweep-before : (S : Recording) (es : List Event) (s : Sweeper) → IsTrace (with_events S es) → HasSwept S s → IsSweepOf (with_events S es) s.judging.progress
+sweep-before S es s trace swept = sweep-more S es s.judging.progress trace swept.here swept.sweep
+
+-- No event yet.
+pub swept-none : (f : Layout) (s : Sweeper) → IsFormat f → s.judges ≡ false → s.judging.verdicts.items ≡ [] → ((T : Recording) → IsTrace T → T.format ≡ f → IsJudgingOf T 0 s.judging) → HasSwept (empty f) s
+swept-none f s format unjudged none is =
+    let T = empty f in
+    let trace : IsTrace T = record { format = format; few = omega arith; each = tt } in
+    let judging = is T trace refl in
+    record { here = judging.known.here; sweep = judging.known.sweep; judging = λ e. judging; unasserted = λ e. refl; none = λ e. none }
+
+-- All events at once.
+pub swept-whole : (T : Recording) (f : Layout) (es : List Event) (s : Sweeper) → f ≡ T.format → es ≡ T.events → IsTrace T → (IsTrace (with_events (empty f) es) → HasSwept (with_events (empty f) es) s) → HasSwept T s
+swept-whole T f es s same_f same_es trace swept =
+    let whole : with_events (empty f) es ≡ T = rw (same_f, same_es) refl in
+    subst (λ (U : Recording). HasSwept U s) whole (swept (subst IsTrace (sym whole) trace))

@@ -1,8 +1,7 @@
 -- A sweep that judges stays right with each event that it takes.
-use Rattle.std.proofs.Common.{◌≡◌, ◌≢◌, ℕ, suc, ◌+◌, ◌*◌, ◌/◌, ◌≤◌, ◌⊎◌, inl, inr, ◌==◌, true, false, List, [], ◌∷◌, length, map, refl, sym, ap, subst, ◌∙◌, arith}
-use Rattle.std.specs.Prelude.{◌<◌, ◌||◌, if◌then◌else◌, get_or, slice_get, slice_index}
+use Rattle.std.proofs.Common.{◌≡◌, ◌≢◌, ℕ, suc, ◌+◌, ◌*◌, ◌/◌, ◌≤◌, ◌⊎◌, inl, inr, ◌==◌, true, false, List, [], ◌∷◌, length, map, refl, sym, ap, subst, ◌∙◌}
+use Rattle.std.specs.Prelude.{◌||◌, if◌then◌else◌, slice_get}
 use Rattle.std.proofs.lemmas.Bool.{cases_eq, eq-eqb, ne_eqb, true≢false}
-use Rattle.std.proofs.lemmas.List.{get_or_default}
 use Rattle.std.proofs.lemmas.Option.{same_Some}
 use Rattle.pmt_model.specs.Values.{Written}
 use Rattle.pmt_model.specs.Machine.{Act, Stores, Clflushes, Fences, count}
@@ -14,7 +13,6 @@ use Rattle.pmt_lines.proofs.TraceLemmas.{store-of_trace}
 use Rattle.pmt_sweep.specs.declared.rows.LineRow.{LineRow}
 use Rattle.pmt_sweep.specs.declared.writers.Writer.{Writer}
 use Rattle.pmt_sweep.specs.declared.judging.Judging.{Judging}
-use Rattle.pmt_sweep.specs.declared.sweeping.Progress.{Progress}
 use Rattle.pmt_sweep.specs.Rows.{line_in, IsPlaceOf, AreRows, HasOpen}
 use Rattle.pmt_sweep.specs.Sweeping.{IsSweepOf, taken}
 use Rattle.pmt_sweep.specs.LineWriters.{AreLineWriters, TakesOverAt, SettlesAll}
@@ -120,15 +118,6 @@ pub store-low : (T : Recording) (n l : ℕ) (s : Written) → IsTrace T → IsAc
 store-low T n l s trace is =
     let own : s.addr / T.format.line_size ≡ l = (store-of_trace T n l s trace is).line in
     subst (λ k. k * T.format.line_size ≤ s.addr) own (div-mul-le_self s.addr T.format.line_size)
-
--- the last one of the places is that of the store that has just come
-pub last-stands :
-    (T : Recording) (n l : ℕ) (s : Written) (new : Progress) → IsSweepOf T new → taken new ≡ suc n → IsAct T (suc n) (Stores l s) →
-    (i place : ℕ) → i ≡ n → place ≡ get_or new.places.items i place → IsPlaceOf l place new.rows
-last-stands T n l s new sweep one is i place at read =
-    let within : n < length new.places.items = omega (arith, sweep.all, one) in
-    let here : slice_index new.places.items n ≡ place = get_or_default new.places.items n 0 place within ∙ ap (λ k. get_or new.places.items k place) (sym at) ∙ sym read in
-    subst (λ p. IsPlaceOf l p new.rows) here (sweep.standing n l s within is)
 
 -- no event has come
 pub known-start : (T : Recording) (j : Judging) → IsSweepOf T j.progress → taken j.progress ≡ 0 → j.writers ≡ [] → IsKnownTo T 0 j

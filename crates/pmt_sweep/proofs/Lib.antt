@@ -3,7 +3,9 @@ pub mod FenceLemmas
 pub mod JoiningLemmas
 pub mod EndingLemmas
 pub mod KnownLemmas
+pub mod NoteLemmas
 pub mod ChainLemmas
+pub mod StoringLemmas
 pub mod ByteTableLemmas
 pub mod OverwritingLemmas
 pub mod OpenLemmas
@@ -22,4 +24,5 @@ pub mod VerdictsSoFar
 pub mod FindLemmas
 pub mod AnswerLemmas
 pub mod JudgingLemmas
+pub mod RejudgingLemmas
 pub mod GrowingLemmas

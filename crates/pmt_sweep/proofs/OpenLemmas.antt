@@ -219,5 +219,8 @@ lines-within (Asserts ∷ h) = omega (arith, lines-within h)
 pub few-rows : (h : List Act) (l : ℕ) (rows : List LineRow) → map line_in rows ≡ with_line l (lines_of h) → length rows ≤ suc (length h)
 few-rows h l rows lines = omega (arith, length-map rows line_in, ap length lines, few_with l (lines_of h), lines-within h)
 
+pub rows-within : (h : List Act) (rows : List LineRow) → map line_in rows ≡ lines_of h → length rows ≤ length h
+rows-within h rows lines = omega (arith, length-map rows line_in, ap length lines, lines-within h)
+
 pub longer-same : (rows new : List LineRow) → map line_in new ≡ map line_in rows → length rows ≤ length new
 longer-same rows new same = omega (arith, length-map rows line_in, length-map new line_in, ap length same)

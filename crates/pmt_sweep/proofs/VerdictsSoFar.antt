@@ -1,5 +1,5 @@
 -- The verdicts so far, while the events go by.
-use Rattle.std.proofs.Common.{◌≡◌, ◌≢◌, ℕ, zero, suc, ◌<◌, ◌≤◌, ◌⊎◌, inl, inr, true, false, List, [], ◌∷◌, ◌++◌, length, drop, Some, None, refl, sym, ap, subst, ◌∙◌, arith}
+use Rattle.std.proofs.Common.{◌≡◌, ◌≢◌, ℕ, zero, suc, ◌<◌, ◌≤◌, ◌⊎◌, inl, inr, true, false, List, [], ◌∷◌, ◌++◌, length, Some, None, refl, sym, ap, subst, ◌∙◌, arith}
 use Rattle.std.specs.List.{list_any, slice_get}
 use Rattle.std.proofs.lemmas.Bool.{cases_lt, false≢true, or_parts}
 use Rattle.std.proofs.lemmas.Option.{same_Some, none-some}
@@ -123,7 +123,7 @@ unasserted [] i e none is = absurd (none-some e is)
 unasserted (x ∷ es) zero e none is = subst (λ (y : Event). event_asserts y ≡ false) (same_Some x e is) (or_parts (event_asserts x) (list_any event_asserts es) none).0
 unasserted (x ∷ es) (suc i) e none is = unasserted es i e (or_parts (event_asserts x) (list_any event_asserts es) none).1 is
 
-event-unasserted : (T : Recording) (n : ℕ) (e : Event) → list_any event_asserts T.events ≡ false → event T n ≡ Some e → event_asserts e ≡ false
+pub event-unasserted : (T : Recording) (n : ℕ) (e : Event) → list_any event_asserts T.events ≡ false → event T n ≡ Some e → event_asserts e ≡ false
 event-unasserted T zero e none is = absurd (none-some e is)
 event-unasserted T (suc i) e none is = unasserted T.events i e none is
 
@@ -134,28 +134,3 @@ verdicts-empty T none = record { ordered = tt; just = λ v. (λ has. absurd has,
     never v is =
         let judged = verdict-event T v is in
         false≢true (sym (event-unasserted T v.event judged.0 none judged.1) ∙ judged.2)
-
--- the other events are no assertions
-
-unasserted-from : (es : List Event) (n i : ℕ) (e : Event) → list_any event_asserts (drop n es) ≡ false → n ≤ i → slice_get es i ≡ Some e → event_asserts e ≡ false
-unasserted-from es zero i e none h is = unasserted es i e none is
-unasserted-from [] (suc n) i e none h is = absurd (none-some e is)
-unasserted-from (x ∷ es) (suc n) zero e none h is = absurd (omega arith)
-unasserted-from (x ∷ es) (suc n) (suc i) e none h is = unasserted-from es n i e none (omega arith) is
-
-pub verdicts-rest : (T : Recording) (n : ℕ) (vs : List Verdict) → n ≤ length T.events → list_any event_asserts (drop n T.events) ≡ false → AreVerdictsTo T n vs → AreVerdictsTo T (length T.events) vs
-verdicts-rest T n vs few none are = record {
-  ordered = are.ordered;
-  just = λ v. (
-    (λ has. let x = (are.just v).0 has in (x.0, omega (arith, x.1, few))),
-    (λ x. (are.just v).1 (x.0, by_now v x.0 (cases_lt n v.event))),
-  );
-}
-  where
-    later : (k : ℕ) (e : Event) → n < k → event T k ≡ Some e → event_asserts e ≡ false
-    later zero e past at = absurd (omega (arith, past))
-    later (suc i) e past at = unasserted-from T.events n i e none (omega (arith, past)) at
-
-    by_now : (v : Verdict) → IsVerdictOf T v → (n < v.event) ⊎ (v.event ≤ n) → v.event ≤ n
-    by_now v is (inl past) = let judged = verdict-event T v is in absurd (false≢true (sym (later v.event judged.0 past judged.1) ∙ judged.2))
-    by_now v is (inr before) = before

@@ -2,14 +2,24 @@
 use Rattle.std.specs.Prelude.{◌≡◌, ℕ, suc, ◌<◌, ◌≤◌, ◌⊎◌, List, length, Some, slice_index}
 use Rattle.pmt_model.specs.Values.{Written}
 use Rattle.pmt_model.specs.Machine.{Stores}
-use Rattle.pmt_model.specs.Traces.{Recording, IsAct, history}
+use Rattle.pmt_model.specs.Traces.{Recording, IsTrace, IsAct, history}
 use Rattle.pmt_model.specs.Findings.{last_store_number}
+use Rattle.pmt_sweep.specs.declared.note.Note.{Note}
 use Rattle.pmt_sweep.specs.Rows.{last_line_store}
+use Rattle.pmt_sweep.specs.Notes.{AreNoted}
 
 -- Of each of the first events that is a store, the number of the store to its line before it, or 0.
 abbrev pub AreChained : Recording → List ℕ → Type 0
 AreChained T before =
     (i l : ℕ) (w : Written) → i < length before → IsAct T (suc i) (Stores l w) → slice_index before i ≡ last_line_store l (history T i)
+
+-- The first events of the trace, with these chains and notes.
+pub record AreLinked (T : Recording) (before : List ℕ) (notes : List Note) : Type 0 where
+  pub trace : IsTrace T
+  pub within : length before ≤ length T.events
+  pub chained : AreChained T before
+  pub all : length notes ≡ length before
+  pub noted : AreNoted T notes
 
 -- One of the first n events that is a store to line l, or 0.
 pub record IsLink (T : Recording) (l n number : ℕ) : Type 0 where

@@ -1,24 +1,21 @@
--- What a sweep knows whose trace may grow.
-use Rattle.std.specs.Prelude.{◌≡◌, ℕ, true, List, length}
+-- What a sweep knows whose events come block by block.
+use Rattle.std.specs.Prelude.{◌≡◌, ℕ, ◌+◌, ◌<◌, true, false, List, [], length, get_or, slice_get, Some}
+use Rattle.std.specs.List.{list_any}
 use Rattle.pmt_model.specs.declared.event.Event.{Event}
 use Rattle.pmt_model.specs.Traces.{Recording}
-use Rattle.pmt_laws.specs.Passing.{with_events}
+use Rattle.pmt_asserts.specs.Judging.{event_asserts}
 use Rattle.pmt_sweep.specs.declared.growing.Sweeper.{Sweeper}
+use Rattle.pmt_sweep.specs.Judging.{IsJudgingOf}
 use Rattle.pmt_sweep.specs.Sweeping.{IsSweepOf, taken}
-use Rattle.pmt_sweep.specs.LineWriters.{AreLineWriters}
-use Rattle.pmt_sweep.specs.VerdictsSoFar.{AreVerdictsTo}
 
--- It has taken the first n events of the trace, and judged the assertions among them; where there were some, it knows the writers.
-pub record HasTaken (T : Recording) (n : ℕ) (s : Sweeper) : Type 0 where
-  pub here : taken s.judging.progress ≡ n
+-- These events come after the first n.
+abbrev pub AreNext : Recording → ℕ → List Event → Type 0
+AreNext T n es = (i : ℕ) (d : Event) → i < length es → slice_get T.events (n + i) ≡ Some (get_or es i d)
+
+-- It has taken all events of the trace, and judged the assertions among them. As long as there are none it does not judge.
+pub record HasSwept (T : Recording) (s : Sweeper) : Type 0 where
+  pub here : taken s.judging.progress ≡ length T.events
   pub sweep : IsSweepOf T s.judging.progress
-  pub writers : s.judges ≡ true → AreLineWriters T n s.judging.progress.rows s.judging.writers
-  pub verdicts : AreVerdictsTo T n s.judging.verdicts.items
-
--- It has taken all of its events.
-abbrev pub HasSwept : Recording → Sweeper → Type 0
-HasSwept T s = HasTaken T (length T.events) s
-
--- It has swept a trace of which this one has the events first.
-abbrev pub HasSweptFirst : Recording → Sweeper → Type 0
-HasSweptFirst T s = (S : Recording) × (more : List Event) × (T ≡ with_events S more) × HasSwept S s
+  pub judging : s.judges ≡ true → IsJudgingOf T (length T.events) s.judging
+  pub unasserted : s.judges ≡ false → list_any event_asserts T.events ≡ false
+  pub none : s.judges ≡ false → s.judging.verdicts.items ≡ []

@@ -1,7 +1,9 @@
 pub mod Known
 pub mod Rows
+pub mod Notes
 pub mod Chains
 pub mod ByteTables
+pub mod Storing
 pub mod Ending
 pub mod LineEnds
 pub mod Joining
@@ -12,6 +14,7 @@ pub mod Giving
 pub mod Settling
 pub mod VerdictsSoFar
 pub mod Judging
+pub mod Rejudging
 pub mod Distances
 pub mod OpenFlushes
 pub mod Flags

@@ -1,23 +1,11 @@
 -- How the lines of a trace end, while its stores are gone over.
-use Rattle.std.specs.Prelude.{◌≡◌, ℕ, ◌-◌, Bool, true, false, List, length, Some, slice_get}
-use Rattle.pmt_model.specs.declared.event.Op.{Op}
-use Rattle.pmt_model.specs.declared.event.Op.TheVariants.{Store, Clwb, ClflushOpt, Clflush, Sfence, Mfence, IsPersist, IsOrderedBefore}
+use Rattle.std.specs.Prelude.{◌≡◌, ℕ, ◌-◌, List, length, Some, slice_get}
 use Rattle.pmt_model.specs.Traces.{Recording, history, count_at}
 use Rattle.pmt_model.specs.Fronts.{front_at}
 use Rattle.pmt_model.specs.Findings.{last_flush}
 use Rattle.pmt_sweep.specs.declared.rows.LineRow.{LineRow}
 use Rattle.pmt_sweep.specs.declared.ending.LineEnd.{LineEnd}
 use Rattle.pmt_sweep.specs.Rows.{IsPlaceOf}
-
-abbrev pub is_store : Op → Bool
-is_store (Store w) = true
-is_store (Clwb a) = false
-is_store (ClflushOpt a) = false
-is_store (Clflush a) = false
-is_store Sfence = false
-is_store Mfence = false
-is_store (IsPersist r) = false
-is_store (IsOrderedBefore r q) = false
 
 -- So line l ends, where the first n events were gone over.
 pub record IsEndOf (T : Recording) (n l : ℕ) (end : LineEnd) : Type 0 where

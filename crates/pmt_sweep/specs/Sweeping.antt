@@ -1,5 +1,5 @@
 -- What a sweep keeps while it goes over the events of a trace.
-use Rattle.std.specs.Prelude.{◌≡◌, ℕ, ◌<◌, ◌≤◌, Bool, true, false, List, [], ◌∷◌, length, All}
+use Rattle.std.specs.Prelude.{◌≡◌, ℕ, ◌<◌, Bool, true, false, List, [], ◌∷◌, length, All}
 use Rattle.pmt_model.specs.Machine.{Act}
 use Rattle.pmt_model.specs.Traces.{Recording, history}
 use Rattle.pmt_lines.specs.Splitting.{places_of}
@@ -8,7 +8,7 @@ use Rattle.pmt_sweep.specs.declared.rows.LineRow.{LineRow}
 use Rattle.pmt_sweep.specs.declared.sweeping.Progress.{Progress}
 use Rattle.pmt_sweep.specs.Known.{AreKnownTo}
 use Rattle.pmt_sweep.specs.Rows.{AreRows, HasOpen}
-use Rattle.pmt_sweep.specs.Chains.{AreChained}
+use Rattle.pmt_sweep.specs.Chains.{AreLinked}
 use Rattle.pmt_sweep.specs.ByteTables.{AreTables}
 use Rattle.pmt_sweep.specs.Ending.{StandAt}
 use Rattle.pmt_sweep.specs.OpenFlushes.{AreNumbered}
@@ -35,10 +35,10 @@ taken s = length s.before.items
 
 -- It has taken the first events of the trace, and no others.
 pub record IsSweepOf (T : Recording) (s : Progress) : Type 0 where
-  pub within : taken s ≤ length T.events
+  pub format : T.format ≡ s.format
+  pub linked : AreLinked T s.before.items s.notes.items
   pub rows : AreRows (history T (taken s)) s.rows
   pub opens : AreOpen (history T (taken s)) s.rows s.open_flushes
-  pub chained : AreChained T s.before.items
   pub tables : AreTables T (taken s) s.tables
   pub all : length s.places.items ≡ taken s
   pub standing : StandAt T s.rows s.places.items

@@ -14,7 +14,7 @@ impl LineAnswers for Judging {
 
     ghost is_of = { λ j T n. IsKnownTo T n j };
 
-    ghost within = { λ j T n known. subst (λ k. k ≤ length T.events) known.here known.sweep.within };
+    ghost within = { λ j T n known. subst (λ k. k ≤ length T.events) known.here known.sweep.linked.within };
 
     fn block(&self, line: u64) -> Option<usize> {
         self.progress.rows.block(line)

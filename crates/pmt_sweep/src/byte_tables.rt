@@ -1,14 +1,13 @@
 //! Of lines whose stores are looked for far back, the last store to each byte.
-ghost use Rattle.std.specs.Prelude.{◌≡◌, ℕ, ◌*◌, ◌<◌, ◌≤◌, length, get_or, IfOk, IfSome, OnOk};
-ghost use Rattle.pmt_model.specs.Traces.{Recording, history};
+ghost use Rattle.std.specs.Prelude.{◌≡◌, ℕ, ◌*◌, ◌<◌, ◌≤◌, ◌^◌, length, get_or, IfOk, IfSome, OnOk};
+ghost use Rattle.pmt_model.specs.Traces.{Recording};
 ghost use Rattle.pmt_sweep.specs.declared.byte_tables.ByteTable.{ByteTable as Table};
-ghost use Rattle.pmt_sweep.specs.Rows.{last_line_store};
-ghost use Rattle.pmt_sweep.specs.Chains.{AreChained};
 ghost use Rattle.pmt_sweep.specs.ByteTables.{AreOfBytes, AreTables, IsLastTo, IsTable, Notes};
+ghost use Rattle.pmt_sweep.specs.Storing.{IsFromTable};
 
-use crate::chain::bytes_at;
+use crate::note::{Note, bytes_at};
 use indexmap::IndexMap;
-use pmt_model::{OutOfMemory, Trace};
+use pmt_model::{Format, OutOfMemory};
 use std::alloc::Global;
 use std::marker::Model;
 
@@ -60,37 +59,35 @@ impl ByteTables {
     // `start` its first byte.
     pub(crate) fn bring_up(
         &mut self,
-        trace: &Trace,
+        format: Format,
         before: &[u32],
+        notes: &[Note],
         line: u64,
         start: u64,
         last: u32,
     ) -> Result<usize, OutOfMemory>
-        requires within { length before.now ≤ length trace.now.events }
-        requires chained { AreChained trace.now before.now }
-        requires start { start ≡ line * trace.now.format.line_size }
-        requires last { last ≡ last_line_store line (history trace.now (length before.now)) }
-        requires tables { AreTables trace.now (length before.now) self.old }
+        requires small { start < 2 ^ 48 }
+        requires chain { (T : Recording) × (T.format ≡ format) × IsFromTable T before.now notes.now line start last × AreTables T (length before.now) self.old }
         ensures within { IfOk result (λ place. place < length self.new) }
-        ensures bytes { IfOk result (λ place. (d : Table) → AreOfBytes trace.now line (IsLastTo trace.now line (length before.now)) (get_or self.new place d).numbers.items) }
-        ensures tables { OnOk result (AreTables trace.now (length before.now) self.new) }
+        ensures bytes { (T : Recording) → T.format ≡ format → IsFromTable T before.now notes.now line start last → AreTables T (length before.now) self.old → IfOk result (λ place. (d : Table) → AreOfBytes T line (IsLastTo T line (length before.now)) (get_or self.new place d).numbers.items) }
+        ensures tables { (T : Recording) → T.format ≡ format → IsFromTable T before.now notes.now line start last → AreTables T (length before.now) self.old → OnOk result (AreTables T (length before.now) self.new) }
     {
-        let place = self.place_of(trace, line)?;
-        self.tables[place].bring_up(trace, before, start, last);
+        let place = self.place_of(format, line)?;
+        self.tables[place].bring_up(before, notes, start, last);
         Ok(place)
     }
 
     // The place of the line's table, which it gets if it has none yet.
-    fn place_of(&mut self, trace: &Trace, line: u64) -> Result<usize, OutOfMemory>
+    fn place_of(&mut self, format: Format, line: u64) -> Result<usize, OutOfMemory>
         ensures within { IfOk result (λ place. place < length self.new) }
         ensures line { IfOk result (λ place. (d : Table) → (get_or self.new place d).line ≡ line) }
-        ensures tables { OnOk result ((n : ℕ) → AreTables trace.now n self.old → AreTables trace.now n self.new) }
+        ensures tables { OnOk result ((T : Recording) (n : ℕ) → T.format ≡ format → AreTables T n self.old → AreTables T n self.new) }
     {
         if let Some(place) = self.known(line) {
             return Ok(place);
         }
         let place = self.tables.len();
-        let size = trace.format().line_size() as usize;
+        let size = format.line_size() as usize;
         let numbers = vec![in *self.tables.allocator(); 0; size]?;
         self.tables.push(ByteTable {
             line,
@@ -117,53 +114,36 @@ impl ByteTables {
 
 impl ByteTable {
     // Takes all events that have come into account.
-    fn bring_up(&mut self, trace: &Trace, before: &[u32], start: u64, last: u32)
-        requires within { length before.now ≤ length trace.now.events }
-        requires chained { AreChained trace.now before.now }
-        requires start { start ≡ self.old.line * trace.now.format.line_size }
-        requires last { last ≡ last_line_store self.old.line (history trace.now (length before.now)) }
-        requires table { IsTable trace.now (length before.now) self.old }
+    fn bring_up(&mut self, before: &[u32], notes: &[Note], start: u64, last: u32)
+        requires small { start < 2 ^ 48 }
+        requires chain { (T : Recording) × IsFromTable T before.now notes.now self.old.line start last × IsTable T (length before.now) self.old }
         ensures line { self.new.line ≡ self.old.line }
         ensures upto { self.new.upto ≡ length before.now }
-        ensures table { IsTable trace.now (length before.now) self.new }
+        ensures table { (T : Recording) → IsFromTable T before.now notes.now self.old.line start last → IsTable T (length before.now) self.old → IsTable T (length before.now) self.new }
     {
-        let _is_trace = trace.len();
         let upto = self.upto;
-        note_since(
-            &mut self.numbers,
-            trace,
-            before,
-            self.line,
-            start,
-            last,
-            upto,
-        );
+        note_since(&mut self.numbers, before, notes, start, last, upto);
         self.upto = before.len() as u32;
     }
 }
 
-// Notes the stores to the line after event `upto`, from the last one on.
+// Notes the stores to the line after event `upto`, from the last one on. The line begins at `start`.
 fn note_since(
     numbers: &mut Vec<u32>,
-    trace: &Trace,
     before: &[u32],
-    line: u64,
+    notes: &[Note],
     start: u64,
     last: u32,
     upto: u32,
 )
-    requires within { length before.now ≤ length trace.now.events }
+    requires small { start < 2 ^ 48 }
     requires by_now { upto ≤ length before.now }
-    requires chained { AreChained trace.now before.now }
-    requires start { start ≡ line * trace.now.format.line_size }
-    requires last { last ≡ last_line_store line (history trace.now (length before.now)) }
-    requires bytes { AreOfBytes trace.now line (IsLastTo trace.now line upto) numbers.old.items }
-    ensures { AreOfBytes trace.now line (IsLastTo trace.now line (length before.now)) numbers.new.items }
+    requires chain { (T : Recording) × (l : ℕ) × IsFromTable T before.now notes.now l start last × AreOfBytes T l (IsLastTo T l upto) numbers.old.items }
+    ensures { (T : Recording) (l : ℕ) → IsFromTable T before.now notes.now l start last → AreOfBytes T l (IsLastTo T l upto) numbers.old.items → AreOfBytes T l (IsLastTo T l (length before.now)) numbers.new.items }
 {
-    let _is_trace = trace.len();
     let mut number = last;
     while number > upto {
-        let stored = bytes_at(trace, number);
+        let stored = bytes_at(notes, start, number);
         let from = stored.low.saturating_sub(start) as usize;
         let to = stored.high.saturating_sub(start) as usize;
         note(numbers, number, from, to);

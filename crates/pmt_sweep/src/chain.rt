@@ -1,17 +1,15 @@
 //! Which stores a store overwrites: those that wrote its bytes last, after the last flush of the line.
-ghost use Rattle.std.specs.Prelude.{◌≡◌, ℕ, suc, ◌+◌, ◌<◌, ◌≤◌, ◌⊎◌, ◌&&◌, nat_le, nat_lt, length, slice_index, IfSome, OnOk};
-ghost use Rattle.pmt_model.specs.Machine.{Stores};
-ghost use Rattle.pmt_model.specs.Traces.{IsAct, history};
-ghost use Rattle.pmt_model.specs.Values.{Written, line_of};
-ghost use Rattle.pmt_model.specs.Findings.{last_flush};
+ghost use Rattle.std.specs.Prelude.{◌≡◌, ℕ, suc, ◌+◌, ◌<◌, ◌≤◌, ◌^◌, ◌&&◌, nat_le, nat_lt, length, slice_index, IfSome, OnOk};
+ghost use Rattle.pmt_model.specs.Traces.{Recording};
 ghost use Rattle.pmt_sweep.specs.Known.{AddsKnown};
 ghost use Rattle.pmt_sweep.specs.ByteTables.{AreTables};
-ghost use Rattle.pmt_sweep.specs.Rows.{last_line_store};
-ghost use Rattle.pmt_sweep.specs.Chains.{AreChained, IsLastAfter, IsLink, IsNewest, IsUnwrittenFrom};
+ghost use Rattle.pmt_sweep.specs.Chains.{IsLastAfter, IsNewest};
+ghost use Rattle.pmt_sweep.specs.Storing.{IsFromLast, IsFromNewest, IsNextStore};
 
 use crate::byte_tables::ByteTables;
+use crate::note::{Bytes, Note, bytes_at, start_of};
 use pmt_lines::push_overwritten;
-use pmt_model::{Finding, Op, OutOfMemory, Trace, WordStore};
+use pmt_model::{Finding, Format, OutOfMemory};
 
 // So many stores are gone back over for the newest one to some bytes, and so many from that one on for the last one to each of them. What
 // lies farther back is looked up in the line's table.
@@ -24,13 +22,6 @@ const NEAR_BYTE: usize = 4;
 pub(crate) struct LastOfLine {
     pub(crate) store: u32,
     pub(crate) flush: u32,
-}
-
-// The addresses of some bytes: from `low` up to the one before `high`.
-#[derive(Clone, Copy)]
-pub(crate) struct Bytes {
-    pub(crate) low: u64,
-    pub(crate) high: u64,
 }
 
 impl Bytes {
@@ -49,35 +40,31 @@ impl Bytes {
     }
 }
 
-// Adds which stores the next event overwrites: a store to the line. Of the events that have come, `before` tells of each store the one
-// to its line before it.
+// Adds which stores the next event overwrites: a store of these bytes to the line. Of the events that have come, `before` tells of each
+// store the one to its line before it, and `notes` its bytes.
 pub(crate) fn push_overwritten_by(
     found: &mut Vec<Finding>,
     tables: &mut ByteTables,
-    trace: &Trace,
+    format: Format,
     before: &[u32],
+    notes: &[Note],
     line: u64,
     last: LastOfLine,
-    store: &WordStore,
+    bytes: Bytes,
 ) -> Result<(), OutOfMemory>
-    requires chained { AreChained trace.now before.now }
-    requires next { IsAct trace.now (suc (length before.now)) (Stores line store.now) }
-    requires store { last.store ≡ last_line_store line (history trace.now (length before.now)) }
-    requires flush { last.flush ≡ last_flush line (history trace.now (length before.now)) }
-    requires tables { AreTables trace.now (length before.now) tables.old }
-    ensures found { OnOk result (AddsKnown trace.now (suc (length before.now)) found.old.items found.new.items) }
-    ensures tables { OnOk result (AreTables trace.now (length before.now) tables.new) }
+    requires { (T : Recording) × IsNextStore T format before.now notes.now tables.old line last bytes.low bytes.high }
+    ensures found { (T : Recording) → IsNextStore T format before.now notes.now tables.old line last bytes.low bytes.high → OnOk result (AddsKnown T (suc (length before.now)) found.old.items found.new.items) }
+    ensures tables { (T : Recording) → IsNextStore T format before.now notes.now tables.old line last bytes.low bytes.high → OnOk result (AreTables T (length before.now) tables.new) }
 {
-    let _is_trace = trace.len();
-    let bytes = bytes_of(store);
-    let Some(newest) = newest_to(trace, before, line, last, bytes) else {
-        return push_by_table(found, tables, trace, before, line, last, store);
+    let start = start_of(format, line);
+    let Some(newest) = newest_to(before, notes, start, last, bytes) else {
+        return push_by_table(found, tables, format, before, notes, line, last, bytes);
     };
     if newest == 0 {
         return Ok(());
     }
-    let Some(numbers) = last_to_each(trace, before, line, newest, last.flush, bytes) else {
-        return push_by_table(found, tables, trace, before, line, last, store);
+    let Some(numbers) = last_to_each(before, notes, start, newest, last.flush, bytes) else {
+        return push_by_table(found, tables, format, before, notes, line, last, bytes);
     };
     let count = (bytes.high - bytes.low) as usize;
     let later = before.len() as u64 + 1;
@@ -89,24 +76,19 @@ pub(crate) fn push_overwritten_by(
 fn push_by_table(
     found: &mut Vec<Finding>,
     tables: &mut ByteTables,
-    trace: &Trace,
+    format: Format,
     before: &[u32],
+    notes: &[Note],
     line: u64,
     last: LastOfLine,
-    store: &WordStore,
+    bytes: Bytes,
 ) -> Result<(), OutOfMemory>
-    requires chained { AreChained trace.now before.now }
-    requires next { IsAct trace.now (suc (length before.now)) (Stores line store.now) }
-    requires store { last.store ≡ last_line_store line (history trace.now (length before.now)) }
-    requires flush { last.flush ≡ last_flush line (history trace.now (length before.now)) }
-    requires tables { AreTables trace.now (length before.now) tables.old }
-    ensures found { OnOk result (AddsKnown trace.now (suc (length before.now)) found.old.items found.new.items) }
-    ensures tables { OnOk result (AreTables trace.now (length before.now) tables.new) }
+    requires { (T : Recording) × IsNextStore T format before.now notes.now tables.old line last bytes.low bytes.high }
+    ensures found { (T : Recording) → IsNextStore T format before.now notes.now tables.old line last bytes.low bytes.high → OnOk result (AddsKnown T (suc (length before.now)) found.old.items found.new.items) }
+    ensures tables { (T : Recording) → IsNextStore T format before.now notes.now tables.old line last bytes.low bytes.high → OnOk result (AreTables T (length before.now) tables.new) }
 {
-    let _is_trace = trace.len();
-    let bytes = bytes_of(store);
-    let start = line * trace.format().line_size();
-    let place = tables.bring_up(trace, before, line, start, last.store)?;
+    let start = start_of(format, line);
+    let place = tables.bring_up(format, before, notes, line, start, last.store)?;
     let low = (bytes.low - start) as usize;
     let high = (bytes.high - start) as usize;
     let later = before.len() as u64 + 1;
@@ -119,53 +101,24 @@ fn push_by_table(
     Ok(())
 }
 
-// The bytes of a store.
-fn bytes_of(store: &WordStore) -> Bytes
-    ensures low { result.low ≡ store.now.addr }
-    ensures high { result.high ≡ store.now.addr + length store.now.bytes }
-    ensures some { result.low < result.high }
-    ensures few { result.high ≤ result.low + 8 }
-{
-    let low = store.addr().get();
-    Bytes {
-        low,
-        high: low + store.bytes().len() as u64,
-    }
-}
-
-// The bytes that the event with this number stores; none where it is no store.
-pub(crate) fn bytes_at(trace: &Trace, number: u32) -> Bytes
-    requires some { 1 ≤ number }
-    requires within { number ≤ length trace.now.events }
-    ensures { (l : ℕ) (w : Written) → IsAct trace.now number (Stores l w) → (result.low ≡ w.addr) × (result.high ≡ w.addr + length w.bytes) }
-{
-    match &trace.events()[number as usize - 1].op {
-        Op::Store(store) => bytes_of(store),
-        _ => Bytes { low: 0, high: 0 },
-    }
-}
-
-// The newest store to the line after its last flush that writes one of the bytes, or 0, if it is near.
+// The newest store to the line after its last flush that writes one of the bytes, or 0, if it is near. The line begins at `start`.
 fn newest_to(
-    trace: &Trace,
     before: &[u32],
-    line: u64,
+    notes: &[Note],
+    start: u64,
     last: LastOfLine,
     bytes: Bytes,
 ) -> Option<u32>
-    requires within { length before.now ≤ length trace.now.events }
-    requires chained { AreChained trace.now before.now }
-    requires store { last.store ≡ last_line_store line (history trace.now (length before.now)) }
-    requires line { (b : ℕ) → bytes.low ≤ b → b < bytes.high → line_of trace.now.format b ≡ line }
-    ensures { IfSome result (IsNewest trace.now line (length before.now) last.flush bytes.low bytes.high) }
+    requires small { start < 2 ^ 48 }
+    requires chain { (T : Recording) × (l : ℕ) × IsFromLast T before.now notes.now l start last.store bytes.low bytes.high }
+    ensures { (T : Recording) (l : ℕ) → IsFromLast T before.now notes.now l start last.store bytes.low bytes.high → IfSome result (IsNewest T l (length before.now) last.flush bytes.low bytes.high) }
 {
-    let _is_trace = trace.len();
     let mut number = last.store;
     for _step in 0..NEAR {
         if number <= last.flush {
             return Some(0);
         }
-        let stored = bytes_at(trace, number);
+        let stored = bytes_at(notes, start, number);
         if stored.meets(bytes) {
             return Some(number);
         }
@@ -176,53 +129,46 @@ fn newest_to(
 
 // The last store to each of the bytes after the last flush of the line, or 0, if they are near the newest one.
 fn last_to_each(
-    trace: &Trace,
     before: &[u32],
-    line: u64,
+    notes: &[Note],
+    start: u64,
     newest: u32,
     flush: u32,
     bytes: Bytes,
 ) -> Option<[u32; 8]>
+    requires small { start < 2 ^ 48 }
     requires some { bytes.low ≤ bytes.high }
     requires few { bytes.high ≤ bytes.low + 8 }
-    requires within { length before.now ≤ length trace.now.events }
-    requires chained { AreChained trace.now before.now }
-    requires link { IsLink trace.now line (length before.now) newest }
-    requires line { (b : ℕ) → bytes.low ≤ b → b < bytes.high → line_of trace.now.format b ≡ line }
-    requires unwritten { (b : ℕ) → bytes.low ≤ b → b < bytes.high → IsUnwrittenFrom trace.now (length before.now) newest b }
+    requires chain { (T : Recording) × (l : ℕ) × IsFromNewest T before.now notes.now l start newest bytes.low bytes.high }
     ensures size { IfSome result (λ numbers. length numbers ≡ 8) }
-    ensures each { IfSome result (λ numbers. (k : ℕ) → bytes.low + k < bytes.high → IsLastAfter trace.now (length before.now) flush (bytes.low + k) (slice_index numbers k)) }
+    ensures each { (T : Recording) (l : ℕ) → IsFromNewest T before.now notes.now l start newest bytes.low bytes.high → IfSome result (λ numbers. (k : ℕ) → bytes.low + k < bytes.high → IsLastAfter T (length before.now) flush (bytes.low + k) (slice_index numbers k)) }
 {
     let mut numbers = [0; 8];
     for i in 0..(bytes.high - bytes.low) as usize {
-        numbers[i] = last_to(trace, before, line, newest, flush, bytes.low + i as u64)?;
+        numbers[i] = last_to(before, notes, start, newest, flush, bytes.low + i as u64)?;
     }
     Some(numbers)
 }
 
 // The last store to the byte after the last flush of the line, or 0, if it is near the newest one, after which no store writes the byte.
 fn last_to(
-    trace: &Trace,
     before: &[u32],
-    line: u64,
+    notes: &[Note],
+    start: u64,
     newest: u32,
     flush: u32,
     byte: u64,
 ) -> Option<u32>
-    requires within { length before.now ≤ length trace.now.events }
-    requires chained { AreChained trace.now before.now }
-    requires link { IsLink trace.now line (length before.now) newest }
-    requires line { line_of trace.now.format byte ≡ line }
-    requires unwritten { IsUnwrittenFrom trace.now (length before.now) newest byte }
-    ensures { IfSome result (IsLastAfter trace.now (length before.now) flush byte) }
+    requires small { start < 2 ^ 48 }
+    requires chain { (T : Recording) × (l : ℕ) × IsFromNewest T before.now notes.now l start newest byte (suc byte) }
+    ensures { (T : Recording) (l : ℕ) → IsFromNewest T before.now notes.now l start newest byte (suc byte) → IfSome result (IsLastAfter T (length before.now) flush byte) }
 {
-    let _is_trace = trace.len();
     let mut number = newest;
     for _step in 0..NEAR_BYTE {
         if number <= flush {
             return Some(0);
         }
-        let stored = bytes_at(trace, number);
+        let stored = bytes_at(notes, start, number);
         if stored.has(byte) {
             return Some(number);
         }

@@ -5,11 +5,12 @@ ghost use Rattle.pmt_model.specs.Traces.{Recording, history};
 ghost use Rattle.pmt_lines.specs.Scans.{found_if};
 ghost use Rattle.pmt_sweep.specs.Known.{AreKnownLate};
 ghost use Rattle.pmt_sweep.specs.Rows.{AreRows};
-ghost use Rattle.pmt_sweep.specs.Ending.{StandAt};
-ghost use Rattle.pmt_sweep.specs.LineEnds.{is_store, AreEnds};
+ghost use Rattle.pmt_sweep.specs.Ending.{IsAtEnd};
+ghost use Rattle.pmt_sweep.specs.LineEnds.{AreEnds};
 
+use crate::note::{Note, is_store};
 use crate::rows::Rows;
-use pmt_model::{Event, Finding, Op, OutOfMemory, Trace};
+use pmt_model::{Finding, OutOfMemory};
 use std::alloc::Global;
 
 // How many of the stores to a line that are still to be gone over are persisted for sure, and the number of the last flush or clflush of
@@ -23,20 +24,17 @@ struct LineEnd {
 // All stores of the trace that are never persisted, in report order.
 pub(crate) fn never_persisted(
     alloc: Global,
-    trace: &Trace,
     rows: &Rows,
     places: &[u32],
+    notes: &[Note],
 ) -> Result<Vec<Finding>, OutOfMemory>
-    requires rows { AreRows (history trace.now (length trace.now.events)) rows.now }
-    requires all { length places.now ≡ length trace.now.events }
-    requires standing { StandAt trace.now rows.now places.now }
-    ensures { IfOk result (λ found. AreKnownLate trace.now found.items) }
+    requires { (T : Recording) × IsAtEnd T rows.now places.now notes.now }
+    ensures { (T : Recording) → IsAtEnd T rows.now places.now notes.now → IfOk result (λ found. AreKnownLate T found.items) }
 {
     let mut ends = ends_of(alloc, rows)?;
     let mut found = Vec::new(alloc);
-    let events = trace.events();
-    for index in 0..events.len() {
-        if is_store(&events[index]) {
+    for index in 0..notes.len() {
+        if is_store(&notes[index]) {
             let place = places[index] as usize;
             let end = ends[place];
             push_never_persisted(&mut found, end, index as u64 + 1)?;
@@ -47,13 +45,6 @@ pub(crate) fn never_persisted(
         }
     }
     Ok(found)
-}
-
-// Whether the event is a store.
-fn is_store(event: &Event) -> bool
-    ensures { result ≡ is_store event.now.op }
-{
-    matches!(event.op, Op::Store(_))
 }
 
 // How each line ends, where none of its stores was gone over yet.

@@ -1,23 +1,23 @@
-//! A sweep over the events of a trace that grows.
-ghost use Rattle.std.specs.Prelude.{◌≡◌, ◌≤◌, drop, length, IfOk, OnOk};
-ghost use Rattle.std.specs.List.{list_any};
+//! A sweep over events that come block by block.
+ghost use Rattle.std.specs.Prelude.{◌≡◌, ℕ, ◌+◌, length, IfOk, OnOk};
 ghost use Rattle.pmt_model.specs.Analyses.{IsFindings, IsVerdicts};
 ghost use Rattle.pmt_model.specs.Keeping.{IsKeep};
 ghost use Rattle.pmt_model.specs.Pushing.{empty};
-ghost use Rattle.pmt_model.specs.Traces.{history, lines_of};
-ghost use Rattle.pmt_asserts.specs.Judging.{event_asserts};
-ghost use Rattle.pmt_sweep.specs.Growing.{HasSwept, HasSweptFirst};
+ghost use Rattle.pmt_model.specs.Traces.{Recording, IsTrace, history, lines_of};
+ghost use Rattle.pmt_laws.specs.Passing.{with_events};
+ghost use Rattle.pmt_sweep.specs.Growing.{AreNext, HasSwept};
 ghost use Rattle.pmt_sweep.specs.Judging.{IsJudgingOf};
 ghost use Rattle.pmt_sweep.specs.Sweeping.{IsSweepOf, taken};
 
 use crate::judging::Judging;
+use crate::rejudging::rejudged;
 use crate::sweeping::{Progress, Swept};
 use pmt_asserts::has_assertion;
-use pmt_model::{Format, OutOfMemory, Trace};
+use pmt_model::{Event, Format, OutOfMemory};
 use std::alloc::Global;
 
-/// A sweep over the events of a trace that grows. It judges from the first assertion on, for which it goes over the events before once
-/// more.
+/// A sweep over events that come block by block. It judges from the first block with an assertion on, for which it goes once more over what
+/// it has noted of the events before. It keeps no event.
 #[derive(Drop)]
 pub struct Sweeper {
     judging: Judging,
@@ -32,43 +32,42 @@ impl Sweeper {
     pub fn new(alloc: Global, format: Format) -> Result<Self, OutOfMemory>
         ensures { IfOk result (HasSwept (empty format)) }
     {
-        let none = Trace::new_with(alloc, format);
+        let _is_format = format.line_size();
         Ok(Sweeper {
-            judging: Judging::new(alloc, &none)?,
+            judging: Judging::new(alloc, format)?,
             judges: false,
         })
     }
 
-    /// Takes the events of the trace that it has not taken yet.
+    /// Takes the next events.
     ///
     /// # Errors
     /// Where memory was refused. It can't be used any more then.
-    pub fn take_rest(&mut self, alloc: Global, trace: &Trace) -> Result<(), OutOfMemory>
-        requires { HasSweptFirst trace.now self.old }
-        ensures { OnOk result (HasSwept trace.now self.new) }
+    pub fn take(&mut self, alloc: Global, events: &[Event]) -> Result<(), OutOfMemory>
+        requires { (T : Recording) × HasSwept T self.old × IsTrace (with_events T events.now) }
+        ensures { (T : Recording) → HasSwept T self.old → IsTrace (with_events T events.now) → OnOk result (HasSwept (with_events T events.now) self.new) }
     {
-        let taken = self.judging.progress.before.len();
         if self.judges {
-            return judge_rest(&mut self.judging, trace);
+            return judge_each(&mut self.judging, events);
         }
-        if asserts_from(trace, taken) {
-            self.judging = Judging::new(alloc, trace)?;
+        if has_assertion(events) {
+            self.judging = rejudged(alloc, &self.judging.progress)?;
             self.judges = true;
-            return judge_rest(&mut self.judging, trace);
+            return judge_each(&mut self.judging, events);
         }
-        sweep_rest(&mut self.judging.progress, trace)
+        sweep_each(&mut self.judging.progress, events)
     }
 
-    /// What it has found in the trace, as `sweep` tells it.
+    /// What it has found in the trace of all events that it has taken.
     ///
     /// # Errors
     /// Where memory was refused.
-    pub fn finish(self, alloc: Global, trace: &Trace) -> Result<Swept, OutOfMemory>
-        requires { HasSwept trace.now self }
-        ensures lines { IfOk result (λ s. s.lines ≡ length (lines_of (history trace.now (length trace.now.events)))) }
-        ensures findings { IfOk result (λ s. IsFindings trace.now s.findings.items) }
-        ensures verdicts { IfOk result (λ s. IsVerdicts trace.now s.verdicts.items) }
-        ensures kept { IfOk result (λ s. IsKeep trace.now s.selection) }
+    pub fn finish(self, alloc: Global) -> Result<Swept, OutOfMemory>
+        requires { (T : Recording) × HasSwept T self }
+        ensures lines { (T : Recording) → HasSwept T self → IfOk result (λ s. s.lines ≡ length (lines_of (history T (length T.events)))) }
+        ensures findings { (T : Recording) → HasSwept T self → IfOk result (λ s. IsFindings T s.findings.items) }
+        ensures verdicts { (T : Recording) → HasSwept T self → IfOk result (λ s. IsVerdicts T s.verdicts.items) }
+        ensures kept { (T : Recording) → HasSwept T self → IfOk result (λ s. IsKeep T s.selection) }
     {
         let Judging {
             progress,
@@ -76,39 +75,29 @@ impl Sweeper {
             verdicts,
             stale: _,
         } = self.judging;
-        progress.finish(alloc, trace, verdicts)
+        progress.finish(alloc, verdicts)
     }
 }
 
-// Whether one of the events after the first ones is an assertion.
-fn asserts_from(trace: &Trace, first: usize) -> bool
-    requires { first ≤ length trace.now.events }
-    ensures { result ≡ list_any event_asserts (drop first trace.now.events) }
+// Takes the next events, and judges none of them.
+fn sweep_each(progress: &mut Progress, events: &[Event]) -> Result<(), OutOfMemory>
+    requires { (T : Recording) × IsSweepOf T progress.old × AreNext T (taken progress.old) events.now }
+    ensures so_far { (T : Recording) → IsSweepOf T progress.old → AreNext T (taken progress.old) events.now → OnOk result (IsSweepOf T progress.new) }
+    ensures all { OnOk result (taken progress.new ≡ taken progress.old + length events.now) }
 {
-    has_assertion(&trace.events()[first..])
-}
-
-// Takes the other events of a trace, and judges none of them.
-fn sweep_rest(progress: &mut Progress, trace: &Trace) -> Result<(), OutOfMemory>
-    requires { IsSweepOf trace.now progress.old }
-    ensures so_far { OnOk result (IsSweepOf trace.now progress.new) }
-    ensures all { OnOk result (taken progress.new ≡ length trace.now.events) }
-{
-    let events = trace.events();
-    for index in progress.before.len()..events.len() {
-        progress.take(trace, &events[index])?;
+    for index in 0..events.len() {
+        progress.take(&events[index])?;
     }
     Ok(())
 }
 
-// Takes the other events of a trace, and judges the assertions among them.
-fn judge_rest(judging: &mut Judging, trace: &Trace) -> Result<(), OutOfMemory>
-    requires { IsJudgingOf trace.now (taken judging.old.progress) judging.old }
-    ensures { OnOk result (IsJudgingOf trace.now (length trace.now.events) judging.new) }
+// Takes the next events, and judges the assertions among them.
+fn judge_each(judging: &mut Judging, events: &[Event]) -> Result<(), OutOfMemory>
+    requires { (T : Recording) × IsJudgingOf T (taken judging.old.progress) judging.old × AreNext T (taken judging.old.progress) events.now }
+    ensures { (T : Recording) → IsJudgingOf T (taken judging.old.progress) judging.old → AreNext T (taken judging.old.progress) events.now → OnOk result (IsJudgingOf T (taken judging.old.progress + length events.now) judging.new) }
 {
-    let events = trace.events();
-    for index in judging.progress.before.len()..events.len() {
-        judging.take(trace, &events[index])?;
+    for index in 0..events.len() {
+        judging.take(&events[index])?;
     }
     Ok(())
 }

@@ -1,18 +1,18 @@
 //! A sweep that judges the assertions as they come.
-ghost use Rattle.std.specs.Prelude.{◌≡◌, suc, length, slice_get, Some, IfOk, OnOk, ◌<◌};
-ghost use Rattle.pmt_model.specs.Analyses.{IsFindings, IsVerdicts};
-ghost use Rattle.pmt_model.specs.Keeping.{IsKeep};
-ghost use Rattle.pmt_model.specs.Machine.{Stores, Flushes, Clflushes, Fences, Asserts};
-ghost use Rattle.pmt_model.specs.Traces.{IsAct, history, lines_of};
+ghost use Rattle.std.specs.Prelude.{◌≡◌, suc, [], slice_get, Some, IfOk, OnOk, ◌<◌};
+ghost use Rattle.pmt_model.specs.Machine.{Flushes, Clflushes, Fences, Asserts};
+ghost use Rattle.pmt_model.specs.Traces.{Recording, IsAct, IsTrace, event_limit};
+ghost use Rattle.pmt_sweep.specs.Notes.{StoresBytes};
 ghost use Rattle.pmt_sweep.specs.Judging.{IsJudgingOf};
 ghost use Rattle.pmt_sweep.specs.Sweeping.{taken};
 
 use crate::line_writers::LineWriters;
+use crate::note::{Bytes, bytes_of, start_of};
 use crate::settling::settle_fence;
-use crate::sweeping::{Progress, Swept};
+use crate::sweeping::Progress;
 use crate::writers::Writer;
-use pmt_asserts::{Spot, verdict_by};
-use pmt_model::{Event, Op, OutOfMemory, Trace, Verdict, WordStore, line_of};
+use pmt_asserts::verdict_by;
+use pmt_model::{Event, Format, Op, OutOfMemory, Verdict, line_of};
 use std::alloc::Global;
 
 /// What is known of a trace while its events go by, with the verdicts of its assertions so far.
@@ -26,81 +26,77 @@ pub(crate) struct Judging {
 }
 
 impl Judging {
-    // No events yet, and room for those of the trace.
-    pub(crate) fn new(alloc: Global, trace: &Trace) -> Result<Self, OutOfMemory>
-        ensures { IfOk result (IsJudgingOf trace.now 0) }
+    // No events of this format yet.
+    pub(crate) fn new(alloc: Global, format: Format) -> Result<Self, OutOfMemory>
+        ensures so_far { (T : Recording) → IsTrace T → T.format ≡ format → IfOk result (IsJudgingOf T 0) }
+        ensures empty { IfOk result (λ j. j.verdicts.items ≡ []) }
     {
         Ok(Judging {
-            progress: Progress::new(alloc, trace)?,
+            progress: Progress::new(alloc, format)?,
             writers: LineWriters::new(alloc),
             verdicts: Vec::new(alloc),
             stale: Vec::new(alloc),
         })
     }
 
-    // Takes the next event of the trace.
+    // Takes the next event.
     #[inline(always)]
-    pub(crate) fn take(&mut self, trace: &Trace, event: &Event) -> Result<(), OutOfMemory>
-        requires so_far { IsJudgingOf trace.now (taken self.old.progress) self.old }
-        requires next { slice_get trace.now.events (taken self.old.progress) ≡ Some event.now }
-        ensures { OnOk result (IsJudgingOf trace.now (suc (taken self.old.progress)) self.new) }
+    pub(crate) fn take(&mut self, event: &Event) -> Result<(), OutOfMemory>
+        requires { (T : Recording) × IsJudgingOf T (taken self.old.progress) self.old × (slice_get T.events (taken self.old.progress) ≡ Some event.now) }
+        ensures { (T : Recording) → IsJudgingOf T (taken self.old.progress) self.old → slice_get T.events (taken self.old.progress) ≡ Some event.now → OnOk result (IsJudgingOf T (suc (taken self.old.progress)) self.new) }
     {
         let thread = event.thread;
-        let format = trace.format();
+        let format = self.progress.format;
         match &event.op {
-            Op::Store(store) => self.take_store(trace, line_of(format, store.addr()), store),
+            Op::Store(store) => self.take_store(line_of(format, store.addr()), bytes_of(store)),
             Op::Clwb(addr) | Op::ClflushOpt(addr) => {
-                self.take_flush(trace, line_of(format, *addr), thread)
+                self.take_flush(line_of(format, *addr), thread)
             }
-            Op::Clflush(addr) => self.take_clflush(trace, line_of(format, *addr)),
-            Op::Sfence | Op::Mfence => self.take_fence(trace, thread),
-            Op::IsPersist(_) | Op::IsOrderedBefore(_, _) => self.take_assertion(trace, event),
+            Op::Clflush(addr) => self.take_clflush(line_of(format, *addr)),
+            Op::Sfence | Op::Mfence => self.take_fence(thread),
+            Op::IsPersist(_) | Op::IsOrderedBefore(_, _) => self.take_assertion(event),
         }
     }
 
-    // A store to the line.
-    fn take_store(&mut self, trace: &Trace, line: u64, store: &WordStore) -> Result<(), OutOfMemory>
-        requires so_far { IsJudgingOf trace.now (taken self.old.progress) self.old }
-        requires next { IsAct trace.now (suc (taken self.old.progress)) (Stores line store.now) }
-        ensures { OnOk result (IsJudgingOf trace.now (suc (taken self.old.progress)) self.new) }
+    // A store of these bytes to the line.
+    pub(crate) fn take_store(&mut self, line: u64, bytes: Bytes) -> Result<(), OutOfMemory>
+        requires room { taken self.old.progress < event_limit }
+        requires so_far { (T : Recording) × IsJudgingOf T (taken self.old.progress) self.old × StoresBytes T (suc (taken self.old.progress)) line bytes.low bytes.high }
+        ensures { (T : Recording) → IsJudgingOf T (taken self.old.progress) self.old → StoresBytes T (suc (taken self.old.progress)) line bytes.low bytes.high → OnOk result (IsJudgingOf T (suc (taken self.old.progress)) self.new) }
     {
-        let size = trace.format().line_size();
-        self.progress.take_store(trace, line, store)?;
-        let index = self.progress.places.len() - 1;
-        let place = self.progress.places[index] as usize;
+        let number = self.progress.before.len() as u32 + 1;
+        let place = self.progress.take_store(line, bytes)?;
         let stores = self.progress.rows.at(place).state.count();
-        let low = (store.addr().get() - line * size) as u16;
+        let start = start_of(self.progress.format, line);
         let writer = Writer {
-            number: index as u32 + 1,
+            number,
             rank: stores as u32,
             safe: 0,
-            low,
-            high: low + store.bytes().len() as u16,
+            low: (bytes.low - start) as u16,
+            high: (bytes.high - start) as u16,
         };
         let is_fresh = self.writers.is_fresh(place);
-        push_stale(&mut self.stale, is_fresh, self.progress.places[index])?;
+        push_stale(&mut self.stale, is_fresh, place as u32)?;
         self.writers.store(place, writer)?;
         Ok(())
     }
 
     // A flush of the line by the thread.
-    fn take_flush(&mut self, trace: &Trace, line: u64, thread: u8) -> Result<(), OutOfMemory>
-        requires so_far { IsJudgingOf trace.now (taken self.old.progress) self.old }
-        requires next { IsAct trace.now (suc (taken self.old.progress)) (Flushes thread line) }
-        ensures { OnOk result (IsJudgingOf trace.now (suc (taken self.old.progress)) self.new) }
+    pub(crate) fn take_flush(&mut self, line: u64, thread: u8) -> Result<(), OutOfMemory>
+        requires room { taken self.old.progress < event_limit }
+        requires so_far { (T : Recording) × IsJudgingOf T (taken self.old.progress) self.old }
+        ensures { (T : Recording) → IsJudgingOf T (taken self.old.progress) self.old → IsAct T (suc (taken self.old.progress)) (Flushes thread line) → OnOk result (IsJudgingOf T (suc (taken self.old.progress)) self.new) }
     {
-        let _is_trace = trace.len();
         self.progress.take_flush(line, thread)?;
         Ok(())
     }
 
     // A clflush of the line.
-    fn take_clflush(&mut self, trace: &Trace, line: u64) -> Result<(), OutOfMemory>
-        requires so_far { IsJudgingOf trace.now (taken self.old.progress) self.old }
-        requires next { IsAct trace.now (suc (taken self.old.progress)) (Clflushes line) }
-        ensures { OnOk result (IsJudgingOf trace.now (suc (taken self.old.progress)) self.new) }
+    pub(crate) fn take_clflush(&mut self, line: u64) -> Result<(), OutOfMemory>
+        requires room { taken self.old.progress < event_limit }
+        requires so_far { (T : Recording) × IsJudgingOf T (taken self.old.progress) self.old }
+        ensures { (T : Recording) → IsJudgingOf T (taken self.old.progress) self.old → IsAct T (suc (taken self.old.progress)) (Clflushes line) → OnOk result (IsJudgingOf T (suc (taken self.old.progress)) self.new) }
     {
-        let _is_trace = trace.len();
         let place = self.progress.take_clflush(line)?;
         let front = self.progress.rows.at(place).state.front();
         let number = self.progress.before.len() as u32;
@@ -109,12 +105,11 @@ impl Judging {
     }
 
     // A fence by the thread.
-    fn take_fence(&mut self, trace: &Trace, thread: u8) -> Result<(), OutOfMemory>
-        requires so_far { IsJudgingOf trace.now (taken self.old.progress) self.old }
-        requires next { IsAct trace.now (suc (taken self.old.progress)) (Fences thread) }
-        ensures { OnOk result (IsJudgingOf trace.now (suc (taken self.old.progress)) self.new) }
+    pub(crate) fn take_fence(&mut self, thread: u8) -> Result<(), OutOfMemory>
+        requires room { taken self.old.progress < event_limit }
+        requires so_far { (T : Recording) × IsJudgingOf T (taken self.old.progress) self.old }
+        ensures { (T : Recording) → IsJudgingOf T (taken self.old.progress) self.old → IsAct T (suc (taken self.old.progress)) (Fences thread) → OnOk result (IsJudgingOf T (suc (taken self.old.progress)) self.new) }
     {
-        let _is_trace = trace.len();
         let number = self.progress.before.len() as u32 + 1;
         let places = self.progress.open_flushes.of(thread);
         settle_fence(
@@ -129,13 +124,10 @@ impl Judging {
     }
 
     // An assertion.
-    fn take_assertion(&mut self, trace: &Trace, event: &Event) -> Result<(), OutOfMemory>
-        requires so_far { IsJudgingOf trace.now (taken self.old.progress) self.old }
-        requires next { slice_get trace.now.events (taken self.old.progress) ≡ Some event.now }
-        requires asserts { IsAct trace.now (suc (taken self.old.progress)) Asserts }
-        ensures { OnOk result (IsJudgingOf trace.now (suc (taken self.old.progress)) self.new) }
+    fn take_assertion(&mut self, event: &Event) -> Result<(), OutOfMemory>
+        ensures { (T : Recording) → IsJudgingOf T (taken self.old.progress) self.old → slice_get T.events (taken self.old.progress) ≡ Some event.now → IsAct T (suc (taken self.old.progress)) Asserts → OnOk result (IsJudgingOf T (suc (taken self.old.progress)) self.new) }
     {
-        let format = trace.format();
+        let format = self.progress.format;
         self.progress.take_assertion()?;
         let number = self.progress.before.len() as u64;
         self.writers.refresh(self.stale.as_slice());
@@ -153,24 +145,4 @@ fn push_stale(stale: &mut Vec<u32>, is_fresh: bool, place: u32) -> Result<(), Ou
         stale.push(place)?;
     }
     Ok(())
-}
-
-// What a sweep finds that judges the assertions as they come.
-pub(crate) fn judged(alloc: Global, trace: &Trace) -> Result<Swept, OutOfMemory>
-    ensures lines { IfOk result (λ s. s.lines ≡ length (lines_of (history trace.now (length trace.now.events)))) }
-    ensures findings { IfOk result (λ s. IsFindings trace.now s.findings.items) }
-    ensures verdicts { IfOk result (λ s. IsVerdicts trace.now s.verdicts.items) }
-    ensures kept { IfOk result (λ s. IsKeep trace.now s.selection) }
-{
-    let mut judging = Judging::new(alloc, trace)?;
-    for event in trace.events() {
-        judging.take(trace, event)?;
-    }
-    let Judging {
-        progress,
-        writers: _,
-        verdicts,
-        stale: _,
-    } = judging;
-    progress.finish(alloc, trace, verdicts)
 }

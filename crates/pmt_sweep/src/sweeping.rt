@@ -1,26 +1,25 @@
 //! The sweep over the events of a trace.
-ghost use Rattle.std.specs.Prelude.{◌≡◌, ℕ, suc, ◌<◌, false, length, nat_le, slice_get, Some, IfOk, OnOk};
-ghost use Rattle.std.specs.List.{list_any};
+ghost use Rattle.std.specs.Prelude.{◌≡◌, ℕ, suc, ◌<◌, length, nat_le, slice_get, Some, IfOk, OnOk};
 ghost use Rattle.pmt_model.specs.Analyses.{IsFindings, IsVerdicts};
-ghost use Rattle.pmt_model.specs.Machine.{Stores, Flushes, Clflushes, Fences, Asserts};
+ghost use Rattle.pmt_model.specs.Machine.{Flushes, Clflushes, Fences, Asserts};
 ghost use Rattle.pmt_model.specs.Keeping.{IsKeep};
-ghost use Rattle.pmt_model.specs.Traces.{Recording, IsAct, event_limit, history, lines_of};
+ghost use Rattle.pmt_model.specs.Traces.{Recording, IsAct, IsTrace, event_limit, history, lines_of};
 ghost use Rattle.pmt_lines.specs.Scans.{is_flush_covered};
-ghost use Rattle.pmt_asserts.specs.Judging.{event_asserts};
+ghost use Rattle.pmt_sweep.specs.Notes.{StoresBytes};
 ghost use Rattle.pmt_sweep.specs.Rows.{IsPlaceOf};
 ghost use Rattle.pmt_sweep.specs.Sweeping.{IsSweepOf, taken};
 
 use crate::byte_tables::ByteTables;
 use crate::chain::{LastOfLine, push_overwritten_by};
 use crate::ending::never_persisted;
+use crate::growing::Sweeper;
 use crate::joining::joined;
-use crate::judging::judged;
+use crate::note::{Bytes, Note, bytes_of, note_of, start_of};
 use crate::open_numbers::OpenNumbers;
 use crate::rows::Rows;
-use pmt_asserts::has_assertion;
 use pmt_lines::{OpenFlushes, push_if};
 use pmt_marks::LineState;
-use pmt_model::{Event, Finding, Op, OutOfMemory, Selection, Trace, Verdict, WordStore, line_of};
+use pmt_model::{Event, Finding, Format, Op, OutOfMemory, Selection, Trace, Verdict, line_of};
 use pmt_trim::marked_numbers;
 use std::alloc::Global;
 
@@ -40,15 +39,18 @@ pub struct Swept {
 /// What is known of a trace while its events go by.
 #[derive(Drop)]
 pub(crate) struct Progress {
+    pub(crate) format: Format,
     pub(crate) rows: Rows,
     // Of each thread, where the lines stand that its open flushes flush, and the numbers of these flushes.
     pub(crate) open_flushes: OpenFlushes,
     pub(crate) open_numbers: OpenNumbers,
     // Of each event that has come and is a store, the number of the store to its line before it, or 0.
     pub(crate) before: Vec<u32>,
+    // What each event that has come is to its line.
+    pub(crate) notes: Vec<Note>,
     // Of the lines whose stores were looked for far back, the last store to each byte.
     pub(crate) tables: ByteTables,
-    // Of each event that has come and is a store, the place of its line's row.
+    // Of each event that has come and is a store or flush, the place of its line's row.
     pub(crate) places: Vec<u32>,
     // What is found, apart from stores that are never persisted.
     pub(crate) found: Vec<Finding>,
@@ -58,7 +60,7 @@ pub(crate) struct Progress {
 
 /// The findings and verdicts of the trace, all that is kept of it, and how many lines it stores or flushes: one pass forward over the
 /// events, and one over the stores for those that are never persisted. It takes at most one look-up for each store and flush, some 75
-/// bytes a line (some 160 where none of its fifteen neighbours is there) and 9 an event; where the trace has assertions, some 120 bytes
+/// bytes a line (some 160 where none of its fifteen neighbours is there) and 12 an event; where the trace has assertions, some 120 bytes
 /// more for each line that is stored; where over 16 stores to a line follow one another without a flush, at most 4 bytes more for each byte
 /// of the line, and some 60 for the line.
 ///
@@ -70,58 +72,45 @@ pub fn sweep(alloc: Global, trace: &Trace) -> Result<Swept, OutOfMemory>
     ensures verdicts { IfOk result (λ s. IsVerdicts trace.now s.verdicts.items) }
     ensures kept { IfOk result (λ s. IsKeep trace.now s.selection) }
 {
-    if has_assertion(trace.events()) {
-        return judged(alloc, trace);
-    }
-    unjudged(alloc, trace)
-}
-
-// What is found in a trace without assertions.
-fn unjudged(alloc: Global, trace: &Trace) -> Result<Swept, OutOfMemory>
-    requires { list_any event_asserts trace.now.events ≡ false }
-    ensures lines { IfOk result (λ s. s.lines ≡ length (lines_of (history trace.now (length trace.now.events)))) }
-    ensures findings { IfOk result (λ s. IsFindings trace.now s.findings.items) }
-    ensures verdicts { IfOk result (λ s. IsVerdicts trace.now s.verdicts.items) }
-    ensures kept { IfOk result (λ s. IsKeep trace.now s.selection) }
-{
-    let mut progress = Progress::new(alloc, trace)?;
-    for event in trace.events() {
-        progress.take(trace, event)?;
-    }
-    progress.finish(alloc, trace, Vec::new(alloc))
+    let mut sweeper = Sweeper::new(alloc, trace.format())?;
+    sweeper.take(alloc, trace.events())?;
+    sweeper.finish(alloc)
 }
 
 impl Progress {
-    // No events yet, and room for those of the trace.
-    pub(crate) fn new(alloc: Global, trace: &Trace) -> Result<Self, OutOfMemory>
-        ensures so_far { IfOk result (IsSweepOf trace.now) }
+    // No events of this format yet.
+    pub(crate) fn new(alloc: Global, format: Format) -> Result<Self, OutOfMemory>
+        ensures so_far { (T : Recording) → IsTrace T → T.format ≡ format → IfOk result (IsSweepOf T) }
         ensures none { IfOk result (λ s. taken s ≡ 0) }
     {
-        let events = trace.len();
         Ok(Progress {
+            format,
             rows: Rows::new(alloc),
             open_flushes: OpenFlushes::new(alloc)?,
             open_numbers: OpenNumbers::new(alloc)?,
-            before: Vec::with_capacity(alloc, events)?,
+            before: Vec::new(alloc),
+            notes: Vec::new(alloc),
             tables: ByteTables::new(alloc),
-            places: Vec::with_capacity(alloc, events)?,
+            places: Vec::new(alloc),
             found: Vec::new(alloc),
-            kept: Vec::with_capacity(alloc, events)?,
+            kept: Vec::new(alloc),
         })
     }
 
-    // Takes the next event of the trace.
+    // Takes the next event.
     #[inline(always)]
-    pub(crate) fn take(&mut self, trace: &Trace, event: &Event) -> Result<(), OutOfMemory>
-        requires so_far { IsSweepOf trace.now self.old }
-        requires next { slice_get trace.now.events (taken self.old) ≡ Some event.now }
-        ensures so_far { OnOk result (IsSweepOf trace.now self.new) }
+    pub(crate) fn take(&mut self, event: &Event) -> Result<(), OutOfMemory>
+        requires { (T : Recording) × IsSweepOf T self.old × (slice_get T.events (taken self.old) ≡ Some event.now) }
+        ensures so_far { (T : Recording) → IsSweepOf T self.old → slice_get T.events (taken self.old) ≡ Some event.now → OnOk result (IsSweepOf T self.new) }
         ensures one { OnOk result (taken self.new ≡ suc (taken self.old)) }
     {
         let thread = event.thread;
-        let format = trace.format();
+        let format = self.format;
         match &event.op {
-            Op::Store(store) => self.take_store(trace, line_of(format, store.addr()), store),
+            Op::Store(store) => {
+                self.take_store(line_of(format, store.addr()), bytes_of(store))?;
+                Ok(())
+            }
             Op::Clwb(addr) | Op::ClflushOpt(addr) => {
                 self.take_flush(line_of(format, *addr), thread)
             }
@@ -134,19 +123,14 @@ impl Progress {
         }
     }
 
-    // A store to the line.
-    pub(crate) fn take_store(
-        &mut self,
-        trace: &Trace,
-        line: u64,
-        store: &WordStore,
-    ) -> Result<(), OutOfMemory>
-        requires so_far { IsSweepOf trace.now self.old }
-        requires next { IsAct trace.now (suc (taken self.old)) (Stores line store.now) }
-        ensures so_far { OnOk result (IsSweepOf trace.now self.new) }
+    // A store of these bytes to the line: the place of its row.
+    pub(crate) fn take_store(&mut self, line: u64, bytes: Bytes) -> Result<usize, OutOfMemory>
+        requires room { taken self.old < event_limit }
+        requires so_far { (T : Recording) × IsSweepOf T self.old × StoresBytes T (suc (taken self.old)) line bytes.low bytes.high }
+        ensures so_far { (T : Recording) → IsSweepOf T self.old → StoresBytes T (suc (taken self.old)) line bytes.low bytes.high → OnOk result (IsSweepOf T self.new) }
+        ensures place { IfOk result (λ place. IsPlaceOf line place self.new.rows) }
         ensures one { OnOk result (taken self.new ≡ suc (taken self.old)) }
     {
-        let _is_trace = trace.len();
         let number = self.before.len() as u32 + 1;
         let place = self.rows.place_of(line)?;
         let row = self.rows.at(place);
@@ -157,17 +141,20 @@ impl Progress {
         push_overwritten_by(
             &mut self.found,
             &mut self.tables,
-            trace,
+            self.format,
             self.before.as_slice(),
+            self.notes.as_slice(),
             line,
             last,
-            store,
+            bytes,
         )?;
         self.rows.store(line, place, number);
+        let note = note_of(start_of(self.format, line), bytes);
         self.before.push(last.store)?;
+        self.notes.push(note)?;
         self.places.push(place as u32)?;
         self.kept.push(true)?;
-        Ok(())
+        Ok(place)
     }
 
     // A flush of the line by the thread.
@@ -190,7 +177,8 @@ impl Progress {
         self.open_flushes.add(thread, place)?;
         self.open_numbers.add(thread, number)?;
         self.before.push(0)?;
-        self.places.push(0)?;
+        self.notes.push(Note::Flush { thread })?;
+        self.places.push(place as u32)?;
         self.kept.push(false)?;
         Ok(())
     }
@@ -214,7 +202,8 @@ impl Progress {
         )?;
         self.rows.clflush(line, place, number);
         self.before.push(0)?;
-        self.places.push(0)?;
+        self.notes.push(Note::Clflush)?;
+        self.places.push(place as u32)?;
         self.kept.push(!is_covered)?;
         Ok(place)
     }
@@ -240,6 +229,7 @@ impl Progress {
         self.open_flushes.clear(thread);
         self.open_numbers.clear(thread);
         self.before.push(0)?;
+        self.notes.push(Note::Fence { thread })?;
         self.places.push(0)?;
         self.kept.push(is_kept)?;
         Ok(())
@@ -251,30 +241,27 @@ impl Progress {
         ensures one { OnOk result (taken self.new ≡ suc (taken self.old)) }
     {
         self.before.push(0)?;
+        self.notes.push(Note::Assertion)?;
         self.places.push(0)?;
         self.kept.push(true)?;
         Ok(())
     }
 
     // What is found when all events have come, with these verdicts.
-    pub(crate) fn finish(
-        self,
-        alloc: Global,
-        trace: &Trace,
-        verdicts: Vec<Verdict>,
-    ) -> Result<Swept, OutOfMemory>
-        requires so_far { IsSweepOf trace.now self }
-        requires all { taken self ≡ length trace.now.events }
-        ensures lines { IfOk result (λ s. s.lines ≡ length (lines_of (history trace.now (length trace.now.events)))) }
-        ensures findings { IfOk result (λ s. IsFindings trace.now s.findings.items) }
+    pub(crate) fn finish(self, alloc: Global, verdicts: Vec<Verdict>) -> Result<Swept, OutOfMemory>
+        requires { (T : Recording) × IsSweepOf T self × (taken self ≡ length T.events) }
+        ensures lines { (T : Recording) → IsSweepOf T self → taken self ≡ length T.events → IfOk result (λ s. s.lines ≡ length (lines_of (history T (length T.events)))) }
+        ensures findings { (T : Recording) → IsSweepOf T self → taken self ≡ length T.events → IfOk result (λ s. IsFindings T s.findings.items) }
         ensures verdicts { IfOk result (λ s. s.verdicts ≡ verdicts) }
-        ensures kept { IfOk result (λ s. IsKeep trace.now s.selection) }
+        ensures kept { (T : Recording) → IsSweepOf T self → taken self ≡ length T.events → IfOk result (λ s. IsKeep T s.selection) }
     {
         let Progress {
+            format: _,
             rows,
             open_flushes: _,
             open_numbers: _,
             before,
+            notes,
             tables,
             places,
             found,
@@ -283,9 +270,10 @@ impl Progress {
         drop(before);
         drop(tables);
         let lines = rows.len();
-        let late = never_persisted(alloc, trace, &rows, places.as_slice())?;
+        let late = never_persisted(alloc, &rows, places.as_slice(), notes.as_slice())?;
         drop(rows);
         drop(places);
+        drop(notes);
         let findings = joined(found, late)?;
         let selection = marked_numbers(alloc, kept.as_slice())?;
         Ok(Swept {

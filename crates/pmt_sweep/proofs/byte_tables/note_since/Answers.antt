@@ -1,52 +1,37 @@
-use Rattle.std.proofs.Common.{◌≡◌, ◌+◌, ◌-◌, ◌*◌, ◌<◌, length, refl, sym, subst, arith, rules}
-use Rattle.std.specs.Prelude.{slice_index}
-use Rattle.pmt_sweep.specs.Chains.{IsLink}
-use Rattle.pmt_sweep.specs.ByteTables.{IsLastBut}
-use Rattle.pmt_sweep.proofs.ChainLemmas.{chain-end, step-link}
-use Rattle.pmt_sweep.proofs.ByteTableLemmas.{last-start, last-end, bytes-noted}
+use Rattle.std.proofs.Common.{◌≡◌, ◌-◌, ◌<◌, arith, rules}
+use Rattle.pmt_sweep.proofs.ByteTableLemmas.{noted-start, noted-less, noted-back, noted-all}
 use Rattle.pmt_sweep.proofs.byte_tables.note_since.Goals as goal
 
 pub loop-number-init : goal.loop-number-init
 loop-number-init c =
-    let T = c.args.trace.now in
-    let l = c.args.line in
-    let n = length c.args.before.now in
-    let e = sym c.requires.last in
+    let chain = c.requires.chain in
+    let first = noted-start chain.0 c.args.before.now c.args.notes.now chain.1 c.args.start c.args.last chain.2 c.args.upto c.args.numbers.now.items c.requires.by_now chain.3 in
     record {
-      link = subst (IsLink T l n) e (chain-end T l n c.len-is_trace.ensures.is_trace c.requires.within).link;
-      bytes = record {
-        size = c.requires.bytes.size;
-        each = λ o small. subst (λ number. IsLastBut T l n c.args.upto number (l * T.format.line_size + o) (slice_index c.args.numbers.now.items o)) e
-            (last-start T l n c.args.upto (l * T.format.line_size + o) (slice_index c.args.numbers.now.items o) c.requires.within c.requires.by_now (c.requires.bytes.each o small));
-      };
+      within = first.link.by_now;
+      noted = omega (arith, first.link.by_now, chain.2.linked.all);
+      each = λ T k h are. noted-start T c.args.before.now c.args.notes.now k c.args.start c.args.last h c.args.upto c.args.numbers.now.items c.requires.by_now are;
     }
 
 pub loop-number-smaller : goal.loop-number-smaller
 loop-number-smaller c =
-    (step-link c.args.trace.now c.args.line (length c.args.before.now) c.loop-number.number c.args.before.now c.len-is_trace.ensures.is_trace refl c.requires.within c.requires.chained c.loop-number.invariant.link (omega (arith, c.loop-number-test.true))).1
+    let chain = c.requires.chain in
+    noted-less chain.0 c.args.before.now c.args.notes.now chain.1 c.args.start c.args.last chain.2 c.args.upto c.loop-number.number c.loop-number.numbers.items (omega (arith, c.loop-number-test.true)) (c.loop-number.invariant.each chain.0 chain.1 chain.2 chain.3)
 
 pub loop-number-preserved : goal.loop-number-preserved
 loop-number-preserved c =
-    let T = c.args.trace.now in
-    let l = c.args.line in
-    let n = length c.args.before.now in
+    let chain = c.requires.chain in
     let number = c.loop-number.number in
     let some : 0 < number = omega (arith, c.loop-number-test.true) in
-    let from : c.saturating_sub-from.result ≡ c.bytes_at-stored.result.low - l * T.format.line_size = search (rules, c.saturating_sub-from.ensures, c.requires.start) in
-    let to : c.saturating_sub-to.result ≡ c.bytes_at-stored.result.high - l * T.format.line_size = search (rules, c.saturating_sub-to.ensures, c.requires.start) in
+    let from : c.saturating_sub-from.result ≡ c.bytes_at-stored.result.low - c.args.start = search (rules, c.saturating_sub-from.ensures) in
+    let to : c.saturating_sub-to.result ≡ c.bytes_at-stored.result.high - c.args.start = search (rules, c.saturating_sub-to.ensures) in
+    let less = noted-less chain.0 c.args.before.now c.args.notes.now chain.1 c.args.start c.args.last chain.2 c.args.upto number c.loop-number.numbers.items some (c.loop-number.invariant.each chain.0 chain.1 chain.2 chain.3) in
     record {
-      link = (step-link T l n number c.args.before.now c.len-is_trace.ensures.is_trace refl c.requires.within c.requires.chained c.loop-number.invariant.link some).0;
-      bytes = bytes-noted T l n c.args.upto number c.bytes_at-stored.result.low c.bytes_at-stored.result.high c.saturating_sub-from.result c.saturating_sub-to.result c.args.before.now c.loop-number.numbers.items c.note.new.numbers.items
-          c.requires.within refl c.requires.chained c.loop-number.invariant.link some c.bytes_at-stored.ensures from to c.note.ensures c.loop-number.invariant.bytes;
+      within = omega (arith, less, c.loop-number.invariant.within);
+      noted = omega (arith, less, c.loop-number.invariant.noted);
+      each = λ T k h are.
+          noted-back T c.args.before.now c.args.notes.now k c.args.start c.args.last h c.args.upto number c.bytes_at-stored.result.low c.bytes_at-stored.result.high c.saturating_sub-from.result c.saturating_sub-to.result c.loop-number.numbers.items c.note.new.numbers.items
+          some (λ w is. c.bytes_at-stored.ensures T k w h.linked.noted h.first is) from to c.note.ensures (c.loop-number.invariant.each T k h are);
     }
 
 pub returns : goal.returns
-returns c =
-    let T = c.args.trace.now in
-    let l = c.args.line in
-    let n = length c.args.before.now in
-    let bytes = c.loop-number.invariant.bytes in
-    record {
-      size = bytes.size;
-      each = λ o small. last-end T l n c.args.upto c.loop-number.number (l * T.format.line_size + o) (slice_index c.loop-number.numbers.items o) (omega (arith, c.loop-number-test.false)) (bytes.each o small);
-    }
+returns c T k h are = noted-all T k _ c.args.upto c.loop-number.number c.loop-number.numbers.items (omega (arith, c.loop-number-test.false)) (c.loop-number.invariant.each T k h are)

@@ -1,35 +1,43 @@
-use Rattle.std.proofs.Common.{◌<◌, inl, inr, length, refl, sym, subst, ◌∙◌, arith}
-use Rattle.pmt_sweep.specs.Chains.{IsLink, IsUnwrittenFrom}
-use Rattle.pmt_sweep.proofs.ChainLemmas.{chain-end, step-back, step-link, none-after, not-met}
+use Rattle.std.proofs.Common.{◌<◌, sym, ◌∙◌, arith}
+use Rattle.pmt_sweep.proofs.ChainLemmas.{not-met}
+use Rattle.pmt_sweep.proofs.StoringLemmas.{from-last, gone-back, gone-less, newest-none, newest-this}
 use Rattle.pmt_sweep.proofs.chain.newest_to.Goals as goal
 
 pub loop-step-init : goal.loop-step-init
 loop-step-init c =
-    let T = c.args.trace.now in
-    let n = length c.args.before.now in
-    let end = chain-end T c.args.line n c.len-is_trace.ensures.is_trace c.requires.within in
-    let e = sym c.requires.store in
+    let chain = c.requires.chain in
+    let first = from-last chain.0 c.args.before.now c.args.notes.now chain.1 c.args.start c.args.last.store c.args.bytes.low c.args.bytes.high chain.2 in
     record {
-      link = subst (IsLink T c.args.line n) e end.link;
-      unwritten = λ b from to. subst (λ m. IsUnwrittenFrom T n m b) e (end.unwritten b (c.requires.line b from to));
+      within = first.link.by_now;
+      noted = omega (arith, first.link.by_now, first.linked.all);
+      each = λ T k h. from-last T c.args.before.now c.args.notes.now k c.args.start c.args.last.store c.args.bytes.low c.args.bytes.high h;
     }
 
 pub returns-then-number-last : goal.returns-then-number-last
-returns-then-number-last c =
-    inl (refl, λ b from to. none-after c.args.trace.now (length c.args.before.now) c.args.last.flush c.loop-step.number b c.if-number-last.true (c.loop-step.invariant.unwritten b from to))
+returns-then-number-last c T k h =
+    newest-none T c.args.before.now c.args.notes.now k c.args.start c.loop-step.number c.args.bytes.low c.args.bytes.high (c.loop-step.invariant.each T k h) c.args.last.flush c.if-number-last.true
 
 pub returns-then-meets : goal.returns-then-meets
-returns-then-meets c = inr (omega (arith, c.if-number-last.false), c.loop-step.invariant.link, c.loop-step.invariant.unwritten)
+returns-then-meets c T k h =
+    newest-this T c.args.before.now c.args.notes.now k c.args.start c.loop-step.number c.args.bytes.low c.args.bytes.high (c.loop-step.invariant.each T k h) c.args.last.flush (omega (arith, c.if-number-last.false))
 
 pub loop-step-preserved : goal.loop-step-preserved
 loop-step-preserved c =
-    let T = c.args.trace.now in
-    let n = length c.args.before.now in
-    let some : 0 < c.loop-step.number = omega (arith, c.if-number-last.false) in
-    let low = c.bytes_at-stored.result.low in
-    let high = c.bytes_at-stored.result.high in
+    let chain = c.requires.chain in
+    let before = c.args.before.now in
+    let notes = c.args.notes.now in
+    let start = c.args.start in
+    let number = c.loop-step.number in
+    let some : 0 < number = omega (arith, c.if-number-last.false) in
+    let low = c.args.bytes.low in
+    let high = c.args.bytes.high in
+    let less = gone-less chain.0 before notes chain.1 start number low high (c.loop-step.invariant.each chain.0 chain.1 chain.2) some in
     record {
-      link = (step-link T c.args.line n c.loop-step.number c.args.before.now c.len-is_trace.ensures.is_trace refl c.requires.within c.requires.chained c.loop-step.invariant.link some).0;
-      unwritten = λ b from to. step-back T c.args.line n c.loop-step.number b low high c.args.before.now c.len-is_trace.ensures.is_trace refl c.requires.within c.requires.chained c.loop-step.invariant.link some
-          (c.requires.line b from to) (c.loop-step.invariant.unwritten b from to) c.bytes_at-stored.ensures (not-met low high c.args.bytes.low c.args.bytes.high b from to (sym c.meets.ensures ∙ c.if-meets.false));
+      within = omega (arith, less, c.loop-step.invariant.within);
+      noted = omega (arith, less, c.loop-step.invariant.noted);
+      each = λ T k h.
+          let at = c.loop-step.invariant.each T k h in
+          gone-back T before notes k start number low high at c.bytes_at-stored.result.low c.bytes_at-stored.result.high some
+          (λ w is. c.bytes_at-stored.ensures T k w at.linked.noted at.bytes.first is)
+          (λ b from to. not-met c.bytes_at-stored.result.low c.bytes_at-stored.result.high low high b from to (sym c.meets.ensures ∙ c.if-meets.false));
     }

@@ -1,9 +1,11 @@
-use Rattle.std.proofs.Common.{ℕ, ◌<◌, ◌≤◌, length}
-use Rattle.pmt_sweep.specs.Chains.{IsLink, IsUnwrittenFrom}
+use Rattle.std.proofs.Common.{ℕ, ◌≤◌, length}
+use Rattle.pmt_model.specs.Traces.{Recording}
+use Rattle.pmt_sweep.specs.Storing.{IsFromLast, IsFromNewest}
 use Rattle.pmt_sweep.proofs.chain.newest_to.Given as goal
 
 abbrev pub invariant-loop-step : goal.invariant-loop-step
 invariant-loop-step l = record {
-  link : IsLink l.trace l.line (length l.before) l.number;
-  unwritten : (b : ℕ) → l.bytes.low ≤ b → b < l.bytes.high → IsUnwrittenFrom l.trace (length l.before) l.number b;
+  within : l.number ≤ length l.before;
+  noted : l.number ≤ length l.notes;
+  each : (T : Recording) (k : ℕ) → IsFromLast T l.before l.notes k l.start l.last.store l.bytes.low l.bytes.high → IsFromNewest T l.before l.notes k l.start l.number l.bytes.low l.bytes.high;
 }

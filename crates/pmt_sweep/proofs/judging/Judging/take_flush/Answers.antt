@@ -5,12 +5,14 @@ use Rattle.pmt_sweep.proofs.JudgingLemmas.{known-same}
 use Rattle.pmt_sweep.proofs.VerdictsSoFar.{verdicts-act}
 use Rattle.pmt_sweep.proofs.judging.Judging.take_flush.Goals as goal
 
+pub take_flush-requires-clause-so_far : goal.take_flush-requires-clause-so_far
+take_flush-requires-clause-so_far c = (c.requires.so_far.0, c.requires.so_far.1.known.sweep)
+
 pub returns : goal.returns
-returns c =
-    let T = c.args.trace.now in
+returns c T so_far is =
     let j = c.args.self.now in
     let n = taken j.progress in
     record {
-      known = known-same T n (Flushes c.args.thread c.args.line) j _ c.len-is_trace.ensures.is_trace c.requires.so_far.known c.requires.next (λ l s e. cc) (λ l. refl) (c.in_ok-take_flush.ensures.so_far T c.requires.next c.requires.so_far.known.sweep) c.in_ok-take_flush.ensures.one refl;
-      verdicts = verdicts-act T n j.verdicts.items (Flushes c.args.thread c.args.line) c.requires.next (λ e. cc) c.requires.so_far.verdicts;
+      known = known-same T n (Flushes c.args.thread c.args.line) j _ so_far.known.sweep.linked.trace so_far.known is (λ l s e. cc) (λ l. refl) (c.in_ok-take_flush.ensures.so_far T is so_far.known.sweep) c.in_ok-take_flush.ensures.one refl;
+      verdicts = verdicts-act T n j.verdicts.items (Flushes c.args.thread c.args.line) is (λ e. cc) so_far.verdicts;
     }

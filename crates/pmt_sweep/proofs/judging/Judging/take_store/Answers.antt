@@ -3,41 +3,73 @@ use Rattle.pmt_model.specs.Machine.{Stores}
 use Rattle.pmt_model.specs.Traces.{history, count_at}
 use Rattle.pmt_sweep.specs.Sweeping.{taken}
 use Rattle.pmt_sweep.specs.Rows.{AreRows}
+use Rattle.pmt_laws.proofs.Histories.{length-history}
+use Rattle.pmt_sweep.proofs.OpenLemmas.{rows-within}
 use Rattle.pmt_sweep.proofs.RowLemmas.{place-within}
-use Rattle.pmt_sweep.proofs.JudgingLemmas.{known-store, store-low, last-stands}
+use Rattle.pmt_sweep.proofs.JudgingLemmas.{known-store}
+use Rattle.pmt_sweep.proofs.StoringLemmas.{few-bytes, line-start, stored-after, stored-inside, stored-line_small, stored-some}
 use Rattle.pmt_sweep.proofs.VerdictsSoFar.{verdicts-act}
 use Rattle.pmt_sweep.proofs.judging.Judging.take_store.Goals as goal
 
+pub take_store-requires-clause-so_far : goal.take_store-requires-clause-so_far
+take_store-requires-clause-so_far c = (c.requires.so_far.0, c.requires.so_far.1.known.sweep, c.requires.so_far.2)
+
 pub at-requires : goal.at-requires
-at-requires c =
-    let T = c.args.trace.now in
-    let j = c.args.self.now in
-    let n = taken j.progress in
+at-requires c = place-within c.args.line c.in_ok-place.place c.take_store.new.self.rows c.in_ok-place.ensures.place
+
+pub start_of-start-requires : goal.start_of-start-requires
+start_of-start-requires c =
+    stored-line_small c.requires.so_far.0 (suc (taken c.args.self.now.progress)) c.args.line c.args.bytes.low c.args.bytes.high c.requires.so_far.1.known.sweep.linked.trace c.requires.so_far.2
+
+pub overflow_cast-writer-3 : goal.overflow_cast-writer-3
+overflow_cast-writer-3 c =
+    let T = c.requires.so_far.0 in
+    let trace = c.requires.so_far.1.known.sweep.linked.trace in
+    let stores = c.requires.so_far.2 in
+    let sweep = c.in_ok-place.ensures.so_far T c.requires.so_far.1.known.sweep stores in
+    let start : c.start_of-start.result ≡ c.args.line * T.format.line_size = line-start T c.take_store.new.self.format c.args.line c.start_of-start.result sweep.format c.start_of-start.ensures in
+    let inside = stored-inside T _ c.args.line c.args.bytes.low c.args.bytes.high trace stores in
+    omega (arith, start, inside, few-bytes T trace)
+
+pub overflow_cast-place : goal.overflow_cast-place
+overflow_cast-place c =
+    let T = c.requires.so_far.0 in
+    let sweep = c.in_ok-place.ensures.so_far T c.requires.so_far.1.known.sweep c.requires.so_far.2 in
     let new = c.take_store.new.self in
-    let last : c.len-index.result - 1 ≡ n = omega (arith, c.len-index.ensures, c.in_ok-take_store.ensures.so_far.all, c.in_ok-take_store.ensures.one) in
-    place-within c.args.line c.index.result.now new.rows (last-stands T n c.args.line c.args.store.now new c.in_ok-take_store.ensures.so_far c.in_ok-take_store.ensures.one c.requires.next (c.len-index.result - 1) c.index.result.now last c.index.ensures)
+    let within = place-within c.args.line c.in_ok-place.place new.rows c.in_ok-place.ensures.place in
+    omega (arith, within, rows-within (history T (taken new)) new.rows sweep.rows.lines_in_order, length-history T (taken new) sweep.linked.within, sweep.linked.within, sweep.linked.trace.few)
+
+pub store-requires : goal.store-requires
+store-requires c =
+    let T = c.requires.so_far.0 in
+    let trace = c.requires.so_far.1.known.sweep.linked.trace in
+    let stores = c.requires.so_far.2 in
+    let sweep = c.in_ok-place.ensures.so_far T c.requires.so_far.1.known.sweep stores in
+    let start : c.start_of-start.result ≡ c.args.line * T.format.line_size = line-start T c.take_store.new.self.format c.args.line c.start_of-start.result sweep.format c.start_of-start.ensures in
+    omega (arith, start, stored-after T _ c.args.line c.args.bytes.low c.args.bytes.high trace stores, stored-some T _ c.args.line c.args.bytes.low c.args.bytes.high trace stores)
 
 pub returns : goal.returns
-returns c =
-    let T = c.args.trace.now in
+returns c T so_far stores =
     let j = c.args.self.now in
     let n = taken j.progress in
     let l = c.args.line in
-    let s = c.args.store.now in
+    let low = c.args.bytes.low in
+    let high = c.args.bytes.high in
+    let s = stores.what in
+    let is = stores.is_store in
+    let place = c.in_ok-place.place in
     let new = c.take_store.new.self in
-    let sweep = c.in_ok-take_store.ensures.so_far in
-    let trace = c.format.ensures.is_trace in
-    let rows : AreRows (history T (suc n)) new.rows = subst (λ k. AreRows (history T k) new.rows) c.in_ok-take_store.ensures.one sweep.rows in
+    let sweep = c.in_ok-place.ensures.so_far T so_far.known.sweep stores in
+    let trace = so_far.known.sweep.linked.trace in
+    let rows : AreRows (history T (suc n)) new.rows = subst (λ k. AreRows (history T k) new.rows) c.in_ok-place.ensures.one sweep.rows in
     let row = c.at.ensures.row (history T (suc n)) rows.each in
-    let last : c.len-index.result - 1 ≡ n = omega (arith, c.len-index.ensures, sweep.all, c.in_ok-take_store.ensures.one) in
-    let number : c.len-index.result - 1 + 1 ≡ suc n = omega (arith, last) in
-    let here = last-stands T n l s new sweep c.in_ok-take_store.ensures.one c.requires.next (c.len-index.result - 1) c.index.result.now last c.index.ensures in
+    let here = c.in_ok-place.ensures.place in
     let rank : c.count-stores.result ≡ count_at T l (suc n) = c.count-stores.ensures.value ∙ row.follows.counts ∙ ap (λ k. count_at T k (suc n)) (c.at.ensures.line l here) in
-    let size : c.line_size-size.result ≡ T.format.line_size = c.line_size-size.ensures.value ∙ ap (λ f. f.line_size) c.format.ensures.value in
-    let start : l * c.line_size-size.result ≡ l * T.format.line_size = ap (λ m. l * m) size in
-    let addr : c.get.result ≡ s.addr = c.get.ensures.value ∙ c.addr.ensures.value in
-    let low : l * T.format.line_size + (c.get.result - l * c.line_size-size.result) ≡ s.addr = omega (arith, start, addr, store-low T (suc n) l s trace c.requires.next) in
+    let start : c.start_of-start.result ≡ l * T.format.line_size = line-start T new.format l c.start_of-start.result sweep.format c.start_of-start.ensures in
+    let after = stored-after T (suc n) l low high trace stores in
+    let first : l * T.format.line_size + (low - c.start_of-start.result) ≡ s.addr = omega (arith, start, stores.from, after) in
+    let last : high - c.start_of-start.result ≡ low - c.start_of-start.result + length s.bytes = omega (arith, start, stores.from, stores.to, after) in
     record {
-      known = known-store T n l c.index.result.now s _ j _ trace c.requires.so_far.known c.requires.next sweep c.in_ok-take_store.ensures.one here number rank refl low (ap (λ bs. c.get.result - l * c.line_size-size.result + length bs) c.bytes.ensures.value) c.in_ok-store.ensures;
-      verdicts = verdicts-act T n j.verdicts.items (Stores l s) c.requires.next (λ e. cc) c.requires.so_far.verdicts;
+      known = known-store T n l place s _ j _ trace so_far.known is sweep c.in_ok-place.ensures.one here (let e : c.len.result + 1 ≡ suc n = omega (arith, c.len.ensures) in e) rank refl first last c.in_ok-store.ensures;
+      verdicts = verdicts-act T n j.verdicts.items (Stores l s) is (λ e. cc) so_far.verdicts;
     }

@@ -1,21 +1,22 @@
-use Rattle.std.proofs.Common.{subst, sym}
-use Rattle.pmt_sweep.specs.Ending.{StandAt}
+use Rattle.std.proofs.Common.{subst}
+use Rattle.pmt_sweep.specs.Ending.{IsAtEnd}
 use Rattle.pmt_sweep.specs.Flags.{AreFlagsTo}
 use Rattle.pmt_sweep.specs.Known.{AreKnownTo}
 use Rattle.pmt_sweep.proofs.FlagLemmas.{flags-keep}
+use Rattle.pmt_sweep.proofs.SweepLemmas.{at-end}
 use Rattle.pmt_sweep.proofs.sweeping.Progress.finish.Goals as goal
 
-pub never_persisted-requires-clause-standing : goal.never_persisted-requires-clause-standing
-never_persisted-requires-clause-standing c = subst (StandAt c.args.trace.now c.args.self.rows) (sym c.as_slice.ensures.value) c.requires.so_far.standing
+pub never_persisted-requires : goal.never_persisted-requires
+never_persisted-requires c =
+    (c.requires.0, rw (c.as_slice.ensures.value, c.as_slice-2.ensures.value) (at-end c.requires.0 c.args.self c.requires.1 c.requires.2))
 
 pub returns-clause-findings : goal.returns-clause-findings
-returns-clause-findings c =
-    let T = c.args.trace.now in
-    c.in_ok-findings.ensures T (subst (λ n. AreKnownTo T n c.args.self.found.items) c.requires.all c.requires.so_far.known) c.in_ok-late.ensures
+returns-clause-findings c T so_far all =
+    let end : IsAtEnd T c.args.self.rows c.as_slice.result.now c.as_slice-2.result.now = rw (c.as_slice.ensures.value, c.as_slice-2.ensures.value) (at-end T c.args.self so_far all) in
+    c.in_ok-findings.ensures T (subst (λ n. AreKnownTo T n c.args.self.found.items) all so_far.known) (c.in_ok-late.ensures T end)
 
 pub returns-clause-kept : goal.returns-clause-kept
-returns-clause-kept c =
-    let T = c.args.trace.now in
-    let flags = subst (λ n. AreFlagsTo T n c.args.self.kept.items) c.requires.all c.requires.so_far.flags in
-    let just = rw c.as_slice-2.ensures.value at c.in_ok-selection.ensures.just in
+returns-clause-kept c T so_far all =
+    let flags = subst (λ n. AreFlagsTo T n c.args.self.kept.items) all so_far.flags in
+    let just = rw c.as_slice-3.ensures.value at c.in_ok-selection.ensures.just in
     flags-keep T c.args.self.kept.items c.in_ok-selection.selection flags c.in_ok-selection.ensures.rising just

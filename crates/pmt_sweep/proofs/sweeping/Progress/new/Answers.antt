@@ -1,15 +1,14 @@
-use Rattle.std.proofs.Common.{length, rules}
+use Rattle.std.proofs.Common.{rules}
 use Rattle.pmt_sweep.proofs.sweeping.Progress.new.Goals as goal
 
 pub returns-clause-so_far : goal.returns-clause-so_far
-returns-clause-so_far c =
-    let T = c.args.trace.now in
+returns-clause-so_far c T trace format =
     record {
-      within = search rules;
+      format = format;
+      linked = record { trace = trace; within = search rules; chained = search rules; all = search rules; noted = search rules };
       rows = search rules;
       opens = search rules;
-      chained = search rules;
-      tables = c.new-4.ensures T (length c.in_ok-with_capacity.field-0.items);
+      tables = search rules;
       all = search rules;
       standing = search rules;
       known = search rules;

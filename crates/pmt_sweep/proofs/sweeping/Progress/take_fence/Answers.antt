@@ -1,5 +1,7 @@
-use Rattle.std.proofs.Common.{◌≡◌, ◌<◌, ◌+◌, Bool, List, [], ◌∷◌, ◌++◌, suc, length, drop, map, ap, subst, sym, ◌∙◌, arith}
+use Rattle.std.proofs.Common.{◌≡◌, ◌<◌, ◌+◌, Bool, List, [], ◌∷◌, ◌++◌, suc, length, drop, map, refl, ap, subst, sym, ◌∙◌, arith}
 use Rattle.std.proofs.lemmas.List.{take_at}
+use Rattle.std.proofs.lemmas.Option.{none-some}
+use Rattle.pmt_sweep.specs.declared.note.Note.TheVariants.{Fence}
 use Rattle.pmt_model.specs.declared.finding.Finding.TheVariants.{FenceWithoutFlush}
 use Rattle.pmt_model.specs.Machine.{Fences}
 use Rattle.pmt_model.specs.Traces.{history}
@@ -26,7 +28,7 @@ fence-is_kept-requires-clause-numbered c =
     let own = so_far.numbered t (omega (arith, c.ranges.thread.fits)) in
     let numbers : c.of-numbers.result.now ≡ map number_in (open_flushes t (history T n)) = c.of-numbers.ensures ∙ own.numbered in
     let all : length c.as_mut_slice.result.now ≡ n = ap length c.as_mut_slice.ensures.value ∙ so_far.flags.all in
-    rw (numbers, all) (numbers-within T n t so_far.within)
+    rw (numbers, all) (numbers-within T n t so_far.linked.within)
 
 pub returns-clause-so_far : goal.returns-clause-so_far
 returns-clause-so_far c T is so_far =
@@ -52,11 +54,13 @@ returns-clause-so_far c T is so_far =
     } in
     let past = c.fence-is_kept.ensures.decides T n at in
     let all : length c.fence-is_kept.new.kept ≡ s.kept.len = omega (arith, past.all, so_far.flags.all, ap length c.as_mut_slice.ensures.value, c.as_mut_slice.ensures.len) in
-    let flags = c.in_ok-push-3.ensures.items ∙ ap (λ (bs : List Bool). bs ++ c.fence-is_kept.result ∷ []) (take_at c.fence-is_kept.new.kept (drop (length c.fence-is_kept.new.kept) s.kept.items) s.kept.len all) in
-    next T s _ (Fences t) 0 0 so_far is c.in_ok-push.ensures.items c.in_ok-push-2.ensures.items
+    let flags = c.in_ok-push-4.ensures.items ∙ ap (λ (bs : List Bool). bs ++ c.fence-is_kept.result ∷ []) (take_at c.fence-is_kept.new.kept (drop (length c.fence-is_kept.new.kept) s.kept.items) s.kept.len all) in
+    next T s _ (Fences t) 0 0 (Fence t) so_far is refl c.in_ok-push.ensures.items c.in_ok-push-2.ensures.items c.in_ok-push-3.ensures.items
     c.fence-is_kept.ensures.kept rows
     (subst (AreOpen (Fences t ∷ h) new) (sym c.clear.ensures) opens)
-    (no-store_told h new (Fences t) 0 0 (λ k w e. cc))
+    (no-store_told h (Fences t) 0 (λ k w e. cc))
+    (λ l none. absurd (none-some l none))
+    is
     (found_if c.is_empty.result (FenceWithoutFlush (suc n)), found, fence-told T t n c.is_empty.result places is c.is_empty.ensures (ap has_some c.of-places.ensures ∙ own.some))
     (rw (c.clear.ensures, c.clear-2.ensures) numbered)
     (subst (AreFlagsTo T (suc n)) (sym flags) (flags-fence T n t c.fence-is_kept.new.kept c.fence-is_kept.result is past))

@@ -1,0 +1,162 @@
+//! What a check finds in the events of a source. They are taken block by block, and no block is kept.
+ghost use Rattle.std.specs.Prelude.{◌≡◌, ◌==◌, ◌+◌, ◌-◌, ◌^◌, ◌<◌, true, not, length, IfOk, IfErr, IfSome, OnOk};
+ghost use Rattle.pmt_laws.specs.Passing.{with_events};
+ghost use Rattle.pmt_model.specs.Traces.{Recording, IsTrace};
+ghost use Rattle.pmt_text.specs.Coming.{ComesWhole};
+ghost use Rattle.pmt_text.specs.Counting.{failure_count, inner_device};
+ghost use Rattle.pmt_text.specs.Sources.{CountsReads};
+ghost use Rattle.pmt_lines.specs.Sourcing.{IsFaultOf, TellsRefusal, TellsTaken, told_by};
+ghost use Rattle.pmt_sweep.specs.Growing.{HasSwept};
+ghost use Rattle.pmt_workers.specs.Halving.{is_worker_count};
+ghost use Rattle.pmt_lines.proofs.SourceRunLemmas.{shown_by};
+ghost use Rattle.pmt_report.specs.Blocks.{TakesBlock};
+ghost use Rattle.pmt_report.specs.Checking.{HasTaken, IsCheckOf, IsFoundIn};
+ghost use Rattle.pmt_report.specs.Runs.{IsAnalysisFault, coming_from_reader, run_read_faults, tells_workers};
+
+use crate::fault::{RunError, run_error};
+use crate::taking::take_block;
+use pmt_lines::TakeError;
+use pmt_model::{OutOfMemory, Trace};
+use pmt_sweep::{Sweeper, Swept};
+use pmt_text::{Counted, EventSource, TextSource};
+use pmt_workers::are_allowed;
+use std::alloc::Global;
+use std::io::Read;
+use std::thread::{Threads, join_mut};
+
+// So many events are read while those before them are swept.
+const BLOCK: u64 = 16_384;
+
+/// What a sweep found, and how many events it took.
+#[derive(Drop)]
+pub(crate) struct CheckedTrace {
+    pub(crate) events: u64,
+    pub(crate) swept: Swept,
+}
+
+// A sweep, and how many events it has taken.
+#[derive(Drop)]
+pub(crate) struct Taken {
+    pub(crate) events: u64,
+    pub(crate) sweeper: Sweeper,
+}
+
+/// What a check finds in the trace whose text the reader gives, by this many workers. The reader is handed back.
+///
+/// # Errors
+/// As `analysed`.
+pub(crate) fn checked<T: Threads + Sync, R: Read>(
+    rt: &T,
+    alloc: Global,
+    workers: usize,
+    reader: Counted<R>,
+) -> (Counted<R>, Result<CheckedTrace, RunError>)
+    requires reads { failure_count reader < 2 ^ 64 - 1 }
+    ensures workers { tells_workers result.1 ≡ not (is_worker_count workers) }
+    ensures unread { tells_workers result.1 ≡ true → result.0 ≡ reader }
+    ensures right { IfOk result.1 (IsCheckOf (coming_from_reader (R.remaining (inner_device reader)))) }
+    ensures fault { IfErr result.1 (IsAnalysisFault (coming_from_reader (R.remaining (inner_device reader)))) }
+    ensures read_failures { failure_count result.0 ≡ failure_count reader + run_read_faults result.1 }
+{
+    if !are_allowed(workers) {
+        return (reader, Err(RunError::BadWorkers));
+    }
+    let mut source = TextSource::new(alloc, reader);
+    let found = checked_from(rt, alloc, &mut source, workers > 1);
+    let reader = source.into_input();
+    match found {
+        Ok(checked) => (reader, Ok(checked)),
+        Err(TakeError::Source(fault)) => (reader, Err(run_error(fault))),
+        Err(TakeError::OutOfMemory) => (reader, Err(RunError::OutOfMemory)),
+    }
+}
+
+// What a check finds in the events that the source has still to give. Where there are to be two threads, one reads events while another
+// one sweeps those that were read before.
+fn checked_from<T: Threads + Sync, S: EventSource>(
+    rt: &T,
+    alloc: Global,
+    source: &mut S,
+    two: bool,
+) -> Result<CheckedTrace, TakeError>
+    ensures right { IfOk result (IsCheckOf (S.coming source.old)) }
+    ensures fault { IfErr (told_by result) (λ e. IfSome (S.coming source.old) (λ c. IsFaultOf c e)) }
+    ensures told { TellsTaken (S.state source.old) result (S.state source.new) }
+    ensures failures { CountsReads (S.failures source.old) (told_by result) (S.failures source.new) }
+{
+    let taken = taken_whole(rt, alloc, source, two)?;
+    let checked = finished(alloc, taken)?;
+    Ok(checked)
+}
+
+// A sweep of all events of the source.
+fn taken_whole<T: Threads + Sync, S: EventSource>(
+    rt: &T,
+    alloc: Global,
+    source: &mut S,
+    two: bool,
+) -> Result<Taken, TakeError>
+    ensures taken { IfOk result (λ t. (T : Recording) × HasTaken T t × ComesWhole (S.coming source.old) T) }
+    ensures fault { IfErr (told_by result) (λ e. IfSome (S.coming source.old) (λ c. IsFaultOf c e)) }
+    ensures told { TellsTaken (S.state source.old) result (S.state source.new) }
+    ensures failures { CountsReads (S.failures source.old) (told_by result) (S.failures source.new) }
+{
+    let mut block = take_block(alloc, source, BLOCK)?;
+    let mut sweeper = Sweeper::new(alloc, block.format())?;
+    let mut events = block.len() as u64;
+    let mut more = is_full(&block);
+    'take: while more {
+        let (swept, next) = sweep_and_take(rt, alloc, &block, &mut sweeper, source, two);
+        let next = next?;
+        swept?;
+        events += next.len() as u64;
+        more = is_full(&next);
+        block = next;
+    }
+    sweeper.take(alloc, block.events())?;
+    Ok(Taken { events, sweeper })
+}
+
+// Whether the block has as many events as were asked for, so that more may come.
+fn is_full(block: &Trace) -> bool
+    ensures { result ≡ (length block.now.events == BLOCK) }
+{
+    block.len() as u64 == BLOCK
+}
+
+// Sweeps the events that were read, and reads the next ones: at once, if two threads are to do so.
+fn sweep_and_take<T: Threads + Sync, S: EventSource>(
+    rt: &T,
+    alloc: Global,
+    block: &Trace,
+    sweeper: &mut Sweeper,
+    source: &mut S,
+    two: bool,
+) -> (Result<(), OutOfMemory>, Result<Trace, TakeError>)
+    requires { (T : Recording) × HasSwept T sweeper.old × IsTrace (with_events T block.now.events) }
+    ensures swept { (T : Recording) → HasSwept T sweeper.old → IsTrace (with_events T block.now.events) → OnOk result.0 (HasSwept (with_events T block.now.events) sweeper.new) }
+    ensures block { let shown = shown_by S.coming S.state S.known_format S.failures S.room in IfOk result.1 (TakesBlock BLOCK (shown source.old) (shown source.new)) }
+    ensures fault { IfErr (told_by result.1) (λ e. IfSome (S.coming source.old) (λ c. IsFaultOf c e)) }
+    ensures told { TellsRefusal (S.state source.old) result.1 (S.state source.new) }
+    ensures failures { CountsReads (S.failures source.old) (told_by result.1) (S.failures source.new) }
+{
+    if two {
+        return join_mut(
+            rt,
+            &mut || sweeper.take(alloc, block.events()),
+            &mut || take_block(alloc, source, BLOCK),
+        );
+    }
+    let swept = sweeper.take(alloc, block.events());
+    (swept, take_block(alloc, source, BLOCK))
+}
+
+// What the sweep has found.
+fn finished(alloc: Global, taken: Taken) -> Result<CheckedTrace, OutOfMemory>
+    requires { (T : Recording) × HasTaken T taken }
+    ensures { (T : Recording) → HasTaken T taken → IfOk result (IsFoundIn T) }
+{
+    let Taken { events, sweeper } = taken;
+    let swept = sweeper.finish(alloc)?;
+    Ok(CheckedTrace { events, swept })
+}
