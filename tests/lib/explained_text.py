@@ -230,9 +230,9 @@ def told_of_range(entry):
 
 def wrong_draws(explained, entries):
     """Each error ends with the command of its picture."""
-    failing = [("--failure", members[0]) for _, members in explained.causes]
-    lost = [("--around", group["last"]["event"]) for group in explained.never_persisted()]
-    wanted = [(f"  draw:   pmtrim draw {option} {number} ", f" > event{number}.svg") for option, number in (*failing, *lost)]
+    failing = [(f"--failure {members[0]}", members[0]) for _, members in explained.causes]
+    lost = [(f"--line {group['cache_line']}", group["last"]["event"]) for group in explained.never_persisted()]
+    wanted = [(f"  draw:   pmtrim draw {option} ", f" > event{number}.svg") for option, number in (*failing, *lost)]
     ends = [entry[-1] for entry in entries]
     if len(ends) != len(wanted) or not all(end.startswith(first) and end.endswith(last) for end, (first, last) in zip(ends, wanted)):
         return f"pictures: wanted {wanted}, in {ends}"
@@ -242,6 +242,8 @@ def wrong_draws(explained, entries):
 def asked_lines(explained):
     """What the summary says of what is asked for."""
     asked, span = explained.asked, explained.asked["range"] or {"length": 0, "address": 0}
+    if asked == {**NOTHING, "only": "failure", "from": asked["from"], "to": asked["from"]} and asked["from"]:
+        return [f"  told below: the failed assertion of event {asked['from']} alone (--failure)"]
     words = {
         "only": f"{asked['only']} alone",
         "thread": f"of thread {asked['thread']} alone",

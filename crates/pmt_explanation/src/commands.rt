@@ -11,6 +11,22 @@ pub(crate) fn push_draw(
     number: u64,
 ) -> Result<(), OutOfMemory> {
     write!(out, "  draw:   pmtrim draw {option} {number}")?;
+    push_files(out, told, number)
+}
+
+// Adds the command that draws the line of this address; the picture is named by the event.
+pub(crate) fn push_draw_line(
+    out: &mut String,
+    told: &Telling<'_>,
+    address: u64,
+    number: u64,
+) -> Result<(), OutOfMemory> {
+    write!(out, "  draw:   pmtrim draw --line {address:#x}")?;
+    push_files(out, told, number)
+}
+
+// Adds the files of the labels and of the trace, and the name of the picture of the event.
+fn push_files(out: &mut String, told: &Telling<'_>, number: u64) -> Result<(), OutOfMemory> {
     if let Some(labels) = told.screen.labels {
         out.push_str(" --labels ")?;
         push_word(out, labels)?;

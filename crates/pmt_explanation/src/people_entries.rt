@@ -1,6 +1,6 @@
 //! What is never persisted or never stored, in words.
 
-use crate::commands::push_draw;
+use crate::commands::push_draw_line;
 use crate::counting::first;
 use crate::json_parts::line_address;
 use crate::mending::mend_for;
@@ -43,7 +43,8 @@ fn push_lost(out: &mut String, told: &Telling<'_>, group: &LostGroup) -> Result<
     }
     let mend = mend_for(group.cause, group.line, group.last, None, false);
     push_remedy(out, told, group.cause, group.line, mend)?;
-    push_draw(out, told, "--around", group.last)
+    let line = line_address(told.trace, group.line);
+    push_draw_line(out, told, line, group.last)
 }
 
 // Adds how many stores are never persisted, and to which line.

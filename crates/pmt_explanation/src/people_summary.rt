@@ -1,6 +1,6 @@
 //! The head of the text for people: counts, what is asked for, and what the words mean.
 
-use crate::choosing::Choice;
+use crate::choosing::{Choice, Kind};
 use crate::counting::per_cent;
 use crate::people_parts::{is_unflushed, plural};
 use crate::summary::{Summary, summary_of};
@@ -106,6 +106,12 @@ fn push_ignored(out: &mut String, counts: &Summary) -> Result<(), OutOfMemory> {
 
 // Adds which findings are told, if not all are.
 fn push_choice(out: &mut String, choice: &Choice) -> Result<(), OutOfMemory> {
+    if let Some(number) = failure_of(choice) {
+        return writeln!(
+            out,
+            "  told below: the failed assertion of event {number} alone (--failure)"
+        );
+    }
     if let Some(only) = choice.only {
         let name = only.name();
         writeln!(out, "  told below: {name} alone (--only)")?;
@@ -123,6 +129,17 @@ fn push_choice(out: &mut String, choice: &Choice) -> Result<(), OutOfMemory> {
         )?;
     }
     push_chosen_events(out, choice)
+}
+
+// The event of the failed assertion that is told alone, if one is.
+fn failure_of(choice: &Choice) -> Option<u64> {
+    let is_failure = matches!(choice.only, Some(Kind::Failure));
+    let is_all = choice.thread.is_none() && choice.range.is_none() && choice.label.is_none();
+    if is_failure && is_all && choice.from == choice.to {
+        choice.from
+    } else {
+        None
+    }
 }
 
 // Adds of which events findings are told, if not of all.
