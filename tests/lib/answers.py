@@ -114,8 +114,21 @@ def check_recorded(checks):
     check_trimmed(checks, "two recorders", recorded)
 
 
+def check_late_assertions(checks):
+    """The first assertions come after 40,000 events, and are of stores that came before them all."""
+    first = ["store 0 0x1000 01", "clwb 0 0x1000", "sfence 0", "store 0 0x2000 02"]
+    between = (op % (0x100000 + 64 * line) if "%" in op else op for line in range(13332) for op in ("store 0 0x%x 03", "clwb 0 0x%x", "sfence 0"))
+    last = ["isPersist 0 0x1000 1", "isPersist 0 0x2000 1", "isOrderedBefore 0 0x1000 1 0x2000 1", "isOrderedBefore 0 0x2000 1 0x1000 1"]
+    text = lines("; ".join(["pmtrace 1", *first, *between, *last]))
+    report = "events 40004 lines 13334; never-persisted 4 dirty; persist 40001 pass; persist 40002 fail; ordered 40003 pass; ordered 40004 fail; kept 40004 dropped 0"
+    for workers in ("1", "2", "16"):
+        told = checks.run(["check", "--workers", workers], text)
+        checks.expect(f"late assertions by {workers} workers", told == (1, lines(report), b""), told[1][:200])
+
+
 def main():
     checks = Checks(sys.argv[1])
+    check_late_assertions(checks)
     check_table(checks)
     for trace in all_traces():
         check_trimmed(checks, trace.stem, trace.read_bytes())
