@@ -112,7 +112,13 @@ fn offset_in(page: Page<'_>, bar: &Bar, address: u64, column: &Column) -> Option
                 None
             }
         }
-        _ => None,
+        Op::Clwb(_)
+        | Op::ClflushOpt(_)
+        | Op::Clflush(_)
+        | Op::Sfence
+        | Op::Mfence
+        | Op::IsPersist(_)
+        | Op::IsOrderedBefore(_, _) => None,
     }
 }
 

@@ -60,7 +60,10 @@ pub(crate) fn asked_late(
     ensures waited { IfOk result (λ late. AreWaited safe.now.trace.now late.waited.items) }
     ensures groups { IfOk result (λ late. AreAskedLate safe.now.trace.now label_numbers.now (asked_for safe.now.trace.now labels.now choice.now Late) late.groups.items) }
 {
-    let LateStores { waited, groups: all } = late_stores(alloc, safe, label_numbers)?;
+    let LateStores {
+        waited,
+        groups: all,
+    } = late_stores(alloc, safe, label_numbers)?;
     let asked = asked_stores(alloc, safe.trace(), labels, choice, all.as_slice())?;
     let groups = groups(alloc, asked.as_slice())?;
     Ok(LateStores { waited, groups })

@@ -6,9 +6,7 @@ ghost use Rattle.pmt_explanation.specs.Showing.{AreRangesAfter, AreShown, IsRang
 
 use crate::counting::first;
 use crate::mending::mend_for;
-use pmt_explain::{
-    CrashByte, LineCount, SafePlaces, cause, crash_bytes, crash_lines, failure_by,
-};
+use pmt_explain::{CrashByte, LineCount, SafePlaces, cause, crash_bytes, crash_lines, failure_by};
 use pmt_model::{Op, OutOfMemory, Range, Trace, Verdict, line_of};
 use pmt_reasons::{Cause, Failure, Mend};
 use std::alloc::Global;

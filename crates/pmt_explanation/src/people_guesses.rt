@@ -80,7 +80,12 @@ fn claimed_lines(told: &Telling<'_>) -> Result<HashMap<u64, u64>, OutOfMemory> {
                 note_range(told.trace, &mut claimed, first)?;
                 note_range(told.trace, &mut claimed, second)?;
             }
-            _ => {}
+            Op::Store(_)
+            | Op::Clwb(_)
+            | Op::ClflushOpt(_)
+            | Op::Clflush(_)
+            | Op::Sfence
+            | Op::Mfence => {}
         }
     }
     Ok(claimed)
@@ -123,7 +128,8 @@ fn flushed_lines(told: &Telling<'_>) -> Result<HashMap<u64, bool>, OutOfMemory> 
             Op::Clwb(addr) | Op::ClflushOpt(addr) | Op::Clflush(addr) => {
                 lines.insert(line_of(told.trace.format(), addr), true)?;
             }
-            _ => {}
+            Op::Store(_) | Op::Sfence | Op::Mfence | Op::IsPersist(_) | Op::IsOrderedBefore(_, _) =>
+                {}
         }
     }
     Ok(lines)
@@ -152,6 +158,12 @@ fn bytes_of(trace: &Trace, group: &OverwrittenGroup) -> Option<(u64, u64)> {
     let op = trace.get(group.first.earlier)?.op;
     match op {
         Op::Store(store) => Some((store.addr().get(), store.bytes().len() as u64)),
-        _ => None,
+        Op::Clwb(_)
+        | Op::ClflushOpt(_)
+        | Op::Clflush(_)
+        | Op::Sfence
+        | Op::Mfence
+        | Op::IsPersist(_)
+        | Op::IsOrderedBefore(_, _) => None,
     }
 }

@@ -81,7 +81,8 @@ fn role_at(word: Word, place: usize) -> Option<Role> {
         (Word::IsPersist | Word::IsOrderedBefore, 2) => Some(Role::Length),
         (Word::IsOrderedBefore, 3) => Some(Role::Address),
         (Word::IsOrderedBefore, 4) => Some(Role::Length),
-        _ => None,
+        (Word::Store | Word::Clwb | Word::ClflushOpt | Word::Clflush, _) => None,
+        (Word::IsPersist | Word::IsOrderedBefore, _) => None,
     }
 }
 
