@@ -1,5 +1,5 @@
 //! Tests of the places of lines.
-use pmt_places::LinePlaces;
+use pmt_live::LinePlaces;
 use std::test::Fail;
 
 // Two lines of one block and one far away, each told again, and found by the right block, by another one, and not at all.

@@ -1,7 +1,7 @@
 -- The row of a line that is looked up.
 use Rattle.std.proofs.Common.{ℕ, List, Option, Some, None, sym, ap, ◌∙◌}
 use Rattle.std.specs.Prelude.{MatchOption, slice_get}
-use Rattle.pmt_places.specs.Places.{IsFound}
+use Rattle.pmt_live.specs.Places.{IsFound}
 use Rattle.pmt_sweep.specs.declared.rows.LineRow.{LineRow}
 use Rattle.pmt_sweep.specs.Rows.{IsPlaceOf, AreKeys}
 

@@ -8,7 +8,7 @@ ghost use Rattle.pmt_sweep.specs.Flags.{IsAtFence, IsPastFence};
 
 use pmt_marks::LineState;
 use pmt_model::OutOfMemory;
-use pmt_places::LinePlaces;
+use pmt_live::LinePlaces;
 use std::alloc::Global;
 use std::marker::Model;
 

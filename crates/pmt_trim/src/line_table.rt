@@ -5,7 +5,7 @@ ghost use Rattle.pmt_model.specs.Traces.{event_limit};
 ghost use Rattle.pmt_trim.specs.LineTables.{count_of, front_of, no_rows, IsPlaceOf, Reaches, Puts};
 
 use pmt_model::OutOfMemory;
-use pmt_places::LinePlaces;
+use pmt_live::LinePlaces;
 use std::alloc::Global;
 use std::marker::Model;
 

@@ -1,0 +1,14 @@
+//! The lines of a trace under way: where each stands, its count and its front, and the flushes that no fence has come after.
+//!
+//! The definitions stand in `specs/`.
+#![tactic(auto)]
+
+mod block;
+mod fencing;
+pub mod line_places;
+pub mod live;
+pub mod open;
+
+pub use crate::line_places::LinePlaces;
+pub use crate::live::LiveLines;
+pub use crate::open::OpenFlush;
