@@ -8,8 +8,6 @@ pub mod LineLemmas
 pub mod JoinLemmas
 pub mod TrimmingLemmas
 pub mod AllEvents
-pub mod TableLemmas
-pub mod ListLemmas
 pub mod PassingLemmas
 pub mod FencingLemmas
 pub mod SettlingLemmas

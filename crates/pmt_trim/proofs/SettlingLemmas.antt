@@ -49,12 +49,10 @@ get-drop [] (suc i) = refl
 get-drop (x ∷ list) i = refl
 
 pub passing-less : (T : Recording) (p q : Pass) (m : Mark) (kept : Bool) → 0 < length p.marks.items → m ≡ get_or p.marks.items 0 m → decision_by m ≡ Some kept → IsPassOf T p →
-    q.format ≡ p.format → q.lines ≡ p.lines → q.open_flushes ≡ p.open_flushes → q.marks.items ≡ drop 1 p.marks.items → q.settled ≡ p.settled + 1 → IsPassOf T q
-passing-less T p q m kept some read is before format lines lists dropped settled = record {
+    q.format ≡ p.format → q.live ≡ p.live → q.marks.items ≡ drop 1 p.marks.items → q.settled ≡ p.settled + 1 → IsPassOf T q
+passing-less T p q m kept some read is before format lines dropped settled = record {
   format = format ∙ before.format;
-  follow = rw lines before.follow;
-  open_lists = rw lists before.open_lists;
-  placed = rw (lines, lists) before.placed;
+  live = rw lines before.live;
   all = omega (arith, ap length dropped, length-drop 1 p.marks.items, settled, before.all);
   marks = λ i x at.
       let e : p.settled + suc i ≡ q.settled + i = omega (arith, settled) in

@@ -1,17 +1,12 @@
 -- What a pass over the events of a trace keeps, and what it tells.
-use Rattle.std.specs.Prelude.{◌≡◌, ℕ, suc, ◌+◌, ◌<◌, ◌≤◌, ◌⊎◌, ◌↔◌, Bool, true, false, List, length, map, All, Option, Some, None, slice_get}
-use Rattle.pmt_model.specs.Machine.{Act, count}
+use Rattle.std.specs.Prelude.{◌≡◌, ℕ, suc, ◌+◌, ◌≤◌, ◌⊎◌, ◌↔◌, Bool, true, false, List, length, Option, Some, None, slice_get}
 use Rattle.pmt_model.specs.Traces.{Recording, history}
-use Rattle.pmt_model.specs.Fronts.{front}
 use Rattle.pmt_model.specs.Keeping.{IsKept}
-use Rattle.pmt_laws.specs.Passing.{IsOpenFlush, IsDecided, Flushed, open_flushes}
-use Rattle.pmt_trim.specs.declared.line_table.LineRow.{LineRow}
-use Rattle.pmt_trim.specs.declared.open.OpenFlush.{OpenFlush}
+use Rattle.pmt_laws.specs.Passing.{IsOpenFlush, IsDecided}
+use Rattle.pmt_live.specs.Live.{IsLive}
 use Rattle.pmt_trim.specs.declared.pass.Mark.{Mark}
 use Rattle.pmt_trim.specs.declared.pass.Mark.TheVariants as marks
 use Rattle.pmt_trim.specs.declared.pass.Pass.{Pass}
-use Rattle.pmt_trim.specs.LineTables.{count_of, front_of, IsPlaceOf}
-use Rattle.pmt_trim.specs.OpenFlushes.{list_at}
 
 -- Event k of the trace so far has this mark.
 abbrev pub TellsMark : Recording → ℕ → Mark → Type 0
@@ -40,26 +35,10 @@ flag_by marks.Dropped = false
 abbrev pub AreMarks : Recording → ℕ → List Mark → Type 0
 AreMarks T settled list = (i : ℕ) (m : Mark) → slice_get list i ≡ Some m → TellsMark T (suc (settled + i)) m
 
--- Each line has its count and its front after the history.
-abbrev pub FollowAll : List Act → List LineRow → Type 0
-FollowAll history rows = (l : ℕ) → (count_of l rows ≡ count l history) × (front_of l rows ≡ front l history)
-
-abbrev pub flushed : OpenFlush → Flushed
-flushed f = record { number = f.number; line = f.line; stores = f.stores }
-
-abbrev pub number_of : OpenFlush → ℕ
-number_of f = f.number
-
--- Each of the flushes has the place of its line.
-abbrev pub ArePlaced : List LineRow → List OpenFlush → Type 0
-ArePlaced rows flushes = All (λ f. IsPlaceOf f.line f.place rows) flushes
-
 -- The pass has taken the events of this trace, and no others.
 pub record IsPassOf (T : Recording) (p : Pass) : Type 0 where
   pub format : p.format ≡ T.format
-  pub follow : FollowAll (history T (length T.events)) p.lines
-  pub open_lists : (t : ℕ) → t < 256 → map flushed (list_at t p.open_flushes) ≡ open_flushes t (history T (length T.events))
-  pub placed : (t : ℕ) → ArePlaced p.lines (list_at t p.open_flushes)
+  pub live : IsLive (history T (length T.events)) p.live
   pub all : p.settled + length p.marks.items ≡ length T.events
   pub marks : AreMarks T p.settled p.marks.items
   pub before : (k : ℕ) → k ≤ p.settled → IsDecided T k

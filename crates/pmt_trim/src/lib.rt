@@ -7,8 +7,6 @@ pub mod join;
 pub mod kept;
 pub mod laws;
 mod line_queue;
-mod line_table;
-mod open;
 mod pass;
 pub mod shortest;
 mod stream;

@@ -6,12 +6,11 @@ ghost use Rattle.pmt_model.specs.Pushing.{empty, with_event};
 ghost use Rattle.pmt_model.specs.Traces.{Recording, act, event_limit};
 ghost use Rattle.pmt_model.specs.Values.{Written};
 ghost use Rattle.pmt_model.specs.declared.event.Event.{Event};
-ghost use Rattle.pmt_trim.specs.LineTables.{KeepsPlaces};
-ghost use Rattle.pmt_trim.specs.Passing.{IsPassOf, IsPassing, taken, Settles, AreFlags, ArePlaced, mark_from, decision_by, flag_by};
-ghost use Rattle.pmt_trim.specs.Fencing.{HaveMarks, IsAtFence, IsPastFence};
+ghost use Rattle.pmt_live.specs.Fencing.{number_of};
+ghost use Rattle.pmt_trim.specs.Passing.{IsPassOf, IsPassing, taken, Settles, AreFlags, AreMarks, mark_from, decision_by, flag_by};
+ghost use Rattle.pmt_trim.specs.Fencing.{HaveMarks, AreDecided};
 
-use crate::line_table::LineTable;
-use crate::open::{OpenFlush, OpenFlushes};
+use pmt_live::{LiveLines, OpenFlush};
 use pmt_model::{Event, Format, Op, OutOfMemory, line_of};
 use std::alloc::Global;
 use std::collections::VecDeque;
@@ -30,13 +29,11 @@ pub(crate) enum Mark {
 /// A pass forward over the events of a trace, which decides of each event whether it is kept: of a flush when its thread fences,
 /// of any other event when it comes. Decisions are given out in the order of the events.
 ///
-/// It holds the count and the front of each line, the flushes of each thread since its last fence, and a byte for each event that
-/// was not given out. An event takes at most one look-up, and each flush one step more at its fence.
+/// It holds the lines of the trace under way, and a byte for each event that was not given out. An event takes at most one look-up, and each flush one step more at its fence.
 #[derive(Drop)]
 pub(crate) struct Pass {
     format: Format,
-    lines: LineTable,
-    open_flushes: OpenFlushes,
+    live: LiveLines,
     marks: VecDeque<Mark>,
     settled: u64,
 }
@@ -51,8 +48,7 @@ impl Pass {
     {
         Ok(Pass {
             format,
-            lines: LineTable::new(alloc),
-            open_flushes: OpenFlushes::new(alloc)?,
+            live: LiveLines::new(alloc),
             marks: VecDeque::new(alloc),
             settled: 0,
         })
@@ -91,8 +87,8 @@ impl Pass {
         ensures follows { (T : Recording) (e : Event) (w : Written) → act T.format e ≡ Stores line w → IsPassOf T self.old → OnOk result (IsPassOf (with_event T e) self.new) }
         ensures settled { self.new.settled ≡ self.old.settled }
     {
-        let place = self.lines.place_of(line)?;
-        self.lines.store(line, place);
+        let place = self.live.place_of(line)?;
+        self.live.store(place);
         self.marks.push_back(Mark::Kept)?;
         Ok(())
     }
@@ -104,14 +100,9 @@ impl Pass {
         ensures follows { (T : Recording) (e : Event) → act T.format e ≡ Flushes thread line → IsPassOf T self.old → OnOk result (IsPassOf (with_event T e) self.new) }
         ensures settled { self.new.settled ≡ self.old.settled }
     {
-        let place = self.lines.place_of(line)?;
-        let flush = OpenFlush {
-            number: self.settled + self.marks.len() as u64 + 1,
-            line,
-            place,
-            stores: self.lines.count(line, place),
-        };
-        self.open_flushes.add(thread, flush)?;
+        let place = self.live.place_of(line)?;
+        let number = (self.settled + self.marks.len() as u64 + 1) as u32;
+        self.live.flush(thread, place, number)?;
         self.marks.push_back(Mark::Open)?;
         Ok(())
     }
@@ -122,10 +113,9 @@ impl Pass {
         ensures follows { (T : Recording) (e : Event) → act T.format e ≡ Clflushes line → IsPassOf T self.old → OnOk result (IsPassOf (with_event T e) self.new) }
         ensures settled { self.new.settled ≡ self.old.settled }
     {
-        let place = self.lines.place_of(line)?;
-        let count = self.lines.count(line, place);
-        let mark = mark_of(self.lines.raise(line, place, count));
-        self.marks.push_back(mark)?;
+        let place = self.live.place_of(line)?;
+        let rises = self.live.clflush(place);
+        self.marks.push_back(mark_of(rises))?;
         Ok(())
     }
 
@@ -135,9 +125,8 @@ impl Pass {
         ensures follows { (T : Recording) (e : Event) → act T.format e ≡ Fences thread → IsPassOf T self.old → OnOk result (IsPassOf (with_event T e) self.new) }
         ensures settled { self.new.settled ≡ self.old.settled }
     {
-        let flushes = self.open_flushes.of(thread);
-        let rises = decide(&mut self.lines, &mut self.marks, self.settled, flushes);
-        self.open_flushes.clear(thread);
+        let rises = self.live.fence(thread);
+        mark_decided(&mut self.marks, self.settled, self.live.decided());
         self.marks.push_back(mark_of(rises))?;
         Ok(())
     }
@@ -216,31 +205,13 @@ fn flag(mark: Mark) -> bool
     }
 }
 
-// Decides the open flushes of the thread that fences, from the newest to the oldest, and raises the fronts of their lines: whether
-// one rises.
-fn decide(
-    lines: &mut LineTable,
-    marks: &mut VecDeque<Mark>,
-    settled: u64,
-    flushes: &[OpenFlush],
-) -> bool
-    requires placed { ArePlaced lines.old flushes.now }
-    requires marked { HaveMarks settled marks.old.items flushes.now }
-    ensures places { KeepsPlaces lines.old lines.new }
+// Marks the flushes that a fence has decided.
+fn mark_decided(marks: &mut VecDeque<Mark>, settled: u64, flushes: &[OpenFlush])
+    requires { HaveMarks settled marks.old.items (map number_of flushes.now) }
     ensures size { length marks.new.items ≡ length marks.old.items }
-    ensures decides { (T : Recording) (t n : ℕ) → IsAtFence T t n settled flushes.now lines.old marks.old.items → IsPastFence T n settled lines.new marks.new.items result }
+    ensures marks { (T : Recording) → AreDecided T settled marks.old.items flushes.now → AreMarks T settled marks.new.items }
 {
-    let mut rises = false;
-    for i in (0..flushes.len()).rev() {
-        let OpenFlush {
-            number,
-            line,
-            place,
-            stores,
-        } = flushes[i];
-        let kept = lines.raise(line, place, stores);
-        marks[(number - settled - 1) as usize] = mark_of(kept);
-        rises = rises || kept;
+    for flush in flushes {
+        marks[(flush.number as u64 - settled - 1) as usize] = mark_of(flush.is_kept());
     }
-    rises
 }

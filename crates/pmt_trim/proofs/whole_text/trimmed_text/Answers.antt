@@ -1,8 +1,8 @@
 use Rattle.std.proofs.Common.{◌≡◌, [], Err, rules}
 use Rattle.pmt_model.specs.Pushing.{empty, with_event}
-use Rattle.pmt_lines.specs.declared.taking.TakeError.TheVariants.{OutOfMemory}
+use Rattle.pmt_lines.specs.declared.taking.TakeError.TheVariants.{OutOfMemory, Source}
 use Rattle.pmt_lines.proofs.SourceRunLemmas.{counts-refused, shown_by, so_far-more, so_far-none}
-use Rattle.pmt_trim.proofs.WholeTextLemmas.{text-whole}
+use Rattle.pmt_trim.proofs.WholeTextLemmas.{text-whole, text-fault, counts-fault}
 use Rattle.pmt_trim.proofs.StreamLemmas.{lent-is}
 use Rattle.pmt_trim.proofs.whole_text.trimmed_text.Goals as goal
 
@@ -51,3 +51,14 @@ returns-in_err-take_more-clause-failures g c =
     let counted = rw c.in-Some.is at c.in_ok-event.ensures.failures in
     let refused : c.from_residual-in_err-take_more.result ≡ Err OutOfMemory = search rules in
     counts-refused (reads c.args.source.now) (reads c.loop-stream.source) (reads c.next.new.self) _ _ c.loop-stream.invariant.1.same_reads counted refused
+
+pub returns-in_err-event-clause-fault : goal.returns-in_err-event-clause-fault
+returns-in_err-event-clause-fault g c =
+    let of = c.loop-stream.invariant in
+    let refused : c.from_residual-in_err-event.result ≡ Err (Source c.in_err-event.field-0.0) = search rules in
+    text-fault _ _ of.0 c.in_err-event.field-0.0 _ of.1.given c.in_err-event.ensures.taken refused
+
+pub returns-in_err-event-clause-failures : goal.returns-in_err-event-clause-failures
+returns-in_err-event-clause-failures g c =
+    let refused : c.from_residual-in_err-event.result ≡ Err (Source c.in_err-event.field-0.0) = search rules in
+    counts-fault _ _ _ c.in_err-event.field-0.0 _ c.loop-stream.invariant.1.same_reads c.in_err-event.ensures.failures refused

@@ -5,7 +5,7 @@ use Rattle.pmt_trim.proofs.pass.Pass.next_settled.Goals as goal
 pub returns-in-Some-clause-passing : goal.returns-in-Some-clause-passing
 returns-in-Some-clause-passing c = λ T before.
     let some : 0 < length c.args.self.now.marks.items = omega (arith, c.in_ok-front.ensures.variant.0 refl, c.args.self.now.marks.ok.0) in
-    passing-less T c.args.self.now _ c.in_ok-front.field-0.now c.in-Some.kept some c.in_ok-front.ensures.lookup (sym c.decision.ensures ∙ c.in-Some.is) before refl refl refl c.pop_front.ensures.rest refl
+    passing-less T c.args.self.now _ c.in_ok-front.field-0.now c.in-Some.kept some c.in_ok-front.ensures.lookup (sym c.decision.ensures ∙ c.in-Some.is) before refl refl c.pop_front.ensures.rest refl
 
 pub returns-in-Some-clause-settles : goal.returns-in-Some-clause-settles
 returns-in-Some-clause-settles c = λ T before.
