@@ -14,7 +14,7 @@ use Rattle.pmt_reasons.specs.declared.cause.Cause.TheVariants as cause
 use Rattle.pmt_reasons.specs.Causes.{IsCause}
 use Rattle.pmt_reasons.proofs.CauseLaws.{no_flush_of}
 use Rattle.pmt_explain.specs.Following.{past_of}
-use Rattle.pmt_explain.specs.Numbers.{Numbers, number_at}
+use Rattle.pmt_causes.specs.Numbers.{Numbers, number_at}
 use Rattle.pmt_explain.proofs.FirstLemmas.{first-none, first-here, first-over}
 use Rattle.pmt_causes.specs.Flushing.{IsNextFlush, TellsNextFlush, AreNextFlushes, next_in, next_before}
 use Rattle.pmt_causes.specs.FailureKeys.{kind_of, cause_by}

@@ -18,7 +18,7 @@ use Rattle.pmt_model.specs.declared.event.Event.{Event}
 use Rattle.pmt_model.specs.Traces.{Recording, IsTrace, IsEventIn}
 use Rattle.pmt_laws.proofs.Histories.{event-none}
 use Rattle.pmt_explain.specs.declared.dropped_event.Dropped.{Dropped}
-use Rattle.pmt_explain.specs.Numbers.{Numbers}
+use Rattle.pmt_causes.specs.Numbers.{Numbers}
 use Rattle.pmt_causes.specs.declared.tables.Counts.{Counts}
 use Rattle.pmt_causes.specs.declared.tables.Row.{Row}
 use Rattle.pmt_causes.specs.Tables.{IsRow, AreRows, AreThreadRows, HasLowerKey, DropsMore, thread_in, thread_of}

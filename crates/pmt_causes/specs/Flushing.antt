@@ -5,7 +5,7 @@ use Rattle.pmt_model.specs.Machine.{Act, Stores, Flushes, Clflushes, Fences, Ass
 use Rattle.pmt_model.specs.Traces.{Recording, IsAct}
 use Rattle.pmt_model.specs.Findings.{IsFlushOf}
 use Rattle.pmt_explain.specs.Following.{IsFirst, past_of}
-use Rattle.pmt_explain.specs.Numbers.{Numbers, number_at}
+use Rattle.pmt_causes.specs.Numbers.{Numbers, number_at}
 
 -- This is the first flush of line l after event i; one more than the number of the last event where there is none.
 abbrev pub IsNextFlush : Recording → ℕ → ℕ → ℕ → Type 0

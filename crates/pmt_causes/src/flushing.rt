@@ -2,7 +2,7 @@
 
 ghost use Rattle.std.specs.Prelude.{◌≡◌, ℕ, IfOk, OnOk};
 ghost use Rattle.pmt_model.specs.Traces.{act_of};
-ghost use Rattle.pmt_explain.specs.Numbers.{number_at};
+ghost use Rattle.pmt_causes.specs.Numbers.{number_at};
 ghost use Rattle.pmt_causes.specs.Flushing.{AreNextFlushes, next_before, next_in};
 
 use pmt_model::{Format, Op, OutOfMemory, Trace, line_of};

@@ -5,7 +5,7 @@ ghost use Rattle.std.specs.List.{All};
 ghost use Rattle.std.specs.Ordering.{nat_cmp};
 ghost use Rattle.std.specs.BTreeMap.{IsOrdered, get, keys};
 ghost use Rattle.pmt_model.specs.Traces.{IsTrace};
-ghost use Rattle.pmt_explain.specs.Numbers.{number_at};
+ghost use Rattle.pmt_causes.specs.Numbers.{number_at};
 ghost use Rattle.pmt_causes.specs.Tables.{AreThreadRows, AreLabelRows, AreRows, HasLowerKey, label_at, has_key, thread_of};
 ghost use Rattle.pmt_causes.specs.Tallies.{AreCounts, AreDrops, IsFew, counts_in, counts_of, listed_at, row_in, with_op};
 

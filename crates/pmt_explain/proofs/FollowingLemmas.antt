@@ -1,10 +1,9 @@
 -- What comes after a place, as events are read from the last to the first.
 use Rattle.std.proofs.Common.{◌≡◌, ◌≢◌, ℕ, suc, ◌<◌, ◌≤◌, ◌⊎◌, inl, inr, min, List, [], length, Some, refl, sym, ap, subst, ◌∙◌, arith, get_or, set, get_or-set_same, get_or-set_other}
-use Rattle.std.specs.Prelude.{nat_eq, unwrap_or, replicate, slice_get}
+use Rattle.std.specs.Prelude.{◌^◌, replicate, slice_get}
 use Rattle.std.proofs.lemmas.Option.{slice_get-get_or, get_or_from_slice_get, slice_get_within}
 use Rattle.std.proofs.lemmas.Bool.{cases_lt, cases_eq, ne_eqb}
 use Rattle.std.proofs.lemmas.List.{length-set, get_or-replicate, length-replicate}
-use Rattle.std.specs.HashMap.{get, Updates}
 use Rattle.pmt_model.specs.Machine.{Act, Flushes, Clflushes, Fences}
 use Rattle.pmt_model.specs.Findings.{IsFlushOf, ByFlush, ByClflush, IsFlushedAfter}
 use Rattle.pmt_model.specs.declared.event.Event.{Event}
@@ -114,17 +113,11 @@ has-put old new l number k put before = elim (cases_eq k l) [
 ]
 
 -- no thread and line have the number of others
-pair-same : (t u l k : ℕ) → t < 256 → u < 256 → pair_of t l ≡ pair_of u k → (t ≡ u) × (l ≡ k)
-pair-same t u l k small below e = let line : l ≡ k = omega arith in let thread : t ≡ u = omega arith in (thread, line)
-
--- a number is put at a key
-get-put : (old new : Rattle.std.specs.HashMap.HashMap ℕ ℕ (Rattle.std.specs.declared.hash.BuildHasherDefault.BuildHasherDefault Rattle.std.specs.declared.hash.FoldHasher.FoldHasher)) (key j number other : ℕ) →
-    Updates nat_eq old new key (Some number) → (key ≡ j) ⊎ (key ≢ j) → ((key ≡ j) × (unwrap_or (get nat_eq new j) other ≡ number)) ⊎ ((key ≢ j) × (unwrap_or (get nat_eq new j) other ≡ unwrap_or (get nat_eq old j) other))
-get-put old new key j number other up (inl same) = inl (same, subst (λ k. unwrap_or (get nat_eq new k) other ≡ number) same (ap (λ o. unwrap_or o other) up.1))
-get-put old new key j number other up (inr apart) = inr (apart, ap (λ o. unwrap_or o other) (up.2 j (ne_eqb key j apart)))
+pair-same : (t u l k : ℕ) → l < 2 ^ 48 → k < 2 ^ 48 → pair_of t l ≡ pair_of u k → (t ≡ u) × (l ≡ k)
+pair-same t u l k small below e = let thread : t ≡ u = omega arith in let line : l ≡ k = omega arith in (thread, line)
 
 -- before any event is read
-pub ahead-start : (T : Recording) (a : Ahead) → a.past ≡ past_of T → a.fences ≡ replicate 256 a.past → a.flushes.entries ≡ [] → a.completed.entries ≡ [] → IsAhead T (length T.events) a
+pub ahead-start : (T : Recording) (a : Ahead) → a.past ≡ past_of T → a.fences ≡ replicate 256 a.past → a.flushes ≡ [] → a.completed ≡ [] → IsAhead T (length T.events) a
 ahead-start T a past fences flushes completed = record {
   past = past;
   threads = ap (λ xs. length xs) fences ∙ length-replicate 256 a.past;
@@ -133,7 +126,7 @@ ahead-start T a past fences flushes completed = record {
       subst (IsFirst (IsFenceAfter T t (length T.events)) (past_of T)) (sym value)
       (first-none (IsFenceAfter T t (length T.events)) (past_of T) (λ k f. absurd (omega (arith, f.0, (act-within T k (Fences t) f.1).1))));
   flushes = λ t l small.
-      let value : unwrap_or (get nat_eq a.flushes (pair_of t l)) (past_of T) ≡ past_of T = rw flushes refl in
+      let value : number_at (past_of T) a.flushes (pair_of t l) ≡ past_of T = rw flushes refl in
       subst (IsFirst (IsFlushAfter T t l (length T.events)) (past_of T)) (sym value)
       (first-none (IsFlushAfter T t l (length T.events)) (past_of T) (λ k f. absurd (omega (arith, f.0, (act-within T k (Flushes t l) f.1).1))));
   completed = λ l.
@@ -199,16 +192,16 @@ ahead-clflush T n l number a completed is same old put = record {
 }
 
 -- over a flush
-pub ahead-flush : (T : Recording) (n t l key number fence first : ℕ) (a b : Ahead) → t < 256 → IsAct T (suc n) (Flushes t l) → number ≡ suc n → IsAhead T (suc n) a →
+pub ahead-flush : (T : Recording) (n t l key number fence first : ℕ) (a b : Ahead) → t < 256 → l < 2 ^ 48 → IsAct T (suc n) (Flushes t l) → number ≡ suc n → IsAhead T (suc n) a →
     key ≡ pair_of t l → fence ≡ get_or a.fences t 0 → first ≡ number_at (past_of T) a.completed l →
-    b.past ≡ a.past → b.fences ≡ a.fences → Updates nat_eq a.flushes b.flushes key (Some number) → Puts l (min first fence) a.completed b.completed → IsAhead T n b
-ahead-flush T n t l key number fence first a b small is same old pair next so_far past fences up put = record {
+    b.past ≡ a.past → b.fences ≡ a.fences → Puts key number a.flushes b.flushes → Puts l (min first fence) a.completed b.completed → IsAhead T n b
+ahead-flush T n t l key number fence first a b small short is same old pair next so_far past fences up put = record {
   past = past ∙ old.past;
   threads = ap (λ xs. length xs) fences ∙ old.threads;
   fences = λ u below.
       subst (λ xs. IsFirst (IsFenceAfter T u n) (past_of T) (get_or xs u 0)) (sym fences)
       (first-over (λ k. IsAct T k (Fences u)) (past_of T) n _ (λ f. let e = act-unique T (suc n) (Flushes t l) (Fences u) is f in cc) (old.fences u below));
-  flushes = λ u k below. flush u k below (get-put a.flushes b.flushes key (pair_of u k) number (past_of T) up (cases_eq key (pair_of u k)));
+  flushes = λ u k below. flush u k below (cases_eq (pair_of u k) key);
   completed = λ k. elim (cases_eq k l) [
     | inl e ↦
         let value : number_at (past_of T) b.completed k ≡ min first fence = ap (number_at (past_of T) b.completed) e ∙ put.here (past_of T) in
@@ -223,21 +216,19 @@ ahead-flush T n t l key number fence first a b small is same old pair next so_fa
   flushed = λ k f. has-put a.completed b.completed l (min first fence) k put (λ apart. old.flushed k (flushed-over T k n (Flushes t l) is (λ u e. apart (cc)) (λ e. cc) f));
 }
   where
-    flush : (u k : ℕ) → u < 256 →
-        ((key ≡ pair_of u k) × (unwrap_or (get nat_eq b.flushes (pair_of u k)) (past_of T) ≡ number)) ⊎
-        ((key ≢ pair_of u k) × (unwrap_or (get nat_eq b.flushes (pair_of u k)) (past_of T) ≡ unwrap_or (get nat_eq a.flushes (pair_of u k)) (past_of T))) →
-        IsFirst (IsFlushAfter T u k n) (past_of T) (unwrap_or (get nat_eq b.flushes (pair_of u k)) (past_of T))
-    flush u k below (inl (e, value)) =
-        let both = pair-same t u l k small below (sym pair ∙ e) in
+    flush : (u k : ℕ) → k < 2 ^ 48 → (pair_of u k ≡ key) ⊎ (pair_of u k ≢ key) → IsFirst (IsFlushAfter T u k n) (past_of T) (number_at (past_of T) b.flushes (pair_of u k))
+    flush u k below (inl e) =
+        let both = pair-same t u l k short below (sym pair ∙ sym e) in
         let thread = both.0 in
         let line = both.1 in
+        let value : number_at (past_of T) b.flushes (pair_of u k) ≡ number = ap (number_at (past_of T) b.flushes) e ∙ up.here (past_of T) in
         subst (IsFirst (IsFlushAfter T u k n) (past_of T)) (sym (value ∙ same))
         (first-here (λ j. IsAct T j (Flushes u k)) (past_of T) n (omega (arith, (act-within T (suc n) (Flushes t l) is).1))
         (subst (λ v. IsAct T (suc n) (Flushes v k)) thread (subst (λ j. IsAct T (suc n) (Flushes t j)) line is)))
-    flush u k below (inr (apart, value)) =
-        subst (IsFirst (IsFlushAfter T u k n) (past_of T)) (sym value)
+    flush u k below (inr apart) =
+        subst (IsFirst (IsFlushAfter T u k n) (past_of T)) (sym (up.others (past_of T) (pair_of u k) apart))
         (first-over (λ j. IsAct T j (Flushes u k)) (past_of T) n _
-        (λ f. let e = act-unique T (suc n) (Flushes t l) (Flushes u k) is f in let f1 : t ≡ u = cc in let f2 : l ≡ k = cc in apart (pair ∙ ap (λ v. pair_of v l) f1 ∙ ap (pair_of u) f2)) (old.flushes u k below))
+        (λ f. let e = act-unique T (suc n) (Flushes t l) (Flushes u k) is f in let f1 : u ≡ t = cc in let f2 : k ≡ l = cc in apart (ap (λ v. pair_of v k) f1 ∙ ap (pair_of t) f2 ∙ sym pair)) (old.flushes u k below))
 
 -- the event at an index
 pub event-at : (T : Recording) (f : Layout) (es : List Event) (i : ℕ) (e : Event) → f ≡ T.format → es ≡ T.events → i < length es → e ≡ get_or es i e → IsAct T (suc i) (act_of f e.thread e.op)

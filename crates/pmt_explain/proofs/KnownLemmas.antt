@@ -180,7 +180,7 @@ pub clflush-kept : (T : Recording) (l n safe number : ℕ) → number ≡ suc n 
 clflush-kept T l n safe number same is first late = (clflush_is_kept T l n is).1 (unsafe-before T l n safe first (omega arith))
 
 -- before any event
-pub known-start : (T : Recording) (k : Known) → k.past ≡ past_of T → k.threads ≡ replicate 256 since.Nothing → k.safe.entries ≡ [] → IsKnown T 0 k
+pub known-start : (T : Recording) (k : Known) → k.past ≡ past_of T → k.threads ≡ replicate 256 since.Nothing → k.safe ≡ [] → IsKnown T 0 k
 known-start T k past threads safe = record {
   past = past;
   size = ap (λ xs. length xs) threads ∙ length-replicate 256 since.Nothing;

@@ -8,6 +8,7 @@ pub mod AtEndLemmas
 pub mod LostGroupLemmas
 pub mod OverwrittenGroupLemmas
 pub mod FirstLemmas
+pub mod NumberLemmas
 pub mod FollowingLemmas
 pub mod ReachLemmas
 pub mod SavingLemmas

@@ -1,6 +1,5 @@
 -- What comes after the flushes of a trace.
-use Rattle.std.specs.Prelude.{◌≡◌, ℕ, suc, ◌+◌, ◌*◌, ◌<◌, ◌≤◌, List, length, nat_eq, unwrap_or, slice_get, slice_index, Some}
-use Rattle.std.specs.HashMap.{get}
+use Rattle.std.specs.Prelude.{◌≡◌, ℕ, suc, ◌+◌, ◌*◌, ◌^◌, ◌<◌, ◌≤◌, List, length, slice_get, slice_index, Some}
 use Rattle.pmt_model.specs.Machine.{Flushes, Clflushes, Fences}
 use Rattle.pmt_model.specs.Traces.{Recording, IsAct}
 use Rattle.pmt_model.specs.Findings.{IsFlushedAfter}
@@ -50,14 +49,15 @@ pub record AreFollowing (T : Recording) (list : List Following) : Type 0 where
   pub size : length list ≡ length T.events
   pub each : (n : ℕ) (f : Following) → slice_get list n ≡ Some f → TellsFollowing T (suc n) f
 
+-- The number of thread t and line l, which is below 2^48.
 abbrev pub pair_of : ℕ → ℕ → ℕ
-pair_of t l = l * 256 + t
+pair_of t l = t * 281474976710656 + l
 
 -- What comes after place n.
 pub record IsAhead (T : Recording) (n : ℕ) (a : Ahead) : Type 0 where
   pub past : a.past ≡ past_of T
   pub threads : length a.fences ≡ 256
   pub fences : (t : ℕ) → t < 256 → IsFirst (IsFenceAfter T t n) (past_of T) (slice_index a.fences t)
-  pub flushes : (t l : ℕ) → t < 256 → IsFirst (IsFlushAfter T t l n) (past_of T) (unwrap_or (get nat_eq a.flushes (pair_of t l)) (past_of T))
+  pub flushes : (t l : ℕ) → l < 2 ^ 48 → IsFirst (IsFlushAfter T t l n) (past_of T) (number_at (past_of T) a.flushes (pair_of t l))
   pub completed : (l : ℕ) → IsFirst (IsCompletedAfter T l n) (past_of T) (number_at (past_of T) a.completed l)
   pub flushed : (l : ℕ) → IsFlushedAfter T l n → HasNumber a.completed l

@@ -1,16 +1,15 @@
 //! What comes after each flush and each store of a trace.
 
-ghost use Rattle.std.specs.Prelude.{◌≡◌, ℕ, ◌+◌, suc, length, IfOk, OnOk};
-ghost use Rattle.pmt_model.specs.Values.{Written};
+ghost use Rattle.std.specs.Prelude.{◌≡◌, ℕ, ◌+◌, ◌<◌, ◌^◌, suc, length, IfOk, OnOk};
+ghost use Rattle.pmt_model.specs.Values.{Written, line_of as line_in};
 ghost use Rattle.pmt_model.specs.Machine.{Stores, Flushes, Clflushes, Fences};
 ghost use Rattle.pmt_model.specs.Traces.{Recording, IsAct, act_of};
 ghost use Rattle.pmt_explain.specs.Following.{past_of, pair_of as pair_in, TellsFollowing, AreFollowing, IsAhead};
 ghost use Rattle.pmt_explain.specs.Saving.{AreSafePlaces, AreStored, IsStored, TellsStored};
 
-use crate::numbers::{Numbers, number_of, put};
-use pmt_model::{Format, Op, OutOfMemory, Trace, line_of};
+use crate::numbers::Numbers;
+use pmt_model::{Addr, Format, Op, OutOfMemory, Trace, line_of};
 use std::alloc::Global;
-use std::collections::HashMap;
 
 /// What comes after a flush or a store, by numbers of events; one more than the last number where there is no such event.
 #[derive(Clone, Copy, Debug, PartialEq, Eq)]
@@ -29,8 +28,8 @@ pub(crate) struct Ahead {
     past: u64,
     // of each thread, its next fence
     fences: [u64; 256],
-    // of each thread and line, the next flush
-    flushes: HashMap<u128, u64>,
+    // of each thread and line, by the number of both, the next flush
+    flushes: Numbers,
     // of each line, the first event that completes a flush after the place
     completed: Numbers,
 }
@@ -77,11 +76,21 @@ fn none(past: u64) -> Following
     }
 }
 
-// The number of a thread and a line.
-fn pair_of(thread: u8, line: u64) -> u128
+// The number of a thread and a line: the lines of one thread have neighbouring ones.
+fn pair_of(thread: u8, line: u64) -> u64
+    requires { line < 2 ^ 48 }
     ensures { result ≡ pair_in thread line }
 {
-    line as u128 * 256 + thread as u128
+    thread as u64 * (1 << 48) + line
+}
+
+// The line of the address, which is below 2^48.
+fn small_line(format: Format, addr: Addr) -> u64
+    ensures line { result ≡ line_in format addr }
+    ensures small { result < 2 ^ 48 }
+{
+    let _address = addr.get();
+    line_of(format, addr)
 }
 
 impl Ahead {
@@ -92,8 +101,8 @@ impl Ahead {
         Ahead {
             past,
             fences: [past; 256],
-            flushes: HashMap::new(alloc),
-            completed: HashMap::new(alloc),
+            flushes: Numbers::new(alloc),
+            completed: Numbers::new(alloc),
         }
     }
 
@@ -110,8 +119,8 @@ impl Ahead {
         ensures ahead { (T : Recording) (n : ℕ) → IsAct T (suc n) (act_of format thread op) → number ≡ suc n → IsAhead T (suc n) self.old → OnOk result (IsAhead T n self.new) }
     {
         match op {
-            Op::Clwb(addr) => self.over_flush(thread, line_of(format, addr), number),
-            Op::ClflushOpt(addr) => self.over_flush(thread, line_of(format, addr), number),
+            Op::Clwb(addr) => self.over_flush(thread, small_line(format, addr), number),
+            Op::ClflushOpt(addr) => self.over_flush(thread, small_line(format, addr), number),
             Op::Clflush(addr) => self.over_clflush(line_of(format, addr), number),
             Op::Sfence => Ok(self.over_fence(thread, number)),
             Op::Mfence => Ok(self.over_fence(thread, number)),
@@ -125,29 +134,30 @@ impl Ahead {
     fn over_store(&self, line: u64) -> Following
         ensures { (T : Recording) (n : ℕ) (w : Written) → IsAct T (suc n) (Stores line w) → IsAhead T (suc n) self.now → IsStored T line (suc n) result }
     {
-        match self.completed.get(&line) {
+        match self.completed.get(line) {
             None => none(self.past),
             Some(place) => Following {
                 fence: self.past,
                 again: 0,
-                completed: *place,
+                completed: place,
             },
         }
     }
 
     // A flush of the line by the thread.
     fn over_flush(&mut self, thread: u8, line: u64, number: u64) -> Result<Following, OutOfMemory>
+        requires { line < 2 ^ 48 }
         ensures tells { (T : Recording) (n : ℕ) → IsAct T (suc n) (Flushes thread line) → number ≡ suc n → IsAhead T (suc n) self.old → IfOk result (TellsFollowing T (suc n)) }
         ensures stored { (T : Recording) (n : ℕ) → IsAct T (suc n) (Flushes thread line) → IfOk result (TellsStored T (suc n)) }
         ensures ahead { (T : Recording) (n : ℕ) → IsAct T (suc n) (Flushes thread line) → number ≡ suc n → IsAhead T (suc n) self.old → OnOk result (IsAhead T n self.new) }
     {
         let fence = self.fences[thread as usize];
-        let completed = number_of(&self.completed, line, self.past);
-        let again = self.flushes.insert(pair_of(thread, line), number)?;
-        put(&mut self.completed, line, completed.min(fence))?;
+        let completed = self.completed.lower(line, self.past, fence)?;
+        let pair = pair_of(thread, line);
+        let again = self.flushes.replace(pair, self.past, number)?;
         Ok(Following {
             fence,
-            again: again.unwrap_or(self.past),
+            again,
             completed,
         })
     }
@@ -158,7 +168,7 @@ impl Ahead {
         ensures stored { (T : Recording) (n : ℕ) → IsAct T (suc n) (Clflushes line) → IfOk result (TellsStored T (suc n)) }
         ensures ahead { (T : Recording) (n : ℕ) → IsAct T (suc n) (Clflushes line) → number ≡ suc n → IsAhead T (suc n) self.old → OnOk result (IsAhead T n self.new) }
     {
-        put(&mut self.completed, line, number)?;
+        self.completed.replace(line, number, number)?;
         Ok(none(self.past))
     }
 

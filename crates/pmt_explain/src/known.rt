@@ -9,11 +9,10 @@ ghost use Rattle.pmt_explain.specs.Known.{IsKnown, IsSafeBy, TellsReason, done_w
 ghost use Rattle.pmt_explain.specs.Saving.{IsStored, TellsStored};
 
 use crate::following::Following;
-use crate::numbers::{Numbers, number_of, put};
+use crate::numbers::Numbers;
 use pmt_model::{Format, Op, OutOfMemory, line_of};
 use pmt_reasons::Reason;
 use std::alloc::Global;
-use std::collections::HashMap;
 
 /// What a thread has done since its last fence.
 #[derive(Clone, Copy, Debug, PartialEq, Eq)]
@@ -42,7 +41,7 @@ impl Known {
     {
         Known {
             past,
-            safe: HashMap::new(alloc),
+            safe: Numbers::new(alloc),
             threads: [Since::Nothing; 256],
         }
     }
@@ -79,7 +78,7 @@ impl Known {
         if after.again == self.past {
             return Ok(None);
         }
-        put(&mut self.safe, line, self.past)?;
+        self.safe.replace(line, self.past, self.past)?;
         Ok(None)
     }
 
@@ -94,8 +93,7 @@ impl Known {
         ensures tells { (T : Recording) (n : ℕ) → IsAct T (suc n) (Flushes thread line) → number ≡ suc n → IsFollowing T thread line (suc n) after → IsKnown T n self.old → IfOk result (TellsReason T (suc n)) }
         ensures known { (T : Recording) (n : ℕ) → IsAct T (suc n) (Flushes thread line) → number ≡ suc n → IsFollowing T thread line (suc n) after → IsKnown T n self.old → OnOk result (IsKnown T (suc n) self.new) }
     {
-        let safe = number_of(&self.safe, line, 0);
-        put(&mut self.safe, line, safe.min(after.fence))?;
+        let safe = self.safe.lower(line, 0, after.fence)?;
         let reason = flush_reason(number, safe, after, self.past);
         let done = self.threads[thread as usize];
         self.threads[thread as usize] = done_after(done, reason.is_none());
@@ -107,8 +105,7 @@ impl Known {
         ensures tells { (T : Recording) (n : ℕ) → IsAct T (suc n) (Clflushes line) → number ≡ suc n → IsKnown T n self.old → IfOk result (TellsReason T (suc n)) }
         ensures known { (T : Recording) (n : ℕ) → IsAct T (suc n) (Clflushes line) → number ≡ suc n → IsKnown T n self.old → OnOk result (IsKnown T (suc n) self.new) }
     {
-        let safe = number_of(&self.safe, line, 0);
-        put(&mut self.safe, line, safe.min(number))?;
+        let safe = self.safe.lower(line, 0, number)?;
         if safe < number {
             return Ok(Some(Reason::Safe));
         }

@@ -1,25 +1,123 @@
 //! Numbers of lines.
 
-ghost use Rattle.std.specs.Prelude.{◌≡◌, OnOk};
-ghost use Rattle.pmt_explain.specs.Numbers.{number_at, Puts};
+ghost use Rattle.std.specs.Prelude.{◌≡◌, [], map, min, IfOk, OnOk};
+ghost use Rattle.pmt_live.specs.Places.{IsFound};
+ghost use Rattle.pmt_explain.specs.Numbers.{line_in, number_at, number_in, Puts, Reaches};
 
+use pmt_live::LinePlaces;
 use pmt_model::OutOfMemory;
-use std::collections::HashMap;
+use std::alloc::Global;
+use std::marker::Model;
 
-/// Numbers of lines.
-pub(crate) type Numbers = HashMap<u64, u64>;
-
-// The number of the line, or the other one where it has none.
-pub(crate) fn number_of(numbers: &Numbers, line: u64, other: u64) -> u64
-    ensures { result ≡ number_at other numbers.now line }
-{
-    numbers.get(&line).copied().unwrap_or(other)
+/// A line with its number.
+#[derive(Clone, Copy, Debug, PartialEq, Eq)]
+pub(crate) struct Numbered {
+    pub(crate) line: u64,
+    pub(crate) number: u64,
 }
 
-// The line gets this number.
-pub(crate) fn put(numbers: &mut Numbers, line: u64, number: u64) -> Result<(), OutOfMemory>
-    ensures { OnOk result (Puts line number numbers.old numbers.new) }
-{
-    numbers.insert(line, number)?;
-    Ok(())
+/// Numbers of lines.
+#[derive(Drop)]
+pub(crate) struct Numbers {
+    lines: LinePlaces,
+    // each of these lines with its number
+    rows: Vec<Numbered>,
+    // The place that was reached last: mostly the next line is the same. Nothing is promised of it.
+    last: usize,
+}
+
+impl Model for Numbers {
+    ghost use Rattle.std.specs.Prelude.{List};
+    ghost use Rattle.pmt_explain.specs.declared.numbers.Numbered.{Numbered};
+    ghost use Rattle.pmt_explain.specs.Numbers.{IsTable};
+
+    ghost Value = { List Numbered };
+
+    ghost view = { λ n. n.rows.items };
+
+    ghost invariant = { λ n. IsTable n.lines n.rows.items };
+}
+
+impl Numbers {
+    // No line has one.
+    pub(crate) fn new(alloc: Global) -> Self
+        ensures { result ≡ [] }
+    {
+        Numbers {
+            lines: LinePlaces::new(alloc),
+            rows: Vec::new(alloc),
+            last: 0,
+        }
+    }
+
+    // Where the line stands, if it does.
+    fn find(&self, line: u64) -> Option<usize>
+        ensures { IsFound line (map line_in self.now) result }
+    {
+        match self.rows.get(self.last) {
+            Some(row) if row.line == line => return Some(self.last),
+            _ => {}
+        }
+        self.lines.find(line, 0)
+    }
+
+    // The number of the line, if it has one.
+    pub(crate) fn get(&self, line: u64) -> Option<u64>
+        ensures { result ≡ number_in self.now line }
+    {
+        match self.find(line) {
+            None => None,
+            Some(place) => Some(self.rows[place].number),
+        }
+    }
+
+    // The place of the line, which gets the other number if it has none.
+    fn reach(&mut self, line: u64, other: u64) -> Result<usize, OutOfMemory>
+        ensures { IfOk result (λ place. Reaches line other place self.old self.new) }
+    {
+        match self.rows.get(self.last) {
+            Some(row) if row.line == line => return Ok(self.last),
+            _ => {}
+        }
+        let place = self.insert(line, other)?;
+        self.last = place;
+        Ok(place)
+    }
+
+    // The same, by a look-up.
+    fn insert(&mut self, line: u64, other: u64) -> Result<usize, OutOfMemory>
+        ensures { IfOk result (λ place. Reaches line other place self.old self.new) }
+    {
+        self.rows.reserve(1)?;
+        let (place, is_new) = self.lines.insert(line)?;
+        if is_new {
+            self.rows.push_reserved(Numbered {
+                line,
+                number: other,
+            });
+        }
+        Ok(place)
+    }
+
+    // The number of the line, or the other one where it has none. The line gets this one.
+    pub(crate) fn replace(&mut self, line: u64, other: u64, number: u64) -> Result<u64, OutOfMemory>
+        ensures number { IfOk result (λ old. old ≡ number_at other self.old line) }
+        ensures put { OnOk result (Puts line number self.old self.new) }
+    {
+        let place = self.reach(line, other)?;
+        let old = self.rows[place].number;
+        self.rows[place].number = number;
+        Ok(old)
+    }
+
+    // The number of the line, or the other one where it has none. The line gets the lower one of it and the bound.
+    pub(crate) fn lower(&mut self, line: u64, other: u64, bound: u64) -> Result<u64, OutOfMemory>
+        ensures number { IfOk result (λ old. old ≡ number_at other self.old line) }
+        ensures put { IfOk result (λ old. Puts line (min old bound) self.old self.new) }
+    {
+        let place = self.reach(line, other)?;
+        let old = self.rows[place].number;
+        self.rows[place].number = old.min(bound);
+        Ok(old)
+    }
 }

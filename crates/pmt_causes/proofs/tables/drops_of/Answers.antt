@@ -4,7 +4,7 @@ use Rattle.std.specs.List.{count_by}
 use Rattle.std.proofs.lemmas.List.{take_all, length-take}
 use Rattle.std.proofs.lemmas.List.Sums.{count_by-le-length}
 use Rattle.pmt_explain.specs.declared.dropped_event.Dropped.{Dropped}
-use Rattle.pmt_explain.specs.Numbers.{number_at}
+use Rattle.pmt_causes.specs.Numbers.{number_at}
 use Rattle.pmt_causes.specs.Tables.{has_key, label_at}
 use Rattle.pmt_causes.proofs.TallyLemmas.{drops-start, drops-next}
 use Rattle.pmt_causes.proofs.tables.drops_of.Goals as goal

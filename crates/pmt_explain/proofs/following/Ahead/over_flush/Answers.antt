@@ -6,5 +6,5 @@ use Rattle.pmt_explain.proofs.following.Ahead.over_flush.Goals as goal
 pub returns-clause-ahead : goal.returns-clause-ahead
 returns-clause-ahead c = λ T n is number before.
     let a = c.args.self.now in
-    ahead-flush T n c.args.thread c.args.line c.pair_of.result c.args.number _ c.number_of-completed.result a _ (omega arith) is number before c.pair_of.ensures refl
-    (c.number_of-completed.ensures ∙ ap (λ p. number_at p a.completed c.args.line) before.past) refl refl c.in_ok-again.ensures.updates (rw c.min.ensures at c.in_ok-put.ensures)
+    ahead-flush T n c.args.thread c.args.line c.pair_of-pair.result c.args.number _ c.in_ok-completed.completed a _ (omega arith) c.requires is number before c.pair_of-pair.ensures refl
+    (c.in_ok-completed.ensures.number ∙ ap (λ p. number_at p a.completed c.args.line) before.past) refl refl c.in_ok-again.ensures.put c.in_ok-completed.ensures.put

@@ -5,4 +5,4 @@ use Rattle.pmt_explain.proofs.KnownLemmas.{known-start}
 use Rattle.pmt_explain.proofs.known.Known.new.Goals as goal
 
 pub returns : goal.returns
-returns c = λ T past. known-start T (record { past = c.args.past; safe = c.new.result; threads = replicate 256 since.Nothing }) past refl c.new.ensures.empty
+returns c = λ T past. known-start T (record { past = c.args.past; safe = c.new.result; threads = replicate 256 since.Nothing }) past refl c.new.ensures

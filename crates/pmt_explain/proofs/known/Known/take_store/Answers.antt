@@ -14,4 +14,4 @@ pub returns-clause-tells : goal.returns-clause-tells
 returns-clause-tells c = λ T n w is before. Stays (Stores c.args.line w) is refl
 
 pub returns-clause-known : goal.returns-clause-known
-returns-clause-known c = λ T n w is stored before. known-store T n c.args.line w c.args.self.now c.put.new.numbers is before c.in_ok-put.ensures
+returns-clause-known c = λ T n w is stored before. known-store T n c.args.line w c.args.self.now _ is before c.in_ok-replace.ensures.put
