@@ -8,4 +8,3 @@ pub mod KeyLemmas
 pub mod LateLemmas
 pub mod RowLemmas
 pub mod TallyLemmas
-pub mod WriterLemmas

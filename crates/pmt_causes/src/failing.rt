@@ -8,13 +8,12 @@ ghost use Rattle.pmt_reasons.specs.Failures.{IsFailureAt, IsPersistFailure, IsOr
 ghost use Rattle.pmt_explain.specs.Saving.{AreSafePlaces};
 ghost use Rattle.pmt_causes.specs.FailureKeys.{AreFailureGroups, AreKeyed, IsFailureKey, key_by, with_keyed};
 ghost use Rattle.pmt_causes.specs.Flushing.{AreNextFlushes};
-ghost use Rattle.pmt_causes.specs.Writers.{AreWriters};
+ghost use Rattle.pmt_causes.specs.Writers.{AreAllWriters};
 
 use crate::failure_keys::{AssertionKind, FailureKey, key_of};
 use crate::flushing::next_flushes;
 use crate::grouping::{Group, Keyed, groups};
-use crate::writers::LastWriters;
-use pmt_explain::{SafePlaces, ordered_failure, persist_failure};
+use pmt_explain::{LastWriters, SafePlaces, ordered_failure, persist_failure};
 use pmt_model::{Op, OutOfMemory, Range, Trace};
 use pmt_reasons::Failure;
 use std::alloc::Global;
@@ -22,7 +21,8 @@ use std::alloc::Global;
 /// Those of these events that are assertions and fail, in groups by their keys: those with most members first, and of as many
 /// members that with the lowest first one. The failure of each is that which `pmt_explain::failure` tells.
 ///
-/// It takes at most two looks at each event, where the numbers rise, and one at each byte of the ranges of these assertions.
+/// It takes at most two looks at each event, where the numbers rise, and at most two at each run of bytes of the ranges of
+/// these assertions that one store was the last to write.
 ///
 /// # Errors
 /// Where memory was refused.
@@ -96,9 +96,9 @@ fn key_at(
 ) -> Result<Option<FailureKey>, OutOfMemory>
     requires safe { AreSafePlaces trace.now safe.now }
     requires flushes { AreNextFlushes trace.now flushes.now }
-    requires writers { AreWriters trace.now writers.old }
+    requires writers { AreAllWriters trace.now writers.old }
     ensures key { IfOk result (λ o. MatchOption o (IsFailureAt trace.now number None) (IsFailureKey trace.now labels.now number)) }
-    ensures writers { OnOk result (AreWriters trace.now writers.new) }
+    ensures writers { OnOk result (AreAllWriters trace.now writers.new) }
 {
     let Some(event) = trace.get(number) else {
         return Ok(None);
@@ -176,13 +176,13 @@ fn persist_at(
 ) -> Result<Option<Failure>, OutOfMemory>
     requires number { number ≤ length trace.now.events }
     requires safe { AreSafePlaces trace.now safe.now }
-    requires writers { AreWriters trace.now writers.old }
+    requires writers { AreAllWriters trace.now writers.old }
     ensures failure { IfOk result (λ o. MatchOption o (PersistPasses (history trace.now number) range) (IsPersistFailure trace.now number range)) }
-    ensures writers { OnOk result (AreWriters trace.now writers.new) }
+    ensures writers { OnOk result (AreAllWriters trace.now writers.new) }
 {
+    let _len = range.len();
     writers.go_to(alloc, trace, number)?;
-    let last = writers.last_in(alloc, range)?;
-    Ok(persist_failure(trace, safe, number, range, last.as_slice()))
+    Ok(persist_failure(trace, safe, number, range, writers))
 }
 
 // The crash that violates the isOrderedBefore of the two ranges at the event with this number.
@@ -197,20 +197,13 @@ fn ordered_at(
 ) -> Result<Option<Failure>, OutOfMemory>
     requires number { number ≤ length trace.now.events }
     requires safe { AreSafePlaces trace.now safe.now }
-    requires writers { AreWriters trace.now writers.old }
+    requires writers { AreAllWriters trace.now writers.old }
     ensures failure { IfOk result (λ o. MatchOption o (OrderedPasses (history trace.now number) first second) (IsOrderedFailure trace.now number first second)) }
-    ensures writers { OnOk result (AreWriters trace.now writers.new) }
+    ensures writers { OnOk result (AreAllWriters trace.now writers.new) }
 {
+    let _lens = (first.len(), second.len());
     writers.go_to(alloc, trace, number)?;
-    let last = writers.last_in(alloc, first)?;
-    let kept = writers.last_in(alloc, second)?;
     Ok(ordered_failure(
-        trace,
-        safe,
-        number,
-        first,
-        second,
-        last.as_slice(),
-        kept.as_slice(),
+        trace, safe, number, first, second, writers,
     ))
 }

@@ -12,7 +12,6 @@ pub mod grouping;
 mod labels;
 pub mod late;
 pub mod tables;
-mod writers;
 
 pub use crate::dropping::{DropWord, DroppedKey, ReasonKind, Spot, dropped_groups};
 pub use crate::failing::failure_groups;

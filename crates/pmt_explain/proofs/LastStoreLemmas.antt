@@ -62,7 +62,7 @@ noted-all first number low high byte w old new lowest highest x from upto end k 
     ]
 
 -- the last store to a byte, after one more event
-last-number : (f : Layout) (t : ℕ) (op : Op) (b : ℕ) (h : List Act) → last_store_number b (act_of f t op ∷ h) ≡ (if written_by op b then Some (suc (length h)) else last_store_number b h)
+pub last-number : (f : Layout) (t : ℕ) (op : Op) (b : ℕ) (h : List Act) → last_store_number b (act_of f t op ∷ h) ≡ (if written_by op b then Some (suc (length h)) else last_store_number b h)
 last-number f t (Store w) b h = refl
 last-number f t (Clwb a) b h = refl
 last-number f t (ClflushOpt a) b h = refl

@@ -1,5 +1,5 @@
 -- All last stores to bytes of a range that a crash loses.
-use Rattle.std.proofs.Common.{◌≡◌, ◌↔◌, ℕ, ◌+◌, ◌<◌, inl, inr, Bool, true, false, eqb, List, [], ◌∷◌, ◌++◌, length, min, Contains, Option, refl, sym, ap, subst, ◌∙◌, arith, get_or}
+use Rattle.std.proofs.Common.{◌≡◌, ◌↔◌, ℕ, ◌+◌, ◌-◌, ◌<◌, ◌≤◌, None, Some, ◌∙◌, inl, inr, Bool, true, false, eqb, List, [], ◌∷◌, ◌++◌, length, min, Contains, Option, refl, sym, ap, subst, arith, get_or}
 use Rattle.std.specs.Prelude.{IsTrue, IsSorted, IsPermutation, unwrap_or, if◌then◌else◌}
 use Rattle.std.specs.Ordering.{nat_cmp}
 use Rattle.std.specs.List.Sorted.{IsStrictlyIncreasing}
@@ -13,11 +13,47 @@ use Rattle.pmt_model.specs.Values.{Span}
 use Rattle.pmt_model.specs.Machine.{Act}
 use Rattle.pmt_model.specs.Traces.{Recording, history, count_at}
 use Rattle.pmt_model.specs.Findings.{last_store_number}
-use Rattle.pmt_reasons.specs.Failures.{IsLost}
+use Rattle.pmt_model.specs.Machine.{Stores}
+use Rattle.pmt_laws.proofs.Histories.{act-within}
+use Rattle.pmt_reasons.specs.declared.failure.ByteStore.{ByteStore}
+use Rattle.pmt_reasons.specs.Failures.{IsLastIn, IsLost}
 use Rattle.pmt_explain.specs.LastStores.{AreLastStores, AreLastIn}
 use Rattle.pmt_explain.specs.Losing.{IsLostAmong, AreLostAmong, IsLostIn, AreLostIn}
-use Rattle.pmt_explain.proofs.FailingLemmas.{indexed, from-index, lost-some}
 use Rattle.pmt_explain.proofs.CrashLemmas.{history-min, persisted-same}
+
+-- where a last store to a byte of A stands in the list
+record IsIndexed (A : Span) (last : List ℕ) (z : ByteStore) : Type 0 where
+  pub index : ℕ
+  pub below : index < length last
+  pub byte : z.byte ≡ A.addr + index
+  pub store : get_or last index 0 ≡ z.store
+
+indexed : (T : Recording) (i : ℕ) (A : Span) (last : List ℕ) (z : ByteStore) → AreLastIn T i A last → IsLastIn T i A z → IsIndexed A last z
+indexed T i A last z all x =
+    let j = z.byte - A.addr in
+    let byte : A.addr + j ≡ z.byte = omega (arith, x.inside.0) in
+    let below : j < length last = omega (arith, x.inside.0, x.inside.1, all.size) in
+    record {
+      index = j;
+      below = below;
+      byte = sym byte;
+      store = all.each j below ∙ ap (λ (b : ℕ). unwrap_or (last_store_number b (history T i)) 0) byte ∙ ap (λ (o : Option ℕ). unwrap_or o 0) x.last;
+    }
+
+-- a store in the list is the last one to its byte
+told : (o : Option ℕ) (x : ℕ) → unwrap_or o 0 ≡ x → 1 ≤ x → o ≡ Some x
+told None x e some = absurd (omega arith)
+told (Some y) x e some = ap Some e
+
+from-index : (T : Recording) (i : ℕ) (A : Span) (last : List ℕ) (j : ℕ) (z : ByteStore) → AreLastIn T i A last → j < length last → get_or last j 0 ≡ z.store → z.byte ≡ A.addr + j → 1 ≤ z.store → IsLastIn T i A z
+from-index T i A last j z all below store byte some = record {
+  inside = (omega arith, omega (arith, all.size));
+  last = ap (λ (b : ℕ). last_store_number b (history T i)) byte ∙ told (last_store_number (A.addr + j) (history T i)) z.store (sym (all.each j below) ∙ store) some;
+}
+
+-- a lost store is an event
+lost-some : (T : Recording) (n x : ℕ) (full : Option ℕ) → IsLost T n full x → 1 ≤ x
+lost-some T n x full lost = (act-within T x (Stores lost.line lost.what) lost.is_store).0
 
 -- the only element
 only : (s x : ℕ) → Contains (s ∷ []) x → s ≡ x

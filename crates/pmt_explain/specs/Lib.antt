@@ -7,6 +7,9 @@ pub mod Grouping
 pub mod LostGroups
 pub mod OverwrittenGroups
 pub mod Numbers
+pub mod Runs
+pub mod Wanting
+pub mod Writers
 pub mod Dropping
 pub mod Following
 pub mod Saving

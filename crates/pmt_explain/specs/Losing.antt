@@ -1,37 +1,39 @@
 -- The stores that a crash loses, and the first of them.
-use Rattle.std.specs.Prelude.{◌≡◌, ◌↔◌, ℕ, ◌+◌, ◌<◌, ◌≤◌, ◌⊎◌, Bool, true, nat_lt, IsTrue, List, Contains, Option, None, Some, slice_index}
+use Rattle.std.specs.Prelude.{◌≡◌, ◌↔◌, ℕ, ◌<◌, ◌≤◌, ◌⊎◌, ◌==◌, ◌&&◌, ◌||◌, Bool, true, min, max, nat_lt, IsTrue, List, Contains, Option, None, Some, slice_index}
 use Rattle.std.specs.List.Sorted.{IsStrictlyIncreasing}
 use Rattle.pmt_model.specs.Values.{Span}
 use Rattle.pmt_model.specs.Traces.{Recording}
 use Rattle.pmt_reasons.specs.declared.failure.ByteStore.{ByteStore}
-use Rattle.pmt_reasons.specs.Failures.{IsLost, IsLastIn}
+use Rattle.pmt_reasons.specs.Failures.{IsLost, IsLastIn, IsNoLater}
+use Rattle.pmt_explain.specs.declared.runs.Run.{Run}
 
--- The store comes before the first one so far.
-abbrev pub comes_before : ℕ → Option ByteStore → Bool
-comes_before store None = true
-comes_before store (Some x) = nat_lt store x.store
+-- The byte of a store comes before the first one so far: by the number of the store, and then by the address.
+abbrev pub comes_before : ByteStore → Option ByteStore → Bool
+comes_before x None = true
+comes_before x (Some y) = nat_lt x.store y.store || (x.store == y.store && nat_lt x.byte y.byte)
 
 -- The one that is found is picked exactly where it comes before the first one and has the property.
 abbrev pub Picks : Type 0 → Option ByteStore → ByteStore → Option ByteStore → Type 0
-Picks P first found result = (IsTrue (comes_before found.store first) × P × (result ≡ Some found)) ⊎ ((IsTrue (comes_before found.store first) → P → ⊥) × (result ≡ first))
+Picks P first found result = (IsTrue (comes_before found first) × P × (result ≡ Some found)) ⊎ ((IsTrue (comes_before found first) → P → ⊥) × (result ≡ first))
 
--- Of the stores in the list, whose bytes begin at `low`, x is the first one below index k that has the property.
-pub record IsFirstWith (P : ℕ → Type 0) (low : ℕ) (last : List ℕ) (k : ℕ) (x : ByteStore) : Type 0 where
-  pub index : ℕ
-  pub below : index < k
-  pub store : slice_index last index ≡ x.store
-  pub byte : x.byte ≡ low + index
+-- Of the last stores among the first i events to covered bytes of A none that has the property comes before x, which has it.
+pub record IsFirstAmong (T : Recording) (i : ℕ) (A : Span) (P Covered : ℕ → Type 0) (x : ByteStore) : Type 0 where
+  pub is_last : IsLastIn T i A x
   pub has : P x.store
-  pub first : (j : ℕ) → j < k → P (slice_index last j) → (x.store < slice_index last j) ⊎ ((x.store ≡ slice_index last j) × (index ≤ j))
+  pub first : (z : ByteStore) → IsLastIn T i A z → Covered z.byte → P z.store → IsNoLater x z
 
 -- The first one, if there is one.
-abbrev pub IsFirstOption : (ℕ → Type 0) → ℕ → List ℕ → ℕ → Option ByteStore → Type 0
-IsFirstOption P low last k None = (j : ℕ) → j < k → P (slice_index last j) → ⊥
-IsFirstOption P low last k (Some x) = IsFirstWith P low last k x
+abbrev pub IsFirstIn : Recording → ℕ → Span → (ℕ → Type 0) → (ℕ → Type 0) → Option ByteStore → Type 0
+IsFirstIn T i A P Covered None = (z : ByteStore) → IsLastIn T i A z → Covered z.byte → P z.store → ⊥
+IsFirstIn T i A P Covered (Some x) = IsFirstAmong T i A P Covered x
 
--- The first one that the crash at place n loses.
-abbrev pub IsFirstOf : Recording → ℕ → List ℕ → ℕ → Option ℕ → ℕ → Option ByteStore → Type 0
-IsFirstOf T low last n full k o = IsFirstOption (IsLost T n full) low last k o
+-- Every byte is covered.
+abbrev pub Anywhere : ℕ → Type 0
+Anywhere b = Unit
+
+-- What is found first, where the run is looked at for bytes from low to high.
+abbrev pub Considers : (ℕ → Type 0) → ℕ → ℕ → Run → Option ByteStore → Option ByteStore → Type 0
+Considers P low high r first result = ((min r.high high ≤ max r.low low) × (result ≡ first)) ⊎ ((max r.low low < min r.high high) × Picks (P r.store) first (record { store = r.store; byte = max r.low low }) result)
 
 -- The crash at place n loses store x, which stands below index k of the list.
 pub record IsLostAmong (T : Recording) (n : ℕ) (full : Option ℕ) (last : List ℕ) (k x : ℕ) : Type 0 where

@@ -1,19 +1,20 @@
 //! The crash that violates a failed assertion.
 
-ghost use Rattle.std.specs.Prelude.{◌≡◌, ◌+◌, ◌^◌, ◌≤◌, ◌↔◌, length, IsTrue, IfOk, MatchOption, None};
+ghost use Rattle.std.specs.Prelude.{◌≡◌, ◌≤◌, ℕ, length, IfOk, MatchOption, None};
 ghost use Rattle.pmt_model.specs.Machine.{Stores};
 ghost use Rattle.pmt_model.specs.Traces.{IsAct, history};
 ghost use Rattle.pmt_model.specs.Values.{Written};
 ghost use Rattle.pmt_model.specs.Assertions.{PersistPasses, OrderedPasses};
 ghost use Rattle.pmt_reasons.specs.Failures.{IsFailureAt, IsPersistFailure, IsOrderedFailure};
-ghost use Rattle.pmt_explain.specs.LastStores.{AreLastIn};
-ghost use Rattle.pmt_explain.specs.Losing.{IsFirstOption, IsFirstWith, Picks};
+ghost use Rattle.pmt_explain.specs.Losing.{Anywhere, IsFirstAmong};
 ghost use Rattle.pmt_explain.specs.Keeping.{IsStoreOff, KeepsWithout, IsCrashAfter, IsFirstCrash};
 ghost use Rattle.pmt_explain.specs.Saving.{AreSafePlaces};
+ghost use Rattle.pmt_explain.specs.Writers.{Knows};
 
-use crate::last_stores::last_stores;
-use crate::lost::{comes_first, first_lost, line_of_store};
+use crate::last_writers::LastWriters;
+use crate::lost::line_of_store;
 use crate::saving::SafePlaces;
+use crate::wanted::Wanted;
 use pmt_model::{Op, OutOfMemory, Range, Trace};
 use pmt_reasons::{ByteStore, Failure};
 use std::alloc::Global;
@@ -73,8 +74,10 @@ fn failure_of_persist(
     requires safe { AreSafePlaces trace.now safe.now }
     ensures { IfOk result (λ o. MatchOption o (PersistPasses (history trace.now number) range) (IsPersistFailure trace.now number range)) }
 {
-    let last = last_stores(alloc, trace, range, number)?;
-    Ok(persist_failure(trace, safe, number, range, last.as_slice()))
+    let low = range.addr().get();
+    let mut writers = LastWriters::between(alloc, low, low + range.len());
+    writers.go_to(alloc, trace, number)?;
+    Ok(persist_failure(trace, safe, number, range, &writers))
 }
 
 // The crash that violates the isOrderedBefore of the two ranges at the event with this number.
@@ -90,35 +93,36 @@ fn failure_of_ordered(
     requires safe { AreSafePlaces trace.now safe.now }
     ensures { IfOk result (λ o. MatchOption o (OrderedPasses (history trace.now number) first second) (IsOrderedFailure trace.now number first second)) }
 {
-    let last = last_stores(alloc, trace, first, number)?;
-    let kept = last_stores(alloc, trace, second, number)?;
-    Ok(ordered_failure(
-        trace,
-        safe,
-        number,
-        first,
-        second,
-        last.as_slice(),
-        kept.as_slice(),
-    ))
+    let low = first.addr().get();
+    let high = low + first.len();
+    let other = second.addr().get();
+    let end = other + second.len();
+    let mut writers = LastWriters::between(alloc, low.min(other), high.max(end));
+    writers.go_to(alloc, trace, number)?;
+    Ok(ordered_failure(trace, safe, number, first, second, &writers))
 }
 
 /// The crash that violates the isPersist of the range at the event with this number, if it fails. Here `safe` has the places that
-/// `safe_places` gives, and `last`, of each byte of the range, the number of the last store to it by then, or 0.
+/// `safe_places` gives, and `writers` are those of the first `number` events.
+///
+/// It takes one look at each run of bytes of the range that one store was the last to write.
 pub fn persist_failure(
     trace: &Trace,
     safe: &[u64],
     number: u64,
     range: Range,
-    last: &[u64],
+    writers: &LastWriters,
 ) -> Option<Failure>
     requires number { number ≤ length trace.now.events }
     requires safe { AreSafePlaces trace.now safe.now }
-    requires last { AreLastIn trace.now number range last.now }
+    requires writers { Knows trace.now number range writers.now }
     ensures { MatchOption result (PersistPasses (history trace.now number) range) (IsPersistFailure trace.now number range) }
 {
-    let _len = range.len();
-    match first_lost(trace, safe, number, None, range.addr().get(), last) {
+    let wanted = Wanted::Lost {
+        place: number,
+        full: None,
+    };
+    match writers.first_in(trace, safe, wanted, range) {
         None => None,
         Some(lost) => Some(Failure {
             place: number,
@@ -129,31 +133,23 @@ pub fn persist_failure(
 }
 
 /// The crash that violates the isOrderedBefore of the two ranges at the event with this number, if it fails. Here `safe` has the
-/// places that `safe_places` gives, and `last` and `kept`, of each byte of the first and of the second range, the number of the
-/// last store to it by then, or 0.
+/// places that `safe_places` gives, and `writers` are those of the first `number` events.
+///
+/// It takes at most two looks at each run of bytes of the ranges that one store was the last to write.
 pub fn ordered_failure(
     trace: &Trace,
     safe: &[u64],
     number: u64,
     first: Range,
     second: Range,
-    last: &[u64],
-    kept: &[u64],
+    writers: &LastWriters,
 ) -> Option<Failure>
     requires safe { AreSafePlaces trace.now safe.now }
-    requires last { AreLastIn trace.now number first last.now }
-    requires kept { AreLastIn trace.now number second kept.now }
+    requires first { Knows trace.now number first writers.now }
+    requires second { Knows trace.now number second writers.now }
     ensures { MatchOption result (OrderedPasses (history trace.now number) first second) (IsOrderedFailure trace.now number first second) }
 {
-    let _lens = (first.len(), second.len());
-    first_kept(
-        trace,
-        safe,
-        first.addr().get(),
-        last,
-        second.addr().get(),
-        kept,
-    )
+    first_kept(trace, safe, number, first, second, writers)
 }
 
 // The crash after the first of the kept stores that can be kept without another one. Later stores to a line need no look, since
@@ -162,21 +158,21 @@ pub fn ordered_failure(
 fn first_kept(
     trace: &Trace,
     safe: &[u64],
-    low: u64,
-    last: &[u64],
-    kept_low: u64,
-    kept: &[u64],
+    number: u64,
+    lost: Range,
+    kept: Range,
+    writers: &LastWriters,
 ) -> Option<Failure>
     requires safe { AreSafePlaces trace.now safe.now }
-    requires last { low + length last.now ≤ 2 ^ 48 }
-    requires kept { kept_low + length kept.now ≤ 2 ^ 48 }
-    ensures { IsFirstCrash trace.now low last.now kept_low kept.now result }
+    requires lost { Knows trace.now number lost writers.now }
+    requires kept { Knows trace.now number kept writers.now }
+    ensures { IsFirstCrash trace.now number lost kept result }
 {
-    match first_off(trace, kept_low, kept, None) {
+    match writers.first_in(trace, safe, Wanted::Off { line: None }, kept) {
         None => None,
-        Some(first) => match crash_after(trace, safe, low, last, first) {
+        Some(first) => match crash_after(trace, safe, number, lost, writers, first) {
             Some(failure) => Some(failure),
-            None => second_kept(trace, safe, low, last, kept_low, kept, first),
+            None => second_kept(trace, safe, number, lost, kept, writers, first),
         },
     }
 }
@@ -185,81 +181,42 @@ fn first_kept(
 fn second_kept(
     trace: &Trace,
     safe: &[u64],
-    low: u64,
-    last: &[u64],
-    kept_low: u64,
-    kept: &[u64],
+    number: u64,
+    lost: Range,
+    kept: Range,
+    writers: &LastWriters,
     first: ByteStore,
 ) -> Option<Failure>
     requires safe { AreSafePlaces trace.now safe.now }
-    requires last { low + length last.now ≤ 2 ^ 48 }
-    requires kept { kept_low + length kept.now ≤ 2 ^ 48 }
-    requires first { IsFirstWith (IsStoreOff trace.now None) kept_low kept.now (length kept.now) first }
-    requires none { ¬ KeepsWithout trace.now last.now first.store }
-    ensures { IsFirstCrash trace.now low last.now kept_low kept.now result }
+    requires lost { Knows trace.now number lost writers.now }
+    requires kept { Knows trace.now number kept writers.now }
+    requires first { IsFirstAmong trace.now number kept (IsStoreOff trace.now None) Anywhere first }
+    requires none { ¬ KeepsWithout trace.now number lost first.store }
+    ensures { IsFirstCrash trace.now number lost kept result }
 {
-    match first_off(trace, kept_low, kept, line_of_store(trace, first.store)) {
+    let line = line_of_store(trace, first.store);
+    match writers.first_in(trace, safe, Wanted::Off { line }, kept) {
         None => None,
-        Some(second) => crash_after(trace, safe, low, last, second),
+        Some(second) => crash_after(trace, safe, number, lost, writers, second),
     }
-}
-
-// Whether the event is a store to another line than this one.
-fn is_store_off(trace: &Trace, store: u64, line: Option<u64>) -> bool
-    ensures { IsTrue result ↔ IsStoreOff trace.now line store }
-{
-    match line_of_store(trace, store) {
-        None => false,
-        Some(own) => line != Some(own),
-    }
-}
-
-// The first such store so far, with one more to be judged.
-fn earlier_off(
-    trace: &Trace,
-    line: Option<u64>,
-    first: Option<ByteStore>,
-    found: ByteStore,
-) -> Option<ByteStore>
-    ensures { Picks (IsStoreOff trace.now line found.store) first found result }
-{
-    if comes_first(found.store, first) && is_store_off(trace, found.store, line) {
-        return Some(found);
-    }
-    first
-}
-
-// Of the stores at the bytes from `low` on, the first one to another line than this one, with its first byte.
-fn first_off(trace: &Trace, low: u64, stores: &[u64], line: Option<u64>) -> Option<ByteStore>
-    requires { low + length stores.now ≤ 2 ^ 48 }
-    ensures { IsFirstOption (IsStoreOff trace.now line) low stores.now (length stores.now) result }
-{
-    let mut first = None;
-    for (index, store) in stores.iter().enumerate() {
-        let found = ByteStore {
-            store: *store,
-            byte: low + index as u64,
-        };
-        first = earlier_off(trace, line, first, found);
-    }
-    first
 }
 
 // The crash right after the kept store, all stores to its line being persisted.
 fn crash_after(
     trace: &Trace,
     safe: &[u64],
-    low: u64,
-    last: &[u64],
+    number: u64,
+    lost: Range,
+    writers: &LastWriters,
     kept: ByteStore,
 ) -> Option<Failure>
     requires safe { AreSafePlaces trace.now safe.now }
-    requires low { low + length last.now ≤ 2 ^ 48 }
-    ensures { MatchOption result (KeepsWithout trace.now last.now kept.store → ⊥) (IsCrashAfter trace.now low last.now kept) }
+    requires lost { Knows trace.now number lost writers.now }
+    ensures { MatchOption result (KeepsWithout trace.now number lost kept.store → ⊥) (IsCrashAfter trace.now number lost kept) }
 {
     match line_of_store(trace, kept.store) {
         None => None,
-        Some(line) => crash_keeping(trace, safe, low, last, kept, line),
+        Some(line) => crash_keeping(trace, safe, number, lost, writers, kept, line),
     }
 }
 
@@ -267,17 +224,22 @@ fn crash_after(
 fn crash_keeping(
     trace: &Trace,
     safe: &[u64],
-    low: u64,
-    last: &[u64],
+    number: u64,
+    range: Range,
+    writers: &LastWriters,
     kept: ByteStore,
     line: u64,
 ) -> Option<Failure>
     requires safe { AreSafePlaces trace.now safe.now }
-    requires low { low + length last.now ≤ 2 ^ 48 }
+    requires range { Knows trace.now number range writers.now }
     requires store { (w : Written) × IsAct trace.now kept.store (Stores line w) }
-    ensures { MatchOption result (KeepsWithout trace.now last.now kept.store → ⊥) (IsCrashAfter trace.now low last.now kept) }
+    ensures { MatchOption result (KeepsWithout trace.now number range kept.store → ⊥) (IsCrashAfter trace.now number range kept) }
 {
-    match first_lost(trace, safe, kept.store, Some(line), low, last) {
+    let wanted = Wanted::Lost {
+        place: kept.store,
+        full: Some(line),
+    };
+    match writers.first_in(trace, safe, wanted, range) {
         None => None,
         Some(lost) => Some(Failure {
             place: kept.store,

@@ -1,6 +1,6 @@
 //! Numbers of lines.
 
-ghost use Rattle.std.specs.Prelude.{◌≡◌, [], map, min, IfOk, OnOk};
+ghost use Rattle.std.specs.Prelude.{◌≡◌, ◌≢◌, ℕ, Some, [], map, min, IfOk, OnOk};
 ghost use Rattle.pmt_live.specs.Places.{IsFound};
 ghost use Rattle.pmt_explain.specs.Numbers.{line_in, number_at, number_in, Puts, Reaches};
 
@@ -50,22 +50,27 @@ impl Numbers {
         }
     }
 
-    // Where the line stands, if it does.
-    fn find(&self, line: u64) -> Option<usize>
+    // Where the line stands, if it does. It is looked up where its block isn't the one at `block`.
+    fn find(&self, line: u64, block: usize) -> Option<usize>
         ensures { IsFound line (map line_in self.now) result }
     {
         match self.rows.get(self.last) {
             Some(row) if row.line == line => return Some(self.last),
             _ => {}
         }
-        self.lines.find(line, 0)
+        self.lines.find(line, block)
     }
 
-    // The number of the line, if it has one.
-    pub(crate) fn get(&self, line: u64) -> Option<u64>
+    // Where the block of the line and its fifteen neighbours stands, if it does. Nothing is promised of it.
+    pub(crate) fn block(&self, line: u64) -> usize {
+        self.lines.block(line).unwrap_or(0)
+    }
+
+    // The number of the line, if it has one. It is looked up where its block isn't the one at `block`.
+    pub(crate) fn get(&self, line: u64, block: usize) -> Option<u64>
         ensures { result ≡ number_in self.now line }
     {
-        match self.find(line) {
+        match self.find(line, block) {
             None => None,
             Some(place) => Some(self.rows[place].number),
         }
@@ -97,6 +102,16 @@ impl Numbers {
             });
         }
         Ok(place)
+    }
+
+    // The number of the line, which gets the other one if it has none.
+    pub(crate) fn keep(&mut self, line: u64, other: u64) -> Result<u64, OutOfMemory>
+        ensures number { IfOk result (λ number. number ≡ number_at other self.old line) }
+        ensures here { IfOk result (λ number. number_in self.new line ≡ Some number) }
+        ensures others { OnOk result ((l : ℕ) → l ≢ line → number_in self.new l ≡ number_in self.old l) }
+    {
+        let place = self.reach(line, other)?;
+        Ok(self.rows[place].number)
     }
 
     // The number of the line, or the other one where it has none. The line gets this one.

@@ -1,10 +1,10 @@
 use Rattle.std.proofs.Common.{take}
 use Rattle.pmt_causes.specs.FailureKeys.{AreKeyed}
-use Rattle.pmt_causes.specs.Writers.{AreWriters}
+use Rattle.pmt_causes.specs.Writers.{AreAllWriters}
 use Rattle.pmt_causes.proofs.failing.failure_items.Given as goal
 
 abbrev pub invariant-loop-number : goal.invariant-loop-number
 invariant-loop-number l = record {
-  writers : AreWriters l.trace l.writers;
+  writers : AreAllWriters l.trace l.writers;
   keyed : AreKeyed l.trace l.labels (take l.number-index l.numbers) l.items.items;
 }

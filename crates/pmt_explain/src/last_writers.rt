@@ -1,0 +1,153 @@
+//! The last stores to bytes, as of a place.
+
+ghost use Rattle.std.specs.Prelude.{◌≡◌, ◌≤◌, ◌^◌, length, OnOk};
+ghost use Rattle.pmt_model.specs.Traces.{Recording};
+ghost use Rattle.pmt_explain.specs.Writers.{AreInside, AreWriters, NotesOp};
+ghost use Rattle.pmt_model.specs.declared.event.Op.TheVariants.{Store};
+
+use crate::run_table::RunTable;
+use crate::runs::Run;
+use pmt_model::{Op, OutOfMemory, Trace, WordStore};
+use std::alloc::Global;
+
+/// The last stores to bytes among the first events.
+#[derive(Drop)]
+pub struct LastWriters {
+    // how many events
+    pub(crate) place: u64,
+    // the bytes from `low` to `high`
+    pub(crate) low: u64,
+    pub(crate) high: u64,
+    pub(crate) table: RunTable,
+}
+
+impl LastWriters {
+    /// Those to all bytes, before any event.
+    pub fn new(alloc: Global) -> Self
+        ensures writers { (T : Recording) → AreWriters T result }
+        ensures low { result.low ≡ 0 }
+        ensures high { result.high ≡ 2 ^ 48 }
+    {
+        LastWriters::between(alloc, 0, 1 << 48)
+    }
+
+    // Those to the bytes from `low` to `high`, before any event.
+    pub(crate) fn between(alloc: Global, low: u64, high: u64) -> Self
+        ensures writers { (T : Recording) → AreWriters T result }
+        ensures place { result.place ≡ 0 }
+        ensures low { result.low ≡ low }
+        ensures high { result.high ≡ high }
+    {
+        LastWriters {
+            place: 0,
+            low,
+            high,
+            table: RunTable::new(alloc),
+        }
+    }
+
+    /// Goes to the place: on from its own, or from the first event where that is a later one.
+    ///
+    /// # Errors
+    /// Where memory was refused.
+    pub fn go_to(&mut self, alloc: Global, trace: &Trace, place: u64) -> Result<(), OutOfMemory>
+        requires within { place ≤ length trace.now.events }
+        requires before { AreWriters trace.now self.old }
+        ensures after { OnOk result (AreWriters trace.now self.new) }
+        ensures place { OnOk result (self.new.place ≡ place) }
+        ensures low { OnOk result (self.new.low ≡ self.old.low) }
+        ensures high { OnOk result (self.new.high ≡ self.old.high) }
+    {
+        self.begin_again(alloc, place);
+        self.go_on(alloc, trace, place)
+    }
+
+    // Begins again, where the place lies before its own.
+    fn begin_again(&mut self, alloc: Global, place: u64)
+        ensures before { (T : Recording) → AreWriters T self.old → AreWriters T self.new }
+        ensures place { self.new.place ≤ place }
+        ensures low { self.new.low ≡ self.old.low }
+        ensures high { self.new.high ≡ self.old.high }
+    {
+        if self.place <= place {
+            return;
+        }
+        self.place = 0;
+        self.table = RunTable::new(alloc);
+    }
+
+    // Goes on to a place that is no earlier.
+    fn go_on(&mut self, alloc: Global, trace: &Trace, place: u64) -> Result<(), OutOfMemory>
+        requires order { self.old.place ≤ place }
+        requires within { place ≤ length trace.now.events }
+        requires before { AreWriters trace.now self.old }
+        ensures after { OnOk result (AreWriters trace.now self.new) }
+        ensures place { OnOk result (self.new.place ≡ place) }
+        ensures low { OnOk result (self.new.low ≡ self.old.low) }
+        ensures high { OnOk result (self.new.high ≡ self.old.high) }
+    {
+        let events = trace.events();
+        for index in self.place as usize..place as usize {
+            let event = events[index];
+            note_op(
+                &mut self.table,
+                alloc,
+                event.op,
+                index as u64 + 1,
+                self.low,
+                self.high,
+            )?;
+        }
+        self.place = place;
+        Ok(())
+    }
+}
+
+// Notes the op with this number, if it is a store to one of the bytes from `low` to `high`.
+fn note_op(
+    table: &mut RunTable,
+    alloc: Global,
+    op: Op,
+    number: u64,
+    low: u64,
+    high: u64,
+) -> Result<(), OutOfMemory>
+    requires { AreInside table.old }
+    ensures { OnOk result (NotesOp op number low high table.old table.new) }
+{
+    match op {
+        Op::Store(store) => note_store(table, alloc, store, number, low, high),
+        Op::Clwb(_)
+        | Op::ClflushOpt(_)
+        | Op::Clflush(_)
+        | Op::Sfence
+        | Op::Mfence
+        | Op::IsPersist(_)
+        | Op::IsOrderedBefore(_, _) => Ok(()),
+    }
+}
+
+// Notes the store with this number, if it is to one of the bytes from `low` to `high`.
+fn note_store(
+    table: &mut RunTable,
+    alloc: Global,
+    store: WordStore,
+    number: u64,
+    low: u64,
+    high: u64,
+) -> Result<(), OutOfMemory>
+    requires { AreInside table.old }
+    ensures { OnOk result (NotesOp (Store store) number low high table.old table.new) }
+{
+    let first = store.addr().get();
+    let end = first + store.bytes().len() as u64;
+    if end <= low || high <= first {
+        return Ok(());
+    }
+    let run = Run {
+        store: number,
+        low: first,
+        high: end,
+    };
+    table.note(alloc, run)
+}
