@@ -203,7 +203,5 @@ fn ordered_at(
 {
     let _lens = (first.len(), second.len());
     writers.go_to(alloc, trace, number)?;
-    Ok(ordered_failure(
-        trace, safe, number, first, second, writers,
-    ))
+    Ok(ordered_failure(trace, safe, number, first, second, writers))
 }

@@ -1,7 +1,7 @@
 -- The first one of the last stores that has a property.
-use Rattle.std.proofs.Common.{◌≡◌, ℕ, ◌+◌, ◌-◌, ◌/◌, ◌<◌, ◌≤◌, ◌==◌, ◌⊎◌, inl, inr, Bool, true, false, List, length, min, max, Option, None, Some, refl, sym, ap, subst, ◌∙◌, arith, get_or}
-use Rattle.std.specs.Prelude.{IsTrue, ◌&&◌, ◌||◌, nat_lt, Contains}
-use Rattle.std.proofs.lemmas.Bool.{cases_lt, cases_eq, lt-ltb, le-ltb, ltb-true, eq-eqb, ne_eqb, eqb-true, false≢true}
+use Rattle.std.proofs.Common.{◌≡◌, ℕ, ◌+◌, ◌-◌, ◌/◌, ◌<◌, ◌≤◌, ◌⊎◌, inl, inr, true, false, List, length, max, Option, None, Some, refl, sym, ap, subst, ◌∙◌, arith, get_or}
+use Rattle.std.specs.Prelude.{IsTrue, nat_lt}
+use Rattle.std.proofs.lemmas.Bool.{cases_lt, cases_eq, lt-ltb, le-ltb, eq-eqb, ne_eqb, false≢true}
 use Rattle.std.proofs.lemmas.List.{get_or_default}
 use Rattle.std.proofs.lemmas.List.Elements.{Contains-get_or}
 use Rattle.std.proofs.lemmas.Option.{same_Some}
@@ -12,7 +12,7 @@ use Rattle.pmt_reasons.specs.declared.failure.ByteStore.{ByteStore}
 use Rattle.pmt_reasons.specs.Failures.{IsLastIn, IsNoLater}
 use Rattle.pmt_explain.specs.declared.last_writers.LastWriters.{LastWriters}
 use Rattle.pmt_explain.specs.declared.runs.Run.{Run}
-use Rattle.pmt_explain.specs.Losing.{comes_before, Picks, IsFirstAmong, IsFirstIn, Anywhere, Considers}
+use Rattle.pmt_explain.specs.Losing.{comes_before, Picks, IsFirstIn, Anywhere, Considers}
 use Rattle.pmt_explain.specs.Numbers.{number_in}
 use Rattle.pmt_explain.specs.Runs.{Has, HasRun, no_run}
 use Rattle.pmt_explain.specs.Writers.{runs_at, AreRuns, IsLastTo, Knows}

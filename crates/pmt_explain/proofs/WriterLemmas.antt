@@ -1,24 +1,23 @@
 -- The last stores to bytes, store by store.
-use Rattle.std.proofs.Common.{◌≡◌, ◌≢◌, ℕ, zero, suc, ◌+◌, ◌-◌, ◌/◌, ◌%◌, ◌<◌, ◌≤◌, ◌⊎◌, inl, inr, Bool, true, false, List, [], ◌∷◌, length, get_or, Option, Some, None, refl, sym, ap, subst, ◌∙◌, arith}
+use Rattle.std.proofs.Common.{◌≡◌, ◌≢◌, ℕ, suc, ◌+◌, ◌-◌, ◌/◌, ◌<◌, ◌≤◌, ◌⊎◌, inl, inr, Bool, true, false, List, [], length, Option, Some, None, refl, sym, ap, subst, ◌∙◌, arith}
 use Rattle.std.specs.Prelude.{Contains, if◌then◌else◌, nat_le, nat_lt, slice_get, unwrap_or}
-use Rattle.std.proofs.lemmas.Bool.{cases_eq, cases_lt, and_parts, and_from, ltb-true, lt-ltb, leb-true, le-leb, false≢true}
+use Rattle.std.proofs.lemmas.Bool.{cases_eq, and_parts, and_from, ltb-true, lt-ltb, leb-true, le-leb}
 use Rattle.std.proofs.lemmas.Option.{none-some, same_Some}
 use Rattle.std.proofs.Math.ListN.{get_or-eq_default}
 use Rattle.pmt_model.specs.declared.event.Event.{Event}
 use Rattle.pmt_model.specs.declared.event.Op.{Op}
 use Rattle.pmt_model.specs.declared.event.Op.TheVariants.{Store, Clwb, ClflushOpt, Clflush, Sfence, Mfence, IsPersist, IsOrderedBefore}
 use Rattle.pmt_model.specs.Values.{Written, IsStore}
-use Rattle.pmt_model.specs.Machine.{Act, writes}
-use Rattle.pmt_model.specs.Traces.{Recording, IsTrace, act, act_of, history}
+use Rattle.pmt_model.specs.Machine.{writes}
+use Rattle.pmt_model.specs.Traces.{Recording, history}
 use Rattle.pmt_model.specs.Findings.{last_store_number}
 use Rattle.pmt_laws.proofs.Histories.{history-suc, length-history}
-use Rattle.pmt_explain.specs.declared.last_writers.LastWriters.{LastWriters}
 use Rattle.pmt_explain.specs.declared.run_table.RunTable.{RunTable}
 use Rattle.pmt_explain.specs.declared.runs.Run.{Run}
-use Rattle.pmt_explain.specs.Numbers.{number_in, number_at}
+use Rattle.pmt_explain.specs.Numbers.{number_in}
 use Rattle.pmt_explain.specs.LastStores.{written_by}
-use Rattle.pmt_explain.specs.Runs.{Has, HasRun, IsRest, TakesOver}
-use Rattle.pmt_explain.specs.Writers.{runs_at, IsLastTo, AreRuns, AreWritten, NotesRun, NotesOp, run_of}
+use Rattle.pmt_explain.specs.Runs.{Has, HasRun}
+use Rattle.pmt_explain.specs.Writers.{runs_at, AreRuns, AreWritten, NotesRun, NotesOp, run_of}
 use Rattle.pmt_explain.proofs.LastStoreLemmas.{last-number}
 
 -- before any event

@@ -1,6 +1,7 @@
 //! Stores that are never persisted, in groups.
 
-ghost use Rattle.std.specs.Prelude.{◌≡◌, ◌+◌, ◌^◌, ◌<◌, ◌≤◌, ℕ, None, Some, length, All, IfOk, OnOk, MatchOption};
+ghost use Rattle.std.specs.Prelude.{◌≡◌, ◌+◌, ◌^◌, ◌<◌, ◌≤◌, ℕ, None, Some, length, unwrap_or, nat_eq, All, IfOk, OnOk, MatchOption};
+ghost use Rattle.indexmap.specs.IndexMap.{get};
 ghost use Rattle.pmt_explain.specs.AtEnd.{TellCauses};
 ghost use Rattle.pmt_explain.specs.CauseOf.{IsCauseOf};
 ghost use Rattle.pmt_explain.specs.LostGroups.{AreLostGroups, IsLostStore, IsLostAlone, key_for, group_key, place_in, AddsStore};
@@ -8,6 +9,7 @@ ghost use Rattle.pmt_explain.specs.LostGroups.{AreLostGroups, IsLostStore, IsLos
 use crate::at_end::causes_at_end;
 use crate::causing::cause as cause_at;
 use crate::lost::line_of_store;
+use crate::numbers::Numbers;
 use indexmap::IndexMap;
 use pmt_model::{OutOfMemory, Trace};
 use pmt_reasons::Cause;
@@ -119,17 +121,13 @@ fn add_group(
     requires room { All (λ g. g.count + 1 < 2 ^ 64) groups.old.items }
     ensures { OnOk result (AddsStore groups.old.items places.old one groups.new.items places.new) }
 {
-    let key = key_of(one.line, one.cause);
-    match places.find(key) {
-        Some(place) => {
-            let group = &mut groups[place];
-            group.last = one.last;
-            group.count += 1;
-        }
-        None => {
-            places.insert(key, groups.len())?;
-            groups.push(one)?;
-        }
+    let place = places.reach(key_of(one.line, one.cause), groups.len())?;
+    if place < groups.len() {
+        let group = &mut groups[place];
+        group.last = one.last;
+        group.count += 1;
+    } else {
+        groups.push(one)?;
     }
     Ok(())
 }
@@ -155,7 +153,7 @@ fn key_of(line: u64, cause: Cause) -> Key
 #[derive(Drop)]
 struct Places {
     unfenced: IndexMap<u64, usize>,
-    unflushed: IndexMap<u64, usize>,
+    unflushed: Numbers,
 }
 
 impl Places {
@@ -165,29 +163,36 @@ impl Places {
     {
         Places {
             unfenced: IndexMap::new(alloc),
-            unflushed: IndexMap::new(alloc),
+            unflushed: Numbers::new(alloc),
         }
     }
 
-    // Where the group with this key stands.
-    fn find(&self, key: Key) -> Option<usize>
-        ensures { result ≡ place_in self.now key }
-    {
-        match key {
-            Key::Flush(flush) => self.unfenced.get(&flush).copied(),
-            Key::Line(line) => self.unflushed.get(&line).copied(),
-        }
-    }
-
-    // Notes where the group with this key stands.
-    fn insert(&mut self, key: Key, place: usize) -> Result<(), OutOfMemory>
-        ensures added { OnOk result (place_in self.new key ≡ Some place) }
+    // Where the group with this key stands, which is the next place if there was none yet.
+    fn reach(&mut self, key: Key, next: usize) -> Result<usize, OutOfMemory>
+        ensures place { IfOk result (λ place. place ≡ unwrap_or (place_in self.old key) next) }
+        ensures here { IfOk result (λ place. place_in self.new key ≡ Some place) }
         ensures others { OnOk result ((k : Key) → (key ≡ k → ⊥) → place_in self.new k ≡ place_in self.old k) }
     {
         match key {
-            Key::Flush(flush) => self.unfenced.insert(flush, place)?,
-            Key::Line(line) => self.unflushed.insert(line, place)?,
-        };
-        Ok(())
+            Key::Flush(flush) => self.reach_flush(flush, next),
+            Key::Line(line) => {
+                let place = self.unflushed.keep(line, next as u64)?;
+                Ok(place as usize)
+            }
+        }
+    }
+
+    // The same of the group of a flush.
+    fn reach_flush(&mut self, flush: u64, next: usize) -> Result<usize, OutOfMemory>
+        ensures place { IfOk result (λ place. place ≡ unwrap_or (get nat_eq self.old.unfenced flush) next) }
+        ensures here { IfOk result (λ place. get nat_eq self.new.unfenced flush ≡ Some place) }
+        ensures others { OnOk result ((k : ℕ) → (flush ≡ k → ⊥) → get nat_eq self.new.unfenced k ≡ get nat_eq self.old.unfenced k) }
+        ensures unflushed { OnOk result (self.new.unflushed ≡ self.old.unflushed) }
+    {
+        if let Some(place) = self.unfenced.get(&flush).copied() {
+            return Ok(place);
+        }
+        self.unfenced.insert(flush, next)?;
+        Ok(next)
     }
 }

@@ -1,4 +1,4 @@
-use Rattle.std.proofs.Common.{arith, ap}
+use Rattle.std.proofs.Common.{arith}
 use Rattle.pmt_explain.proofs.failing.failure_of_ordered.Goals as goal
 
 pub ordered_failure-requires-clause-first : goal.ordered_failure-requires-clause-first

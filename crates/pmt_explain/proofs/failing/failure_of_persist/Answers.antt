@@ -1,4 +1,4 @@
-use Rattle.std.proofs.Common.{arith, ap}
+use Rattle.std.proofs.Common.{arith}
 use Rattle.pmt_explain.proofs.failing.failure_of_persist.Goals as goal
 
 pub persist_failure-requires-clause-writers : goal.persist_failure-requires-clause-writers

@@ -1,4 +1,4 @@
-use Rattle.std.proofs.Common.{◌≡◌, ◌∷◌, [], ◌++◌, length, subst, ap, arith}
+use Rattle.std.proofs.Common.{◌≡◌, length, subst, ap, arith}
 use Rattle.pmt_explain.specs.Runs.{HasParts}
 use Rattle.pmt_explain.proofs.RunLemmas.{takes-spread}
 use Rattle.pmt_explain.proofs.runs.spread.Goals as goal

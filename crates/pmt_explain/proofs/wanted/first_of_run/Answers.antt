@@ -1,4 +1,4 @@
-use Rattle.std.proofs.Common.{inr, ◌≡◌, subst, ap, ◌∙◌, arith}
+use Rattle.std.proofs.Common.{inr, arith}
 use Rattle.pmt_explain.proofs.wanted.first_of_run.Goals as goal
 
 pub returns : goal.returns

@@ -1,4 +1,4 @@
-use Rattle.std.proofs.Common.{false, true, ◌≡◌, sym, subst, ap, ◌∙◌}
+use Rattle.std.proofs.Common.{subst}
 use Rattle.std.proofs.lemmas.Bool.{false≢true}
 use Rattle.pmt_explain.specs.Wanting.{Wants}
 use Rattle.pmt_explain.proofs.wanted.is_wanted.Goals as goal

@@ -1,4 +1,4 @@
-use Rattle.std.proofs.Common.{◌≡◌, ◌+◌, ◌∙◌, sym, refl, arith}
+use Rattle.std.proofs.Common.{◌+◌, ◌∙◌, sym, refl, arith}
 use Rattle.pmt_explain.specs.Wanting.{Wants}
 use Rattle.pmt_explain.proofs.FirstInLemmas.{in-none, in-all}
 use Rattle.pmt_explain.proofs.last_writers.LastWriters.first_in.Goals as goal

@@ -1,4 +1,4 @@
-use Rattle.std.proofs.Common.{◌≡◌, ℕ, ◌/◌, ◌<◌}
+use Rattle.std.proofs.Common.{ℕ, ◌/◌, ◌<◌}
 use Rattle.pmt_explain.specs.Losing.{IsFirstIn}
 use Rattle.pmt_explain.specs.Wanting.{Wants}
 use Rattle.pmt_explain.specs.Writers.{Knows}

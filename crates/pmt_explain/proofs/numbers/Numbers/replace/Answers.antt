@@ -1,5 +1,3 @@
-use Rattle.std.proofs.Common.{◌≡◌, min, subst}
-use Rattle.pmt_explain.specs.Numbers.{Puts}
 use Rattle.pmt_explain.proofs.NumberLemmas.{table-put, read-reached, puts-reached}
 use Rattle.pmt_explain.proofs.numbers.Numbers.replace.Goals as goal
 
