@@ -49,7 +49,8 @@ fn redundant(rt: HostRuntime) -> Result<(), Fail> {
         swept.findings.as_slice(),
         [flush(3), flush(5), fence].as_slice()
     );
-    assert_eq!(rt; swept.selection.numbers(), [1, 3, 4].as_slice());
+    let kept = [true, false, true, true, false, false, false];
+    assert_eq!(rt; swept.kept.as_slice(), kept.as_slice());
     Ok(())
 }
 

@@ -14,6 +14,7 @@ use Rattle.pmt_text.specs.Sources.{Gives, HasFormat}
 use Rattle.pmt_text.proofs.SourceLemmas.{whole-parts}
 use Rattle.pmt_text.specs.declared.source.SourceState.{SourceState}
 use Rattle.pmt_lines.specs.Sourcing.{TakesFirst}
+use Rattle.pmt_trim.specs.Marking.{marked_from}
 use Rattle.pmt_trim.specs.Streaming.{IsTextOfTrimmed}
 use Rattle.pmt_trim.specs.WholeTexts.{IsTextOfWhole}
 use Rattle.pmt_report.specs.Reports.{fronts_head, front_entry, fronts_text, report}
@@ -94,16 +95,16 @@ text-computed told coming text bytes same is whole =
 
 -- the analysis that was found
 abbrev found_in : Recording → CheckedTrace → Analysed
-found_in T c = record { trace = T; lines = c.swept.lines; findings = c.swept.findings.items; verdicts = c.swept.verdicts.items; selection = c.swept.selection }
+found_in T c = record { trace = T; lines = c.swept.lines; findings = c.swept.findings.items; verdicts = c.swept.verdicts.items; selection = marked_from 0 c.swept.kept.items }
 
 -- what a check tells whose text was computed
 module _ (coming : Option Coming) (old new : Option (List ℕ)) (T : Recording) (c : CheckedTrace) (text : List ℕ) (failed : Bool) (found : IsFoundIn T c) (comes : ComesWhole coming T)
-    (is : text ≡ report c.events c.swept.lines c.swept.findings.items c.swept.verdicts.items (length c.swept.selection)) (judged : failed ≡ (list_any is_failure c.swept.verdicts.items || list_any is_loss c.swept.findings.items)) where
+    (is : text ≡ report c.events c.swept.lines c.swept.findings.items c.swept.verdicts.items (length (marked_from 0 c.swept.kept.items))) (judged : failed ≡ (list_any is_failure c.swept.verdicts.items || list_any is_loss c.swept.findings.items)) where
   right : IsAnalysed (found_in T c)
   right = record { is_trace = found.is_trace; right = found.right }
 
   reported : text ≡ report_for (found_in T c)
-  reported = is ∙ ap (λ n. report n c.swept.lines c.swept.findings.items c.swept.verdicts.items (length c.swept.selection)) found.counted
+  reported = is ∙ ap (λ n. report n c.swept.lines c.swept.findings.items c.swept.verdicts.items (length (marked_from 0 c.swept.kept.items))) found.counted
 
   computed : IsComputed IsReportOf coming text
   computed = record { trace = T; all = comes; answer = record { analysis = found_in T c; right = right; of_trace = refl; report = reported } }

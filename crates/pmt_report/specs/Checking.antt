@@ -3,6 +3,7 @@ use Rattle.std.specs.Prelude.{◌≡◌, length, Option}
 use Rattle.pmt_model.specs.Traces.{Recording, IsTrace}
 use Rattle.pmt_model.specs.Analyses.{IsAnalysis}
 use Rattle.pmt_text.specs.Coming.{Coming, ComesWhole}
+use Rattle.pmt_trim.specs.Marking.{marked_from}
 use Rattle.pmt_sweep.specs.Growing.{HasSwept}
 use Rattle.pmt_report.specs.declared.checked.CheckedTrace.{CheckedTrace}
 use Rattle.pmt_report.specs.declared.checked.Taken.{Taken}
@@ -16,7 +17,7 @@ pub record HasTaken (T : Recording) (t : Taken) : Type 0 where
 pub record IsFoundIn (T : Recording) (c : CheckedTrace) : Type 0 where
   pub is_trace : IsTrace T
   pub counted : c.events ≡ length T.events
-  pub right : IsAnalysis T c.swept.lines c.swept.findings.items c.swept.verdicts.items c.swept.selection
+  pub right : IsAnalysis T c.swept.lines c.swept.findings.items c.swept.verdicts.items (marked_from 0 c.swept.kept.items)
 
 -- It is of the trace that comes.
 abbrev pub IsCheckOf : Option Coming → CheckedTrace → Type 0

@@ -2,6 +2,7 @@
 ghost use Rattle.std.specs.Prelude.{◌≡◌, ◌+◌, ◌-◌, ◌^◌, ◌<◌, ◌||◌, true, not, length, IfOk};
 ghost use Rattle.std.specs.List.{list_any};
 ghost use Rattle.pmt_text.specs.Counting.{failure_count, inner_device};
+ghost use Rattle.pmt_trim.specs.Marking.{marked_from};
 ghost use Rattle.pmt_workers.specs.Halving.{is_worker_count};
 ghost use Rattle.pmt_report.specs.Checks.{TellsCheck, has_failed, is_failure, is_loss, report_for, unanswered};
 ghost use Rattle.pmt_report.specs.Reports.{report};
@@ -15,6 +16,7 @@ use pmt_analysis::Analysis;
 use pmt_model::{Finding, OutOfMemory, Verdict};
 use pmt_sweep::Swept;
 use pmt_text::Counted;
+use pmt_trim::marked_count;
 use std::alloc::Global;
 use std::io::{Read, Write};
 use std::sync::Wait;
@@ -56,7 +58,7 @@ pub fn run_check<T: Threads + Wait + Sync, R: Read, W: Write>(
 
 // The report of what was found.
 fn text_of(alloc: Global, checked: &CheckedTrace) -> Result<Vec<u8>, OutOfMemory>
-    ensures { IfOk result (λ text. text.items ≡ report checked.now.events checked.now.swept.lines checked.now.swept.findings.items checked.now.swept.verdicts.items (length checked.now.swept.selection)) }
+    ensures { IfOk result (λ text. text.items ≡ report checked.now.events checked.now.swept.lines checked.now.swept.findings.items checked.now.swept.verdicts.items (length (marked_from 0 checked.now.swept.kept.items))) }
 {
     let swept = &checked.swept;
     report_of(
@@ -65,7 +67,7 @@ fn text_of(alloc: Global, checked: &CheckedTrace) -> Result<Vec<u8>, OutOfMemory
         swept.lines as u64,
         swept.findings.as_slice(),
         swept.verdicts.as_slice(),
-        swept.selection.len() as u64,
+        marked_count(swept.kept.as_slice()) as u64,
     )
 }
 

@@ -10,6 +10,7 @@ use pmt_lines::{TakeError, take_trace};
 use pmt_model::{OutOfMemory, Trace};
 use pmt_sweep::{Swept, sweep};
 use pmt_text::EventSource;
+use pmt_trim::marked_numbers;
 use std::alloc::Global;
 
 /// The analysis of the trace whose events the source has still to give, by one thread.
@@ -38,7 +39,8 @@ fn swept_trace(alloc: Global, trace: Trace) -> Result<Analysis, OutOfMemory>
         lines,
         findings,
         verdicts,
-        selection,
+        kept,
     } = sweep(alloc, &trace)?;
+    let selection = marked_numbers(alloc, kept.as_slice())?;
     Ok(Analysis::new(trace, lines, findings, verdicts, selection))
 }

@@ -5,6 +5,7 @@ ghost use Rattle.pmt_model.specs.Keeping.{IsKeep};
 ghost use Rattle.pmt_model.specs.Pushing.{empty};
 ghost use Rattle.pmt_model.specs.Traces.{Recording, IsTrace, history, lines_of};
 ghost use Rattle.pmt_laws.specs.Passing.{with_events};
+ghost use Rattle.pmt_trim.specs.Marking.{marked_from};
 ghost use Rattle.pmt_sweep.specs.Growing.{AreNext, HasSwept};
 ghost use Rattle.pmt_sweep.specs.Judging.{IsJudgingOf};
 ghost use Rattle.pmt_sweep.specs.Sweeping.{IsSweepOf, taken};
@@ -67,14 +68,16 @@ impl Sweeper {
         ensures lines { (T : Recording) → HasSwept T self → IfOk result (λ s. s.lines ≡ length (lines_of (history T (length T.events)))) }
         ensures findings { (T : Recording) → HasSwept T self → IfOk result (λ s. IsFindings T s.findings.items) }
         ensures verdicts { (T : Recording) → HasSwept T self → IfOk result (λ s. IsVerdicts T s.verdicts.items) }
-        ensures kept { (T : Recording) → HasSwept T self → IfOk result (λ s. IsKeep T s.selection) }
+        ensures kept { (T : Recording) → HasSwept T self → IfOk result (λ s. IsKeep T (marked_from 0 s.kept.items)) }
     {
         let Judging {
             progress,
-            writers: _,
+            writers,
             verdicts,
-            stale: _,
+            stale,
         } = self.judging;
+        drop(writers);
+        drop(stale);
         progress.finish(alloc, verdicts)
     }
 }

@@ -2,8 +2,9 @@
 ghost use Rattle.std.specs.Prelude.{◌≡◌, ◌<◌, ℕ, [], MatchOption, OnOk, ◌∷◌};
 ghost use Rattle.pmt_sweep.specs.LineWriters.{writers_at, SettlesAll, TakesOverAt};
 
-use crate::writers::{Writer, Writers};
+use crate::writers::{FEW, Writer, Writers};
 use pmt_model::OutOfMemory;
+use smallvec::SmallVec;
 use std::alloc::Global;
 use std::marker::Model;
 
@@ -11,6 +12,8 @@ use std::marker::Model;
 #[derive(Drop)]
 pub(crate) struct LineWriters {
     lines: Vec<Writers>,
+    // Memory to lay out the stores to a line anew. Nothing is promised of what it holds.
+    spare: SmallVec<Writer, FEW>,
 }
 
 impl Model for LineWriters {
@@ -29,6 +32,7 @@ impl LineWriters {
     {
         LineWriters {
             lines: Vec::new(alloc),
+            spare: SmallVec::new(alloc),
         }
     }
 
@@ -48,7 +52,7 @@ impl LineWriters {
             let none = Writers::new(*self.lines.allocator());
             self.lines.push(none)?;
         }
-        self.lines[place].store(writer)
+        self.lines[place].store(writer, &mut self.spare)
     }
 
     // Whether what is to be known of the line at this place is known, or nothing was stored to it.

@@ -5,6 +5,7 @@ ghost use Rattle.pmt_model.specs.Machine.{Flushes, Clflushes, Fences, Asserts};
 ghost use Rattle.pmt_model.specs.Keeping.{IsKeep};
 ghost use Rattle.pmt_model.specs.Traces.{Recording, IsAct, IsTrace, event_limit, history, lines_of};
 ghost use Rattle.pmt_lines.specs.Scans.{is_flush_covered};
+ghost use Rattle.pmt_trim.specs.Marking.{marked_from};
 ghost use Rattle.pmt_sweep.specs.Notes.{StoresBytes};
 ghost use Rattle.pmt_sweep.specs.Rows.{IsPlaceOf};
 ghost use Rattle.pmt_sweep.specs.Sweeping.{IsSweepOf, taken};
@@ -19,8 +20,7 @@ use crate::open_numbers::OpenNumbers;
 use crate::rows::Rows;
 use pmt_lines::{OpenFlushes, push_if};
 use pmt_marks::LineState;
-use pmt_model::{Event, Finding, Format, Op, OutOfMemory, Selection, Trace, Verdict, line_of};
-use pmt_trim::marked_numbers;
+use pmt_model::{Event, Finding, Format, Op, OutOfMemory, Trace, Verdict, line_of};
 use std::alloc::Global;
 
 /// What a sweep finds.
@@ -32,8 +32,8 @@ pub struct Swept {
     pub findings: Vec<Finding>,
     /// The verdicts of the assertions, in event order.
     pub verdicts: Vec<Verdict>,
-    /// All that is kept of the trace.
-    pub selection: Selection,
+    /// Of each event, whether it is kept.
+    pub kept: Vec<bool>,
 }
 
 /// What is known of a trace while its events go by.
@@ -70,7 +70,7 @@ pub fn sweep(alloc: Global, trace: &Trace) -> Result<Swept, OutOfMemory>
     ensures lines { IfOk result (λ s. s.lines ≡ length (lines_of (history trace.now (length trace.now.events)))) }
     ensures findings { IfOk result (λ s. IsFindings trace.now s.findings.items) }
     ensures verdicts { IfOk result (λ s. IsVerdicts trace.now s.verdicts.items) }
-    ensures kept { IfOk result (λ s. IsKeep trace.now s.selection) }
+    ensures kept { IfOk result (λ s. IsKeep trace.now (marked_from 0 s.kept.items)) }
 {
     let mut sweeper = Sweeper::new(alloc, trace.format())?;
     sweeper.take(alloc, trace.events())?;
@@ -253,7 +253,7 @@ impl Progress {
         ensures lines { (T : Recording) → IsSweepOf T self → taken self ≡ length T.events → IfOk result (λ s. s.lines ≡ length (lines_of (history T (length T.events)))) }
         ensures findings { (T : Recording) → IsSweepOf T self → taken self ≡ length T.events → IfOk result (λ s. IsFindings T s.findings.items) }
         ensures verdicts { IfOk result (λ s. s.verdicts ≡ verdicts) }
-        ensures kept { (T : Recording) → IsSweepOf T self → taken self ≡ length T.events → IfOk result (λ s. IsKeep T s.selection) }
+        ensures kept { (T : Recording) → IsSweepOf T self → taken self ≡ length T.events → IfOk result (λ s. IsKeep T (marked_from 0 s.kept.items)) }
     {
         let Progress {
             format: _,
@@ -275,12 +275,11 @@ impl Progress {
         drop(places);
         drop(notes);
         let findings = joined(found, late)?;
-        let selection = marked_numbers(alloc, kept.as_slice())?;
         Ok(Swept {
             lines,
             findings,
             verdicts,
-            selection,
+            kept,
         })
     }
 }

@@ -6,9 +6,14 @@ ghost use Rattle.pmt_sweep.specs.Giving.{part_of, HasParts, IsSeat};
 use crate::writers::{FEW, Writer};
 use pmt_model::OutOfMemory;
 use smallvec::SmallVec;
+use std::mem::swap;
 
-// A new store comes to these: its bytes are no other one's any more.
-pub(crate) fn take_over(held: &mut SmallVec<Writer, FEW>, writer: Writer) -> Result<(), OutOfMemory>
+// A new store comes to these: its bytes are no other one's any more. What `spare` holds counts for nothing: its memory is used.
+pub(crate) fn take_over(
+    held: &mut SmallVec<Writer, FEW>,
+    writer: Writer,
+    spare: &mut SmallVec<Writer, FEW>,
+) -> Result<(), OutOfMemory>
     requires bytes { writer.low < writer.high }
     requires spaced { IsSpaced held.old.items }
     ensures taken { OnOk result (TakesOver writer held.old.items held.new.items) }
@@ -16,7 +21,7 @@ pub(crate) fn take_over(held: &mut SmallVec<Writer, FEW>, writer: Writer) -> Res
 {
     match seat_of(held.as_slice(), &writer) {
         Some(seat) => take_seat(held, seat, writer),
-        None => spread(held, writer),
+        None => spread(held, writer, spare),
     }
 }
 
@@ -67,18 +72,23 @@ fn take_seat(
     Ok(())
 }
 
-// The new store comes between what the others wrote before its bytes and what they wrote after them.
-fn spread(held: &mut SmallVec<Writer, FEW>, writer: Writer) -> Result<(), OutOfMemory>
+// The new store comes between what the others wrote before its bytes and what they wrote after them. They are laid out in the spare
+// memory, and `held` leaves its own in that one's place.
+fn spread(
+    held: &mut SmallVec<Writer, FEW>,
+    writer: Writer,
+    spare: &mut SmallVec<Writer, FEW>,
+) -> Result<(), OutOfMemory>
     requires bytes { writer.low < writer.high }
     requires spaced { IsSpaced held.old.items }
     ensures taken { OnOk result (TakesOver writer held.old.items held.new.items) }
     ensures spaced { IsSpaced held.new.items }
 {
-    let mut spread = SmallVec::new(*held.allocator());
-    push_parts(&mut spread, held.as_slice(), 0, writer.low)?;
-    spread.push(writer)?;
-    push_parts(&mut spread, held.as_slice(), writer.high, u16::MAX)?;
-    *held = spread;
+    spare.clear();
+    push_parts(spare, held.as_slice(), 0, writer.low)?;
+    spare.push(writer)?;
+    push_parts(spare, held.as_slice(), writer.high, u16::MAX)?;
+    swap(held, spare);
     Ok(())
 }
 

@@ -77,8 +77,12 @@ impl Writers {
         }
     }
 
-    // A new store: its bytes are no other one's any more. What was known of all of them is forgotten.
-    pub(crate) fn store(&mut self, writer: Writer) -> Result<(), OutOfMemory>
+    // A new store: its bytes are no other one's any more. What was known of all of them is forgotten. The memory of `spare` is used.
+    pub(crate) fn store(
+        &mut self,
+        writer: Writer,
+        spare: &mut SmallVec<Writer, FEW>,
+    ) -> Result<(), OutOfMemory>
         requires { writer.low < writer.high }
         ensures { OnOk result (TakesOver writer self.old self.new) }
     {
@@ -86,7 +90,7 @@ impl Writers {
         self.safe = 0;
         self.pending = 0;
         self.whole.reach = 0;
-        take_over(&mut self.held, writer)?;
+        take_over(&mut self.held, writer, spare)?;
         self.pending = pending;
         Ok(())
     }

@@ -7,7 +7,7 @@ use Rattle.std.proofs.lemmas.List.{length-take}
 use Rattle.pmt_laws.proofs.CutLemmas.{has-above}
 use Rattle.pmt_model.specs.Selecting.{first_fall}
 use Rattle.pmt_model.specs.Selections.{IsRising, Has}
-use Rattle.pmt_trim.specs.Marking.{is_kept_at, MarksThese}
+use Rattle.pmt_trim.specs.Marking.{is_kept_at, marked_from, MarksThese}
 
 -- the numbers with one more at the end
 has-push : (ks : List ℕ) (n k : ℕ) → Has (ks ++ n ∷ []) k ↔ (Has ks k ⊎ (n ≡ k))
@@ -80,12 +80,6 @@ marks-next old marked numbers i h within marks =
     let n = get_or numbers i 0 in
     let range = within n (has-at numbers i h) in
     rw (e, take-suc numbers i 0 h) (marks-more old marked (take i numbers) n range.0 range.1 marks)
-
--- The numbers that are marked, the first mark being that of the number after n.
-abbrev pub marked_from : ℕ → List Bool → List ℕ
-marked_from n [] = []
-marked_from n (true ∷ marked) = suc n ∷ marked_from (suc n) marked
-marked_from n (false ∷ marked) = marked_from (suc n) marked
 
 -- with one mark more at the end
 marked_from-push : (n : ℕ) (marked : List Bool) (b : Bool) → marked_from n (marked ++ b ∷ []) ≡ marked_from n marked ++ marked_from (n + length marked) (b ∷ [])

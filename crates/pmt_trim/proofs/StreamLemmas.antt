@@ -24,7 +24,8 @@ use Rattle.pmt_trim.specs.Streaming.{IsBeforeOpen, IsOut, OutComesFirst, IsTextO
 use Rattle.pmt_trim.specs.Leaving.{HaveLeft, kept_line, kept_lines}
 use Rattle.pmt_trim.specs.LineQueues.{kept_text, kept_texts, Pops}
 use Rattle.pmt_trim.proofs.HeadlineLemmas.{keep-is-trimmed}
-use Rattle.pmt_trim.proofs.MarkingLemmas.{marked_from, marked-rise, has-marked}
+use Rattle.pmt_trim.specs.Marking.{marked_from}
+use Rattle.pmt_trim.proofs.MarkingLemmas.{marked-rise, has-marked}
 
 -- ---- Events and their text
 

@@ -16,7 +16,7 @@ pub mod streaming;
 pub mod trimming;
 pub mod whole_text;
 
-pub use crate::join::{liveness, marked_numbers};
+pub use crate::join::{liveness, marked_count, marked_numbers};
 pub use crate::kept::line_kept;
 pub use crate::shortest::{all_events, shortest_selection};
 pub use crate::stream_error::StreamError;

@@ -1,3 +1,6 @@
+use Rattle.std.proofs.Common.{List, ℕ, sym, ap, subst, ◌∙◌}
+use Rattle.pmt_model.specs.Keeping.{IsKeep}
+use Rattle.pmt_trim.specs.Marking.{marked_from}
 use Rattle.pmt_report.proofs.swept.swept_trace.Goals as goal
 
 pub new-requires : goal.new-requires
@@ -5,5 +8,7 @@ new-requires c = record {
   touched = c.in_ok-lines.ensures.lines;
   found = c.in_ok-lines.ensures.findings;
   judged = c.in_ok-lines.ensures.verdicts;
-  kept = c.in_ok-lines.ensures.kept;
+  kept =
+      let numbers = c.in_ok-selection.ensures.numbers ∙ ap (marked_from 0) c.as_slice.ensures.value in
+      subst (λ (K : List ℕ). IsKeep c.args.trace K) (sym numbers) c.in_ok-lines.ensures.kept;
 }

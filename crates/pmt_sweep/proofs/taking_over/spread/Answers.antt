@@ -2,21 +2,21 @@ use Rattle.std.proofs.Common.{◌≡◌, List, [], ◌∷◌, ◌++◌, sym, sub
 use Rattle.std.specs.Prelude.{Contains}
 use Rattle.pmt_sweep.specs.declared.writers.Writer.{Writer}
 use Rattle.pmt_sweep.specs.Giving.{HasParts}
-use Rattle.pmt_sweep.specs.Writers.{IsSpaced}
+use Rattle.pmt_sweep.specs.Writers.{IsSpaced, TakesOver}
 use Rattle.pmt_sweep.proofs.SpacingLemmas.{spaced-nil, spaced-mid, mid-ends, takes-spread}
 use Rattle.pmt_sweep.proofs.taking_over.spread.Goals as goal
 use Rattle.pmt_sweep.proofs.taking_over.spread.Goals.{After-push}
 
 pub push_parts-requires-clause-before : goal.push_parts-requires-clause-before
-push_parts-requires-clause-before c = let none : c.new-spread.result.items ≡ [] = cc in subst IsSpaced (sym none) spaced-nil
+push_parts-requires-clause-before c = let none : c.clear.new.self.items ≡ [] = cc (c.clear.ensures.items) in subst IsSpaced (sym none) spaced-nil
 
 -- what the others wrote before the bytes of the new store, and that one
 left : (c : After-push) → HasParts 0 c.args.writer.low c.args.held.now.items [] c.push_parts.new.spread.items
 left c =
-    let none : c.new-spread.result.items ≡ [] = cc in
+    let none : c.clear.new.self.items ≡ [] = cc (c.clear.ensures.items) in
     let slice : c.as_slice.result.now ≡ c.args.held.now.items = cc in
     subst (λ (base : List Writer). HasParts 0 c.args.writer.low c.args.held.now.items base c.push_parts.new.spread.items) none
-    (subst (λ (ws : List Writer). HasParts 0 c.args.writer.low ws c.new-spread.result.items c.push_parts.new.spread.items) slice c.in_ok-push_parts.ensures)
+    (subst (λ (ws : List Writer). HasParts 0 c.args.writer.low ws c.clear.new.self.items c.push_parts.new.spread.items) slice c.in_ok-push_parts.ensures)
 
 pub push_parts-requires-2-clause-before : goal.push_parts-requires-2-clause-before
 push_parts-requires-2-clause-before c =
@@ -41,4 +41,6 @@ returns-clause-taken c =
     let e : mid ≡ c.push_parts.new.spread.items ++ w ∷ [] = cc (c.in_ok-push.ensures.ok) in
     let slice : c.as_slice-2.result.now ≡ ws = cc in
     let right : HasParts w.high 65535 ws mid new = subst (λ (xs : List Writer). HasParts w.high 65535 xs mid new) slice c.in_ok-push_parts-2.ensures in
-    takes-spread w ws c.push_parts.new.spread.items mid new 65535 c.requires.bytes (omega arith) (omega arith) c.requires.spaced (left (goal.at.returns-clause-taken c).After-push) e right
+    let swapped : c.swap.new.x.items ≡ new = cc (c.swap.ensures.x_after) in
+    subst (TakesOver w ws) (sym swapped)
+    (takes-spread w ws c.push_parts.new.spread.items mid new 65535 c.requires.bytes (omega arith) (omega arith) c.requires.spaced (left (goal.at.returns-clause-taken c).After-push) e right)

@@ -1,9 +1,9 @@
 use Rattle.std.proofs.Common.{◌≡◌, ◌+◌, suc, take, true, false, sym, ap, subst, ◌∙◌, arith}
 use Rattle.std.proofs.lemmas.List.{take_all, append-nil}
 use Rattle.std.specs.Prelude.{◌↔◌}
-use Rattle.pmt_trim.specs.Marking.{is_kept_at}
+use Rattle.pmt_trim.specs.Marking.{is_kept_at, marked_from}
 use Rattle.pmt_model.specs.Selections.{IsRising, Has}
-use Rattle.pmt_trim.proofs.MarkingLemmas.{marked_from, marked-next, marked-rise, rising-no_fall, has-numbers}
+use Rattle.pmt_trim.proofs.MarkingLemmas.{marked-next, marked-rise, rising-no_fall, has-numbers}
 use Rattle.pmt_trim.proofs.join.marked_numbers.Goals as goal
 use Rattle.pmt_trim.proofs.join.marked_numbers.Goals.{then-marked-i+in_ok-push, else-marked-i}
 

@@ -1,5 +1,5 @@
 use Rattle.std.proofs.Common.{◌≡◌, take}
-use Rattle.pmt_trim.proofs.MarkingLemmas.{marked_from}
+use Rattle.pmt_trim.specs.Marking.{marked_from}
 use Rattle.pmt_trim.proofs.join.marked_numbers.Given as goal
 
 abbrev pub invariant-loop-i : goal.invariant-loop-i

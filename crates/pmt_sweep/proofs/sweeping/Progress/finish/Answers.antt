@@ -2,6 +2,8 @@ use Rattle.std.proofs.Common.{subst}
 use Rattle.pmt_sweep.specs.Ending.{IsAtEnd}
 use Rattle.pmt_sweep.specs.Flags.{AreFlagsTo}
 use Rattle.pmt_sweep.specs.Known.{AreKnownTo}
+use Rattle.pmt_trim.specs.Marking.{marked_from}
+use Rattle.pmt_trim.proofs.MarkingLemmas.{marked-rise, has-numbers}
 use Rattle.pmt_sweep.proofs.FlagLemmas.{flags-keep}
 use Rattle.pmt_sweep.proofs.SweepLemmas.{at-end}
 use Rattle.pmt_sweep.proofs.sweeping.Progress.finish.Goals as goal
@@ -18,5 +20,4 @@ returns-clause-findings c T so_far all =
 pub returns-clause-kept : goal.returns-clause-kept
 returns-clause-kept c T so_far all =
     let flags = subst (λ n. AreFlagsTo T n c.args.self.kept.items) all so_far.flags in
-    let just = rw c.as_slice-3.ensures.value at c.in_ok-selection.ensures.just in
-    flags-keep T c.args.self.kept.items c.in_ok-selection.selection flags c.in_ok-selection.ensures.rising just
+    flags-keep T c.args.self.kept.items (marked_from 0 c.args.self.kept.items) flags (marked-rise 0 c.args.self.kept.items) (has-numbers c.args.self.kept.items)
