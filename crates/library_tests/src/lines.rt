@@ -1,6 +1,6 @@
 //! Tests of traces that are taken apart, and of what is found on a line.
 use pmt_lines::{
-    Jobs, StepKind, last_state, run_fences, run_line, split, split_first, split_trace, take_trace,
+    Jobs, StepKind, run_fences, run_line, split, split_trace, take_block, take_trace,
 };
 use pmt_model::{Event, Finding, Op, Trace};
 use pmt_text::ListSource;
@@ -51,9 +51,9 @@ fn steps_of_a_job(rt: HostRuntime) -> Result<(), Fail> {
     Ok(())
 }
 
-// The line is persisted before the place, and stored again after it.
+// After a full block the others are still to come; one that is not full ends the events.
 #[test]
-fn first_events(rt: HostRuntime) -> Result<(), Fail> {
+fn blocks_of_a_source(rt: HostRuntime) -> Result<(), Fail> {
     let alloc = rt.alloc();
     let events = [
         (0, Op::store(0x1000, &[1])?),
@@ -63,14 +63,10 @@ fn first_events(rt: HostRuntime) -> Result<(), Fail> {
     ];
     let trace = trace_of(alloc, events.as_slice())?;
     let mut source = ListSource::new(&trace);
-    let first = split_first(alloc, &mut source, 3)?;
-    assert_eq!(rt; first.trace.len(), 3);
-    assert_eq!(rt; first.lines.len(), 1);
-    let state = last_state(alloc, &first.lines[0])?;
-    assert_eq!(rt; state.front(), 1);
-    assert_eq!(rt; state.count(), 1);
-    let rest = split(alloc, &mut source)?;
-    assert_eq!(rt; rest.trace.len(), 1);
+    let first = take_block(alloc, &mut source, 3)?;
+    assert_eq!(rt; first.len(), 3);
+    let rest = take_block(alloc, &mut source, 3)?;
+    assert_eq!(rt; rest.len(), 1);
     Ok(())
 }
 

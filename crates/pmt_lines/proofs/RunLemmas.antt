@@ -200,24 +200,11 @@ running-end l steps line raises running T job =
     raises-stay T l 0 running.low (length T.events) raises ran.told ran.within
     (λ n above below. front-stays T l running.low n line above (λ k a b. ran.rest k a) ran.follows)
 
--- a run, whatever raises it told
-abbrev pub Playing : ℕ → List Step → List Step → Line → Type 0
-Playing l steps rest line = (raises : List Raise) × Running l steps rest line raises
-
-pub playing-start : (l : ℕ) (steps : List Step) → AreSteps 0 steps → Playing l steps steps (record { count = 0; front = 0; marks = [] })
-playing-start l steps rising = ([], running-start l steps rising)
-
-pub playing-next : (l : ℕ) (steps : List Step) (s : Step) (rest : List Step) (old new : Line) → Playing l steps (s ∷ rest) old → TakesStep s old new → new.count ≤ old.count + 1 → Playing l steps rest new
-playing-next l steps s rest old new playing takes counted =
-    elim (cases_lt old.front new.front) [
-      | inl rose ↦ (playing.0 ++ record { place = s.number; front = new.front } ∷ [], running-raised l steps s rest old new playing.0 playing.1 takes counted rose)
-      | inr stays ↦ (playing.0, running-quiet l steps s rest old new playing.0 playing.1 takes counted (λ rose. omega (arith, stays, rose)))
-    ]
-
-pub playing-end : (l : ℕ) (steps : List Step) (line : Line) → Playing l steps [] line → (T : Recording) → IsJobOf T l steps → Follows l (history T (length T.events)) line
-playing-end l steps line playing T job =
-    let ran = playing.1.ran T job in
-    follows-over T l playing.1.low (length T.events) line ran.within (λ k a b. ran.rest k a) ran.follows
+-- and the state of the line after it
+pub running-follows : (l : ℕ) (steps : List Step) (line : Line) (raises : List Raise) → Running l steps [] line raises → (T : Recording) → IsJobOf T l steps → Follows l (history T (length T.events)) line
+running-follows l steps line raises running T job =
+    let ran = running.ran T job in
+    follows-over T l running.low (length T.events) line ran.within (λ k a b. ran.rest k a) ran.follows
 
 -- the next step of the job, and its end
 pub running-next : (l : ℕ) (steps : List Step) (i : ℕ) (d : Step) (line : Line) (raises : List Raise) → i < length steps → Running l steps (drop i steps) line raises → Running l steps (get_or steps i d ∷ drop (i + 1) steps) line raises

@@ -1,6 +1,7 @@
 -- What a source has told and given while its events are taken.
 use Rattle.std.proofs.Common.{◌≡◌, ◌≢◌, ℕ, ◌+◌, ◌<◌, ◌≤◌, inl, inr, [], ◌∷◌, length, Option, Some, None, Result, Ok, Err, refl, ap, sym, subst, ◌∙◌, arith}
 use Rattle.std.proofs.lemmas.List.{length-append}
+use Rattle.std.proofs.lemmas.Option.{same_Some}
 use Rattle.pmt_model.specs.declared.event.Event.{Event}
 use Rattle.pmt_model.specs.Values.{Layout}
 use Rattle.pmt_model.specs.Traces.{Recording, event_limit}
@@ -15,6 +16,7 @@ use Rattle.pmt_text.proofs.SourceLemmas.{Gives-over, Gives-same, Gives-trans, wh
 use Rattle.pmt_lines.specs.declared.taking.TakeError.{TakeError}
 use Rattle.pmt_lines.specs.declared.taking.TakeError.TheVariants as refusals
 use Rattle.pmt_lines.specs.Sourcing.{TakesFirst, TellsEnd, TellsNothing, told_by}
+use Rattle.pmt_lines.specs.Blocks.{Shown, TakesBlock}
 
 -- no read has failed since
 abbrev pub SameReads : Option ℕ → Option ℕ → Type 0
@@ -36,19 +38,6 @@ pub counts-refused : {A B : Type 0} (old mid new : Option ℕ) (x : A) (r : Resu
 counts-refused None mid new x r same counts refused = tt
 counts-refused (Some n) mid new x r same counts refused =
     subst (λ q. CountsReads (Some n) (told_by q) new) (sym refused) (subst (λ m. CountsReads m (Ok x) new) same counts)
-
--- what a source shows between two calls
-pub record Shown : Type 0 where
-  pub coming : Option Coming
-  pub state : SourceState
-  pub format : Option Layout
-  pub failures : Option ℕ
-  pub room : ℕ
-
--- what a source shows by these members of its trait
-abbrev pub shown_by : {S : Type 0} → (S → Option Coming) → (S → SourceState) → (S → Option Layout) → (S → Option ℕ) → (S → ℕ) → S → Shown
-shown_by coming state format failures room s =
-    record { coming = coming s; state = state s; format = format s; failures = failures s; room = room s }
 
 -- after events were taken, T being the trace of them
 pub record SoFar (first now : Shown) (T : Recording) : Type 0 where
@@ -134,10 +123,61 @@ all-taken (Some c) now T format given over =
     let all = Gives-over (Some c) now T.events None given over in
     whole-parts c T format all.0 all.1
 
+pub so_far-all : (first now next : Shown) (T : Recording) → SoFar first now T → TakesNext now.coming (Ok None) next.coming → TellsNext now.state (Ok None) next.state → ComesWhole first.coming T × TellsEnd first.state next.state
+so_far-all first now next T so_far takes tells =
+    (all-taken first.coming now.coming T so_far.format so_far.given takes.0, tells-end first.state next.state (subst (λ s. TellsNext s (Ok None) next.state) so_far.same_state tells))
+
 pub so_far-ended : (most : ℕ) (first now next : Shown) (T : Recording) → SoFar first now T → length T.events < most → TakesNext now.coming (Ok None) next.coming → TellsNext now.state (Ok None) next.state →
     TakesFirst most first.coming next.coming first.state next.state T
 so_far-ended most first now next T so_far fewer takes tells = record {
   format = so_far.format;
   events = Gives-same first.coming now.coming next.coming T.events so_far.given takes.1;
-  few = inl (fewer, all-taken first.coming now.coming T so_far.format so_far.given takes.0, tells-end first.state next.state (subst (λ s. TellsNext s (Ok None) next.state) so_far.same_state tells));
+  few = let all = so_far-all first now next T so_far takes tells in inl (fewer, all.0, all.1);
+}
+
+-- ---- One block
+
+-- after some events of a block were taken
+pub record BlockSoFar (most : ℕ) (first now : Shown) (B : Recording) : Type 0 where
+  pub so_far : SoFar first now B
+  pub few : length B.events ≤ most
+  pub roomy : length B.events + now.room ≤ first.room
+  pub same_format : (f : Layout) → first.format ≡ Some f → B.format ≡ f
+
+format-kept : (old new : Option Layout) (f g : Layout) → KeepsFormat old new → new ≡ Some f → old ≡ Some g → f ≡ g
+format-kept old new f g kept known was = same_Some f g (sym known ∙ subst (λ o. KeepsFormat o new) was kept)
+
+pub block-none : (most : ℕ) (first now : Shown) (f : Layout) → TakesFormat first.coming (Ok f) now.coming → TellsFormat first.state (Ok f) now.state → now.format ≡ Some f → KeepsFormat first.format now.format → CountsReads first.failures (Ok f) now.failures → now.room ≡ first.room → now.room ≤ event_limit →
+    BlockSoFar most first now (empty f)
+block-none most first now f takes tells known kept counts same few = record {
+  so_far = so_far-none first now f takes tells known counts few;
+  few = omega arith;
+  roomy = omega (arith, same);
+  same_format = λ g was. format-kept first.format now.format f g kept known was;
+}
+
+pub block-more : (most : ℕ) (first now next : Shown) (B : Recording) (e : Event) → length B.events < most → BlockSoFar most first now B → TakesNext now.coming (Ok (Some e)) next.coming → TellsNext now.state (Ok (Some e)) next.state → KeepsFormat now.format next.format → CountsReads now.failures (Ok (Some e)) next.failures → LeavesFewer now.room (Ok (Some e)) next.room →
+    BlockSoFar most first next (with_event B e)
+block-more most first now next B e within block takes tells kept counts fewer = record {
+  so_far = so_far-more first now next B e block.so_far takes tells kept counts fewer;
+  few = omega (arith, within, length-append B.events (e ∷ []));
+  roomy = omega (arith, block.roomy, fewer, length-append B.events (e ∷ []));
+  same_format = block.same_format;
+}
+
+pub block-full : (most : ℕ) (first now : Shown) (B : Recording) → length B.events ≡ most → BlockSoFar most first now B → TakesBlock most first now B
+block-full most first now B full block = record {
+  first = so_far-full most first now B block.so_far full;
+  known = block.so_far.in_format;
+  same_format = block.same_format;
+  roomy = block.roomy;
+}
+
+pub block-ended : (most : ℕ) (first now next : Shown) (B : Recording) → length B.events < most → BlockSoFar most first now B → TakesNext now.coming (Ok None) next.coming → TellsNext now.state (Ok None) next.state → KeepsFormat now.format next.format → next.room ≡ now.room →
+    TakesBlock most first next B
+block-ended most first now next B fewer block takes tells kept same = record {
+  first = so_far-ended most first now next B block.so_far fewer takes tells;
+  known = subst (λ o. KeepsFormat o next.format) block.so_far.in_format kept;
+  same_format = block.same_format;
+  roomy = omega (arith, block.roomy, same);
 }

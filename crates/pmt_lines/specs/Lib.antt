@@ -8,3 +8,4 @@ pub mod Scans
 pub mod Splitting
 pub mod Splitters
 pub mod Sourcing
+pub mod Blocks

@@ -1,14 +1,11 @@
--- What a step does to the state of a line, and what the state is after its job.
-use Rattle.std.specs.Prelude.{ℕ, List, ◌∷◌, length}
+-- What a step does to the state of a line.
+use Rattle.std.specs.Prelude.{ℕ, List, ◌∷◌}
 use Rattle.pmt_model.specs.Values.{Written}
 use Rattle.pmt_model.specs.Machine.{Act, Stores, Flushes, Clflushes, Fences}
-use Rattle.pmt_model.specs.Traces.{Recording, history}
 use Rattle.pmt_marks.specs.Lines.{Line, Follows}
 use Rattle.pmt_lines.specs.declared.step.StepKind.{StepKind}
 use Rattle.pmt_lines.specs.declared.step.StepKind.TheVariants.{Store, Flush, Clflush, Fence}
 use Rattle.pmt_lines.specs.declared.step.Step.{Step}
-use Rattle.pmt_lines.specs.Steps.{LineWork}
-use Rattle.pmt_lines.specs.Jobs.{IsJobOf}
 
 -- Where the old state is that of line l, the new one is so after this kind of step by thread t.
 abbrev pub TakesKind : ℕ → ℕ → StepKind → Line → Line → Type 0
@@ -19,7 +16,3 @@ TakesKind l t Fence old new = (h : List Act) → Follows l h old → Follows l (
 
 abbrev pub TakesStep : Step → Line → Line → Type 0
 TakesStep s old new = (l : ℕ) → TakesKind l s.thread s.kind old new
-
--- In whatever trace the job is of its line, the state is that of the line at the end.
-abbrev pub IsLastState : LineWork → Line → Type 0
-IsLastState job line = (T : Recording) → IsJobOf T job.line job.steps → Follows job.line (history T (length T.events)) line

@@ -6,7 +6,7 @@ ghost use Rattle.pmt_text.specs.Coming.{ComesWhole};
 ghost use Rattle.pmt_text.specs.Sources.{CountsReads};
 ghost use Rattle.pmt_lines.specs.Splitting.{IsSplit};
 ghost use Rattle.pmt_lines.specs.Splitters.{HasTaken};
-ghost use Rattle.pmt_lines.specs.Sourcing.{IsFaultOf, TakesFirst, TellsRefusal, TellsSplit, TellsWhole, told_by};
+ghost use Rattle.pmt_lines.specs.Sourcing.{IsFaultOf, TellsSplit, TellsWhole, told_by};
 
 use crate::job::LineJob;
 use crate::splitter::Splitter;
@@ -54,37 +54,15 @@ fn split_source<S: EventSource>(alloc: Global, source: &mut S) -> Result<Jobs, T
     ensures told { TellsSplit (S.state source.old) result (S.state source.new) }
     ensures failures { CountsReads (S.failures source.old) (told_by result) (S.failures source.new) }
 {
-    let jobs = split_first(alloc, source, u64::MAX)?;
-    let _is_trace = jobs.trace.len();
-    Ok(jobs)
-}
-
-/// The jobs of the first events of the source alone, at most so many. Where it told no end, the next event is still to come.
-///
-/// # Errors
-/// `Source` with the fault that the source told, or with `Failed` where it had told a fault before. `OutOfMemory` where memory
-/// was refused to the split itself; the source told nothing then. The source stands past the events that were taken.
-pub fn split_first<S: EventSource>(
-    alloc: Global,
-    source: &mut S,
-    most: u64,
-) -> Result<Jobs, TakeError>
-    ensures apart { IfOk result (λ jobs. IsSplit jobs.trace jobs.lines.items jobs.fences) }
-    ensures first { IfOk result (λ jobs. TakesFirst most (S.coming source.old) (S.coming source.new) (S.state source.old) (S.state source.new) jobs.trace) }
-    ensures fault { IfErr (told_by result) (λ e. IfSome (S.coming source.old) (λ c. IsFaultOf c e)) }
-    ensures told { TellsRefusal (S.state source.old) result (S.state source.new) }
-    ensures failures { CountsReads (S.failures source.old) (told_by result) (S.failures source.new) }
-{
     let format = source.format()?;
     let mut splitter = Splitter::new(alloc, format)?;
     let mut trace = Trace::new_with(alloc, format);
-    'first: while (trace.len() as u64) < most {
+    'all: loop {
         match source.next()? {
             Some(event) => take_into(&mut trace, &mut splitter, event)?,
             None => return Ok(splitter.finish(trace)),
         }
     }
-    Ok(splitter.finish(trace))
 }
 
 // Adds the event to the trace, and to its jobs.

@@ -4,7 +4,8 @@ ghost use Rattle.pmt_model.specs.Pushing.{with_event};
 ghost use Rattle.pmt_model.specs.Traces.{event_limit, IsEventIn};
 ghost use Rattle.pmt_text.specs.Coming.{ComesWhole};
 ghost use Rattle.pmt_text.specs.Sources.{CountsReads};
-ghost use Rattle.pmt_lines.specs.Sourcing.{IsFaultOf, TakesFirst, TellsRefusal, TellsSplit, told_by};
+ghost use Rattle.pmt_lines.specs.Sourcing.{IsFaultOf, TellsRefusal, TellsSplit, told_by};
+ghost use Rattle.pmt_lines.specs.Blocks.{TakesBlock, shown_by};
 ghost use Rattle.pmt_lines.specs.declared.taking.TakeError.TheVariants.{Source, OutOfMemory};
 
 use pmt_model::{Event, OutOfMemory, Trace};
@@ -50,27 +51,34 @@ pub fn take_trace<S: EventSource>(alloc: Global, source: &mut S) -> Result<Trace
     ensures told { TellsSplit (S.state source.old) result (S.state source.new) }
     ensures failures { CountsReads (S.failures source.old) (told_by result) (S.failures source.new) }
 {
-    let trace = take_first(alloc, source, u64::MAX)?;
+    let trace = take_block(alloc, source, u64::MAX)?;
     let _is_trace = trace.len();
     Ok(trace)
 }
 
-// The first events of the source alone, at most so many.
-fn take_first<S: EventSource>(alloc: Global, source: &mut S, most: u64) -> Result<Trace, TakeError>
-    ensures first { IfOk result (λ trace. TakesFirst most (S.coming source.old) (S.coming source.new) (S.state source.old) (S.state source.new) trace) }
+/// The next events of the source, at most so many, as a trace of their own. Where they are fewer, the source has told its end.
+///
+/// # Errors
+/// As `take_trace`.
+pub fn take_block<S: EventSource>(
+    alloc: Global,
+    source: &mut S,
+    most: u64,
+) -> Result<Trace, TakeError>
+    ensures block { let shown = shown_by S.coming S.state S.known_format S.failures S.room in IfOk result (TakesBlock most (shown source.old) (shown source.new)) }
     ensures fault { IfErr (told_by result) (λ e. IfSome (S.coming source.old) (λ c. IsFaultOf c e)) }
     ensures told { TellsRefusal (S.state source.old) result (S.state source.new) }
     ensures failures { CountsReads (S.failures source.old) (told_by result) (S.failures source.new) }
 {
     let format = source.format()?;
-    let mut trace = Trace::new_with(alloc, format);
-    'first: while (trace.len() as u64) < most {
+    let mut block = Trace::new_with(alloc, format);
+    'block: while (block.len() as u64) < most {
         match source.next()? {
-            Some(event) => add(&mut trace, event)?,
-            None => return Ok(trace),
+            Some(event) => add(&mut block, event)?,
+            None => return Ok(block),
         }
     }
-    Ok(trace)
+    Ok(block)
 }
 
 // Adds an event that the trace has room for, and that is of its format: memory alone may be refused.

@@ -4,77 +4,28 @@ use Rattle.std.specs.Prelude.{if◌then◌else◌, IfErr}
 use Rattle.std.specs.List.{AllByRecursion}
 use Rattle.std.proofs.lemmas.Bool.{eqb-false}
 use Rattle.std.proofs.lemmas.List.{length-append}
-use Rattle.std.proofs.lemmas.Option.{same_Some}
 use Rattle.pmt_model.specs.declared.event.Event.{Event}
 use Rattle.pmt_model.specs.Values.{Layout}
 use Rattle.pmt_model.specs.Traces.{Recording, IsTrace, IsEventIn, event_limit}
-use Rattle.pmt_model.specs.Pushing.{with_event, empty}
 use Rattle.pmt_laws.specs.Passing.{with_events}
 use Rattle.pmt_text.specs.declared.kind.SourceError.{SourceError}
 use Rattle.pmt_text.specs.declared.kind.SourceError.TheVariants.{Text, TooMany, Read, OutOfMemory, Failed}
 use Rattle.pmt_text.specs.declared.source.SourceState.{SourceState}
 use Rattle.pmt_text.specs.declared.source.SourceState.TheVariants as states
 use Rattle.pmt_text.specs.Coming.{Coming, ComesWhole, whole}
-use Rattle.pmt_text.specs.Sources.{Gives, TakesNext, HasFormat, TakesFormat, TellsNext, TellsFormat, KeepsFormat, LeavesFewer, CountsReads}
+use Rattle.pmt_text.specs.Sources.{Gives, HasFormat, CountsReads}
 use Rattle.pmt_text.proofs.SourceLemmas.{Gives-trans, whole-parts}
 use Rattle.pmt_lines.specs.declared.taking.TakeError.{TakeError}
 use Rattle.pmt_lines.specs.declared.taking.TakeError.TheVariants as refusals
 use Rattle.pmt_lines.specs.Sourcing.{IsFaultOf, TellsEnd, TellsFault, TellsNothing, TellsRefusal, TellsTaken, told_by}
-use Rattle.pmt_lines.proofs.SourceRunLemmas.{Shown, SoFar, SameReads, so_far-none, so_far-more, so_far-full, so_far-ended}
-use Rattle.pmt_report.specs.Blocks.{TakesBlock}
+use Rattle.pmt_lines.specs.Blocks.{Shown, TakesBlock}
+use Rattle.pmt_lines.proofs.SourceRunLemmas.{SoFar, SameReads}
 
--- ---- One block
+-- ---- Block after block
 
 -- what a source told that told no fault
 abbrev pub untold_fault : Result (Unit {0}) SourceError
 untold_fault = Ok tt
-
--- after some events of a block were taken
-pub record BlockSoFar (most : ℕ) (first now : Shown) (B : Recording) : Type 0 where
-  pub so_far : SoFar first now B
-  pub few : length B.events ≤ most
-  pub roomy : length B.events + now.room ≤ first.room
-  pub same_format : (f : Layout) → first.format ≡ Some f → B.format ≡ f
-
-format-kept : (old new : Option Layout) (f g : Layout) → KeepsFormat old new → new ≡ Some f → old ≡ Some g → f ≡ g
-format-kept old new f g kept known was = same_Some f g (sym known ∙ subst (λ o. KeepsFormat o new) was kept)
-
-pub block-none : (most : ℕ) (first now : Shown) (f : Layout) → TakesFormat first.coming (Ok f) now.coming → TellsFormat first.state (Ok f) now.state → now.format ≡ Some f → KeepsFormat first.format now.format → CountsReads first.failures (Ok f) now.failures → now.room ≡ first.room → now.room ≤ event_limit →
-    BlockSoFar most first now (empty f)
-block-none most first now f takes tells known kept counts same few = record {
-  so_far = so_far-none first now f takes tells known counts few;
-  few = omega arith;
-  roomy = omega (arith, same);
-  same_format = λ g was. format-kept first.format now.format f g kept known was;
-}
-
-pub block-more : (most : ℕ) (first now next : Shown) (B : Recording) (e : Event) → length B.events < most → BlockSoFar most first now B → TakesNext now.coming (Ok (Some e)) next.coming → TellsNext now.state (Ok (Some e)) next.state → KeepsFormat now.format next.format → CountsReads now.failures (Ok (Some e)) next.failures → LeavesFewer now.room (Ok (Some e)) next.room →
-    BlockSoFar most first next (with_event B e)
-block-more most first now next B e within block takes tells kept counts fewer = record {
-  so_far = so_far-more first now next B e block.so_far takes tells kept counts fewer;
-  few = omega (arith, within, length-append B.events (e ∷ []));
-  roomy = omega (arith, block.roomy, fewer, length-append B.events (e ∷ []));
-  same_format = block.same_format;
-}
-
-pub block-full : (most : ℕ) (first now : Shown) (B : Recording) → length B.events ≡ most → BlockSoFar most first now B → TakesBlock most first now B
-block-full most first now B full block = record {
-  first = so_far-full most first now B block.so_far full;
-  known = block.so_far.in_format;
-  same_format = block.same_format;
-  roomy = block.roomy;
-}
-
-pub block-ended : (most : ℕ) (first now next : Shown) (B : Recording) → length B.events < most → BlockSoFar most first now B → TakesNext now.coming (Ok None) next.coming → TellsNext now.state (Ok None) next.state → KeepsFormat now.format next.format → next.room ≡ now.room →
-    TakesBlock most first next B
-block-ended most first now next B fewer block takes tells kept same = record {
-  first = so_far-ended most first now next B block.so_far fewer takes tells;
-  known = subst (λ o. KeepsFormat o next.format) block.so_far.in_format kept;
-  same_format = block.same_format;
-  roomy = omega (arith, block.roomy, same);
-}
-
--- ---- Block after block
 
 -- all events were taken
 pub record IsTakenWhole (first now : Shown) (T : Recording) : Type 0 where

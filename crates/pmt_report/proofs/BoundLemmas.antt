@@ -1,14 +1,14 @@
 -- The first address of a line that is stored or flushed has 48 bits.
-use Rattle.std.proofs.Common.{◌≡◌, ℕ, zero, suc, ◌*◌, ◌/◌, ◌^◌, ◌<◌, inl, inr, Bool, true, false, List, [], ◌∷◌, ◌++◌, slice_get, Some, refl, subst, arith}
+use Rattle.std.proofs.Common.{ℕ, ◌*◌, ◌/◌, ◌^◌, ◌<◌, Bool, true, false, List, [], ◌∷◌, ◌++◌, arith}
+use Rattle.std.specs.Prelude.{All, if◌then◌else◌}
 use Rattle.std.proofs.Math.Nat.{div-mul-le_self}
-use Rattle.std.specs.List.{AllByRecursion}
+use Rattle.std.proofs.lemmas.List.Elements.{All-push}
 use Rattle.pmt_model.specs.declared.event.Event.{Event}
 use Rattle.pmt_model.specs.declared.event.Op.{Op}
 use Rattle.pmt_model.specs.declared.event.Op.TheVariants.{Store, Clwb, ClflushOpt, Clflush, Sfence, Mfence, IsPersist, IsOrderedBefore}
 use Rattle.pmt_model.specs.Values.{Layout}
 use Rattle.pmt_model.specs.Machine.{Act, Stores, Flushes, Clflushes, Fences, Asserts}
-use Rattle.pmt_model.specs.Traces.{Recording, IsTrace, IsEventIn, IsOp, IsAct, act_of, history, has_line, with_line, lines_of}
-use Rattle.pmt_laws.proofs.Histories.{history-act, history-step}
+use Rattle.pmt_model.specs.Traces.{IsEventIn, IsOp, act, act_of, has_line, with_line, lines_of}
 
 -- the first address of the line has 48 bits
 abbrev pub IsLow : ℕ → ℕ → Type 0
@@ -35,38 +35,20 @@ low-op f t Mfence h = tt
 low-op f t (IsPersist r) h = tt
 low-op f t (IsOrderedBefore r q) h = tt
 
-each-event : (f : Layout) (es : List Event) (i : ℕ) (e : Event) → AllByRecursion (IsEventIn f) es → slice_get es i ≡ Some e → IsEventIn f e
-each-event f [] i e h is = cc
-each-event f (x ∷ es) zero e h is = let same : x ≡ e = cc in subst (IsEventIn f) same h.0
-each-event f (x ∷ es) (suc i) e h is = each-event f es i e h.1 is
-
-low-act : (T : Recording) (n : ℕ) (a : Act) → IsTrace T → IsAct T (suc n) a → LowAct T.format.line_size a
-low-act T n a h (e, is, same) =
-    subst (LowAct T.format.line_size) same (low-op T.format e.thread e.op (each-event T.format T.events n e h.each is).event.op)
-
-low-with_line : (size l : ℕ) (lines : List ℕ) → IsLow size l → AllByRecursion (IsLow size) lines → AllByRecursion (IsLow size) (with_line l lines)
-low-with_line size l lines here h = go (has_line l lines) refl
+low-with_line : (size l : ℕ) (lines : List ℕ) → IsLow size l → All (IsLow size) lines → All (IsLow size) (with_line l lines)
+low-with_line size l lines here each = go (has_line l lines)
   where
-    push : (ls : List ℕ) → AllByRecursion (IsLow size) ls → AllByRecursion (IsLow size) (ls ++ l ∷ [])
-    push [] each = (here, tt)
-    push (x ∷ ls) each = (each.0, push ls each.1)
+    go : (b : Bool) → All (IsLow size) (if b then lines else lines ++ l ∷ [])
+    go true = each
+    go false = All-push (IsLow size) lines l each here
 
-    go : (b : Bool) → has_line l lines ≡ b → AllByRecursion (IsLow size) (with_line l lines)
-    go true e = rw e h
-    go false e = rw e (push lines h)
-
-low-lines : (size : ℕ) (a : Act) (h : List Act) → LowAct size a → AllByRecursion (IsLow size) (lines_of h) → AllByRecursion (IsLow size) (lines_of (a ∷ h))
+low-lines : (size : ℕ) (a : Act) (h : List Act) → LowAct size a → All (IsLow size) (lines_of h) → All (IsLow size) (lines_of (a ∷ h))
 low-lines size (Stores l w) h here each = low-with_line size l (lines_of h) here each
 low-lines size (Flushes t l) h here each = low-with_line size l (lines_of h) here each
 low-lines size (Clflushes l) h here each = low-with_line size l (lines_of h) here each
 low-lines size (Fences t) h here each = each
 low-lines size Asserts h here each = each
 
--- each line of a trace lies in the 48 bits of addresses
-pub low-lines_of : (T : Recording) (n : ℕ) → IsTrace T → AllByRecursion (IsLow T.format.line_size) (lines_of (history T n))
-low-lines_of T zero h = tt
-low-lines_of T (suc n) h =
-    elim (history-step T n) [
-      | inl x ↦ rw (history-act T n x.0 x.1) (low-lines T.format.line_size x.0 (history T n) (low-act T n x.0 h x.1) (low-lines_of T n h))
-      | inr x ↦ rw x.1 (low-lines_of T n h)
-    ]
+-- so it is with one event more
+pub low-more : (f : Layout) (e : Event) (h : List Act) → IsEventIn f e → All (IsLow f.line_size) (lines_of h) → All (IsLow f.line_size) (lines_of (act f e ∷ h))
+low-more f e h is each = low-lines f.line_size (act f e) h (low-op f e.thread e.op is.event.op) each

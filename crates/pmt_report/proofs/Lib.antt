@@ -4,6 +4,6 @@ pub mod EntryLemmas
 pub mod ListingLemmas
 pub mod TakingLemmas
 pub mod BoundLemmas
-pub mod LineLists
+pub mod FrontsLemmas
 pub mod RunLemmas
 pub mod BlockLemmas

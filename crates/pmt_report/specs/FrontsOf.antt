@@ -1,15 +1,22 @@
--- The fronts of a trace, line by line, from the jobs of its lines.
-use Rattle.std.specs.Prelude.{ℕ, ◌*◌, ◌^◌, ◌<◌, List, length}
-use Rattle.pmt_model.specs.Traces.{Recording}
-use Rattle.pmt_lines.specs.Steps.{LineWork}
-use Rattle.pmt_lines.specs.Splitting.{IsJob}
-use Rattle.pmt_report.specs.Reports.{line_entry}
+-- The fronts of a trace, line by line, from its lines at the end.
+use Rattle.std.specs.Prelude.{◌≡◌, ◌*◌, ◌^◌, ◌<◌, ℕ, All, length, Option}
+use Rattle.pmt_model.specs.Traces.{Recording, history}
+use Rattle.pmt_text.specs.declared.source.SourceState.{SourceState}
+use Rattle.pmt_text.specs.Coming.{Coming}
+use Rattle.pmt_lines.specs.Sourcing.{TakesFirst}
+use Rattle.pmt_live.specs.Live.{IsLive}
+use Rattle.pmt_report.specs.declared.first_lines.TraceLines.{TraceLines}
+use Rattle.pmt_report.specs.Reports.{lines_at}
 
--- The job of a line of the trace, whose first address has 48 bits.
-pub record IsLineOf (T : Recording) (job : LineWork) : Type 0 where
-  pub job_of : IsJob T job
-  pub low : job.line * T.format.line_size < 2 ^ 48
+-- The lines of the trace are known at its end, and each has a first address of 48 bits.
+pub record AreLinesOf (T : Recording) (lines : TraceLines) : Type 0 where
+  pub format : lines.format ≡ T.format
+  pub counted : lines.events ≡ length T.events
+  pub live : IsLive (history T (length T.events)) lines.live
+  pub low : All (λ l. l * T.format.line_size < 2 ^ 48) (lines_at T (length T.events))
 
--- The line's entry at the end of the trace.
-abbrev pub job_entry : Recording → LineWork → List ℕ
-job_entry T job = line_entry T (length T.events) job.line
+-- They are those of the first events that come, at most so many.
+pub record TakesLines (most : ℕ) (old new : Option Coming) (before after : SourceState) (lines : TraceLines) : Type 0 where
+  pub trace : Recording
+  pub known : AreLinesOf trace lines
+  pub first : TakesFirst most old new before after trace

@@ -4,7 +4,6 @@ pub mod Entries
 pub mod Listing
 pub mod Reports
 pub mod Taking
-pub mod Blocks
 pub mod Checks
 pub mod Checking
 pub mod Runs

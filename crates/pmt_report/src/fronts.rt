@@ -1,48 +1,52 @@
 //! The fronts of a trace.
-ghost use Rattle.std.specs.Prelude.{◌≡◌, ◌++◌, IfOk, OnOk, length, map};
-ghost use Rattle.std.specs.List.{AllByRecursion, flat_map};
-ghost use Rattle.pmt_lines.specs.Splitting.{IsLeanJob, line_in};
-ghost use Rattle.pmt_report.specs.FrontsOf.{IsLineOf, job_entry};
-ghost use Rattle.pmt_report.specs.Reports.{fronts_text, lines_at};
+ghost use Rattle.std.specs.Prelude.{◌≡◌, ◌++◌, length, IfOk, OnOk};
+ghost use Rattle.std.specs.List.{flat_map};
+ghost use Rattle.pmt_model.specs.Traces.{Recording};
+ghost use Rattle.pmt_live.specs.Places.{IsPlaceOf};
+ghost use Rattle.pmt_report.specs.FrontsOf.{AreLinesOf};
+ghost use Rattle.pmt_report.specs.Reports.{fronts_text, line_entry, lines_at};
 
+use crate::first_lines::TraceLines;
 use crate::texts::{push_front_entry, push_fronts_head};
-use pmt_lines::{LineJob, last_state};
-use pmt_model::{OutOfMemory, Trace};
+use pmt_model::OutOfMemory;
 use std::alloc::Global;
 
-// The fronts at the end of the trace, from the jobs of its lines.
-pub(crate) fn fronts_of_jobs(
-    alloc: Global,
-    trace: &Trace,
-    jobs: Vec<LineJob>,
-) -> Result<Vec<u8>, OutOfMemory>
-    requires covering { map line_in jobs.items ≡ lines_at trace.now (length trace.now.events) }
-    requires each { AllByRecursion (IsLeanJob trace.now) jobs.items }
-    ensures { IfOk result (λ text. text.items ≡ fronts_text trace.now (length trace.now.events)) }
+// The fronts at the end of the trace whose lines these are.
+pub(crate) fn fronts_of_lines(alloc: Global, lines: &TraceLines) -> Result<Vec<u8>, OutOfMemory>
+    requires { (T : Recording) × AreLinesOf T lines.now }
+    ensures { (T : Recording) → AreLinesOf T lines.now → IfOk result (λ text. text.items ≡ fronts_text T (length T.events)) }
 {
     let mut text = Vec::new(alloc);
-    push_fronts_head(&mut text, trace.len() as u64, jobs.len() as u64)?;
-    push_jobs(&mut text, trace, jobs)?;
+    push_fronts_head(&mut text, lines.events, lines.live.lines().len() as u64)?;
+    push_lines(&mut text, lines)?;
     Ok(text)
 }
 
-// Adds the entries of the lines of these jobs.
-fn push_jobs(text: &mut Vec<u8>, trace: &Trace, jobs: Vec<LineJob>) -> Result<(), OutOfMemory>
-    requires { AllByRecursion (IsLineOf trace.now) jobs.items }
-    ensures { OnOk result (text.new.items ≡ text.old.items ++ flat_map (job_entry trace.now) jobs.items) }
+// Adds the entries of all lines.
+fn push_lines(text: &mut Vec<u8>, lines: &TraceLines) -> Result<(), OutOfMemory>
+    requires { (T : Recording) × AreLinesOf T lines.now }
+    ensures { (T : Recording) → AreLinesOf T lines.now → OnOk result (text.new.items ≡ text.old.items ++ flat_map (line_entry T (length T.events)) (lines_at T (length T.events))) }
 {
-    for job in jobs {
-        push_job(text, trace, job)?;
+    let all = lines.live.lines();
+    for place in 0..all.len() {
+        push_line(text, lines, all[place], place)?;
     }
     Ok(())
 }
 
-// Adds the entry of the line of the job.
-fn push_job(text: &mut Vec<u8>, trace: &Trace, job: LineJob) -> Result<(), OutOfMemory>
-    requires { IsLineOf trace.now job }
-    ensures { OnOk result (text.new.items ≡ text.old.items ++ job_entry trace.now job) }
+// Adds the entry of the line at this place.
+fn push_line(
+    text: &mut Vec<u8>,
+    lines: &TraceLines,
+    line: u64,
+    place: usize,
+) -> Result<(), OutOfMemory>
+    requires lines { (T : Recording) × AreLinesOf T lines.now }
+    requires place { IsPlaceOf line place lines.now.live.lines }
+    ensures { (T : Recording) → AreLinesOf T lines.now → OnOk result (text.new.items ≡ text.old.items ++ line_entry T (length T.events) line) }
 {
-    let addr = job.line() * trace.format().line_size();
-    let state = last_state(*text.allocator(), &job)?;
-    push_front_entry(text, addr, state.front(), state.count())
+    let addr = line * lines.format.line_size();
+    let front = lines.live.front(place) as u64;
+    let count = lines.live.count(place) as u64;
+    push_front_entry(text, addr, front, count)
 }

@@ -5,10 +5,11 @@ ghost use Rattle.pmt_text.specs.Counting.{failure_count, inner_device};
 ghost use Rattle.pmt_report.specs.Runs.{CountsRuns, IsComputed, IsFrontsAt, IsFrontsFault, Runs, coming_from_reader, run_read_faults, write_faults};
 
 use crate::fault::{RunError, run_error};
-use crate::fronts::fronts_of_jobs;
+use crate::first_lines::first_lines;
+use crate::fronts::fronts_of_lines;
 use crate::output::write_answer;
 use crate::taking::skip_events;
-use pmt_lines::{Jobs, TakeError, split_first};
+use pmt_lines::TakeError;
 use pmt_text::{Counted, EventSource, TextSource};
 use std::alloc::Global;
 use std::io::{Read, Write};
@@ -46,16 +47,12 @@ fn fronts_of<S: EventSource>(alloc: Global, place: u64, source: &mut S) -> Resul
     ensures err { IfErr result (IsFrontsFault place (S.coming source.old)) }
     ensures failures { CountsRuns (S.failures source.old) result (S.failures source.new) }
 {
-    let Jobs {
-        trace,
-        lines,
-        fences: _,
-    } = match split_first(alloc, source, place) {
-        Ok(jobs) => jobs,
+    let lines = match first_lines(alloc, source, place) {
+        Ok(lines) => lines,
         Err(TakeError::Source(fault)) => return Err(run_error(fault)),
         Err(TakeError::OutOfMemory) => return Err(RunError::OutOfMemory),
     };
-    let events = trace.len() as u64;
+    let events = lines.events;
     if events < place {
         return Err(RunError::PastEnd { events });
     }
@@ -63,7 +60,7 @@ fn fronts_of<S: EventSource>(alloc: Global, place: u64, source: &mut S) -> Resul
         Ok(()) => {}
         Err(error) => return Err(run_error(error)),
     }
-    match fronts_of_jobs(alloc, &trace, lines) {
+    match fronts_of_lines(alloc, &lines) {
         Ok(text) => Ok(text),
         Err(_) => Err(RunError::OutOfMemory),
     }

@@ -8,6 +8,7 @@ pub mod check;
 mod checked;
 pub mod explaining;
 pub mod fault;
+mod first_lines;
 mod fronts;
 pub mod fronts_run;
 pub mod listing;

@@ -17,7 +17,8 @@ use Rattle.pmt_text.specs.declared.source.SourceState.TheVariants as states
 use Rattle.pmt_text.specs.Coming.{Coming, ComesWhole}
 use Rattle.pmt_text.specs.Sources.{Gives, IsOver, Faults, HasFormat, TellsNext, KeepsFormat, IsGivenIn, IsOfLaterLine, CountsReads}
 use Rattle.pmt_text.proofs.SourceLemmas.{Gives-trans, Gives-over}
-use Rattle.pmt_lines.proofs.SourceRunLemmas.{Shown, SoFar, SameReads}
+use Rattle.pmt_lines.specs.Blocks.{Shown}
+use Rattle.pmt_lines.proofs.SourceRunLemmas.{SoFar, SameReads}
 use Rattle.pmt_trim.specs.declared.stream.Stream.{Stream}
 use Rattle.pmt_trim.specs.declared.stream_error.StreamError.{StreamError}
 use Rattle.pmt_trim.specs.declared.stream_error.StreamError.TheVariants.{Source, OutOfMemory, Write}

@@ -5,7 +5,7 @@ use Rattle.pmt_lines.specs.Jobs.{IsJobOf}
 use Rattle.pmt_lines.specs.Scans.{last_flush_of}
 use Rattle.pmt_lines.specs.Raises.{IsLineResult}
 use Rattle.pmt_lines.proofs.StepLemmas.{no_step}
-use Rattle.pmt_lines.proofs.RunLemmas.{Running, running-next, running-past, running-room, running-quiet, running-raised, running-end, playing-end}
+use Rattle.pmt_lines.proofs.RunLemmas.{Running, running-next, running-past, running-room, running-quiet, running-raised, running-end, running-follows}
 use Rattle.pmt_lines.proofs.FoundLemmas.{ending-flush}
 use Rattle.pmt_lines.proofs.raises.run_line.Goals as goal
 use Rattle.pmt_lines.proofs.raises.run_line.Goals.{then-branch+in_ok-push, else-branch, In_ok-findings}
@@ -48,7 +48,7 @@ right : (c : In_ok-findings) → IsLineResult (record { job = c.args.job; raises
 right c = record {
   raises = λ T job. running-end c.args.job.line c.steps-steps.result.now c.loop-step.state c.loop-step.raises.items (ended c) T (seen c T job);
   findings = λ T is_trace job. c.in_ok-findings.ensures T is_trace job (record {
-    front = c.front-2.ensures.value ∙ (playing-end c.args.job.line c.steps-steps.result.now c.loop-step.state (c.loop-step.raises.items, ended c) T (seen c T job)).fronts;
+    front = c.front-2.ensures.value ∙ (running-follows c.args.job.line c.steps-steps.result.now c.loop-step.state c.loop-step.raises.items (ended c) T (seen c T job)).fronts;
     flush = c.last_flush.ensures ∙ ap (last_flush_of 0) c.steps.ensures.value ∙ ending-flush T c.args.job.line 0 c.args.job.steps (omega arith) job;
   });
 }

@@ -5,9 +5,8 @@ use Rattle.pmt_model.specs.Pushing.{empty}
 use Rattle.pmt_model.specs.Traces.{Recording}
 use Rattle.pmt_laws.specs.Passing.{with_events}
 use Rattle.pmt_lines.specs.declared.taking.TakeError.TheVariants.{OutOfMemory}
-use Rattle.pmt_lines.proofs.SourceRunLemmas.{shown_by}
+use Rattle.pmt_lines.specs.Blocks.{TakesBlock, shown_by}
 use Rattle.pmt_sweep.specs.Growing.{HasSwept}
-use Rattle.pmt_report.specs.Blocks.{TakesBlock}
 use Rattle.pmt_report.specs.declared.checked.TheConstants.{BLOCK}
 use Rattle.pmt_report.proofs.BlockLemmas.{IsTakenSoFar, first-block, next-block, next-trace, untold, uncounted, unfaulted, refused-fault, refused-told, refused-counted}
 use Rattle.pmt_report.proofs.checked.taken_whole.Goals as goal

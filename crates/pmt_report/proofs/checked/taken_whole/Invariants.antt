@@ -2,7 +2,7 @@ use Rattle.std.proofs.Common.{◌≡◌, suc, ◌+◌, length}
 use Rattle.std.specs.Prelude.{if◌then◌else◌}
 use Rattle.pmt_model.specs.Traces.{Recording, IsTrace}
 use Rattle.pmt_laws.specs.Passing.{with_events}
-use Rattle.pmt_lines.proofs.SourceRunLemmas.{shown_by}
+use Rattle.pmt_lines.specs.Blocks.{shown_by}
 use Rattle.pmt_sweep.specs.Growing.{HasSwept}
 use Rattle.pmt_report.proofs.BlockLemmas.{IsTakenSoFar}
 use Rattle.pmt_report.proofs.checked.taken_whole.Given as goal

@@ -2,7 +2,8 @@ use Rattle.std.proofs.Common.{List, ℕ, ap, subst, length, rules, arith}
 use Rattle.std.specs.Io.KnownBytes.{Appends}
 use Rattle.pmt_model.specs.Pushing.{empty}
 use Rattle.pmt_text.specs.Counting.{inner_device}
-use Rattle.pmt_lines.proofs.SourceRunLemmas.{shown_by, so_far-none, so_far-more}
+use Rattle.pmt_lines.specs.Blocks.{shown_by}
+use Rattle.pmt_lines.proofs.SourceRunLemmas.{so_far-none, so_far-more}
 use Rattle.pmt_trim.proofs.FlowEnds.{memory-streams, source-streams, rest-streams, rest-told, rest-counts, first-streams, event-in, piece-fits, piece-streams, flow-more, showed}
 use Rattle.pmt_trim.proofs.StreamLemmas.{lent-is}
 use Rattle.pmt_trim.proofs.streaming.trim_stream.Goals as goal

@@ -1,7 +1,8 @@
 use Rattle.std.proofs.Common.{◌≡◌, [], Err, rules}
 use Rattle.pmt_model.specs.Pushing.{empty, with_event}
 use Rattle.pmt_lines.specs.declared.taking.TakeError.TheVariants.{OutOfMemory, Source}
-use Rattle.pmt_lines.proofs.SourceRunLemmas.{counts-refused, shown_by, so_far-more, so_far-none}
+use Rattle.pmt_lines.specs.Blocks.{shown_by}
+use Rattle.pmt_lines.proofs.SourceRunLemmas.{counts-refused, so_far-more, so_far-none}
 use Rattle.pmt_trim.proofs.WholeTextLemmas.{text-whole, text-fault, counts-fault}
 use Rattle.pmt_trim.proofs.StreamLemmas.{lent-is}
 use Rattle.pmt_trim.proofs.whole_text.trimmed_text.Goals as goal

@@ -1,5 +1,6 @@
 use Rattle.pmt_model.specs.Traces.{Recording}
-use Rattle.pmt_lines.proofs.SourceRunLemmas.{SoFar, shown_by}
+use Rattle.pmt_lines.specs.Blocks.{shown_by}
+use Rattle.pmt_lines.proofs.SourceRunLemmas.{SoFar}
 use Rattle.pmt_trim.specs.Leaving.{IsStreamOf}
 use Rattle.pmt_trim.proofs.whole_text.trimmed_text.Given as goal
 

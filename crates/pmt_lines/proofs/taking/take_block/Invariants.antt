@@ -1,6 +1,6 @@
-use Rattle.pmt_lines.proofs.SourceRunLemmas.{shown_by}
-use Rattle.pmt_report.proofs.BlockLemmas.{BlockSoFar}
-use Rattle.pmt_report.proofs.taking.take_block.Given as goal
+use Rattle.pmt_lines.specs.Blocks.{shown_by}
+use Rattle.pmt_lines.proofs.SourceRunLemmas.{BlockSoFar}
+use Rattle.pmt_lines.proofs.taking.take_block.Given as goal
 
 abbrev pub invariant-block : goal.invariant-block
 invariant-block g l =

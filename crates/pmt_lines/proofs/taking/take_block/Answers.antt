@@ -1,7 +1,7 @@
 use Rattle.std.proofs.Common.{◌≡◌, ◌<◌, length, arith}
-use Rattle.pmt_lines.proofs.SourceRunLemmas.{shown_by}
-use Rattle.pmt_report.proofs.BlockLemmas.{block-none, block-more, block-full, block-ended}
-use Rattle.pmt_report.proofs.taking.take_block.Goals as goal
+use Rattle.pmt_lines.specs.Blocks.{shown_by}
+use Rattle.pmt_lines.proofs.SourceRunLemmas.{block-none, block-more, block-full, block-ended}
+use Rattle.pmt_lines.proofs.taking.take_block.Goals as goal
 
 pub block-init : goal.block-init
 block-init g c =

@@ -1,0 +1,130 @@
+//! The lines of the first events of a source. No event is kept.
+ghost use Rattle.std.specs.Prelude.{◌≡◌, suc, ◌<◌, ◌≤◌, List, ◌∷◌, length, IfOk, IfErr, IfSome, OnOk};
+ghost use Rattle.pmt_model.specs.Machine.{Act, Stores, Flushes, Clflushes, Fences};
+ghost use Rattle.pmt_model.specs.Pushing.{empty, with_event};
+ghost use Rattle.pmt_model.specs.Traces.{Recording, IsEventIn, act, event_limit};
+ghost use Rattle.pmt_model.specs.Values.{Written};
+ghost use Rattle.pmt_text.specs.Sources.{CountsReads};
+ghost use Rattle.pmt_lines.specs.Sourcing.{IsFaultOf, TellsRefusal, told_by};
+ghost use Rattle.pmt_live.specs.Live.{IsLive};
+ghost use Rattle.pmt_report.specs.FrontsOf.{AreLinesOf, TakesLines};
+
+use pmt_lines::TakeError;
+use pmt_live::LiveLines;
+use pmt_model::{Event, Format, Op, OutOfMemory, line_of};
+use pmt_text::EventSource;
+use std::alloc::Global;
+
+/// The lines of a trace at its end, and how many events it has.
+#[derive(Drop)]
+pub(crate) struct TraceLines {
+    pub(crate) format: Format,
+    pub(crate) events: u64,
+    pub(crate) live: LiveLines,
+}
+
+// The lines of the first events of the source alone, at most so many. Where it told no end, the next event is still to come.
+pub(crate) fn first_lines<S: EventSource>(
+    alloc: Global,
+    source: &mut S,
+    most: u64,
+) -> Result<TraceLines, TakeError>
+    ensures first { IfOk result (TakesLines most (S.coming source.old) (S.coming source.new) (S.state source.old) (S.state source.new)) }
+    ensures fault { IfErr (told_by result) (λ e. IfSome (S.coming source.old) (λ c. IsFaultOf c e)) }
+    ensures told { TellsRefusal (S.state source.old) result (S.state source.new) }
+    ensures failures { CountsReads (S.failures source.old) (told_by result) (S.failures source.new) }
+{
+    let format = source.format()?;
+    let mut lines = TraceLines::new(alloc, format);
+    'first: while lines.events < most {
+        match source.next()? {
+            Some(event) => lines.take(&event)?,
+            None => return Ok(lines),
+        }
+    }
+    Ok(lines)
+}
+
+impl TraceLines {
+    // Before the first event.
+    fn new(alloc: Global, format: Format) -> Self
+        ensures { AreLinesOf (empty format) result }
+    {
+        TraceLines {
+            format,
+            events: 0,
+            live: LiveLines::new(alloc),
+        }
+    }
+
+    // Takes the next event. What it leaves where memory was refused is not told.
+    #[inline(always)]
+    fn take(&mut self, event: &Event) -> Result<(), OutOfMemory>
+        requires taking { (T : Recording) × AreLinesOf T self.old }
+        requires room { self.old.events < event_limit }
+        requires known { IsEventIn self.old.format event.now }
+        ensures { (T : Recording) → AreLinesOf T self.old → OnOk result (AreLinesOf (with_event T event.now) self.new) }
+    {
+        let number = self.events + 1;
+        tell(&mut self.live, self.format, number as u32, event)?;
+        self.events = number;
+        Ok(())
+    }
+}
+
+// Tells the lines of the next event, which has this number.
+#[inline(always)]
+fn tell(live: &mut LiveLines, format: Format, number: u32, event: &Event) -> Result<(), OutOfMemory>
+    requires { (h : List Act) × (number ≡ suc (length h)) × (number ≤ event_limit) × IsLive h live.old }
+    ensures { (h : List Act) → number ≡ suc (length h) → IsLive h live.old → OnOk result (IsLive (act format event.now ∷ h) live.new) }
+{
+    let thread = event.thread;
+    let op = event.op;
+    match op {
+        Op::Store(store) => tell_store(live, line_of(format, store.addr())),
+        Op::Clwb(addr) => tell_flush(live, thread, line_of(format, addr), number),
+        Op::ClflushOpt(addr) => tell_flush(live, thread, line_of(format, addr), number),
+        Op::Clflush(addr) => tell_clflush(live, line_of(format, addr)),
+        Op::Sfence => tell_fence(live, thread),
+        Op::Mfence => tell_fence(live, thread),
+        Op::IsPersist(_) => Ok(()),
+        Op::IsOrderedBefore(_, _) => Ok(()),
+    }
+}
+
+#[inline(always)]
+fn tell_store(live: &mut LiveLines, line: u64) -> Result<(), OutOfMemory>
+    requires { (h : List Act) × (length h < event_limit) × IsLive h live.old }
+    ensures { (h : List Act) (w : Written) → IsLive h live.old → OnOk result (IsLive (Stores line w ∷ h) live.new) }
+{
+    let place = live.place_of(line)?;
+    live.store(place);
+    Ok(())
+}
+
+#[inline(always)]
+fn tell_flush(live: &mut LiveLines, thread: u8, line: u64, number: u32) -> Result<(), OutOfMemory>
+    requires { (h : List Act) × IsLive h live.old }
+    ensures { (h : List Act) → number ≡ suc (length h) → IsLive h live.old → OnOk result (IsLive (Flushes thread line ∷ h) live.new) }
+{
+    let place = live.place_of(line)?;
+    live.flush(thread, place, number)?;
+    Ok(())
+}
+
+fn tell_clflush(live: &mut LiveLines, line: u64) -> Result<(), OutOfMemory>
+    requires { (h : List Act) × IsLive h live.old }
+    ensures { (h : List Act) → IsLive h live.old → OnOk result (IsLive (Clflushes line ∷ h) live.new) }
+{
+    let place = live.place_of(line)?;
+    live.clflush(place);
+    Ok(())
+}
+
+fn tell_fence(live: &mut LiveLines, thread: u8) -> Result<(), OutOfMemory>
+    requires { (h : List Act) × IsLive h live.old }
+    ensures { (h : List Act) → IsLive h live.old → OnOk result (IsLive (Fences thread ∷ h) live.new) }
+{
+    live.fence(thread);
+    Ok(())
+}
