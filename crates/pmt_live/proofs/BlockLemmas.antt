@@ -1,14 +1,14 @@
 -- Blocks: what they tell, a block more, and a line more.
-use Rattle.std.proofs.Common.{◌≡◌, ◌≢◌, ℕ, zero, suc, ◌/◌, ◌%◌, ◌-◌, ◌<◌, ◌⊎◌, inl, inr, Bool, true, false, List, [], ◌∷◌, ◌++◌, length, get_or, replicate, set, Option, Some, None, refl, sym, ap, subst, ◌∙◌, arith}
+use Rattle.std.proofs.Common.{◌≡◌, ◌≢◌, ℕ, zero, suc, ◌+◌, ◌/◌, ◌%◌, ◌-◌, ◌<◌, ◌⊎◌, inl, inr, Bool, true, false, List, [], ◌∷◌, ◌++◌, length, take, drop, get_or, replicate, set, Option, Some, None, refl, sym, ap, subst, ◌∙◌, arith}
 use Rattle.std.specs.Prelude.{◌==◌, nat_eq, slice_get, if◌then◌else◌}
 use Rattle.std.specs.List.{list_any, IsDistinct}
 use Rattle.std.proofs.lemmas.Bool.{cases_eq, ne_eqb, both_ways}
-use Rattle.std.proofs.Math.Seq.{get_or-append_seam}
+use Rattle.std.proofs.Math.Seq.{get_or-append_seam, take-suc}
 use Rattle.std.proofs.lemmas.Cmp.{nat_eq_equiv}
-use Rattle.std.proofs.lemmas.List.{get_or_default, get_or-replicate, get_or-set_same, get_or-set_other, length-append, length-set, get_or_append_left}
+use Rattle.std.proofs.lemmas.List.{get_or_default, get_or-replicate, get_or-set_same, get_or-set_other, length-append, length-set, get_or_append_left, length-take-le, take-append-drop}
 use Rattle.std.proofs.lemmas.List.Elements.{All-push, All-set}
 use Rattle.std.proofs.lemmas.Map.Keys.{IsDistinct-push}
-use Rattle.std.proofs.lemmas.Option.{slice_get_within, same_Some}
+use Rattle.std.proofs.lemmas.Option.{slice_get_within, same_Some, slice_get-get_or}
 use Rattle.indexmap.specs.IndexSet.{insert_key}
 use Rattle.pmt_live.specs.declared.block.Block.{Block}
 use Rattle.pmt_live.specs.Places.{IsPlaceOf, IsFound, held, place_told, Tells, AreBlocks}
@@ -206,6 +206,24 @@ inserted-known lines l p at = let had = among lines l p at in (had, rw had refl)
 
 pub inserted-new : (lines put : List ℕ) (l p : ℕ) → IsFound l lines None → put ≡ lines ++ l ∷ [] → p ≡ length lines → IsPlaceOf l p put × (list_any (nat_eq l) lines ≡ false) × (put ≡ insert_key nat_eq lines l)
 inserted-new lines put l p none is last = let absent = told-absent lines l none in (rw (is, last) (get-last lines l), absent, rw absent is)
+
+-- lines that are inserted in their order
+pub inserted-next : (lines : List ℕ) (i : ℕ) → IsDistinct nat_eq lines → i < length lines → insert_key nat_eq (take i lines) (get_or lines i 0) ≡ take (i + 1) lines
+inserted-next lines i once within =
+    let next : i + 1 ≡ suc i = omega arith in
+    rw (absent (list_any (nat_eq l) (take i lines)) refl, next) (sym (take-suc lines i 0 within))
+  where
+    l : ℕ
+    l = get_or lines i 0
+
+    absent : (b : Bool) → list_any (nat_eq l) (take i lines) ≡ b → list_any (nat_eq l) (take i lines) ≡ false
+    absent false none = none
+    absent true had =
+        let there = list_any-place (take i lines) l had in
+        let before = slice_get_within (take i lines) there.0 l there.1 in
+        let here : slice_get lines there.0 ≡ Some l = subst (λ ls. slice_get ls there.0 ≡ Some l) (take-append-drop i lines) (get-left (take i lines) (drop i lines) there.0 l there.1) in
+        let same : there.0 ≡ i = one-place lines l there.0 i once here (slice_get-get_or lines i 0 within) in
+        absurd (omega (arith, before, length-take-le i lines (omega (arith, within)), same))
 
 -- what is told of a line that is inserted
 pub found-by : (numbers : List ℕ) (blocks : List Block) (lines : List ℕ) (l at : ℕ) (x : Block) (told found : Option ℕ) → AreBlocks numbers blocks lines → slice_get numbers at ≡ Some (l / 16) → x ≡ get_or blocks at x →

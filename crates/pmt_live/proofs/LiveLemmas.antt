@@ -1,5 +1,5 @@
 -- What is known of lines: one more line, and what an act does.
-use Rattle.std.proofs.Common.{◌≡◌, ◌≢◌, ℕ, suc, ◌+◌, ◌<◌, ◌≤◌, Bool, true, false, List, [], ◌∷◌, ◌++◌, length, get_or, set, map, refl, sym, ap, subst, ◌∙◌, arith}
+use Rattle.std.proofs.Common.{◌≡◌, ◌≢◌, ℕ, suc, ◌+◌, ◌<◌, ◌≤◌, Bool, true, false, List, [], ◌∷◌, ◌++◌, ◌-◌, length, take, get_or, set, map, refl, sym, ap, subst, ◌∙◌, arith}
 use Rattle.std.specs.Prelude.{◌==◌, if◌then◌else◌, nat_eq, nat_lt, slice_get}
 use Rattle.std.specs.List.{list_any, IsDistinct}
 use Rattle.std.proofs.lemmas.Bool.{eq-eqb, ne_eqb, both_ways}
@@ -18,7 +18,7 @@ use Rattle.pmt_live.specs.declared.live.LiveLines.{LiveLines}
 use Rattle.pmt_live.specs.Places.{IsPlaceOf}
 use Rattle.pmt_live.specs.Live.{row_after, list_at, flushed, IsLiveWith}
 use Rattle.pmt_live.proofs.ListLemmas.{among, map-set_one, list_any-has_line, has_line-less}
-use Rattle.pmt_live.proofs.OpenLemmas.{flushed-more, within-more, lists-flush, each-flush}
+use Rattle.pmt_live.proofs.OpenLemmas.{flushed-more, within-more, lists-flush, each-flush, lists-back, each-back}
 
 abbrev row_with : ℕ → ℕ → LineRow
 row_with c f = record { count = c; front = f }
@@ -144,6 +144,19 @@ module _ (lines : List ℕ) (h : List Act) (live : LiveLines) (l p : ℕ) (at : 
     within = λ u.
         each-flush (λ (g : OpenFlush). g.place < length lines) t live.open_flushes new.open_flushes f (omega (arith, place, slice_get_within lines p l at)) own others u (is.within u);
   }
+
+-- the last act, a flush, is taken back
+pub live-back : (lines : List ℕ) (h : List Act) (t l : ℕ) (live new : LiveLines) → new.lines ≡ live.lines → new.rows.items ≡ live.rows.items →
+    list_at t new.open_flushes ≡ take (length (list_at t live.open_flushes) - 1) (list_at t live.open_flushes) → ((u : ℕ) → u ≢ t → list_at u new.open_flushes ≡ list_at u live.open_flushes) →
+    IsLiveWith lines (Flushes t l ∷ h) live → IsLiveWith lines h new
+live-back lines h t l live new lines_same rows own others is = record {
+  placed = lines_same ∙ is.placed;
+  once = is.once;
+  rows = rows ∙ is.rows;
+  others = is.others;
+  open_lists = λ u. lists-back lines t l h live.open_flushes new.open_flushes own others u (is.open_lists u);
+  within = λ u. each-back (λ (g : OpenFlush). g.place < length lines) t live.open_flushes new.open_flushes own others u (is.within u);
+}
 
 -- the count of a row at a place can grow
 pub room-there : (lines : List ℕ) (h : List Act) (live : LiveLines) (p : ℕ) (x : LineRow) → p < length live.rows.items → x ≡ get_or live.rows.items p x → IsLiveWith lines h live → x.count ≤ length h

@@ -1,9 +1,10 @@
 -- The lists of open flushes: reading one and writing one.
-use Rattle.std.proofs.Common.{◌≡◌, ◌≢◌, ℕ, zero, suc, ◌<◌, ◌≤◌, ◌⊎◌, inl, inr, List, [], ◌∷◌, ◌++◌, length, get_or, set, map, refl, sym, ap, subst, ◌∙◌, arith}
+use Rattle.std.proofs.Common.{◌≡◌, ◌≢◌, ℕ, zero, suc, ◌<◌, ◌≤◌, ◌⊎◌, inl, inr, List, [], ◌∷◌, ◌++◌, ◌-◌, length, take, get_or, set, map, refl, sym, ap, subst, ◌∙◌, arith}
 use Rattle.std.specs.Prelude.{◌==◌, if◌then◌else◌, All}
 use Rattle.std.proofs.lemmas.Bool.{cases_eq, eq-eqb, ne_eqb}
-use Rattle.std.proofs.lemmas.List.{get_or-map, get_or-set_same, get_or-set_other, get_or_append_left, length-append, length-map, map-append, map-set}
-use Rattle.std.proofs.lemmas.List.Elements.{All-push}
+use Rattle.std.proofs.lemmas.List.{get_or-map, get_or-set_same, get_or-set_other, get_or_append_left, length-append, length-map, map-append, map-set, take-map}
+use Rattle.std.proofs.lemmas.List.Elements.{All-push, All-take}
+use Rattle.std.proofs.Math.Seq.{take-append_seam}
 use Rattle.pmt_model.specs.Machine.{Act, Flushes, Fences, count}
 use Rattle.pmt_laws.specs.Passing.{Flushed, open_flushes}
 use Rattle.pmt_live.specs.declared.open.OpenFlush.{OpenFlush}
@@ -86,6 +87,34 @@ each-fence P t old new own others u each = go (cases_eq t u)
   where
     go : (t ≡ u) ⊎ (t ≡ u → ⊥) → All P (list_at u new)
     go (inl same) = subst (All P) (sym (subst (λ v. list_at v new ≡ []) same own)) (λ k d h. absurd (omega arith))
+    go (inr other) = subst (All P) (sym (others u (λ same. other (sym same)))) each
+
+-- and where the last flush is taken back
+abbrev IsBack : ℕ → List (List OpenFlush) → List (List OpenFlush) → Type 0
+IsBack t old new = list_at t new ≡ take (length (list_at t old) - 1) (list_at t old)
+
+pub lists-back : (lines : List ℕ) (t l : ℕ) (h : List Act) (old new : List (List OpenFlush)) → IsBack t old new → ((u : ℕ) → u ≢ t → list_at u new ≡ list_at u old) →
+    (u : ℕ) → map (flushed lines) (list_at u old) ≡ open_flushes u (Flushes t l ∷ h) → map (flushed lines) (list_at u new) ≡ open_flushes u h
+lists-back lines t l h old new own others u = go (cases_eq t u)
+  where
+    one : Flushed
+    one = record { number = suc (length h); line = l; stores = count l h }
+
+    go : (t ≡ u) ⊎ (t ≡ u → ⊥) → map (flushed lines) (list_at u old) ≡ (if t == u then open_flushes u h ++ one ∷ [] else open_flushes u h) → map (flushed lines) (list_at u new) ≡ open_flushes u h
+    go (inl same) is =
+        let here : IsBack u old new = subst (λ v. IsBack v old new) same own in
+        let flushes : map (flushed lines) (list_at u old) ≡ open_flushes u h ++ one ∷ [] = rw (eq-eqb t u same) at is in
+        let size : length (list_at u old) - 1 ≡ length (open_flushes u h) = omega (arith, length-map (list_at u old) (flushed lines), ap length flushes, length-append (open_flushes u h) (one ∷ [])) in
+        ap (map (flushed lines)) here ∙ sym (take-map (flushed lines) (length (list_at u old) - 1) (list_at u old)) ∙ ap (take (length (list_at u old) - 1)) flushes
+        ∙ ap (λ n. take n (open_flushes u h ++ one ∷ [])) size ∙ take-append_seam (open_flushes u h) (one ∷ [])
+    go (inr other) is = ap (map (flushed lines)) (others u (λ same. other (sym same))) ∙ (rw (ne_eqb t u other) at is)
+
+pub each-back : (P : OpenFlush → Type 0) (t : ℕ) (old new : List (List OpenFlush)) → IsBack t old new → ((u : ℕ) → u ≢ t → list_at u new ≡ list_at u old) →
+    (u : ℕ) → All P (list_at u old) → All P (list_at u new)
+each-back P t old new own others u each = go (cases_eq t u)
+  where
+    go : (t ≡ u) ⊎ (t ≡ u → ⊥) → All P (list_at u new)
+    go (inl same) = subst (All P) (sym (subst (λ v. IsBack v old new) same own)) (All-take P (length (list_at u old) - 1) (list_at u old) each)
     go (inr other) = subst (All P) (sym (others u (λ same. other (sym same)))) each
 
 -- a list that is written as it was

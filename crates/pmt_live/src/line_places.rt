@@ -83,6 +83,17 @@ impl LinePlaces {
         Ok((place, true))
     }
 
+    // The same lines, each at the same place.
+    pub(crate) fn copy(&self) -> Result<LinePlaces, OutOfMemory>
+        ensures { IfOk result (λ copy. copy ≡ self.now) }
+    {
+        let mut copy = LinePlaces::new(*self.lines.allocator());
+        for line in &self.lines {
+            copy.insert(*line)?;
+        }
+        Ok(copy)
+    }
+
     /// Where the block of the line stands, in which its fifteen neighbours are too; none where none of these has a place.
     pub fn block(&self, line: u64) -> Option<usize>
         ensures { result ≡ None → (l place : ℕ) → l / 16 ≡ line / 16 → IsPlaceOf l place self.now → ⊥ }

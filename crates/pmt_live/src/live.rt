@@ -147,6 +147,13 @@ impl LiveLines {
         Ok(())
     }
 
+    /// Takes back the flush that was the last act, by this thread.
+    pub fn take_back(&mut self, thread: u8)
+        ensures { (lines : List ℕ) (h : List Act) (l : ℕ) → IsLiveWith lines (Flushes thread l ∷ h) self.old → IsLiveWith lines h self.new }
+    {
+        self.open_flushes.take_back(thread);
+    }
+
     /// A clflush of the line at this place: whether its front rises.
     #[inline(always)]
     pub fn clflush(&mut self, place: usize) -> bool
@@ -169,5 +176,22 @@ impl LiveLines {
     {
         self.open_flushes.take(thread, &mut self.decided);
         decide(&mut self.rows, &mut self.decided)
+    }
+
+    /// All that is known once more, which takes a step for each line and each flush.
+    ///
+    /// # Errors
+    /// Where memory was refused.
+    pub fn copy(&self) -> Result<LiveLines, OutOfMemory>
+        ensures live { IfOk result (λ copy. Keeps self.now copy) }
+        ensures decided { IfOk result (λ copy. copy.decided.items ≡ self.now.decided.items) }
+    {
+        let alloc = *self.rows.allocator();
+        Ok(LiveLines {
+            lines: self.lines.copy()?,
+            rows: self.rows.as_slice().to_vec(alloc)?,
+            open_flushes: self.open_flushes.copy()?,
+            decided: self.decided().to_vec(alloc)?,
+        })
     }
 }

@@ -1,5 +1,5 @@
 //! Of each thread, its flushes since its last fence.
-ghost use Rattle.std.specs.Prelude.{◌≡◌, ◌≢◌, ◌==◌, ◌<◌, ℕ, [], ◌∷◌, ◌++◌, length, not, OnOk, OnErr};
+ghost use Rattle.std.specs.Prelude.{◌≡◌, ◌≢◌, ◌==◌, ◌<◌, ℕ, [], ◌∷◌, ◌++◌, ◌-◌, length, take, not, IfOk, OnOk, OnErr};
 ghost use Rattle.pmt_live.specs.Live.{list_at};
 
 use pmt_model::OutOfMemory;
@@ -97,5 +97,27 @@ impl OpenFlushes {
         if (thread as usize) < self.lists.len() {
             swap(&mut self.lists[thread as usize], flushes);
         }
+    }
+
+    // The last flush of the thread is taken back.
+    pub(crate) fn take_back(&mut self, thread: u8)
+        ensures own { list_at thread self.new ≡ take (length (list_at thread self.old) - 1) (list_at thread self.old) }
+        ensures others { (t : ℕ) → t ≢ thread → list_at t self.new ≡ list_at t self.old }
+    {
+        if (thread as usize) < self.lists.len() {
+            self.lists[thread as usize].pop();
+        }
+    }
+
+    // The same lists.
+    pub(crate) fn copy(&self) -> Result<OpenFlushes, OutOfMemory>
+        ensures { IfOk result (λ copy. copy ≡ self.now) }
+    {
+        let alloc = *self.lists.allocator();
+        let mut lists = Vec::new(alloc);
+        for list in &self.lists {
+            lists.push(list.as_slice().to_vec(alloc)?)?;
+        }
+        Ok(OpenFlushes { lists })
     }
 }
