@@ -1,10 +1,9 @@
 -- The history of a book with one more event.
-use Rattle.std.proofs.Common.{◌≡◌, ℕ, ◌≤◌, suc, List, [], ◌∷◌, ◌++◌, length, map, reverse, sym, ap, ◌∙◌, arith}
-use Rattle.std.specs.Prelude.{◌==◌, if◌then◌else◌, Bool, true, false}
+use Rattle.std.proofs.Common.{◌≡◌, List, [], ◌∷◌, ◌++◌, length, map, reverse, sym, ap, ◌∙◌, arith}
 use Rattle.std.proofs.lemmas.List.{take_all, map-append, reverse-append}
 use Rattle.pmt_model.specs.declared.event.Event.{Event}
 use Rattle.pmt_model.specs.Values.{Layout}
-use Rattle.pmt_model.specs.Machine.{Act, Stores, Flushes, Clflushes, Fences, Asserts, count}
+use Rattle.pmt_model.specs.Machine.{Act}
 use Rattle.pmt_model.specs.Traces.{Recording, act}
 use Rattle.pmt_model.specs.Pushing.{with_event}
 use Rattle.pmt_laws.proofs.Histories.{length-history}
@@ -23,19 +22,6 @@ pub whole_history-with_event : (T : Recording) (e : Event) → whole_history (wi
 whole_history-with_event T e =
     whole_history-acts (with_event T e) ∙ acts-append T.format T.events e ∙ ap (λ (h : List Act). act T.format e ∷ h) (sym (whole_history-acts T))
 
--- a line has no more stores than there are acts
-pub count-le-length : (l : ℕ) (h : List Act) → count l h ≤ length h
-count-le-length l [] = omega arith
-count-le-length l (Stores k w ∷ h) = go (k == l) (count-le-length l h)
-  where
-    go : (b : Bool) → count l h ≤ length h → (if b then suc (count l h) else count l h) ≤ suc (length h)
-    go true e = omega arith
-    go false e = omega arith
-count-le-length l (Flushes t k ∷ h) = omega (arith, count-le-length l h)
-count-le-length l (Clflushes k ∷ h) = omega (arith, count-le-length l h)
-count-le-length l (Fences t ∷ h) = omega (arith, count-le-length l h)
-count-le-length l (Asserts ∷ h) = omega (arith, count-le-length l h)
-
--- nor than the book has events
-pub count-le-events : (l : ℕ) (T : Recording) → count l (whole_history T) ≤ length T.events
-count-le-events l T = omega (arith, count-le-length l (whole_history T), length-history T (length T.events) (omega arith))
+-- it has an act for each event
+pub length-whole : (T : Recording) → length (whole_history T) ≡ length T.events
+length-whole T = length-history T (length T.events) (omega arith)

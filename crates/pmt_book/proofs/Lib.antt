@@ -1,7 +1,5 @@
-pub mod LiveLemmas
 pub mod HistoryLemmas
 pub mod BookLemmas
 pub mod StoreBytes
 pub mod TouchingLemmas
 pub mod PersistLemmas
-pub mod CopyLemmas

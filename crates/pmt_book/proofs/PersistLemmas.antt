@@ -14,7 +14,6 @@ use Rattle.pmt_model.specs.Traces.{Recording, IsTrace, IsEventIn, IsOp, act, act
 use Rattle.pmt_model.specs.Assertions.{Placed, last_store, InSpan}
 use Rattle.pmt_laws.proofs.AssertLemmas.{persist_by_fronts}
 use Rattle.pmt_book.specs.Ends.{whole_history, last_front, last_count, PassesNow}
-use Rattle.pmt_book.specs.Live.{Lines, line_at, IsLive}
 use Rattle.pmt_book.specs.Touching.{touches, store_on, none_touches_next, none_touches}
 use Rattle.pmt_book.proofs.HistoryLemmas.{whole_history-acts}
 use Rattle.pmt_book.proofs.StoreBytes.{IsStoreOf, IsSize, size-of_format, byte-line, byte-from_writes, writes-from_byte, line-le}
@@ -287,13 +286,9 @@ passes-from_spared T A first last is range from to spared =
 
 -- what the book counts is what its events say
 pub counted-none_touches :
-    (T : Recording) (lines : Lines) (lists : List (List ℕ)) (l : ℕ) (A : Span) (f : Layout) (es : List Event) (n c k : ℕ) → IsLive (whole_history T) lines lists →
-    f ≡ T.format → es ≡ T.events → n ≡ c - k → c ≡ (line_at lines l).count → k ≡ (line_at lines l).front →
+    (T : Recording) (l : ℕ) (A : Span) (f : Layout) (es : List Event) (n : ℕ) → f ≡ T.format → es ≡ T.events → n ≡ last_count T l - last_front T l →
     none_touches n l A (reverse (map (act f) es)) ≡ none_touches (last_count T l - last_front T l) l A (whole_history T)
-counted-none_touches T lines lists l A f es n c k live e g m p q =
-    let counts : c ≡ last_count T l = p ∙ (live.follow l).counts in
-    let fronts : k ≡ last_front T l = q ∙ (live.follow l).fronts in
-    let few : n ≡ last_count T l - last_front T l = omega (arith, m, counts, fronts) in
+counted-none_touches T l A f es n e g few =
     ap (λ (j : ℕ). none_touches j l A (reverse (map (act f) es))) few
     ∙ ap (λ (h : Layout). none_touches (last_count T l - last_front T l) l A (reverse (map (act h) es))) e
     ∙ ap (λ (x : List Event). none_touches (last_count T l - last_front T l) l A (reverse (map (act T.format) x))) g

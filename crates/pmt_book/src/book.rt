@@ -8,12 +8,10 @@ ghost use Rattle.pmt_model.specs.Values.{line_of as line_in};
 ghost use Rattle.pmt_book.specs.Adding.{AddsEvent, event_by};
 ghost use Rattle.pmt_book.specs.Ends.{last_front, last_count, PassesNow};
 
-use crate::copying::{copied_lines, copied_trace};
+use crate::copying::copied_trace;
 use crate::fault::BookError;
-use crate::lines::{Lines, clflush_at, count_at, flushed, front_at, put, reach, store_at};
-use crate::pending::Pending;
 use crate::touching::none_touches;
-use indexmap::IndexMap;
+use pmt_live::LiveLines;
 use pmt_model::{Addr, Event, Format, Op, OutOfMemory, Range, Trace, WordStore, line_of};
 use std::alloc::{AllocError, Global};
 use std::marker::Model;
@@ -21,26 +19,25 @@ use std::marker::Model;
 /// A trace under way: its events so far, at most 1,000,000, with the front and the count of each line at hand. Contracts see it as
 /// the format and the events.
 ///
-/// A store or a flush takes the time of one look-up; a fence that of one look-up for each line that its thread has flushed since
-/// its last fence, however many lines the book has.
+/// A store or a flush takes the time of one look-up; a fence takes a step for each flush of its thread since its last fence, however many
+/// lines the book has.
 #[derive(Drop)]
 pub struct Book {
     trace: Trace,
-    lines: Lines,
-    pending: Pending,
+    lines: LiveLines,
     alloc: Global,
 }
 
 impl Model for Book {
     ghost use Rattle.pmt_model.specs.Traces.{Recording};
     ghost use Rattle.pmt_book.specs.Ends.{whole_history};
-    ghost use Rattle.pmt_book.specs.Live.{IsLive};
+    ghost use Rattle.pmt_live.specs.Live.{IsLiveWith};
 
     ghost Value = { Recording };
 
     ghost view = { λ b. b.trace };
 
-    ghost invariant = { λ b. IsLive (whole_history b.trace) b.lines b.pending };
+    ghost invariant = { λ b. IsLiveWith b.lines.lines (whole_history b.trace) b.lines };
 }
 
 // Adds the event at the end of the trace.
@@ -68,8 +65,7 @@ impl Book {
     {
         Book {
             trace: Trace::new_with(alloc, format),
-            lines: IndexMap::new(alloc),
-            pending: Pending::new(alloc),
+            lines: LiveLines::new(alloc),
             alloc,
         }
     }
@@ -116,14 +112,20 @@ impl Book {
     pub fn front(&self, line: u64) -> u64
         ensures { result ≡ last_front self.now line }
     {
-        front_at(&self.lines, line)
+        match self.lines.find(line, 0) {
+            Some(place) => self.lines.front(place) as u64,
+            None => 0,
+        }
     }
 
     /// How many stores to the line it has; 0 for a line without events.
     pub fn count(&self, line: u64) -> u64
         ensures { result ≡ last_count self.now line }
     {
-        count_at(&self.lines, line)
+        match self.lines.find(line, 0) {
+            Some(place) => self.lines.count(place) as u64,
+            None => 0,
+        }
     }
 
     /// The verdict of an isPersist of the range after all its events. It goes back, for each line of the range, to the line's oldest
@@ -135,7 +137,7 @@ impl Book {
         let first = line_of(format, range.addr());
         let last = (range.addr().get() + (range.len() - 1)) / format.line_size();
         for line in first..last + 1 {
-            let count = count_at(&self.lines, line).saturating_sub(front_at(&self.lines, line));
+            let count = self.count(line).saturating_sub(self.front(line));
             if !none_touches(self.trace.events(), format, count, line, range) {
                 return false;
             }
@@ -192,10 +194,10 @@ impl Book {
         ensures err { OnErr result (self.new ≡ self.old) }
     {
         let line = line_of(self.trace.format(), store.addr());
-        reach(&mut self.lines, self.alloc, line)?;
+        let place = self.lines.place_of(line)?;
         let op = Op::Store(store);
         push(&mut self.trace, Event { thread, op })?;
-        store_at(&mut self.lines, line);
+        self.lines.store(place);
         Ok(())
     }
 
@@ -207,12 +209,16 @@ impl Book {
     {
         let thread = event.thread;
         let line = line_of(self.trace.format(), addr);
-        reach(&mut self.lines, self.alloc, line)?;
-        let state = flushed(&self.lines, self.alloc, line, thread)?;
-        self.pending.note_once(&self.lines, thread, line)?;
-        push(&mut self.trace, event)?;
-        put(&mut self.lines, line, state);
-        Ok(())
+        let place = self.lines.place_of(line)?;
+        let number = self.trace.len() as u32 + 1;
+        self.lines.flush(thread, place, number)?;
+        match push(&mut self.trace, event) {
+            Ok(()) => Ok(()),
+            Err(_) => {
+                self.lines.take_back(thread);
+                Err(AllocError)
+            }
+        }
     }
 
     // Adds a clflush of the line of the address.
@@ -221,9 +227,10 @@ impl Book {
         ensures err { OnErr result (self.new ≡ self.old) }
     {
         let line = line_of(self.trace.format(), addr);
+        let place = self.lines.place_of(line)?;
         let op = Op::Clflush(addr);
         push(&mut self.trace, Event { thread, op })?;
-        clflush_at(&mut self.lines, line);
+        self.lines.clflush(place);
         Ok(())
     }
 
@@ -235,7 +242,7 @@ impl Book {
     {
         let thread = event.thread;
         push(&mut self.trace, event)?;
-        self.pending.fence(&mut self.lines, thread);
+        self.lines.fence(thread);
         Ok(())
     }
 
@@ -256,13 +263,9 @@ impl Book {
     pub fn copy(&self) -> Result<Book, OutOfMemory>
         ensures { IfOk result (λ copy. copy ≡ self.now) }
     {
-        let trace = copied_trace(self.alloc, &self.trace)?;
-        let lines = copied_lines(self.alloc, &self.lines)?;
-        let pending = self.pending.copy()?;
         Ok(Book {
-            trace,
-            lines,
-            pending,
+            trace: copied_trace(self.alloc, &self.trace)?,
+            lines: self.lines.copy()?,
             alloc: self.alloc,
         })
     }

@@ -7,8 +7,6 @@ pub mod book;
 mod copying;
 pub mod fault;
 pub mod laws;
-mod lines;
-mod pending;
 mod touching;
 
 pub use crate::book::Book;

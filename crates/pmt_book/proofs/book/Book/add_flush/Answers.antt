@@ -1,27 +1,36 @@
-use Rattle.std.proofs.Common.{◌≡◌, sym, ap, ◌∙◌}
+use Rattle.std.proofs.Common.{◌≡◌, ◌+◌, suc, length, sym, ap, subst, ◌∙◌, arith}
 use Rattle.pmt_model.specs.Values.{Layout, line_of}
 use Rattle.pmt_model.specs.Machine.{Flushes}
 use Rattle.pmt_model.specs.Traces.{Recording, act}
+use Rattle.pmt_live.specs.Live.{IsLiveWith}
 use Rattle.pmt_book.specs.Ends.{whole_history}
-use Rattle.pmt_book.specs.Live.{IsLive}
-use Rattle.pmt_book.proofs.BookLemmas.{live-flush, live-same, lists-same, live-with_event, on_list-from_mark, tells-put}
+use Rattle.pmt_book.proofs.HistoryLemmas.{length-whole}
+use Rattle.pmt_book.proofs.BookLemmas.{with-placed, keep-event}
 use Rattle.pmt_book.proofs.book.Book.add_flush.Goals as goal
 
-pub invariant_of-self-2 : goal.invariant_of-self-2
-invariant_of-self-2 c =
+pub invariant_of-self-in-Ok : goal.invariant_of-self-in-Ok
+invariant_of-self-in-Ok c =
     let T = c.self.inside.trace in
     let h = whole_history T in
     let event = c.args.event in
     let line = c.line_of-line.result in
+    let placed = c.place_of.new.self in
     let at : line ≡ line_of T.format c.args.addr = c.line_of-line.ensures ∙ ap (λ (f : Layout). line_of f c.args.addr) c.format.ensures.value in
     let is_act = ap (λ (R : Recording). act R.format event) c.self.view_is ∙ c.requires
     ∙ ap (λ (R : Recording). Flushes event.thread (line_of R.format c.args.addr)) (sym c.self.view_is) ∙ ap (Flushes event.thread) (sym at) in
-    let reached : IsLive h c.reach.new.lines c.self.inside.pending =
-    live-same h c.self.inside.lines c.reach.new.lines c.self.inside.pending c.self.inside.pending c.in_ok-reach.ensures.same (lists-same c.self.inside.pending) c.self.invariant in
-    let noted : IsLive h c.reach.new.lines c.note_once.new.self =
-    live-same h c.self.inside.lines c.reach.new.lines c.self.inside.pending c.note_once.new.self c.in_ok-reach.ensures.same c.in_ok-note_once.ensures.kept c.self.invariant in
-    live-with_event T event (Flushes event.thread line) c.push.new.trace c.put.new.lines c.note_once.new.self c.in_ok-push.ensures.ok is_act
-    (live-flush event.thread line h c.reach.new.lines c.put.new.lines c.note_once.new.self
-    (tells-put line (Flushes event.thread line) c.reach.new.lines c.put.new.lines c.in_ok-state.state c.in_ok-state.ensures c.put.ensures.state c.put.ensures.others)
-    (on_list-from_mark event.thread line h c.reach.new.lines c.self.inside.pending c.note_once.new.self reached c.in_ok-note_once.ensures.kept c.in_ok-note_once.ensures.noted)
-    noted)
+    let numbered : c.len.result + 1 ≡ suc (length h) = omega (arith, length-whole T, c.len.ensures.value) in
+    keep-event T event (Flushes event.thread line) c.push.new.trace placed.lines c.flush.new.self c.in-Ok.ensures.ok is_act
+    (c.in_ok-flush.ensures.live placed.lines h line numbered c.in_ok-place.ensures.here
+    (with-placed _ h placed (c.in_ok-place.ensures.live c.self.inside.lines.lines h c.self.invariant)))
+
+pub invariant_of-self-in-Err : goal.invariant_of-self-in-Err
+invariant_of-self-in-Err c =
+    let T = c.self.inside.trace in
+    let h = whole_history T in
+    let line = c.line_of-line.result in
+    let placed = c.place_of.new.self in
+    let numbered : c.len.result + 1 ≡ suc (length h) = omega (arith, length-whole T, c.len.ensures.value) in
+    let flushed = c.in_ok-flush.ensures.live placed.lines h line numbered c.in_ok-place.ensures.here
+    (with-placed _ h placed (c.in_ok-place.ensures.live c.self.inside.lines.lines h c.self.invariant)) in
+    with-placed placed.lines (whole_history c.push.new.trace) c.take_back.new.self
+    (subst (λ (R : Recording). IsLiveWith placed.lines (whole_history R) c.take_back.new.self) (sym c.in-Err.ensures.err) (c.take_back.ensures placed.lines h line flushed))

@@ -1,8 +1,8 @@
-use Rattle.std.proofs.Common.{◌≡◌, ◌+◌, ◌-◌, ◌/◌, ℕ, le_trans, refl, sym, ◌∙◌, ap, subst}
+use Rattle.std.proofs.Common.{◌≡◌, ◌+◌, ◌-◌, ◌/◌, ℕ, le_trans, refl, sym, ◌∙◌, ap, subst, arith}
 use Rattle.std.proofs.lemmas.Bool.{true≢false}
 use Rattle.pmt_model.specs.Values.{Layout, line_of}
 use Rattle.pmt_model.specs.Traces.{Recording}
-use Rattle.pmt_book.specs.Ends.{PassesNow}
+use Rattle.pmt_book.specs.Ends.{last_front, last_count, PassesNow}
 use Rattle.pmt_book.proofs.PersistLemmas.{spared-from_passes, passes-from_spared, counted-none_touches}
 use Rattle.pmt_book.proofs.book.Book.persisted.Goals as goal
 
@@ -11,8 +11,10 @@ returns-then-not-none_touches c =
     let T = c.self.inside.trace in
     let A = c.args.range in
     let line = c.loop-line.line in
-    let same = counted-none_touches T c.self.inside.lines c.self.inside.pending line A c.format-format.result c.events.result.now c.saturating_sub-count.result c.count_at.result
-    c.front_at.result c.self.invariant c.format-format.ensures.value c.events.ensures.value c.saturating_sub-count.ensures c.count_at.ensures c.front_at.ensures in (
+    let counts : c.count.result ≡ last_count T line = c.count.ensures ∙ ap (λ (R : Recording). last_count R line) (sym c.self.view_is) in
+    let fronts : c.front.result ≡ last_front T line = c.front.ensures ∙ ap (λ (R : Recording). last_front R line) (sym c.self.view_is) in
+    let few : c.saturating_sub-count.result ≡ last_count T line - last_front T line = omega (arith, c.saturating_sub-count.ensures, counts, fronts) in
+    let same = counted-none_touches T line A c.format-format.result c.events.result.now c.saturating_sub-count.result c.format-format.ensures.value c.events.ensures.value few in (
       λ h. absurd (true≢false (sym h)),
       λ passes.
           let P : Recording → Type 0 = λ R. PassesNow R A in

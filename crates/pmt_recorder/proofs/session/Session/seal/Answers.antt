@@ -36,3 +36,14 @@ returns-in-Some-clause-err g c =
     (torn_at n strips c.as_slice-2.result.now T c.events.result.now c.in-Some.recorder c.in-Some.ensures.within given back c.events.ensures.value
     (ap total_length (sym c.as_mut_slice.ensures.value) ∙ c.audit.ensures.total ∙ ap (λ (R : Recording). length R.events) (sym c.audit.ensures.same))
     c.in-Some.ensures.torn c.in-Some.ensures.lowest)
+
+pub lowest_torn-requires-clause-each : goal.lowest_torn-requires-clause-each
+lowest_torn-requires-clause-each g c =
+    let n = g.L.Roll.tapes in
+    let strips = c.args.tapes.items in
+    let back : c.as_slice-2.result.now ≡ strips =
+    written_back strips c.audit.new.tapes c.as_slice-2.result.now c.args.tapes.len c.as_slice-2.ensures.value
+    (c.audit.ensures.tapes ∙ c.as_mut_slice.ensures.value) (ap length (sym c.as_mut_slice.ensures.value) ∙ c.as_mut_slice.ensures.len) in
+    let given : IsOneOfEach n strips =
+    each_after n c.args.self.tapes strips c.as_slice.result.now c.args.self.count c.as_slice.ensures.value (c.if-not-is_one_of_each.ensures.0 refl) in
+    subst (λ tapes. IsOneOfEach (length tapes) tapes) (sym back) (subst (λ m. IsOneOfEach m strips) (sym given.count) given)

@@ -1,0 +1,18 @@
+use Rattle.std.proofs.Common.{◌≡◌, sym, ap, ◌∙◌}
+use Rattle.pmt_model.specs.Values.{Layout, line_of}
+use Rattle.pmt_model.specs.Machine.{Clflushes}
+use Rattle.pmt_model.specs.declared.event.Op.TheVariants.{Clflush}
+use Rattle.pmt_book.specs.Adding.{event_by}
+use Rattle.pmt_book.specs.Ends.{whole_history}
+use Rattle.pmt_book.proofs.BookLemmas.{with-placed, keep-event}
+use Rattle.pmt_book.proofs.book.Book.add_clflush.Goals as goal
+
+pub invariant_of-self-2 : goal.invariant_of-self-2
+invariant_of-self-2 c =
+    let T = c.self.inside.trace in
+    let h = whole_history T in
+    let line = c.line_of-line.result in
+    let placed = c.place_of.new.self in
+    let at : line ≡ line_of T.format c.args.addr = c.line_of-line.ensures ∙ ap (λ (f : Layout). line_of f c.args.addr) c.format.ensures.value in
+    keep-event T (event_by c.args.thread (Clflush c.args.addr)) (Clflushes line) c.push.new.trace placed.lines c.clflush.new.self c.in_ok-push.ensures.ok (ap Clflushes (sym at))
+    (c.clflush.ensures.live placed.lines h line c.in_ok-place.ensures.here (with-placed _ h placed (c.in_ok-place.ensures.live c.self.inside.lines.lines h c.self.invariant)))
