@@ -1,7 +1,5 @@
 //! Tests of traces that are taken apart, and of what is found on a line.
-use pmt_lines::{
-    Jobs, StepKind, run_fences, run_line, split, split_trace, take_block, take_trace,
-};
+use pmt_lines::{Jobs, StepKind, run_fences, run_line, split, split_trace, take_block, take_trace};
 use pmt_model::{Event, Finding, Op, Trace};
 use pmt_text::ListSource;
 use std::alloc::Global;

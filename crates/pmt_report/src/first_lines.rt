@@ -1,9 +1,8 @@
 //! The lines of the first events of a source. No event is kept.
 ghost use Rattle.std.specs.Prelude.{◌≡◌, suc, ◌<◌, ◌≤◌, List, ◌∷◌, length, IfOk, IfErr, IfSome, OnOk};
-ghost use Rattle.pmt_model.specs.Machine.{Act, Stores, Flushes, Clflushes, Fences};
+ghost use Rattle.pmt_model.specs.Machine.{Act};
 ghost use Rattle.pmt_model.specs.Pushing.{empty, with_event};
 ghost use Rattle.pmt_model.specs.Traces.{Recording, IsEventIn, act, event_limit};
-ghost use Rattle.pmt_model.specs.Values.{Written};
 ghost use Rattle.pmt_text.specs.Sources.{CountsReads};
 ghost use Rattle.pmt_lines.specs.Sourcing.{IsFaultOf, TellsRefusal, told_by};
 ghost use Rattle.pmt_live.specs.Live.{IsLive};
@@ -81,50 +80,25 @@ fn tell(live: &mut LiveLines, format: Format, number: u32, event: &Event) -> Res
     let thread = event.thread;
     let op = event.op;
     match op {
-        Op::Store(store) => tell_store(live, line_of(format, store.addr())),
-        Op::Clwb(addr) => tell_flush(live, thread, line_of(format, addr), number),
-        Op::ClflushOpt(addr) => tell_flush(live, thread, line_of(format, addr), number),
-        Op::Clflush(addr) => tell_clflush(live, line_of(format, addr)),
-        Op::Sfence => tell_fence(live, thread),
-        Op::Mfence => tell_fence(live, thread),
-        Op::IsPersist(_) => Ok(()),
-        Op::IsOrderedBefore(_, _) => Ok(()),
+        Op::Store(store) => {
+            let place = live.place_of(line_of(format, store.addr()))?;
+            live.store(place);
+            Ok(())
+        }
+        Op::Clwb(addr) | Op::ClflushOpt(addr) => {
+            let place = live.place_of(line_of(format, addr))?;
+            live.flush(thread, place, number)?;
+            Ok(())
+        }
+        Op::Clflush(addr) => {
+            let place = live.place_of(line_of(format, addr))?;
+            live.clflush(place);
+            Ok(())
+        }
+        Op::Sfence | Op::Mfence => {
+            live.fence(thread);
+            Ok(())
+        }
+        Op::IsPersist(_) | Op::IsOrderedBefore(_, _) => Ok(()),
     }
-}
-
-#[inline(always)]
-fn tell_store(live: &mut LiveLines, line: u64) -> Result<(), OutOfMemory>
-    requires { (h : List Act) × (length h < event_limit) × IsLive h live.old }
-    ensures { (h : List Act) (w : Written) → IsLive h live.old → OnOk result (IsLive (Stores line w ∷ h) live.new) }
-{
-    let place = live.place_of(line)?;
-    live.store(place);
-    Ok(())
-}
-
-#[inline(always)]
-fn tell_flush(live: &mut LiveLines, thread: u8, line: u64, number: u32) -> Result<(), OutOfMemory>
-    requires { (h : List Act) × IsLive h live.old }
-    ensures { (h : List Act) → number ≡ suc (length h) → IsLive h live.old → OnOk result (IsLive (Flushes thread line ∷ h) live.new) }
-{
-    let place = live.place_of(line)?;
-    live.flush(thread, place, number)?;
-    Ok(())
-}
-
-fn tell_clflush(live: &mut LiveLines, line: u64) -> Result<(), OutOfMemory>
-    requires { (h : List Act) × IsLive h live.old }
-    ensures { (h : List Act) → IsLive h live.old → OnOk result (IsLive (Clflushes line ∷ h) live.new) }
-{
-    let place = live.place_of(line)?;
-    live.clflush(place);
-    Ok(())
-}
-
-fn tell_fence(live: &mut LiveLines, thread: u8) -> Result<(), OutOfMemory>
-    requires { (h : List Act) × IsLive h live.old }
-    ensures { (h : List Act) → IsLive h live.old → OnOk result (IsLive (Fences thread ∷ h) live.new) }
-{
-    live.fence(thread);
-    Ok(())
 }
