@@ -1,6 +1,6 @@
 -- What a sweep tells of a line, byte by byte.
 use Rattle.std.proofs.Common.{◌≡◌, ℕ, zero, suc, ◌+◌, ◌-◌, ◌*◌, ◌/◌, ◌<◌, ◌≤◌, ◌⊎◌, ◌↔◌, inl, inr, Bool, true, false, List, [], ◌∷◌, ◌++◌, length, Option, Some, None, IfSome, refl, sym, ap, subst, ◌∙◌, arith}
-use Rattle.std.specs.Prelude.{◌==◌, ◌||◌, if◌then◌else◌, Contains}
+use Rattle.std.specs.Prelude.{◌==◌, ◌||◌, if◌then◌else◌, slice_get, Contains}
 use Rattle.std.proofs.lemmas.Bool.{cases_lt}
 use Rattle.std.proofs.lemmas.Option.{IfSome_then}
 use Rattle.std.proofs.Math.Nat.{lt-div-mul-add, div-mul-le_self}
@@ -10,8 +10,7 @@ use Rattle.pmt_model.specs.Machine.{Act, Stores, Flushes, Clflushes, Fences, Ass
 use Rattle.pmt_model.specs.Traces.{Recording, IsTrace, IsAct, history, count_at, lines_of, has_line, with_line}
 use Rattle.pmt_model.specs.Fronts.{front_at}
 use Rattle.pmt_model.specs.Assertions.{Placed, InSpan, last_store, up_to_last}
-use Rattle.pmt_laws.proofs.Histories.{history-act, history-step, count-grows, count-mono}
-use Rattle.pmt_laws.proofs.BoxLemmas.{count-store}
+use Rattle.pmt_laws.proofs.Histories.{history-act, history-step, count-mono}
 use Rattle.pmt_laws.proofs.AssertLemmas.{last_rank}
 use Rattle.pmt_lines.proofs.PlaceLemmas.{has_line-push, has_line-push_same}
 use Rattle.pmt_lines.proofs.TraceLemmas.{size-some}
@@ -22,15 +21,15 @@ use Rattle.pmt_asserts.specs.Judging.{EachIn, IsOldestOfLine}
 use Rattle.pmt_asserts.proofs.JudgeLemmas.{own-line}
 use Rattle.pmt_asserts.proofs.PartLemmas.{IsPartOf}
 use Rattle.pmt_asserts.proofs.TraceLemmas.{count_at-before}
-use Rattle.pmt_marks.specs.Lines.{Line, Follows}
+use Rattle.pmt_live.specs.Live.{IsLive}
+use Rattle.pmt_live.specs.Places.{IsPlaceOf}
+use Rattle.pmt_live.proofs.ListLemmas.{list_any-has_line, list_any-place}
+use Rattle.pmt_live.proofs.LiveLemmas.{place-in}
 use Rattle.pmt_sweep.specs.declared.judging.Judging.{Judging}
-use Rattle.pmt_sweep.specs.declared.rows.LineRow.{LineRow}
 use Rattle.pmt_sweep.specs.declared.writers.Writer.{Writer}
-use Rattle.pmt_sweep.specs.Rows.{AreRows, IsPlaceOf}
 use Rattle.pmt_sweep.specs.Writers.{AreRankedBy, AreSafeBy, AreWriters, IsFirst, IsSafe, Meets}
 use Rattle.pmt_sweep.specs.Distances.{AreDistances}
 use Rattle.pmt_sweep.specs.Judging.{IsKnownTo}
-use Rattle.pmt_sweep.proofs.RowLemmas.{rows-there}
 
 -- the last store to a byte
 
@@ -66,34 +65,15 @@ pub both_some : (P Q : Placed → Type 0) (o : Option Placed) → IfSome o P →
 both_some P Q None p q = tt
 both_some P Q (Some x) p q = (p, q)
 
--- no byte of a line without row is written
-pub unplaced : (T : Recording) (l n b : ℕ) (rows : List LineRow) → IsTrace T → AreRows (history T n) rows → ((place : ℕ) → IsPlaceOf l place rows → ⊥) → line_of T.format b ≡ l → IsUnwritten T n b
-unplaced T l n b rows trace are none own = go (last_store b (history T n)) (both_some _ _ (last_store b (history T n)) (stored-among b (history T n)) (own-line T b n trace))
+-- no byte of a line without a place is written
+pub unplaced : (T : Recording) (l n b : ℕ) → IsTrace T → ((place : ℕ) → IsPlaceOf l place (lines_of (history T n)) → ⊥) → line_of T.format b ≡ l → IsUnwritten T n b
+unplaced T l n b trace none own = go (last_store b (history T n)) (both_some _ _ (last_store b (history T n)) (stored-among b (history T n)) (own-line T b n trace))
   where
     go : (o : Option Placed) → IfSome o (λ x. (has_line x.line (lines_of (history T n)) ≡ true) × (x.line ≡ line_of T.format b)) → o ≡ None
     go None there = refl
     go (Some x) there =
-        let place = rows-there l (history T n) rows are (subst (λ k. has_line k (lines_of (history T n)) ≡ true) (there.1 ∙ own) there.0) in
+        let place = list_any-place (lines_of (history T n)) l (list_any-has_line l (lines_of (history T n)) ∙ subst (λ k. has_line k (lines_of (history T n)) ≡ true) (there.1 ∙ own) there.0) in
         absurd (none place.0 place.1)
-
--- its rank is at most the number of stores to its line
-rank-within : (b : ℕ) (h : List Act) → IfSome (last_store b h) (λ x. x.rank ≤ count x.line h)
-rank-within b [] = tt
-rank-within b (Stores k w ∷ h) =
-    elim (writes w b) as (λ t. IfSome (if t then Some (record { line = k; rank = suc (count k h) }) else last_store b h) (λ x. x.rank ≤ count x.line (Stores k w ∷ h))) [
-      | true ↦ omega (arith, count-store k k w h refl)
-      | false ↦ IfSome_then (last_store b h) (rank-within b h) (λ x few. omega (arith, few, count-grows x.line (Stores k w) h))
-    ]
-rank-within b (Flushes t k ∷ h) = rank-within b h
-rank-within b (Clflushes k ∷ h) = rank-within b h
-rank-within b (Fences t ∷ h) = rank-within b h
-rank-within b (Asserts ∷ h) = rank-within b h
-
--- where the front counts all stores to a line, the last ones to its bytes are persisted
-pub all-persisted : (T : Recording) (l n b : ℕ) (state : Line) → IsTrace T → Follows l (history T n) state → state.count ≡ state.front → line_of T.format b ≡ l → PersistedBy T n n b
-all-persisted T l n b state trace follows all own =
-    IfSome_then (last_store b (history T n)) (both_some _ _ (last_store b (history T n)) (rank-within b (history T n)) (own-line T b n trace))
-    (λ x there. subst (λ k. x.rank ≤ front_at T k n) (sym (there.1 ∙ own)) (omega (arith, ap (λ k. count_at T k n) (there.1 ∙ own), there.0, follows.counts, follows.fronts, all)))
 
 -- it is an act of its line
 stored-last : (b : ℕ) (h : List Act) → IfSome (last_store b h) (λ x. (w : Written) × (g : List Act) × (up_to_last b h ≡ Stores x.line w ∷ g))
@@ -259,9 +239,15 @@ module _ (T : Recording) (l n : ℕ) (A : Span) (p : Part) (ws : List Writer) (t
 pub none-met : (ws : List Writer) (low high : ℕ) (w : Writer) → ws ≡ [] → Contains ws w → Meets low high w → ⊥
 none-met ws low high w none has m = let there = subst (λ (xs : List Writer). Contains xs w) none has in absurd (omega (arith, there.1))
 
--- the rows that a sweep knows are those after the events that it has taken
-pub rows-known : (T : Recording) (n : ℕ) (j : Judging) → IsKnownTo T n j → AreRows (history T n) j.progress.rows
-rows-known T n j known = subst (λ k. AreRows (history T k) j.progress.rows) known.here known.sweep.rows
+-- the lines with a place are those of the events that a sweep has taken
+pub live-known : (T : Recording) (n : ℕ) (j : Judging) → IsKnownTo T n j → IsLive (history T n) j.progress.lines.live
+live-known T n j known = subst (λ k. IsLive (history T k) j.progress.lines.live) known.here known.sweep.lines.live
+
+pub place-known : (T : Recording) (n : ℕ) (j : Judging) (l place : ℕ) → IsKnownTo T n j → IsPlaceOf l place j.progress.lines.live.lines → IsPlaceOf l place (lines_of (history T n))
+place-known T n j l place known at = place-in (lines_of (history T n)) (history T n) l place j.progress.lines.live at (live-known T n j known)
+
+pub none-known : (T : Recording) (n : ℕ) (j : Judging) (l : ℕ) → IsKnownTo T n j → ((place : ℕ) → IsPlaceOf l place j.progress.lines.live.lines → ⊥) → (place : ℕ) → IsPlaceOf l place (lines_of (history T n)) → ⊥
+none-known T n j l known none place at = none place (ap (λ ls. slice_get ls place) (live-known T n j known).placed ∙ at)
 
 pub known-within : (T : Recording) (n : ℕ) (j : Judging) → IsKnownTo T n j → n ≤ length T.events
 known-within T n j known = subst (λ k. k ≤ length T.events) known.here known.sweep.linked.within

@@ -13,7 +13,7 @@ use Rattle.pmt_lines.proofs.TraceLemmas.{size-of_format, store-of_trace, byte-li
 use Rattle.pmt_sweep.specs.declared.byte_tables.ByteTable.{ByteTable}
 use Rattle.pmt_sweep.specs.declared.note.Note.{Note}
 use Rattle.pmt_sweep.specs.Storing.{IsFromTable}
-use Rattle.pmt_sweep.specs.Rows.{last_line_store}
+use Rattle.pmt_sweep.specs.Pasts.{last_line_store}
 use Rattle.pmt_sweep.specs.Chains.{AreChained, IsLink, IsLastAfter}
 use Rattle.pmt_sweep.specs.ByteTables.{IsLastTo, IsLastBut, AreOfBytes, IsTable, AreTables, Notes}
 use Rattle.pmt_sweep.proofs.ChainLemmas.{AreStored, chain-end, step-link, written}

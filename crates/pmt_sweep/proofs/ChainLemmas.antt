@@ -9,7 +9,7 @@ use Rattle.pmt_model.specs.Findings.{last_store_number}
 use Rattle.pmt_laws.proofs.Histories.{history-act, history-step, length-history}
 use Rattle.pmt_laws.proofs.OverwrittenLemmas.{last_store_number-is}
 use Rattle.pmt_lines.proofs.TraceLemmas.{size-of_format, store-of_trace, byte-line, byte-from_writes, writes-from_byte}
-use Rattle.pmt_sweep.specs.Rows.{last_line_store}
+use Rattle.pmt_sweep.specs.Pasts.{last_line_store}
 use Rattle.pmt_sweep.specs.Chains.{AreChained, IsLink, IsUnwrittenFrom, IsNoneAfter, IsLastAfter}
 
 -- The chain's newest store to line l among the first n events, and that none later writes a byte of the line.

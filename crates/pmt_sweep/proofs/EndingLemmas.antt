@@ -1,16 +1,16 @@
 -- The stores that are never persisted, once the trace has ended.
-use Rattle.std.proofs.Common.{◌≡◌, ◌≢◌, ℕ, zero, suc, ◌+◌, ◌-◌, ◌<◌, ◌≤◌, ◌⊎◌, inl, inr, Bool, true, false, List, [], ◌∷◌, ◌++◌, length, map, get_or, set, Some, refl, sym, ap, subst, ◌∙◌, arith}
-use Rattle.std.specs.Prelude.{◌↔◌, ◌||◌, if◌then◌else◌, IsTrue, nat_lt, ◌==◌, slice_get, All}
+use Rattle.std.proofs.Common.{◌≡◌, ◌≢◌, ℕ, suc, ◌+◌, ◌-◌, ◌<◌, ◌≤◌, ◌⊎◌, inl, inr, Bool, true, false, List, [], ◌∷◌, ◌++◌, length, map, get_or, set, take, refl, sym, ap, subst, ◌∙◌, arith}
+use Rattle.std.specs.Prelude.{◌↔◌, IsTrue, nat_eq, nat_lt, ◌==◌}
+use Rattle.std.specs.List.{IsDistinct}
 use Rattle.std.proofs.lemmas.Bool.{eqb-true, eq-eqb, ne_eqb}
-use Rattle.std.proofs.Math.Bool.{or-true}
-use Rattle.std.proofs.lemmas.List.{length-append, length-map, length-set}
-use Rattle.std.proofs.lemmas.Option.{none-some, same_Some, slice_get_within, slice_get_read}
+use Rattle.std.proofs.lemmas.List.{get_or-map, length-map, map-append, take_all, take_more}
+use Rattle.std.proofs.lemmas.Option.{get_or_from_slice_get, slice_get-get_or, slice_get_within}
 use Rattle.pmt_model.specs.declared.finding.Finding.{Finding}
 use Rattle.pmt_model.specs.declared.finding.Finding.TheVariants.{Overwritten, NeverPersisted, RedundantFlush, FenceWithoutFlush}
 use Rattle.pmt_model.specs.Values.{Written}
 use Rattle.pmt_model.specs.Machine.{Act, Stores, Flushes, Clflushes, Fences, Asserts, count}
-use Rattle.pmt_model.specs.Traces.{Recording, has_line, with_line, lines_of, IsAct, history, count_at}
-use Rattle.pmt_model.specs.Fronts.{front, front_at}
+use Rattle.pmt_model.specs.Traces.{Recording, lines_of, IsAct, history, count_at}
+use Rattle.pmt_model.specs.Fronts.{front_at}
 use Rattle.pmt_model.specs.Findings.{IsNeverPersisted, IsFlushedAfter, last_flush}
 use Rattle.pmt_model.specs.Analyses.{reported_at, IsReportedBefore, InReportOrder, HasFinding, IsFinding}
 use Rattle.pmt_laws.proofs.Histories.{act-unique, act-within, history-act}
@@ -18,54 +18,56 @@ use Rattle.pmt_laws.proofs.NeverLemmas.{never_persisted_by_fronts}
 use Rattle.pmt_lines.specs.Scans.{found_if}
 use Rattle.pmt_lines.proofs.FindingLists.{has-append, has-left, has-right, ordered-append, has-if, if-has, if-ordered}
 use Rattle.pmt_lines.proofs.StoreLemmas.{flushed-after}
-use Rattle.pmt_sweep.specs.declared.rows.LineRow.{LineRow}
+use Rattle.pmt_live.specs.Places.{IsPlaceOf}
+use Rattle.pmt_live.proofs.ListLemmas.{map-same, map-set_one}
+use Rattle.pmt_live.specs.Live.{row_after}
+use Rattle.pmt_sweep.specs.declared.lines.Lines.{Lines}
+use Rattle.pmt_sweep.specs.Lines.{AreKnown}
+use Rattle.pmt_sweep.specs.Pasts.{past_after}
 use Rattle.pmt_sweep.specs.declared.ending.LineEnd.{LineEnd}
 use Rattle.pmt_sweep.specs.Known.{is_known_late, AreKnownLate}
-use Rattle.pmt_sweep.specs.Rows.{line_in, AreRows, IsPlaceOf, IsRow}
 use Rattle.pmt_sweep.specs.Ending.{IsAtEnd}
 use Rattle.pmt_sweep.specs.declared.note.Note.{Note}
 use Rattle.pmt_sweep.specs.declared.note.Note.TheVariants.{Store, Flush, Clflush, Fence, Assertion}
 use Rattle.pmt_sweep.specs.Notes.{is_store, IsNoted}
-use Rattle.pmt_sweep.specs.LineEnds.{IsEndOf, AreEnds}
+use Rattle.pmt_sweep.specs.LineEnds.{end_of, AreEnds}
 use Rattle.pmt_sweep.proofs.JoiningLemmas.{finding-at}
 
--- So the first of the rows end, before any store was gone over.
-pub record IsEndedTo (rows : List LineRow) (place : ℕ) (ends : List LineEnd) : Type 0 where
-  pub size : length ends ≡ place
-  pub each : (T : Recording) → AreRows (history T (length T.events)) rows → (l p : ℕ) (end : LineEnd) → IsPlaceOf l p rows → slice_get ends p ≡ Some end → IsEndOf T 0 l end
+-- the lines of a trace
+abbrev pub all_lines : Recording → List ℕ
+all_lines T = lines_of (history T (length T.events))
 
--- what a list with one more element at its end has at a place
-snoc-cases : {X : Type 0} → (xs : List X) (x : X) (p : ℕ) (y : X) → slice_get (xs ++ x ∷ []) p ≡ Some y → (slice_get xs p ≡ Some y) ⊎ ((p ≡ length xs) × (x ≡ y))
-snoc-cases [] x zero y is = inr (refl, same_Some x y is)
-snoc-cases [] x (suc p) y is = absurd (none-some y is)
-snoc-cases (z ∷ xs) x zero y is = inl is
-snoc-cases (z ∷ xs) x (suc p) y is = elim (snoc-cases xs x p y is) [ inl h ↦ inl h | inr h ↦ inr (ap suc h.0, h.1) ]
+same-end : (x y : LineEnd) → x.safe ≡ y.safe → x.flush ≡ y.flush → x ≡ y
+same-end x y safe flush = ap (λ s. record { safe = s; flush = x.flush }) safe ∙ ap (λ f. record { safe = y.safe; flush = f }) flush
 
--- the row at the next place
-pub ended-more : (rows : List LineRow) (place : ℕ) (ends new : List LineEnd) (row : LineRow) (safe : ℕ) → new ≡ ends ++ record { safe = safe; flush = row.flush } ∷ [] → ((l : ℕ) → IsPlaceOf l place rows → row.line ≡ l) → ((h : List Act) → All (IsRow h) rows → IsRow h row) → safe ≡ row.state.front → IsEndedTo rows place ends → IsEndedTo rows (place + 1) new
-ended-more rows place ends new row safe added line_is row_is fronted ended = record { size = omega (arith, ap length added, length-append ends (end ∷ []), ended.size); each = each }
-  where
-    end : LineEnd
-    end = record { safe = safe; flush = row.flush }
+-- a place has a past, a row and a line
+pub past-there : (T : Recording) (place : ℕ) (known : Lines) → AreKnown (history T (length T.events)) known → place < length known.pasts.items → place < length (all_lines T)
+past-there T place known is within = omega (arith, within, ap length is.pasts, length-map (all_lines T) (past_after (history T (length T.events))))
 
-    this : (T : Recording) → AreRows (history T (length T.events)) rows → (l : ℕ) → row.line ≡ l → IsEndOf T 0 l end
-    this T are l line =
-        let h : List Act = history T (length T.events) in
-        let is : IsRow h row = row_is h are.each in
-        let fronts : safe ≡ front l h = fronted ∙ is.follows.fronts ∙ ap (λ k. front k h) line in
-        let none : count_at T l 0 ≡ 0 = refl in
-        record { safe = omega (arith, fronts, none); flush = is.flush ∙ ap (λ k. last_flush k h) line }
+pub row-there : (T : Recording) (place : ℕ) (known : Lines) → AreKnown (history T (length T.events)) known → place < length known.pasts.items → place < length known.live.rows.items
+row-there T place known is within =
+    omega (arith, past-there T place known is within, ap length is.live.rows, length-map (all_lines T) (row_after (history T (length T.events))))
 
-    each : (T : Recording) → AreRows (history T (length T.events)) rows → (l p : ℕ) (e : LineEnd) → IsPlaceOf l p rows → slice_get new p ≡ Some e → IsEndOf T 0 l e
-    each T are l p e at there =
-        elim (snoc-cases ends end p e (ap (λ es. slice_get es p) (sym added) ∙ there)) [
-          | inl old ↦ ended.each T are l p e at old
-          | inr x ↦ subst (IsEndOf T 0 l) x.1 (this T are l (line_is l (subst (λ q. IsPlaceOf l q rows) (x.0 ∙ ended.size) at)))
-        ]
+pub line-there : (T : Recording) (place : ℕ) → place < length (all_lines T) → IsPlaceOf (get_or (all_lines T) place 0) place (all_lines T)
+line-there T place within = slice_get-get_or (all_lines T) place 0 within
 
--- all rows
-pub ended-all : (rows : List LineRow) (place : ℕ) (ends : List LineEnd) → length rows ≡ place → IsEndedTo rows place ends → (T : Recording) → AreRows (history T (length T.events)) rows → AreEnds T 0 rows ends
-ended-all rows place ends all ended T are = record { size = ended.size ∙ sym all; each = ended.each T are }
+pub lines-past : (T : Recording) (place : ℕ) (known : Lines) → AreKnown (history T (length T.events)) known → length known.pasts.items ≤ place → length (all_lines T) ≤ place
+lines-past T place known is past = omega (arith, past, ap length is.pasts, length-map (all_lines T) (past_after (history T (length T.events))))
+
+-- the next line
+pub ended-more : (T : Recording) (place : ℕ) (ends new : List LineEnd) (end : LineEnd) → place < length (all_lines T) → new ≡ ends ++ end ∷ [] →
+    end.safe ≡ front_at T (get_or (all_lines T) place 0) (length T.events) → end.flush ≡ last_flush (get_or (all_lines T) place 0) (history T (length T.events)) →
+    ends ≡ map (end_of T 0) (take place (all_lines T)) → new ≡ map (end_of T 0) (take (place + 1) (all_lines T))
+ended-more T place ends new end within added safe flush before =
+    let l : ℕ = get_or (all_lines T) place 0 in
+    let none : count_at T l 0 ≡ 0 = refl in
+    let is : end ≡ end_of T 0 l = same-end end (end_of T 0 l) (omega (arith, safe, none)) flush in
+    added ∙ ap (λ es. es ++ end ∷ []) before ∙ ap (λ e. map (end_of T 0) (take place (all_lines T)) ++ e ∷ []) is
+    ∙ sym (ap (map (end_of T 0)) (take_more (all_lines T) place 0 within) ∙ map-append (end_of T 0) (take place (all_lines T)) (l ∷ []))
+
+-- all lines
+pub ended-all : (T : Recording) (place : ℕ) (ends : List LineEnd) → length (all_lines T) ≤ place → ends ≡ map (end_of T 0) (take place (all_lines T)) → AreEnds T 0 ends
+ended-all T place ends all ended = ended ∙ ap (map (end_of T 0)) (take_all place (all_lines T) all)
 
 -- the stores of the first n events that are never persisted, in report order
 pub record AreLateTo (T : Recording) (n : ℕ) (found : List Finding) : Type 0 where
@@ -73,17 +75,9 @@ pub record AreLateTo (T : Recording) (n : ℕ) (found : List Finding) : Type 0 w
   pub just : (f : Finding) → HasFinding found f ↔ (IsFinding T f × (is_known_late f ≡ true) × (reported_at f ≤ n))
 
 -- the first n events were gone over
-pub record IsGoneOver (T : Recording) (rows : List LineRow) (n : ℕ) (ends : List LineEnd) (found : List Finding) : Type 0 where
-  pub ends_then : AreEnds T n rows ends
+pub record IsGoneOver (T : Recording) (n : ℕ) (ends : List LineEnd) (found : List Finding) : Type 0 where
+  pub ends_then : AreEnds T n ends
   pub found_then : AreLateTo T n found
-
--- what a list with another element at one place has at a place
-set-cases : {X : Type 0} → (xs : List X) (p : ℕ) (v : X) (q : ℕ) (y : X) → slice_get (set xs p v) q ≡ Some y → ((q ≡ p) × (v ≡ y)) ⊎ ((q ≢ p) × (slice_get xs q ≡ Some y))
-set-cases [] p v q y is = absurd (none-some y is)
-set-cases (x ∷ xs) zero v zero y is = inl (refl, same_Some v y is)
-set-cases (x ∷ xs) zero v (suc q) y is = inr (λ e. omega (arith, e), is)
-set-cases (x ∷ xs) (suc p) v zero y is = inr (λ e. omega (arith, e), is)
-set-cases (x ∷ xs) (suc p) v (suc q) y is = elim (set-cases xs p v q y is) [ inl h ↦ inl (ap suc h.0, h.1) | inr h ↦ inr (λ e. h.0 (omega (arith, e)), h.1) ]
 
 -- an event that is noted as a store, and its line
 pub store-at : (T : Recording) (n : ℕ) (note : Note) → IsNoted T (suc n) note → is_store note ≡ true → (l : ℕ) × (w : Written) × IsAct T (suc n) (Stores l w)
@@ -146,9 +140,12 @@ count-store : (T : Recording) (n l : ℕ) (w : Written) → IsAct T (suc n) (Sto
 count-store T n l w is = let own : (l == l) ≡ true = eq-eqb l l refl in ap (count l) (history-act T n (Stores l w) is) ∙ rw own refl
 
 -- at a store
-late-store : (T : Recording) (n l : ℕ) (w : Written) (end : LineEnd) (found : List Finding) → IsAct T (suc n) (Stores l w) → IsEndOf T n l end → AreLateTo T n found → AreLateTo T (suc n) (found ++ found_if (end.safe == 0) (NeverPersisted (suc n) (nat_lt (suc n) end.flush)))
-late-store T n l w end found is ends late = record { ordered = ordered-append found never late.ordered (if-ordered test it) before; just = λ f. (there f, back f) }
+late-store : (T : Recording) (n l : ℕ) (w : Written) (end : LineEnd) (found : List Finding) → IsAct T (suc n) (Stores l w) → end ≡ end_of T n l → AreLateTo T n found → AreLateTo T (suc n) (found ++ found_if (end.safe == 0) (NeverPersisted (suc n) (nat_lt (suc n) end.flush)))
+late-store T n l w end found is end_is late = record { ordered = ordered-append found never late.ordered (if-ordered test it) before; just = λ f. (there f, back f) }
   where
+    safe : end.safe ≡ front_at T l (length T.events) - count_at T l n
+    safe = ap (λ (e : LineEnd). e.safe) end_is
+
     it : Finding
     it = NeverPersisted (suc n) (nat_lt (suc n) end.flush)
 
@@ -171,12 +168,12 @@ late-store T n l w end found is ends late = record { ordered = ordered-append fo
     counted = count-store T n l w is
 
     flushed : IsTrue (nat_lt (suc n) end.flush) ↔ IsFlushedAfter T l (suc n)
-    flushed = flushed-after T l (suc n) (record { front = front_at T l (length T.events); flush = end.flush }) (record { front = refl; flush = ends.flush })
+    flushed = flushed-after T l (suc n) (record { front = front_at T l (length T.events); flush = end.flush }) (record { front = refl; flush = ap (λ (e : LineEnd). e.flush) end_is })
 
     told : test ≡ true → IsFinding T it
     told e =
         let none : end.safe ≡ 0 = eqb-true end.safe 0 e in
-        (l, law.1 (omega (arith, counted, ends.safe, none)), flushed)
+        (l, law.1 (omega (arith, counted, safe, none)), flushed)
 
     tells : (b : Bool) → IsFinding T (NeverPersisted (suc n) b) → (test ≡ true) × (it ≡ NeverPersisted (suc n) b)
     tells b h = (found_test, ap (NeverPersisted (suc n)) (same-test (IsFlushedAfter T l (suc n)) (nat_lt (suc n) end.flush) b flushed (subst (λ k. IsTrue b ↔ IsFlushedAfter T k (suc n)) line h.2)))
@@ -188,7 +185,7 @@ late-store T n l w end found is ends late = record { ordered = ordered-append fo
         pending = law.0 (subst (λ k. IsNeverPersisted T k (suc n)) line h.1)
 
         none : end.safe ≡ 0
-        none = omega (arith, counted, ends.safe, pending)
+        none = omega (arith, counted, safe, pending)
 
         found_test : test ≡ true
         found_test = eq-eqb end.safe 0 none
@@ -215,100 +212,43 @@ late-store T n l w end found is ends late = record { ordered = ordered-append fo
           | inr less ↦ has-left found never f ((late.just f).1 (h.0, h.1, less))
         ]
 
--- no line stands at two places
-abbrev IsOnce : List ℕ → Type 0
-IsOnce lines = (l p q : ℕ) → slice_get lines p ≡ Some l → slice_get lines q ≡ Some l → p ≡ q
-
-line-there : (lines : List ℕ) (l p : ℕ) → slice_get lines p ≡ Some l → has_line l lines ≡ true
-line-there [] l p at = absurd (none-some l at)
-line-there (k ∷ lines) l zero at = let e : (k == l) ≡ true = eq-eqb k l (same_Some k l at) in rw e refl
-line-there (k ∷ lines) l (suc p) at = ap (λ b. (k == l) || b) (line-there lines l p at) ∙ or-true (k == l)
-
-once-with : (l : ℕ) (lines : List ℕ) → IsOnce lines → IsOnce (with_line l lines)
-once-with l lines once = go (has_line l lines) refl
-  where
-    new : has_line l lines ≡ false → (k p q : ℕ) → slice_get lines p ≡ Some k → (q ≡ length lines) × (l ≡ k) → ⊥
-    new none k p q old last =
-        let there : has_line l lines ≡ true = ap (λ m. has_line m lines) last.1 ∙ line-there lines k p old in
-        cc
-
-    more : has_line l lines ≡ false → IsOnce (lines ++ l ∷ [])
-    more none k p q at_p at_q =
-        elim (snoc-cases lines l p k at_p) [
-          | inl old ↦ elim (snoc-cases lines l q k at_q) [ inl older ↦ once k p q old older | inr last ↦ absurd (new none k p q old last) ]
-          | inr last ↦ elim (snoc-cases lines l q k at_q) [ inl older ↦ absurd (new none k q p older last) | inr other ↦ last.0 ∙ sym other.0 ]
-        ]
-
-    go : (b : Bool) → has_line l lines ≡ b → IsOnce (if b then lines else lines ++ l ∷ [])
-    go true e = once
-    go false e = more e
-
-once-lines : (h : List Act) → IsOnce (lines_of h)
-once-lines [] = λ l p q at other. absurd (none-some l at)
-once-lines (Stores l w ∷ h) = once-with l (lines_of h) (once-lines h)
-once-lines (Flushes t l ∷ h) = once-with l (lines_of h) (once-lines h)
-once-lines (Clflushes l ∷ h) = once-with l (lines_of h) (once-lines h)
-once-lines (Fences t ∷ h) = once-lines h
-once-lines (Asserts ∷ h) = once-lines h
-
 -- the place of a line is one of those of the ends
-pub place-within : (T : Recording) (n : ℕ) (rows : List LineRow) (ends : List LineEnd) (l place : ℕ) → AreEnds T n rows ends → IsPlaceOf l place rows → place < length ends
-place-within T n rows ends l place are at = omega (arith, slice_get_within (map line_in rows) place l at, length-map rows line_in, are.size)
+pub place-within : (T : Recording) (n : ℕ) (ends : List LineEnd) (l place : ℕ) → AreEnds T n ends → IsPlaceOf l place (all_lines T) → place < length ends
+place-within T n ends l place are at = omega (arith, slice_get_within (all_lines T) place l at, length-map (all_lines T) (end_of T n), ap length are)
 
 -- a store to another line is not counted
 count-store_other : (T : Recording) (n l k : ℕ) (w : Written) → IsAct T (suc n) (Stores l w) → l ≢ k → count_at T k (suc n) ≡ count_at T k n
 count-store_other T n l k w is other = let e : (l == k) ≡ false = ne_eqb l k other in ap (count k) (history-act T n (Stores l w) is) ∙ rw e refl
 
-ends-store : (T : Recording) (n l place : ℕ) (w : Written) (rows : List LineRow) (ends : List LineEnd) (end new : LineEnd) → AreRows (history T (length T.events)) rows → IsAct T (suc n) (Stores l w) → IsPlaceOf l place rows → slice_get ends place ≡ Some end → new.safe ≡ end.safe - 1 → new.flush ≡ end.flush → AreEnds T n rows ends → AreEnds T (suc n) rows (set ends place new)
-ends-store T n l place w rows ends end new rows_are is at at_end safe flush are = record { size = length-set ends place new ∙ are.size; each = each }
+ends-store : (T : Recording) (n l place : ℕ) (w : Written) (ends : List LineEnd) (end new : LineEnd) → IsDistinct nat_eq (all_lines T) → IsAct T (suc n) (Stores l w) → IsPlaceOf l place (all_lines T) → end ≡ end_of T n l → new.safe ≡ end.safe - 1 → new.flush ≡ end.flush → AreEnds T n ends → AreEnds T (suc n) (set ends place new)
+ends-store T n l place w ends end new once is at end_is safe flush are =
+    let was : end.safe ≡ front_at T l (length T.events) - count_at T l n = ap (λ (e : LineEnd). e.safe) end_is in
+    let this : new ≡ end_of T (suc n) l = same-end new (end_of T (suc n) l) (omega (arith, safe, was, count-store T n l w is)) (flush ∙ ap (λ (e : LineEnd). e.flush) end_is) in
+    ap (λ es. set es place new) are ∙ ap (set (map (end_of T n) (all_lines T)) place) this ∙ sym (map-set_one (end_of T n) (end_of T (suc n)) (all_lines T) l place once at other)
   where
-    old : IsEndOf T n l end
-    old = are.each l place end at at_end
+    other : (k : ℕ) → k ≢ l → end_of T (suc n) k ≡ end_of T n k
+    other k apart = let e = count-store_other T n l k w is (λ same. apart (sym same)) in rw e refl
 
-    this : IsEndOf T (suc n) l new
-    this = record { safe = omega (arith, safe, old.safe, count-store T n l w is); flush = flush ∙ old.flush }
-
-    once : IsOnce (map line_in rows)
-    once = subst IsOnce (sym rows_are.lines_in_order) (once-lines (history T (length T.events)))
-
-    other : (k p : ℕ) (e : LineEnd) → IsPlaceOf k p rows → p ≢ place → slice_get ends p ≡ Some e → IsEndOf T (suc n) k e
-    other k p e at_p differs there =
-        let x = are.each k p e at_p there in
-        let line : l ≢ k = λ same. differs (once k p place at_p (subst (λ m. IsPlaceOf m place rows) same at)) in
-        record { safe = omega (arith, x.safe, count-store_other T n l k w is line); flush = x.flush }
-
-    each : (k p : ℕ) (e : LineEnd) → IsPlaceOf k p rows → slice_get (set ends place new) p ≡ Some e → IsEndOf T (suc n) k e
-    each k p e at_p there =
-        elim (set-cases ends place new p e there) [
-          | inl x ↦
-              let line : l ≡ k = same_Some l k (sym at ∙ subst (λ q. IsPlaceOf k q rows) x.0 at_p) in
-              subst (IsEndOf T (suc n) k) x.1 (subst (λ m. IsEndOf T (suc n) m new) line this)
-          | inr x ↦ other k p e at_p x.0 x.1
-        ]
-
-ends-other : (T : Recording) (n : ℕ) (rows : List LineRow) (ends : List LineEnd) → IsNoStore T n → AreEnds T n rows ends → AreEnds T (suc n) rows ends
-ends-other T n rows ends other are = record { size = are.size; each = each }
-  where
-    each : (l p : ℕ) (e : LineEnd) → IsPlaceOf l p rows → slice_get ends p ≡ Some e → IsEndOf T (suc n) l e
-    each l p e at there = let x = are.each l p e at there in record { safe = omega (arith, x.safe, other.same l); flush = x.flush }
+ends-other : (T : Recording) (n : ℕ) (ends : List LineEnd) → IsNoStore T n → AreEnds T n ends → AreEnds T (suc n) ends
+ends-other T n ends other are = are ∙ map-same (end_of T (suc n)) (end_of T n) (all_lines T) (λ p l at. let e = other.same l in rw e refl)
 
 -- no event was gone over, one more, and all
-pub gone-none : (T : Recording) (rows : List LineRow) (ends : List LineEnd) (found : List Finding) → found ≡ [] → AreEnds T 0 rows ends → IsGoneOver T rows 0 ends found
-gone-none T rows ends found none are = record { ends_then = are; found_then = subst (AreLateTo T 0) (sym none) (late-none T) }
+pub gone-none : (T : Recording) (ends : List LineEnd) (found : List Finding) → found ≡ [] → AreEnds T 0 ends → IsGoneOver T 0 ends found
+gone-none T ends found none are = record { ends_then = are; found_then = subst (AreLateTo T 0) (sym none) (late-none T) }
 
-pub gone-place : (T : Recording) (n : ℕ) (rows : List LineRow) (places : List ℕ) (notes : List Note) (ends : List LineEnd) (found : List Finding) (d : Note) → IsAtEnd T rows places notes → n < length notes → is_store (get_or notes n d) ≡ true → IsGoneOver T rows n ends found → get_or places n 0 < length ends
-gone-place T n rows places notes ends found d end within is gone =
+pub gone-place : (T : Recording) (n : ℕ) (known : Lines) (places : List ℕ) (notes : List Note) (ends : List LineEnd) (found : List Finding) (d : Note) → IsAtEnd T known places notes → n < length notes → is_store (get_or notes n d) ≡ true → IsGoneOver T n ends found → get_or places n 0 < length ends
+gone-place T n known places notes ends found d end within is gone =
     let x = store-at T n (get_or notes n d) (end.noted n d within) is in
-    place-within T n rows ends x.0 (get_or places n 0) gone.ends_then (end.standing n x.0 (Stores x.0 x.1) (omega (arith, end.all, end.all_noted, within)) x.2 refl)
+    place-within T n ends x.0 (get_or places n 0) gone.ends_then (end.standing n x.0 (Stores x.0 x.1) (omega (arith, end.all, end.all_noted, within)) x.2 refl)
 
 pub gone-store :
-    (T : Recording) (n : ℕ) (rows : List LineRow) (places : List ℕ) (notes : List Note) (ends new_ends : List LineEnd) (found new_found : List Finding) (end new : LineEnd) (d : Note) → IsAtEnd T rows places notes → n < length notes → is_store (get_or notes n d) ≡ true →
-    end ≡ get_or ends (get_or places n 0) end → new.safe ≡ end.safe - 1 → new.flush ≡ end.flush → new_ends ≡ set ends (get_or places n 0) new → new_found ≡ found ++ found_if (end.safe == 0) (NeverPersisted (n + 1) (nat_lt (n + 1) end.flush)) → IsGoneOver T rows n ends found → IsGoneOver T rows (n + 1) new_ends new_found
-gone-store T n rows places notes ends new_ends found new_found end new d at_end within is end_is safe flush changed added gone =
+    (T : Recording) (n : ℕ) (known : Lines) (places : List ℕ) (notes : List Note) (ends new_ends : List LineEnd) (found new_found : List Finding) (end new : LineEnd) (d : Note) → IsAtEnd T known places notes → n < length notes → is_store (get_or notes n d) ≡ true →
+    end ≡ get_or ends (get_or places n 0) end → new.safe ≡ end.safe - 1 → new.flush ≡ end.flush → new_ends ≡ set ends (get_or places n 0) new → new_found ≡ found ++ found_if (end.safe == 0) (NeverPersisted (n + 1) (nat_lt (n + 1) end.flush)) → IsGoneOver T n ends found → IsGoneOver T (n + 1) new_ends new_found
+gone-store T n known places notes ends new_ends found new_found end new d at_end within is end_is safe flush changed added gone =
     rw (changed, added, next)
     (record {
-      ends_then = ends-store T n x.0 place x.1 rows ends end new at_end.are_rows x.2 at there safe flush gone.ends_then;
-      found_then = late-store T n x.0 x.1 end found x.2 (gone.ends_then.each x.0 place end at there) gone.found_then;
+      ends_then = ends-store T n x.0 place x.1 ends end new at_end.lines.live.once x.2 at end_there safe flush gone.ends_then;
+      found_then = late-store T n x.0 x.1 end found x.2 end_there gone.found_then;
     })
   where
     next : n + 1 ≡ suc n
@@ -320,20 +260,22 @@ gone-store T n rows places notes ends new_ends found new_found end new d at_end 
     place : ℕ
     place = get_or places n 0
 
-    at : IsPlaceOf x.0 place rows
+    at : IsPlaceOf x.0 place (all_lines T)
     at = at_end.standing n x.0 (Stores x.0 x.1) (omega (arith, at_end.all, at_end.all_noted, within)) x.2 refl
 
-    there : slice_get ends place ≡ Some end
-    there = slice_get_read ends (length ends) place end refl (place-within T n rows ends x.0 place gone.ends_then at) end_is
+    end_there : end ≡ end_of T n x.0
+    end_there =
+        end_is ∙ ap (λ es. get_or es place end) gone.ends_then ∙ get_or-map (end_of T n) (all_lines T) place 0 end (slice_get_within (all_lines T) place x.0 at)
+        ∙ ap (end_of T n) (get_or_from_slice_get (all_lines T) place x.0 0 at)
 
-pub gone-other : (T : Recording) (n : ℕ) (rows : List LineRow) (places : List ℕ) (notes : List Note) (ends : List LineEnd) (found : List Finding) (d : Note) → IsAtEnd T rows places notes → n < length notes → is_store (get_or notes n d) ≡ false → IsGoneOver T rows n ends found → IsGoneOver T rows (n + 1) ends found
-gone-other T n rows places notes ends found d end within is gone =
+pub gone-other : (T : Recording) (n : ℕ) (known : Lines) (places : List ℕ) (notes : List Note) (ends : List LineEnd) (found : List Finding) (d : Note) → IsAtEnd T known places notes → n < length notes → is_store (get_or notes n d) ≡ false → IsGoneOver T n ends found → IsGoneOver T (n + 1) ends found
+gone-other T n known places notes ends found d end within is gone =
     let other : IsNoStore T n = other-at T n (get_or notes n d) (end.noted n d within) is in
     let next : n + 1 ≡ suc n = omega arith in
-    subst (λ m. IsGoneOver T rows m ends found) (sym next) (record { ends_then = ends-other T n rows ends other gone.ends_then; found_then = late-other T n found other gone.found_then })
+    subst (λ m. IsGoneOver T m ends found) (sym next) (record { ends_then = ends-other T n ends other gone.ends_then; found_then = late-other T n found other gone.found_then })
 
-pub gone-all : (T : Recording) (rows : List LineRow) (n : ℕ) (ends : List LineEnd) (found : List Finding) → length T.events ≤ n → IsGoneOver T rows n ends found → AreKnownLate T found
-gone-all T rows n ends found past gone = record {
+pub gone-all : (T : Recording) (n : ℕ) (ends : List LineEnd) (found : List Finding) → length T.events ≤ n → IsGoneOver T n ends found → AreKnownLate T found
+gone-all T n ends found past gone = record {
   ordered = gone.found_then.ordered;
   just = λ f. (
     (λ has. let h = (gone.found_then.just f).0 has in (h.0, h.1)),

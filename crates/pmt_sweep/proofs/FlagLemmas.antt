@@ -1,23 +1,21 @@
 -- The flags of the events that have come, event by event, and at the end of the trace.
 use Rattle.std.proofs.Common.{◌≡◌, ℕ, zero, suc, ◌<◌, ◌≤◌, ◌⊎◌, inl, inr, Bool, true, false, List, [], ◌∷◌, ◌++◌, length, get_or, map, refl, sym, ap, subst, ◌∙◌, arith, eqb-true}
-use Rattle.std.specs.Prelude.{◌↔◌, ◌==◌, not, nat_le}
+use Rattle.std.specs.Prelude.{◌↔◌, ◌==◌, nat_lt}
 use Rattle.std.specs.List.{AllByRecursion}
-use Rattle.std.proofs.lemmas.Bool.{cases_lt, eq-eqb, false≢true, true≢false}
-use Rattle.std.proofs.lemmas.Bool.Decides.{leb_tells}
+use Rattle.std.proofs.lemmas.Bool.{cases_lt, eq-eqb, lt-ltb, ltb-true, false≢true, true≢false}
 use Rattle.std.proofs.lemmas.List.{get_or_push, get_or_append_left, get_or_past, map-append, length_push}
 use Rattle.pmt_model.specs.Machine.{Act, Stores, Flushes, Clflushes, Fences, Asserts, count}
 use Rattle.pmt_model.specs.Traces.{Recording, IsAct, history}
+use Rattle.pmt_model.specs.Fronts.{front}
 use Rattle.pmt_model.specs.Selections.{always_stays, IsRising, Has}
 use Rattle.pmt_model.specs.Keeping.{IsKept, IsKeep, Stays, ByFence, ByFlush, ByClflush}
-use Rattle.pmt_marks.specs.Lines.{Line, Follows}
 use Rattle.pmt_laws.specs.Passing.{Flushed, open_flushes}
 use Rattle.pmt_laws.proofs.Histories.{act-within, act-unique, history-act, length-history}
 use Rattle.pmt_laws.proofs.PassLemmas.{IsOpenOf, are_open, clflush_is_kept}
 use Rattle.pmt_laws.proofs.DecidedLemmas.{open_is_dropped}
 use Rattle.pmt_trim.specs.Marking.{is_kept_at}
 use Rattle.pmt_trim.proofs.SettlingLemmas.{kept-some}
-use Rattle.pmt_sweep.specs.OpenFlushes.{number_in}
-use Rattle.pmt_sweep.specs.Flags.{IsOpenAt, AreFlagged, AreFlagsTo, IsPastFence}
+use Rattle.pmt_sweep.specs.Flags.{number_in, IsOpenAt, AreFlagged, AreFlagsTo, AreFlagsPast}
 
 -- ---- Open flushes
 
@@ -56,17 +54,17 @@ open-same T n k a is same = ((λ o. (o.0, subst (λ fs. Has (map number_in fs) k
     at t = ap (open_flushes t) (history-act T n a is) ∙ same t
 
 -- the numbers with one more at the end
-has-push : (ks : List ℕ) (n k : ℕ) → Has (ks ++ n ∷ []) k → Has ks k ⊎ (n ≡ k)
+pub has-push : (ks : List ℕ) (n k : ℕ) → Has (ks ++ n ∷ []) k → Has ks k ⊎ (n ≡ k)
 has-push [] n k (inl e) = inr e
 has-push [] n k (inr h) = absurd h
 has-push (j ∷ ks) n k (inl e) = inl (inl e)
 has-push (j ∷ ks) n k (inr h) = elim (has-push ks n k h) [ inl x ↦ inl (inr x) | inr e ↦ inr e ]
 
-has-last : (ks : List ℕ) (n : ℕ) → Has (ks ++ n ∷ []) n
+pub has-last : (ks : List ℕ) (n : ℕ) → Has (ks ++ n ∷ []) n
 has-last [] n = inl refl
 has-last (j ∷ ks) n = inr (has-last ks n)
 
-has-left : (ks : List ℕ) (n k : ℕ) → Has ks k → Has (ks ++ n ∷ []) k
+pub has-left : (ks : List ℕ) (n k : ℕ) → Has ks k → Has (ks ++ n ∷ []) k
 has-left [] n k h = absurd h
 has-left (j ∷ ks) n k (inl e) = inl e
 has-left (j ∷ ks) n k (inr h) = inr (has-left ks n k h)
@@ -168,25 +166,19 @@ flags-flush T n t l flags is are =
     ((λ e. absurd (false≢true e)), (λ x. absurd (x.1 (flush-open T n t l is))))
 
 -- a clflush is kept where the front of its line is below the count
-pub flags-clflush : (T : Recording) (n l : ℕ) (flags : List Bool) (state : Line) → Follows l (history T n) state → IsAct T (suc n) (Clflushes l) → AreFlagsTo T n flags → AreFlagsTo T (suc n) (flags ++ not (nat_le state.count state.front) ∷ [])
-flags-clflush T n l flags state follows is are = flags-decided T n flags (not (nat_le state.count state.front)) (Clflushes l) is (λ t. refl) (λ t k e. cc) tells are
+pub flags-clflush : (T : Recording) (n l : ℕ) (flags : List Bool) → IsAct T (suc n) (Clflushes l) → AreFlagsTo T n flags → AreFlagsTo T (suc n) (flags ++ nat_lt (front l (history T n)) (count l (history T n)) ∷ [])
+flags-clflush T n l flags is are = flags-decided T n flags (nat_lt (front l (history T n)) (count l (history T n))) (Clflushes l) is (λ t. refl) (λ t k e. cc) tells are
   where
-    tells : (not (nat_le state.count state.front) ≡ true) ↔ IsKept T (suc n)
+    tells : (nat_lt (front l (history T n)) (count l (history T n)) ≡ true) ↔ IsKept T (suc n)
     tells =
         let law = clflush_is_kept T l n is in
-        ((λ e. law.1 (omega (arith, below state.count state.front e, follows.counts, follows.fronts))), (λ kept. above state.count state.front (omega (arith, law.0 kept, follows.counts, follows.fronts))))
-      where
-        below : (c f : ℕ) → not (nat_le c f) ≡ true → f < c
-        below c f e = elim (leb_tells c f) [ inl t ↦ absurd (false≢true (sym (ap not t.0) ∙ e)) | inr t ↦ t.1 ]
-
-        above : (c f : ℕ) → f < c → not (nat_le c f) ≡ true
-        above c f h = elim (leb_tells c f) [ inl t ↦ absurd (omega (arith, t.1, h)) | inr t ↦ ap not t.0 ]
+        ((λ e. law.1 (ltb-true (front l (history T n)) (count l (history T n)) e)), (λ kept. lt-ltb (front l (history T n)) (count l (history T n)) (law.0 kept)))
 
 -- a fence is kept as it tells itself
-pub flags-fence : (T : Recording) (n t : ℕ) (flags : List Bool) (b : Bool) → IsAct T (suc n) (Fences t) → IsPastFence T n flags b → AreFlagsTo T (suc n) (flags ++ b ∷ [])
-flags-fence T n t flags b is past =
+pub flags-fence : (T : Recording) (n t : ℕ) (flags : List Bool) (b : Bool) → IsAct T (suc n) (Fences t) → AreFlagsPast T n flags → (b ≡ true) ↔ IsKept T (suc n) → AreFlagsTo T (suc n) (flags ++ b ∷ [])
+flags-fence T n t flags b is past tells =
     flags-next T n flags b past.all past.just
-    ((λ e. (past.fence.0 e, never-open T (suc n) (suc n) (Fences t) is (λ u l same. cc))), (λ x. past.fence.1 x.0))
+    ((λ e. (tells.0 e, never-open T (suc n) (suc n) (Fences t) is (λ u l same. cc))), (λ x. tells.1 x.0))
 
 -- ---- At the end
 

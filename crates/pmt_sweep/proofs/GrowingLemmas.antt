@@ -13,7 +13,7 @@ use Rattle.pmt_model.specs.Machine.{Stores, Flushes, Clflushes, Fences, Asserts,
 use Rattle.pmt_model.specs.Values.{Layout}
 use Rattle.pmt_model.specs.Formats.{IsFormat}
 use Rattle.pmt_model.specs.Pushing.{empty}
-use Rattle.pmt_model.specs.Traces.{Recording, IsTrace, history}
+use Rattle.pmt_model.specs.Traces.{Recording, IsTrace, history, lines_of}
 use Rattle.pmt_model.specs.Fronts.{front}
 use Rattle.pmt_model.specs.Assertions.{PersistPasses, OrderedPasses}
 use Rattle.pmt_model.specs.Findings.{IsFlushOf, ByFlush, ByClflush, IsSafe, IsCovered}
@@ -25,23 +25,23 @@ use Rattle.pmt_laws.proofs.DecidedLemmas.{IsSameTo, act-more, act-less, event-mo
 use Rattle.pmt_laws.proofs.PassLemmas.{are_open}
 use Rattle.pmt_asserts.specs.Tables.{IsLastAt}
 use Rattle.pmt_asserts.specs.Judging.{event_asserts}
-use Rattle.pmt_sweep.specs.declared.rows.LineRow.{LineRow}
+use Rattle.pmt_live.specs.Places.{IsPlaceOf}
 use Rattle.pmt_sweep.specs.declared.byte_tables.ByteTable.{ByteTable}
 use Rattle.pmt_sweep.specs.declared.writers.Writer.{Writer}
 use Rattle.pmt_sweep.specs.declared.sweeping.Progress.{Progress}
 use Rattle.pmt_sweep.specs.declared.judging.Judging.{Judging}
 use Rattle.pmt_sweep.specs.declared.growing.Sweeper.{Sweeper}
 use Rattle.pmt_sweep.specs.Known.{is_known_late, AreKnownTo}
-use Rattle.pmt_sweep.specs.Rows.{AreRows, last_line_store}
+use Rattle.pmt_sweep.specs.Pasts.{last_line_store}
+use Rattle.pmt_sweep.specs.Lines.{AreKnown}
 use Rattle.pmt_sweep.specs.Chains.{AreChained, AreLinked}
 use Rattle.pmt_sweep.specs.declared.note.Note.{Note}
 use Rattle.pmt_sweep.specs.declared.note.Note.TheVariants.{Store, Flush, Clflush, Fence, Assertion}
 use Rattle.pmt_sweep.specs.Notes.{IsNoted}
 use Rattle.pmt_sweep.specs.ByteTables.{IsLastTo, AreTables}
 use Rattle.pmt_sweep.specs.Ending.{StandAt}
-use Rattle.pmt_sweep.specs.OpenFlushes.{AreNumbered, number_in}
-use Rattle.pmt_sweep.specs.Flags.{IsOpenAt, AreFlagsTo}
-use Rattle.pmt_sweep.specs.Sweeping.{AreOpen, IsSweepOf, taken}
+use Rattle.pmt_sweep.specs.Flags.{number_in, IsOpenAt, AreFlagsTo}
+use Rattle.pmt_sweep.specs.Sweeping.{IsSweepOf, taken}
 use Rattle.pmt_sweep.specs.Writers.{AreWriters, IsSafe as IsSafeFrom}
 use Rattle.pmt_sweep.specs.LineWriters.{AreLineWriters, writers_at}
 use Rattle.pmt_sweep.specs.VerdictsSoFar.{AreVerdictsTo}
@@ -154,8 +154,9 @@ module _ (S : Recording) (more : List Event) where
     noted = λ i d within. noted-same (suc i) (get_or notes i d) (omega (arith, within, linked.all, linked.within)) (linked.noted i d within);
   }
 
-  standing-more : (rows : List LineRow) (places : List ℕ) → length places ≤ length S.events → StandAt S rows places → StandAt grown rows places
-  standing-more rows places few standing i l a within is line = standing i l a within (act-less S more (suc i) a (omega (arith, within, few)) is) line
+  standing-more : (n : ℕ) (places : List ℕ) → n ≤ length S.events → length places ≤ length S.events → StandAt S n places → StandAt grown n places
+  standing-more n places by_now few standing i l a within is line =
+      rw (history-more S more n by_now) (standing i l a within (act-less S more (suc i) a (omega (arith, within, few)) is) line)
 
   last_to-more : (l n b number : ℕ) → n ≤ length S.events → IsLastTo S l n b number → IsLastTo grown l n b number
   last_to-more l n b number few is = record {
@@ -212,13 +213,11 @@ module _ (S : Recording) (more : List Event) where
       record {
         format = sweep.format;
         linked = linked-more s.before.items s.notes.items trace sweep.linked;
-        rows = subst (λ h. AreRows h s.rows) here sweep.rows;
-        opens = subst (λ h. AreOpen h s.rows s.open_flushes) here sweep.opens;
+        lines = subst (λ h. AreKnown h s.lines) here sweep.lines;
         tables = tables-more (taken s) s.tables sweep.linked.within sweep.tables;
         all = sweep.all;
-        standing = standing-more s.rows s.places.items (omega (arith, sweep.all, sweep.linked.within)) sweep.standing;
+        standing = standing-more (taken s) s.places.items sweep.linked.within (omega (arith, sweep.all, sweep.linked.within)) sweep.standing;
         known = subst (λ n. AreKnownTo grown n s.found.items) (sym all) (known-more s.found.items (subst (λ n. AreKnownTo S n s.found.items) all sweep.known));
-        numbered = subst (λ h. AreNumbered h s.rows s.open_flushes s.open_numbers) here sweep.numbered;
         flags = subst (λ n. AreFlagsTo grown n s.kept.items) (sym all) (flags-more s.kept.items (subst (λ n. AreFlagsTo S n s.kept.items) all sweep.flags));
       }
 
@@ -247,8 +246,13 @@ module _ (S : Recording) (more : List Event) where
     all = λ o h. elim (are.all o h) [ inl none ↦ inl (rw (history-more S more n few) none) | inr x ↦ inr x ];
   }
 
-  line_writers-more : (n : ℕ) (rows : List LineRow) (lines : List (List Writer)) → n ≤ length S.events → AreLineWriters S n rows lines → AreLineWriters grown n rows lines
-  line_writers-more n rows lines few are = record { few = are.few; each = λ l place at. writers-more l n (writers_at lines place) few (are.each l place at) }
+  line_writers-more : (n : ℕ) (lines : List (List Writer)) → n ≤ length S.events → AreLineWriters S n lines → AreLineWriters grown n lines
+  line_writers-more n lines few are =
+      let here : history S n ≡ history grown n = sym (history-more S more n few) in
+      record {
+        few = subst (λ h. length lines ≤ length (lines_of h)) here are.few;
+        each = λ l place at. writers-more l n (writers_at lines place) few (are.each l place (subst (λ h. IsPlaceOf l place (lines_of h)) (sym here) at));
+      }
 
   verdict-more : (v : Verdict) → v.event ≤ length S.events → IsVerdictOf S v → IsVerdictOf grown v
   verdict-more v h (OfPersist e at r op kind pass) =
@@ -278,7 +282,7 @@ module _ (S : Recording) (more : List Event) where
     known = record {
       here = is.known.here;
       sweep = sweep-more j.progress trace is.known.here is.known.sweep;
-      writers = line_writers-more (length S.events) j.progress.rows j.writers (omega arith) is.known.writers;
+      writers = line_writers-more (length S.events) j.writers (omega arith) is.known.writers;
     };
     verdicts = verdicts-more j.verdicts.items is.verdicts;
   }

@@ -1,20 +1,21 @@
 -- What is found when an event comes.
-use Rattle.std.proofs.Common.{◌≡◌, ◌≢◌, ℕ, suc, ◌≤◌, ◌⊎◌, inl, inr, Bool, true, false, List, [], ◌++◌, refl, sym, subst, arith}
-use Rattle.std.specs.Prelude.{nat_le}
-use Rattle.std.proofs.lemmas.Bool.{true≢false}
+use Rattle.std.proofs.Common.{◌≡◌, ◌≢◌, ℕ, suc, ◌-◌, ◌≤◌, ◌⊎◌, inl, inr, Bool, true, false, List, [], ◌++◌, refl, sym, ap, subst, ◌∙◌, arith}
+use Rattle.std.specs.Prelude.{not, ◌↔◌, max, nat_lt, unwrap_or}
+use Rattle.std.proofs.lemmas.Bool.{cases_lt, le-ltb, lt-ltb, false≢true, true≢false}
 use Rattle.pmt_model.specs.declared.finding.Finding.{Finding}
 use Rattle.pmt_model.specs.declared.finding.Finding.TheVariants.{Overwritten, NeverPersisted, RedundantFlush, FenceWithoutFlush}
 use Rattle.pmt_model.specs.Values.{Written}
-use Rattle.pmt_model.specs.Machine.{Act, Stores, Flushes, Clflushes, Fences, Asserts}
-use Rattle.pmt_model.specs.Traces.{Recording, IsAct, history}
-use Rattle.pmt_model.specs.Findings.{IsEmptyFence}
+use Rattle.pmt_model.specs.Machine.{Act, Stores, Flushes, Clflushes, Fences, Asserts, count}
+use Rattle.pmt_model.specs.Traces.{Recording, IsAct, history, count_at}
+use Rattle.pmt_model.specs.Fronts.{front_at, open_mark}
+use Rattle.pmt_model.specs.Findings.{IsEmptyFence, IsRedundantFlush, IsRedundantClflush}
 use Rattle.pmt_model.specs.Analyses.{reported_at, HasFinding, IsFinding}
-use Rattle.pmt_laws.proofs.Histories.{act-unique}
-use Rattle.pmt_marks.specs.Lines.{Line, Follows}
-use Rattle.pmt_lines.specs.LineFindings.{IsLineFinding}
-use Rattle.pmt_lines.specs.Scans.{found_if, is_flush_covered}
+use Rattle.pmt_laws.proofs.Histories.{act-unique, history-act}
+use Rattle.pmt_laws.proofs.RedundantLemmas.{redundant_flush_by_fronts, redundant_clflush_by_fronts}
+use Rattle.pmt_lines.specs.Scans.{found_if}
 use Rattle.pmt_lines.proofs.FindingLists.{has-append, has-left, has-right, ordered-append, has-if, if-has, if-ordered}
-use Rattle.pmt_lines.proofs.ReportLemmas.{AreFoundAt, found-at_flush, found-at_clflush}
+use Rattle.pmt_sweep.specs.Pasts.{is_flush_covered}
+use Rattle.pmt_sweep.proofs.PastLemmas.{covered-tells}
 use Rattle.pmt_sweep.specs.Known.{is_known_late, AreKnownAt, AreKnownTo}
 
 -- a finding up to the next event is at that one or before
@@ -40,70 +41,82 @@ known-next T n old found before here = record {
       | inr sooner ↦ has-left old found f ((before.just f).1 (h.0, h.1, sooner))
     ]
 
--- The acts that a finding other than an overwritten or never persisted store is at.
-data IsFlushing : Act → Type 0 where
-  AFlush : (t l : ℕ) → IsFlushing (Flushes t l)
-  AClflush : (l : ℕ) → IsFlushing (Clflushes l)
-  AFence : (t : ℕ) → IsFlushing (Fences t)
-  AnAssertion : IsFlushing Asserts
-
-no-store : (a : Act) → IsFlushing a → (l : ℕ) (w : Written) → a ≢ Stores l w
-no-store (Stores k v) is l w e = elim is [ ]
-no-store (Flushes t k) is l w e = cc
-no-store (Clflushes k) is l w e = cc
-no-store (Fences t) is l w e = cc
-no-store Asserts is l w e = cc
-
--- what is found at an event that is flushing store is known when it comes, and is flushing overwritten store
-early : (T : Recording) (i : ℕ) (a : Act) (f : Finding) → IsAct T i a → IsFlushing a → IsFinding T f → reported_at f ≡ i → is_known_late f ≡ false
-early T i a (Overwritten j k) is flushing h at = refl
-early T i a (NeverPersisted k flushed) is flushing h at =
-    absurd (no-store a flushing h.0 h.1.what (act-unique T i a (Stores h.0 h.1.what) is (subst (λ m. IsAct T m (Stores h.0 h.1.what)) at h.1.is_store)))
-early T i a (RedundantFlush k) is flushing h at = refl
-early T i a (FenceWithoutFlush k) is flushing h at = refl
-
--- what is found of the line of a flush or clflush is all that is found there
-from_line : (T : Recording) (l i : ℕ) (a : Act) (found : List Finding) → IsAct T i a → IsFlushing a → ((t k : ℕ) → a ≡ Flushes t k → k ≡ l) → ((k : ℕ) → a ≡ Clflushes k → k ≡ l) → ((t : ℕ) → a ≢ Fences t) → AreFoundAt T l i found → AreKnownAt T i found
-from_line T l i a found is flushing flush clflush fence are = record { ordered = are.ordered; just = λ f. (there f, back f) }
+-- what is found at a flush or clflush is that it is redundant
+known-covered :
+    (T : Recording) (i : ℕ) (a : Act) (b : Bool) → IsAct T i a → ((l : ℕ) (w : Written) → a ≢ Stores l w) → ((t : ℕ) → a ≢ Fences t) → (b ≡ true) ↔ IsFinding T (RedundantFlush i) →
+    AreKnownAt T i (found_if b (RedundantFlush i))
+known-covered T i a b is no_store no_fence tells = record { ordered = if-ordered b (RedundantFlush i); just = λ f. (there f, λ h. back f h.0 h.1 h.2) }
   where
-    whole : (f : Finding) → IsLineFinding T l f → IsFinding T f
-    whole (Overwritten j k) h = h.0
-    whole (NeverPersisted k flushed) h = (l, h.0, h.1)
-    whole (RedundantFlush k) (inl h) = inl (h.0, l, h.1)
-    whole (RedundantFlush k) (inr h) = inr (l, h)
-    whole (FenceWithoutFlush k) h = absurd h
-
-    there : (f : Finding) → HasFinding found f → IsFinding T f × (is_known_late f ≡ false) × (reported_at f ≡ i)
+    there : (f : Finding) → HasFinding (found_if b (RedundantFlush i)) f → IsFinding T f × (is_known_late f ≡ false) × (reported_at f ≡ i)
     there f has =
-        let x = (are.just f).0 has in
-        let y = whole f x.0 in
-        (y, early T i a f is flushing y x.1, x.1)
+        let x = has-if b (RedundantFlush i) f has in
+        subst (λ g. IsFinding T g × (is_known_late g ≡ false) × (reported_at g ≡ i)) x.1 (tells.0 x.0, refl, refl)
 
-    line : (f : Finding) → IsFinding T f → is_known_late f ≡ false → reported_at f ≡ i → IsLineFinding T l f
-    line (Overwritten j k) h known at =
-        absurd (no-store a flushing h.line h.later (act-unique T i a (Stores h.line h.later) is (subst (λ m. IsAct T m (Stores h.line h.later)) at h.is_later)))
-    line (NeverPersisted k flushed) h known at = absurd (true≢false known)
-    line (RedundantFlush k) (inl h) known at =
-        let e = flush h.0 h.1 (act-unique T i a (Flushes h.0 h.1) is (subst (λ m. IsAct T m (Flushes h.0 h.1)) at h.2.is_flush)) in
-        subst (λ m. IsLineFinding T m (RedundantFlush k)) e (inl (h.0, h.2))
-    line (RedundantFlush k) (inr h) known at =
-        let e = clflush h.0 (act-unique T i a (Clflushes h.0) is (subst (λ m. IsAct T m (Clflushes h.0)) at h.1.is_clflush)) in
-        subst (λ m. IsLineFinding T m (RedundantFlush k)) e (inr h.1)
-    line (FenceWithoutFlush k) h known at =
-        absurd (fence h.thread (act-unique T i a (Fences h.thread) is (subst (λ m. IsAct T m (Fences h.thread)) at h.is_fence)))
-
-    back : (f : Finding) → IsFinding T f × (is_known_late f ≡ false) × (reported_at f ≡ i) → HasFinding found f
-    back f h = (are.just f).1 (line f h.0 h.1 h.2, h.2)
+    back : (f : Finding) → IsFinding T f → is_known_late f ≡ false → reported_at f ≡ i → HasFinding (found_if b (RedundantFlush i)) f
+    back (Overwritten j k) h known at = absurd (no_store h.line h.later (act-unique T i a (Stores h.line h.later) is (subst (λ m. IsAct T m (Stores h.line h.later)) at h.is_later)))
+    back (NeverPersisted k flushed) h known at = absurd (true≢false known)
+    back (RedundantFlush k) h known at =
+        subst (λ m. HasFinding (found_if b (RedundantFlush i)) (RedundantFlush m)) (sym at) (if-has b (RedundantFlush i) (tells.1 (subst (λ m. IsFinding T (RedundantFlush m)) at h)))
+    back (FenceWithoutFlush k) h known at = absurd (no_fence h.thread (act-unique T i a (Fences h.thread) is (subst (λ m. IsAct T m (Fences h.thread)) at h.is_fence)))
 
 -- at a flush
-pub known-flush : (T : Recording) (l n t : ℕ) (line : Line) → Follows l (history T n) line → IsAct T (suc n) (Flushes t l) → AreKnownAt T (suc n) (found_if (is_flush_covered line t) (RedundantFlush (suc n)))
-known-flush T l n t line follows is =
-    from_line T l (suc n) (Flushes t l) (found_if (is_flush_covered line t) (RedundantFlush (suc n))) is (AFlush t l) (λ u k e. cc) (λ k e. cc) (λ u e. cc) (found-at_flush T l n t line follows is)
+pub known-flush : (T : Recording) (l n t : ℕ) → IsAct T (suc n) (Flushes t l) → AreKnownAt T (suc n) (found_if (is_flush_covered t l (history T n)) (RedundantFlush (suc n)))
+known-flush T l n t is =
+    known-covered T (suc n) (Flushes t l) (is_flush_covered t l (history T n)) is (λ k w e. cc) (λ u e. cc) ((λ e. inl (t, l, law.1 (counted (told.0 e)))), (λ h. told.1 (there h)))
+  where
+    before : suc n - 1 ≡ n
+    before = omega arith
+
+    same : count_at T l (suc n) ≡ count_at T l n
+    same = ap (count l) (history-act T n (Flushes t l) is)
+
+    told : (is_flush_covered t l (history T n) ≡ true) ↔ (count_at T l n ≤ max (front_at T l n) (unwrap_or (open_mark t l (history T n)) 0))
+    told = covered-tells t l (history T n)
+
+    law : IsRedundantFlush T t l (suc n) ↔ (count_at T l (suc n) ≤ max (front_at T l (suc n - 1)) (unwrap_or (open_mark t l (history T (suc n - 1))) 0))
+    law = redundant_flush_by_fronts T t l (suc n) is
+
+    counted : count_at T l n ≤ max (front_at T l n) (unwrap_or (open_mark t l (history T n)) 0) → count_at T l (suc n) ≤ max (front_at T l (suc n - 1)) (unwrap_or (open_mark t l (history T (suc n - 1))) 0)
+    counted below = rw (same, before) below
+
+    there : IsFinding T (RedundantFlush (suc n)) → count_at T l n ≤ max (front_at T l n) (unwrap_or (open_mark t l (history T n)) 0)
+    there (inl h) =
+        let act = act-unique T (suc n) (Flushes h.0 h.1) (Flushes t l) h.2.is_flush is in
+        let thread : h.0 ≡ t = cc in
+        let line : h.1 ≡ l = cc in
+        let own : IsRedundantFlush T t l (suc n) = subst (λ k. IsRedundantFlush T t k (suc n)) line (subst (λ u. IsRedundantFlush T u h.1 (suc n)) thread h.2) in
+        rw (same, before) at (law.0 own)
+    there (inr h) = absurd (let e = act-unique T (suc n) (Flushes t l) (Clflushes h.0) is h.1.is_clflush in let no : ⊥ = cc in no)
 
 -- at a clflush
-pub known-clflush : (T : Recording) (l n : ℕ) (line : Line) → Follows l (history T n) line → IsAct T (suc n) (Clflushes l) → AreKnownAt T (suc n) (found_if (nat_le line.count line.front) (RedundantFlush (suc n)))
-known-clflush T l n line follows is =
-    from_line T l (suc n) (Clflushes l) (found_if (nat_le line.count line.front) (RedundantFlush (suc n))) is (AClflush l) (λ u k e. cc) (λ k e. cc) (λ u e. cc) (found-at_clflush T l n line follows is)
+pub known-clflush : (T : Recording) (l n : ℕ) → IsAct T (suc n) (Clflushes l) → AreKnownAt T (suc n) (found_if (not (nat_lt (front_at T l n) (count_at T l n))) (RedundantFlush (suc n)))
+known-clflush T l n is =
+    known-covered T (suc n) (Clflushes l) (not (nat_lt (front_at T l n) (count_at T l n))) is (λ k w e. cc) (λ u e. cc) ((λ e. inr (l, law.1 (counted (below (front_at T l n) (count_at T l n) e)))), (λ h. above (front_at T l n) (count_at T l n) (there h)))
+  where
+    before : suc n - 1 ≡ n
+    before = omega arith
+
+    same : count_at T l (suc n) ≡ count_at T l n
+    same = ap (count l) (history-act T n (Clflushes l) is)
+
+    law : IsRedundantClflush T l (suc n) ↔ (count_at T l (suc n) ≤ front_at T l (suc n - 1))
+    law = redundant_clflush_by_fronts T l (suc n) is
+
+    counted : count_at T l n ≤ front_at T l n → count_at T l (suc n) ≤ front_at T l (suc n - 1)
+    counted low = rw (same, before) low
+
+    below : (f c : ℕ) → not (nat_lt f c) ≡ true → c ≤ f
+    below f c e = elim (cases_lt f c) [ inl less ↦ absurd (let up = lt-ltb f c less in false≢true (sym (ap not up) ∙ e)) | inr low ↦ low ]
+
+    above : (f c : ℕ) → c ≤ f → not (nat_lt f c) ≡ true
+    above f c low = let e = le-ltb f c low in ap not e
+
+    there : IsFinding T (RedundantFlush (suc n)) → count_at T l n ≤ front_at T l n
+    there (inl h) = absurd (let e = act-unique T (suc n) (Clflushes l) (Flushes h.0 h.1) is h.2.is_flush in let no : ⊥ = cc in no)
+    there (inr h) =
+        let act = act-unique T (suc n) (Clflushes h.0) (Clflushes l) h.1.is_clflush is in
+        let line : h.0 ≡ l = cc in
+        rw (same, before) at (law.0 (subst (λ k. IsRedundantClflush T k (suc n)) line h.1))
 
 -- at an assertion
 pub known-assertion : (T : Recording) (n : ℕ) → IsAct T n Asserts → AreKnownAt T n []

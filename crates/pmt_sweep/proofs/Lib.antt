@@ -1,5 +1,4 @@
-pub mod RowLemmas
-pub mod FenceLemmas
+pub mod PastLemmas
 pub mod JoiningLemmas
 pub mod EndingLemmas
 pub mod KnownLemmas
@@ -8,8 +7,6 @@ pub mod ChainLemmas
 pub mod StoringLemmas
 pub mod ByteTableLemmas
 pub mod OverwritingLemmas
-pub mod OpenLemmas
-pub mod NumberedLemmas
 pub mod FlagLemmas
 pub mod DecidingLemmas
 pub mod SweepLemmas
@@ -21,7 +18,6 @@ pub mod SpacingLemmas
 pub mod LineWriterLemmas
 pub mod SettlingLemmas
 pub mod VerdictsSoFar
-pub mod FindLemmas
 pub mod AnswerLemmas
 pub mod JudgingLemmas
 pub mod RejudgingLemmas

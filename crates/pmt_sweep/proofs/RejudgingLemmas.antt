@@ -4,19 +4,20 @@ use Rattle.std.specs.Prelude.{◌^◌}
 use Rattle.std.specs.List.{list_any}
 use Rattle.std.proofs.lemmas.Bool.{false≢true}
 use Rattle.std.proofs.lemmas.List.{get_or_default}
+use Rattle.std.proofs.lemmas.Option.{get_or_from_slice_get, slice_get_within}
 use Rattle.pmt_model.specs.declared.event.Op.{Op}
 use Rattle.pmt_model.specs.declared.event.Op.TheVariants.{Store, Clwb, ClflushOpt, Clflush, Sfence, Mfence, IsPersist, IsOrderedBefore}
 use Rattle.pmt_model.specs.Values.{Layout, Written}
 use Rattle.pmt_model.specs.Machine.{Act, Stores, Flushes, Clflushes, Fences, Asserts}
-use Rattle.pmt_model.specs.Traces.{Recording, IsTrace, IsAct, act_of}
+use Rattle.pmt_model.specs.Traces.{Recording, IsTrace, IsAct, act_of, history, lines_of}
 use Rattle.pmt_asserts.specs.Judging.{asserts, event_asserts}
 use Rattle.pmt_sweep.specs.declared.note.Note.{Note}
 use Rattle.pmt_sweep.specs.declared.sweeping.Progress.{Progress}
 use Rattle.pmt_sweep.specs.Notes.{AreNoted, IsNoted, IsNotedStore, StoresBytes}
 use Rattle.pmt_sweep.specs.Ending.{line_touched}
-use Rattle.pmt_sweep.specs.Rows.{IsPlaceOf}
+use Rattle.pmt_live.specs.Places.{IsPlaceOf}
 use Rattle.pmt_sweep.specs.Rejudging.{IsLineOf}
-use Rattle.pmt_sweep.specs.Sweeping.{IsSweepOf}
+use Rattle.pmt_sweep.specs.Sweeping.{IsSweepOf, taken}
 use Rattle.pmt_sweep.proofs.StoringLemmas.{line-start, stored-after, stored-line_small, stored-small}
 use Rattle.pmt_sweep.proofs.VerdictsSoFar.{event-unasserted}
 
@@ -35,9 +36,17 @@ pub unasserting : (T : Recording) (number : ℕ) → list_any event_asserts T.ev
 unasserting T number none is = false≢true (sym (event-unasserted T number is.0 none is.1) ∙ asserting T.format is.0.thread is.0.op is.2)
 
 -- the place that is read
-pub place-read : (T : Recording) (s : Progress) (i place l : ℕ) (a : Act) → IsSweepOf T s → i < length s.places.items → place ≡ get_or s.places.items i place → IsAct T (suc i) a → line_touched a ≡ Some l → IsPlaceOf l place s.rows
+pub place-read : (T : Recording) (s : Progress) (i place l : ℕ) (a : Act) → IsSweepOf T s → i < length s.places.items → place ≡ get_or s.places.items i place → IsAct T (suc i) a → line_touched a ≡ Some l → IsPlaceOf l place (lines_of (history T (taken s)))
 place-read T s i place l a sweep within read is line =
-    subst (λ p. IsPlaceOf l p s.rows) (get_or_default s.places.items i 0 place within ∙ sym read) (sweep.standing i l a within is line)
+    subst (λ p. IsPlaceOf l p (lines_of (history T (taken s)))) (get_or_default s.places.items i 0 place within ∙ sym read) (sweep.standing i l a within is line)
+
+-- and the line that stands there
+pub line-inside : (T : Recording) (s : Progress) (l place : ℕ) (lines : List ℕ) → IsSweepOf T s → lines ≡ s.lines.live.lines → IsPlaceOf l place (lines_of (history T (taken s))) → place < length lines
+line-inside T s l place lines sweep read at =
+    omega (arith, slice_get_within (lines_of (history T (taken s))) place l at, ap length (read ∙ sweep.lines.live.placed))
+
+pub line-read : (T : Recording) (s : Progress) (l place : ℕ) (lines : List ℕ) → IsSweepOf T s → lines ≡ s.lines.live.lines → IsPlaceOf l place (lines_of (history T (taken s))) → get_or lines place 0 ≡ l
+line-read T s l place lines sweep read at = ap (λ ls. get_or ls place 0) (read ∙ sweep.lines.live.placed) ∙ get_or_from_slice_get (lines_of (history T (taken s))) place l 0 at
 
 -- the note that is read
 pub note-read : (T : Recording) (s : Progress) (i : ℕ) (read note : Note) → IsSweepOf T s → i < length s.notes.items → read ≡ get_or s.notes.items i read → read ≡ note → IsNoted T (suc i) note

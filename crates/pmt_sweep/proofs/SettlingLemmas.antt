@@ -1,62 +1,78 @@
 -- What a fence makes safe: the fronts after it, and the stores of lines, place by place.
-use Rattle.std.proofs.Common.{◌≡◌, ◌≢◌, ℕ, ◌+◌, ◌-◌, ◌<◌, take, ◌⊎◌, inl, inr, Bool, true, false, List, [], ◌∷◌, ◌++◌, length, get_or, map, Option, None, Some, refl, sym, ap, subst, ◌∙◌, arith}
-use Rattle.std.specs.Prelude.{◌==◌, ◌&&◌, nat_le, if◌then◌else◌, max, unwrap_or}
-use Rattle.std.proofs.lemmas.Bool.{both_ways, cases_eq, eq-eqb, ne_eqb, or_parts}
-use Rattle.std.proofs.lemmas.List.{get_or-map, take_more}
-use Rattle.std.proofs.lemmas.Option.{get_or_from_slice_get}
+use Rattle.std.proofs.Common.{◌≡◌, ◌≢◌, ℕ, zero, suc, ◌+◌, ◌-◌, ◌<◌, take, ◌⊎◌, inl, inr, Bool, true, false, List, [], ◌∷◌, ◌++◌, length, get_or, map, Some, refl, sym, ap, ◌∙◌, arith}
+use Rattle.std.specs.Prelude.{◌==◌, ◌&&◌, nat_eq, nat_le, if◌then◌else◌, All}
+use Rattle.std.specs.List.{IsDistinct}
+use Rattle.std.proofs.lemmas.Bool.{cases_eq, eq-eqb, eqb-false, ne_eqb, or_parts}
+use Rattle.std.proofs.lemmas.List.{length-map, take_more}
+use Rattle.std.proofs.lemmas.Option.{get_or_from_slice_get, slice_get-get_or}
 use Rattle.pmt_model.specs.Machine.{Act, Fences}
-use Rattle.pmt_model.specs.Traces.{has_line}
-use Rattle.pmt_model.specs.Fronts.{front, open_mark}
-use Rattle.pmt_marks.specs.Lines.{Follows}
-use Rattle.pmt_marks.proofs.FollowLemmas.{front-fence}
+use Rattle.pmt_model.specs.Traces.{Recording, history, has_line, lines_of}
+use Rattle.pmt_model.specs.Fronts.{front}
+use Rattle.pmt_laws.specs.Passing.{open_flushes, most}
+use Rattle.pmt_laws.proofs.PassLemmas.{fence_raises}
 use Rattle.pmt_lines.proofs.PlaceLemmas.{has_line-push, has_line-push_other, has_line-push_same}
-use Rattle.pmt_sweep.specs.declared.rows.LineRow.{LineRow}
+use Rattle.pmt_live.specs.declared.open.OpenFlush.{OpenFlush}
+use Rattle.pmt_live.specs.declared.live.LiveLines.{LiveLines}
+use Rattle.pmt_live.specs.Places.{IsPlaceOf}
+use Rattle.pmt_live.specs.Live.{row_after, IsLive, IsLiveWith, list_at, flushed}
+use Rattle.pmt_live.specs.Fencing.{DecidesFence, place_in}
+use Rattle.pmt_live.proofs.ListLemmas.{one-place}
 use Rattle.pmt_sweep.specs.declared.writers.Writer.{Writer}
-use Rattle.pmt_sweep.specs.Rows.{line_in, IsRow, AreRows, IsPlaceOf, HasOpen}
 use Rattle.pmt_sweep.specs.Writers.{settled}
 use Rattle.pmt_sweep.specs.LineWriters.{writers_at, SettlesAll}
-use Rattle.pmt_sweep.specs.Settling.{front_after, fence_front}
-use Rattle.pmt_sweep.proofs.RowLemmas.{place-within, fresh}
+use Rattle.pmt_sweep.specs.Settling.{front_there, HasFenced}
 
 -- the fronts after a fence
 
--- that of the row at a place
-pub fence_front-read : (t : ℕ) (rows : List LineRow) (place : ℕ) (row : LineRow) → place < length rows → row ≡ get_or rows place row → front_after t row ≡ fence_front t rows place
-fence_front-read t rows place row within read = ap (front_after t) read ∙ sym (get_or-map (front_after t) rows place row 0 within)
+-- that of the line at a place
+pub there-place : (lines : List ℕ) (place : ℕ) → place < length lines → IsPlaceOf (get_or lines place 0) place lines
+there-place lines place within = slice_get-get_or lines place 0 within
 
--- the front that is told is that after the fence
-pub fence_front-is : (t l q : ℕ) (h : List Act) (rows : List LineRow) → AreRows h rows → IsPlaceOf l q rows → fence_front t rows q ≡ front l (Fences t ∷ h)
-fence_front-is t l q h rows are at = get_or-map (front_after t) rows q (fresh l) 0 within ∙ told ∙ sym (front-fence t l h)
-  where
-    within : q < length rows
-    within = place-within l q rows at
+pub rows-lines : (lines : List ℕ) (h : List Act) (live : LiveLines) (p : ℕ) → IsLiveWith lines h live → p < length live.rows.items → p < length lines
+rows-lines lines h live p is within = omega (arith, within, ap length is.rows, length-map lines (row_after h))
 
-    row : LineRow
-    row = get_or rows q (fresh l)
+pub there-front : (lines : List ℕ) (h : List Act) (l q : ℕ) → IsPlaceOf l q lines → front_there lines h q ≡ front l h
+there-front lines h l q at = ap (λ k. front k h) (get_or_from_slice_get lines q l 0 at)
 
-    line : row.line ≡ l
-    line = sym (get_or-map line_in rows q (fresh l) 0 within) ∙ get_or_from_slice_get (map line_in rows) q l 0 at
-
-    is : IsRow h row
-    is = are.each q (fresh l) within
-
-    follows : Follows l h row.state
-    follows = subst (λ k. Follows k h row.state) line is.follows
-
-    told : front_after t row ≡ max (front l h) (unwrap_or (open_mark t l h) 0)
-    told = rw (follows.fronts, follows.marks t) refl
+-- flushes of other lines cover nothing
+most-absent : (lines : List ℕ) (l q : ℕ) (flushes : List OpenFlush) → IsDistinct nat_eq lines → IsPlaceOf l q lines → All (λ f. f.place < length lines) flushes → has_line q (map place_in flushes) ≡ false →
+    most l (map (flushed lines) flushes) ≡ 0
+most-absent lines l q [] once at within none = refl
+most-absent lines l q (f ∷ flushes) once at within none =
+    let parts = or_parts (f.place == q) (has_line q (map place_in flushes)) none in
+    let rest = most-absent lines l q flushes once at (λ k d h. within (suc k) d (omega arith)) parts.1 in
+    let inside : f.place < length lines = within 0 f (omega arith) in
+    let other : get_or lines f.place 0 ≢ l = λ same. eqb-false f.place q parts.0 (one-place lines l f.place q once (there-place lines f.place inside ∙ ap (λ (k : ℕ). Some k) same) at) in
+    let e : (get_or lines f.place 0 == l) ≡ false = ne_eqb (get_or lines f.place 0) l other in
+    rw e rest
 
 -- a line with no open flush of the thread keeps its front
-pub fence_front-stays :
-    (t l q : ℕ) (h : List Act) (places : List ℕ) (rows : List LineRow) → AreRows h rows → HasOpen t h places rows → IsPlaceOf l q rows →
+pub fence-stays : (lines : List ℕ) (h : List Act) (t l q : ℕ) (live : LiveLines) (places : List ℕ) → IsLiveWith lines h live → places ≡ map place_in (list_at t live.open_flushes) → IsPlaceOf l q lines →
     has_line q places ≡ false → front l (Fences t ∷ h) ≡ front l h
-fence_front-stays t l q h places rows are has at absent = front-fence t l h ∙ go (open_mark t l h) refl
+fence-stays lines h t l q live places is same at none =
+    let absent = most-absent lines l q (list_at t live.open_flushes) is.once at (is.within t) (ap (has_line q) (sym same) ∙ none) in
+    let nothing : most l (open_flushes t h) ≡ 0 = ap (most l) (sym (is.open_lists t)) ∙ absent in
+    omega (arith, fence_raises t l h, nothing)
+
+-- what a fence has decided stands at places of lines
+placed-same : (size : ℕ) (flushes decided : List OpenFlush) → map place_in decided ≡ map place_in flushes → All (λ f. f.place < size) flushes → All (λ f. f.place < size) decided
+placed-same size [] [] same within = within
+placed-same size [] (g ∷ decided) same within = absurd (let no : ⊥ = cc in no)
+placed-same size (f ∷ flushes) [] same within = absurd (let no : ⊥ = cc in no)
+placed-same size (f ∷ flushes) (g ∷ decided) same within = λ k d h. go k d h (placed-same size flushes decided (cc) (λ j e inside. within (suc j) e (omega arith)))
   where
-    go : (stores : Option ℕ) → open_mark t l h ≡ stores → max (front l h) (unwrap_or stores 0) ≡ front l h
-    go None e = omega arith
-    go (Some stores) e =
-        let open_flush : open_mark t l h ≢ None = λ none. let clash : Some stores ≡ None = sym e ∙ none in (cc) in
-        absurd (both_ways (has_line q places) absent (has l q at open_flush))
+    first : g.place ≡ f.place
+    first = cc
+
+    go : (k : ℕ) (d : OpenFlush) → k < length (g ∷ decided) → All (λ x. x.place < size) decided → (get_or (g ∷ decided) k d).place < size
+    go zero d h further = omega (arith, first, within 0 f (omega arith))
+    go (suc k) d h further = further k d (omega arith)
+
+pub has-fenced : (T : Recording) (n t : ℕ) (old new : LiveLines) (rises : Bool) → IsLive (history T n) old → DecidesFence T n (list_at t old.open_flushes) new.decided.items rises → HasFenced T n t new
+has-fenced T n t old new rises is decides = record {
+  placed = placed-same (length (lines_of (history T n))) (list_at t old.open_flushes) new.decided.items decides.places (is.within t);
+  stays = λ l place at none. fence-stays (lines_of (history T n)) (history T n) t l place old (map place_in new.decided.items) is decides.places at none;
+}
 
 -- the stores of the lines
 

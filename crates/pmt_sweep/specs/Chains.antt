@@ -5,7 +5,7 @@ use Rattle.pmt_model.specs.Machine.{Stores}
 use Rattle.pmt_model.specs.Traces.{Recording, IsTrace, IsAct, history}
 use Rattle.pmt_model.specs.Findings.{last_store_number}
 use Rattle.pmt_sweep.specs.declared.note.Note.{Note}
-use Rattle.pmt_sweep.specs.Rows.{last_line_store}
+use Rattle.pmt_sweep.specs.Pasts.{last_line_store}
 use Rattle.pmt_sweep.specs.Notes.{AreNoted}
 
 -- Of each of the first events that is a store, the number of the store to its line before it, or 0.

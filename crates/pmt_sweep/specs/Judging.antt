@@ -10,7 +10,7 @@ use Rattle.pmt_sweep.specs.VerdictsSoFar.{AreVerdictsTo}
 pub record IsKnownTo (T : Recording) (n : ℕ) (j : Judging) : Type 0 where
   pub here : taken j.progress ≡ n
   pub sweep : IsSweepOf T j.progress
-  pub writers : AreLineWriters T n j.progress.rows j.writers
+  pub writers : AreLineWriters T n j.writers
 
 -- It has taken the first n events of the trace, and judged the assertions among them.
 pub record IsJudgingOf (T : Recording) (n : ℕ) (j : Judging) : Type 0 where

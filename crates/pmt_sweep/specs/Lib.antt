@@ -1,5 +1,6 @@
 pub mod Known
-pub mod Rows
+pub mod Pasts
+pub mod Lines
 pub mod Notes
 pub mod Chains
 pub mod ByteTables
@@ -16,6 +17,5 @@ pub mod VerdictsSoFar
 pub mod Judging
 pub mod Rejudging
 pub mod Distances
-pub mod OpenFlushes
 pub mod Flags
 pub mod Growing

@@ -1,19 +1,18 @@
--- The writers of all lines, by the places of the lines' rows.
+-- The writers of all lines, by the places of the lines.
 use Rattle.std.specs.Prelude.{◌≡◌, ◌≢◌, ℕ, suc, ◌≤◌, true, false, List, [], length, map, max, get_or}
-use Rattle.pmt_model.specs.Traces.{Recording, has_line}
-use Rattle.pmt_sweep.specs.declared.rows.LineRow.{LineRow}
+use Rattle.pmt_model.specs.Traces.{Recording, has_line, history, lines_of}
+use Rattle.pmt_live.specs.Places.{IsPlaceOf}
 use Rattle.pmt_sweep.specs.declared.writers.Writer.{Writer}
-use Rattle.pmt_sweep.specs.Rows.{IsPlaceOf}
 use Rattle.pmt_sweep.specs.Writers.{AreWriters, TakesOver, settled}
 
 -- A place past the end has none.
 abbrev pub writers_at : List (List Writer) → ℕ → List Writer
 writers_at lines place = get_or lines place []
 
--- The writers of each line stand at the place of its row.
-pub record AreLineWriters (T : Recording) (n : ℕ) (rows : List LineRow) (lines : List (List Writer)) : Type 0 where
-  pub few : length lines ≤ length rows
-  pub each : (l place : ℕ) → IsPlaceOf l place rows → AreWriters T l n (writers_at lines place)
+-- The writers of each line stand at its place.
+pub record AreLineWriters (T : Recording) (n : ℕ) (lines : List (List Writer)) : Type 0 where
+  pub few : length lines ≤ length (lines_of (history T n))
+  pub each : (l place : ℕ) → IsPlaceOf l place (lines_of (history T n)) → AreWriters T l n (writers_at lines place)
 
 -- The store w is new at this place.
 pub record TakesOverAt (place : ℕ) (w : Writer) (old new : List (List Writer)) : Type 0 where

@@ -1,12 +1,18 @@
--- The fronts of lines after a fence, as the rows before it tell them.
-use Rattle.std.specs.Prelude.{ℕ, List, map, max, get_or, unwrap_or}
-use Rattle.pmt_marks.specs.Lines.{mark_in}
-use Rattle.pmt_sweep.specs.declared.rows.LineRow.{LineRow}
+-- What a fence makes safe.
+use Rattle.std.specs.Prelude.{◌≡◌, ℕ, ◌<◌, false, List, ◌∷◌, length, map, All, slice_index_or}
+use Rattle.pmt_model.specs.Machine.{Act, Fences}
+use Rattle.pmt_model.specs.Traces.{Recording, history, has_line, lines_of}
+use Rattle.pmt_model.specs.Fronts.{front, front_at}
+use Rattle.pmt_live.specs.declared.live.LiveLines.{LiveLines}
+use Rattle.pmt_live.specs.Fencing.{place_in}
+use Rattle.pmt_live.specs.Places.{IsPlaceOf}
 
--- The front of the row's line after a fence of thread t: that before it, or the thread's mark where this is more.
-abbrev pub front_after : ℕ → LineRow → ℕ
-front_after t row = max row.state.front (unwrap_or (mark_in t row.state.marks) 0)
+-- The front of the line at this place, among these.
+abbrev pub front_there : List ℕ → List Act → ℕ → ℕ
+front_there lines h place = front (slice_index_or lines place 0) h
 
--- That of the line whose row stands at this place; 0 where no row stands there.
-abbrev pub fence_front : ℕ → List LineRow → ℕ → ℕ
-fence_front t rows place = get_or (map (front_after t) rows) place 0
+-- Event n + 1 is a fence by thread t, and what the decided flushes are of are lines with a place; the front of no other line has risen.
+pub record HasFenced (T : Recording) (n t : ℕ) (live : LiveLines) : Type 0 where
+  pub placed : All (λ f. f.place < length (lines_of (history T n))) live.decided.items
+  pub stays : (l place : ℕ) → IsPlaceOf l place (lines_of (history T n)) → has_line place (map place_in live.decided.items) ≡ false →
+      front l (Fences t ∷ history T n) ≡ front_at T l n

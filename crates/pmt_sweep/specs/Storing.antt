@@ -6,7 +6,7 @@ use Rattle.pmt_model.specs.Findings.{last_flush}
 use Rattle.pmt_sweep.specs.declared.note.Note.{Note}
 use Rattle.pmt_sweep.specs.declared.chain.LastOfLine.{LastOfLine}
 use Rattle.pmt_sweep.specs.declared.byte_tables.ByteTable.{ByteTable}
-use Rattle.pmt_sweep.specs.Rows.{last_line_store}
+use Rattle.pmt_sweep.specs.Pasts.{last_line_store}
 use Rattle.pmt_sweep.specs.Chains.{AreLinked, IsLink, IsUnwrittenFrom}
 use Rattle.pmt_sweep.specs.ByteTables.{AreTables}
 use Rattle.pmt_sweep.specs.Notes.{StoresBytes}

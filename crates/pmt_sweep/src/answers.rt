@@ -1,10 +1,9 @@
 //! What a sweep tells of the lines after the events that it has taken.
-ghost use Rattle.std.specs.Prelude.{◌≡◌, ◌<◌, ◌^◌, ◌↔◌, IsTrue};
+ghost use Rattle.std.specs.Prelude.{◌<◌, ◌^◌};
 ghost use Rattle.pmt_sweep.specs.Distances.{AreDistances};
 
 use crate::judging::Judging;
 use pmt_asserts::{LineAnswers, Oldest, Part, Spot, part_of};
-use pmt_marks::LineState;
 use pmt_model::{Format, Range};
 
 impl LineAnswers for Judging {
@@ -17,7 +16,7 @@ impl LineAnswers for Judging {
     ghost within = { λ j T n known. subst (λ k. k ≤ length T.events) known.here known.sweep.linked.within };
 
     fn block(&self, line: u64) -> Option<usize> {
-        self.progress.rows.block(line)
+        self.progress.lines.live.block(line)
     }
 
     fn is_line_persisted(
@@ -25,15 +24,12 @@ impl LineAnswers for Judging {
         format: Format,
         range: Range,
         spot: Spot,
-        number: u64,
+        _number: u64,
         by: u64,
     ) -> bool {
-        let Some(place) = self.progress.rows.find(spot.line, spot.block) else {
+        let Some(place) = self.progress.lines.live.find(spot.line, spot.block) else {
             return true;
         };
-        if by == number && are_all_persisted(&self.progress.rows.at(place).state) {
-            return true;
-        }
         let part = distances(format, range, spot.line);
         match self.writers.at(place) {
             None => true,
@@ -49,7 +45,7 @@ impl LineAnswers for Judging {
         _number: u64,
         rank: u64,
     ) -> bool {
-        let Some(place) = self.progress.rows.find(spot.line, spot.block) else {
+        let Some(place) = self.progress.lines.live.find(spot.line, spot.block) else {
             return true;
         };
         let part = distances(format, range, spot.line);
@@ -70,7 +66,7 @@ impl LineAnswers for Judging {
         if part.high <= part.low {
             return None;
         }
-        let Some(place) = self.progress.rows.find(spot.line, spot.block) else {
+        let Some(place) = self.progress.lines.live.find(spot.line, spot.block) else {
             return None;
         };
         match self.writers.at(place) {
@@ -78,13 +74,6 @@ impl LineAnswers for Judging {
             Some(writers) => writers.oldest(part.low, part.high),
         }
     }
-}
-
-// Whether all stores to the line are persisted for sure.
-fn are_all_persisted(state: &LineState) -> bool
-    ensures { IsTrue result ↔ (state.now.count ≡ state.now.front) }
-{
-    state.count() == state.front()
 }
 
 // The bytes of the range that lie in the line, each by its distance from the line's first one.

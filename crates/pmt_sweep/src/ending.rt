@@ -4,12 +4,12 @@ ghost use Rattle.pmt_model.specs.declared.finding.Finding.TheVariants.{NeverPers
 ghost use Rattle.pmt_model.specs.Traces.{Recording, history};
 ghost use Rattle.pmt_lines.specs.Scans.{found_if};
 ghost use Rattle.pmt_sweep.specs.Known.{AreKnownLate};
-ghost use Rattle.pmt_sweep.specs.Rows.{AreRows};
+ghost use Rattle.pmt_sweep.specs.Lines.{AreKnown};
 ghost use Rattle.pmt_sweep.specs.Ending.{IsAtEnd};
 ghost use Rattle.pmt_sweep.specs.LineEnds.{AreEnds};
 
+use crate::lines::Lines;
 use crate::note::{Note, is_store};
-use crate::rows::Rows;
 use pmt_model::{Finding, OutOfMemory};
 use std::alloc::Global;
 
@@ -24,14 +24,14 @@ struct LineEnd {
 // All stores of the trace that are never persisted, in report order.
 pub(crate) fn never_persisted(
     alloc: Global,
-    rows: &Rows,
+    lines: &Lines,
     places: &[u32],
     notes: &[Note],
 ) -> Result<Vec<Finding>, OutOfMemory>
-    requires { (T : Recording) × IsAtEnd T rows.now places.now notes.now }
-    ensures { (T : Recording) → IsAtEnd T rows.now places.now notes.now → IfOk result (λ found. AreKnownLate T found.items) }
+    requires { (T : Recording) × IsAtEnd T lines.now places.now notes.now }
+    ensures { (T : Recording) → IsAtEnd T lines.now places.now notes.now → IfOk result (λ found. AreKnownLate T found.items) }
 {
-    let mut ends = ends_of(alloc, rows)?;
+    let mut ends = ends_of(alloc, lines)?;
     let mut found = Vec::new(alloc);
     for index in 0..notes.len() {
         if is_store(&notes[index]) {
@@ -48,14 +48,14 @@ pub(crate) fn never_persisted(
 }
 
 // How each line ends, where none of its stores was gone over yet.
-fn ends_of(alloc: Global, rows: &Rows) -> Result<Vec<LineEnd>, OutOfMemory>
-    ensures { IfOk result (λ ends. (T : Recording) → AreRows (history T (length T.events)) rows.now → AreEnds T 0 rows.now ends.items) }
+fn ends_of(alloc: Global, lines: &Lines) -> Result<Vec<LineEnd>, OutOfMemory>
+    requires { (T : Recording) × AreKnown (history T (length T.events)) lines.now }
+    ensures { IfOk result (λ ends. (T : Recording) → AreKnown (history T (length T.events)) lines.now → AreEnds T 0 ends.items) }
 {
-    let mut ends = Vec::with_capacity(alloc, rows.len())?;
-    for place in 0..rows.len() {
-        let row = rows.at(place);
-        let safe = row.state.front() as u32;
-        let flush = row.flush;
+    let mut ends = Vec::with_capacity(alloc, lines.len())?;
+    for place in 0..lines.len() {
+        let safe = lines.live.front(place);
+        let flush = lines.last(place).flush;
         ends.push(LineEnd { safe, flush })?;
     }
     Ok(ends)

@@ -70,12 +70,13 @@ impl Sweeper {
         ensures verdicts { (T : Recording) → HasSwept T self → IfOk result (λ s. IsVerdicts T s.verdicts.items) }
         ensures kept { (T : Recording) → HasSwept T self → IfOk result (λ s. IsKeep T (marked_from 0 s.kept.items)) }
     {
+        let Sweeper { judging, judges: _ } = self;
         let Judging {
             progress,
             writers,
             verdicts,
             stale,
-        } = self.judging;
+        } = judging;
         drop(writers);
         drop(stale);
         progress.finish(alloc, verdicts)

@@ -66,11 +66,11 @@ impl Judging {
     {
         let number = self.progress.before.len() as u32 + 1;
         let place = self.progress.take_store(line, bytes)?;
-        let stores = self.progress.rows.at(place).state.count();
+        let stores = self.progress.lines.live.count(place);
         let start = start_of(self.progress.format, line);
         let writer = Writer {
             number,
-            rank: stores as u32,
+            rank: stores,
             safe: 0,
             low: (bytes.low - start) as u16,
             high: (bytes.high - start) as u16,
@@ -94,32 +94,25 @@ impl Judging {
     // A clflush of the line.
     pub(crate) fn take_clflush(&mut self, line: u64) -> Result<(), OutOfMemory>
         requires room { taken self.old.progress < event_limit }
-        requires so_far { (T : Recording) × IsJudgingOf T (taken self.old.progress) self.old }
+        requires so_far { (T : Recording) × IsJudgingOf T (taken self.old.progress) self.old × IsAct T (suc (taken self.old.progress)) (Clflushes line) }
         ensures { (T : Recording) → IsJudgingOf T (taken self.old.progress) self.old → IsAct T (suc (taken self.old.progress)) (Clflushes line) → OnOk result (IsJudgingOf T (suc (taken self.old.progress)) self.new) }
     {
         let place = self.progress.take_clflush(line)?;
-        let front = self.progress.rows.at(place).state.front();
+        let front = self.progress.lines.live.front(place);
         let number = self.progress.before.len() as u32;
-        self.writers.settle(place, front, number);
+        self.writers.settle(place, front as u64, number);
         Ok(())
     }
 
     // A fence by the thread.
     pub(crate) fn take_fence(&mut self, thread: u8) -> Result<(), OutOfMemory>
         requires room { taken self.old.progress < event_limit }
-        requires so_far { (T : Recording) × IsJudgingOf T (taken self.old.progress) self.old }
+        requires so_far { (T : Recording) × IsJudgingOf T (taken self.old.progress) self.old × IsAct T (suc (taken self.old.progress)) (Fences thread) }
         ensures { (T : Recording) → IsJudgingOf T (taken self.old.progress) self.old → IsAct T (suc (taken self.old.progress)) (Fences thread) → OnOk result (IsJudgingOf T (suc (taken self.old.progress)) self.new) }
     {
-        let number = self.progress.before.len() as u32 + 1;
-        let places = self.progress.open_flushes.of(thread);
-        settle_fence(
-            &mut self.writers,
-            &self.progress.rows,
-            places,
-            thread,
-            number,
-        );
         self.progress.take_fence(thread)?;
+        let number = self.progress.before.len() as u32;
+        settle_fence(&mut self.writers, &self.progress.lines.live, number);
         Ok(())
     }
 

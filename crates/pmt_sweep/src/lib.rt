@@ -6,15 +6,16 @@
 mod answers;
 mod byte_tables;
 mod chain;
+mod deciding;
 mod ending;
 pub mod growing;
 mod joining;
 mod judging;
 mod line_writers;
+mod lines;
 mod note;
-mod open_numbers;
+mod past;
 mod rejudging;
-mod rows;
 mod settling;
 pub mod sweeping;
 mod taking_over;

@@ -1,4 +1,4 @@
-//! The writers of all lines, at the places of the lines' rows.
+//! The writers of all lines, by the places of the lines.
 ghost use Rattle.std.specs.Prelude.{◌≡◌, ◌<◌, ℕ, [], MatchOption, OnOk, ◌∷◌};
 ghost use Rattle.pmt_sweep.specs.LineWriters.{writers_at, SettlesAll, TakesOverAt};
 

@@ -52,5 +52,5 @@ fn line_at(old: &Progress, index: usize) -> u64
     requires line { (T : Recording) × (l : ℕ) × IsSweepOf T old.now × IsLineOf T (suc index) l }
     ensures { (T : Recording) (l : ℕ) → IsSweepOf T old.now → IsLineOf T (suc index) l → result ≡ l }
 {
-    old.rows.at(old.places[index] as usize).line
+    old.lines.live.lines()[old.places[index] as usize]
 }

@@ -1,56 +1,43 @@
 //! What a fence makes safe.
-ghost use Rattle.std.specs.Prelude.{◌≡◌, ◌+◌, ◌<◌, List, length, take, All};
+ghost use Rattle.std.specs.Prelude.{ℕ, ◌+◌, ◌<◌, List, length, map, take, All};
+ghost use Rattle.pmt_model.specs.Machine.{Act};
+ghost use Rattle.pmt_live.specs.Fencing.{place_in};
+ghost use Rattle.pmt_live.specs.Live.{IsLiveWith};
 ghost use Rattle.pmt_sweep.specs.declared.writers.Writer.{Writer};
 ghost use Rattle.pmt_sweep.specs.LineWriters.{SettlesAll};
-ghost use Rattle.pmt_sweep.specs.Settling.{front_after, fence_front};
+ghost use Rattle.pmt_sweep.specs.Settling.{front_there};
 
 use crate::line_writers::LineWriters;
-use crate::rows::{LineRow, Rows};
+use pmt_live::{LiveLines, OpenFlush};
 
-// A fence by the thread, the event with this number: what it makes safe in the lines whose rows stand at these places. The rows are
-// those before the fence.
-pub(crate) fn settle_fence(
-    writers: &mut LineWriters,
-    rows: &Rows,
-    places: &[usize],
-    thread: u8,
-    number: u32,
-)
-    requires { All (λ place. place < length rows.now) places.now }
-    ensures { SettlesAll (fence_front thread rows.now) places.now number writers.old writers.new }
+// What the last fence, the event with this number, makes safe in the lines that its open flushes are of.
+pub(crate) fn settle_fence(writers: &mut LineWriters, live: &LiveLines, number: u32)
+    requires { All (λ f. f.place < length live.now.rows.items) live.now.decided.items }
+    ensures { (lines : List ℕ) (h : List Act) → IsLiveWith lines h live.now → SettlesAll (front_there lines h) (map place_in live.now.decided.items) number writers.old writers.new }
 {
-    for index in 0..places.len() {
-        settle_next(writers, rows, places, index, thread, number);
+    let flushes = live.decided();
+    for index in 0..flushes.len() {
+        settle_next(writers, live, flushes, index, number);
     }
 }
 
-// What the fence makes safe in the line whose row stands at the place with this index, where the places before it are done. A thread
-// mostly flushes a line again before it flushes another one, and then its place stands there again.
+// What the fence makes safe in the line of the flush with this index, where those before it are done. A thread mostly flushes a line again
+// before it flushes another one, and then it is done.
 fn settle_next(
     writers: &mut LineWriters,
-    rows: &Rows,
-    places: &[usize],
+    live: &LiveLines,
+    flushes: &[OpenFlush],
     index: usize,
-    thread: u8,
     number: u32,
 )
-    requires placed { All (λ place. place < length rows.now) places.now }
-    requires within { index < length places.now }
-    ensures { (first : List (List Writer)) → SettlesAll (fence_front thread rows.now) (take index places.now) number first writers.old → SettlesAll (fence_front thread rows.now) (take (index + 1) places.now) number first writers.new }
+    requires placed { All (λ f. f.place < length live.now.rows.items) flushes.now }
+    requires within { index < length flushes.now }
+    ensures { (lines : List ℕ) (h : List Act) (first : List (List Writer)) → IsLiveWith lines h live.now → SettlesAll (front_there lines h) (take index (map place_in flushes.now)) number first writers.old → SettlesAll (front_there lines h) (take (index + 1) (map place_in flushes.now)) number first writers.new }
 {
-    let place = places[index];
-    if index > 0 && places[index - 1] == place {
+    let place = flushes[index].place;
+    if index > 0 && flushes[index - 1].place == place {
         return;
     }
-    let front = front_after(rows.at(place), thread);
-    writers.settle(place, front, number);
-}
-
-// The front of the row's line after a fence by the thread.
-#[inline(always)]
-fn front_after(row: &LineRow, thread: u8) -> u64
-    ensures { result ≡ front_after thread row.now }
-{
-    let mark = row.state.mark(thread).unwrap_or(0);
-    row.state.front().max(mark)
+    let front = live.front(place as usize);
+    writers.settle(place as usize, front as u64, number);
 }

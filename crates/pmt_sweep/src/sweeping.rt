@@ -1,25 +1,24 @@
 //! The sweep over the events of a trace.
-ghost use Rattle.std.specs.Prelude.{◌≡◌, ℕ, suc, ◌<◌, length, nat_le, slice_get, Some, IfOk, OnOk};
+ghost use Rattle.std.specs.Prelude.{◌≡◌, suc, ◌<◌, ◌^◌, length, slice_get, Some, IfOk, OnOk};
 ghost use Rattle.pmt_model.specs.Analyses.{IsFindings, IsVerdicts};
 ghost use Rattle.pmt_model.specs.Machine.{Flushes, Clflushes, Fences, Asserts};
 ghost use Rattle.pmt_model.specs.Keeping.{IsKeep};
 ghost use Rattle.pmt_model.specs.Traces.{Recording, IsAct, IsTrace, event_limit, history, lines_of};
-ghost use Rattle.pmt_lines.specs.Scans.{is_flush_covered};
 ghost use Rattle.pmt_trim.specs.Marking.{marked_from};
 ghost use Rattle.pmt_sweep.specs.Notes.{StoresBytes};
-ghost use Rattle.pmt_sweep.specs.Rows.{IsPlaceOf};
+ghost use Rattle.pmt_live.specs.Places.{IsPlaceOf};
+ghost use Rattle.pmt_sweep.specs.Settling.{HasFenced};
 ghost use Rattle.pmt_sweep.specs.Sweeping.{IsSweepOf, taken};
 
 use crate::byte_tables::ByteTables;
-use crate::chain::{LastOfLine, push_overwritten_by};
+use crate::chain::push_overwritten_by;
+use crate::deciding::flag_decided;
 use crate::ending::never_persisted;
 use crate::growing::Sweeper;
 use crate::joining::joined;
+use crate::lines::Lines;
 use crate::note::{Bytes, Note, bytes_of, note_of, start_of};
-use crate::open_numbers::OpenNumbers;
-use crate::rows::Rows;
-use pmt_lines::{OpenFlushes, push_if};
-use pmt_marks::LineState;
+use pmt_lines::push_if;
 use pmt_model::{Event, Finding, Format, Op, OutOfMemory, Trace, Verdict, line_of};
 use std::alloc::Global;
 
@@ -40,17 +39,14 @@ pub struct Swept {
 #[derive(Drop)]
 pub(crate) struct Progress {
     pub(crate) format: Format,
-    pub(crate) rows: Rows,
-    // Of each thread, where the lines stand that its open flushes flush, and the numbers of these flushes.
-    pub(crate) open_flushes: OpenFlushes,
-    pub(crate) open_numbers: OpenNumbers,
+    pub(crate) lines: Lines,
     // Of each event that has come and is a store, the number of the store to its line before it, or 0.
     pub(crate) before: Vec<u32>,
     // What each event that has come is to its line.
     pub(crate) notes: Vec<Note>,
     // Of the lines whose stores were looked for far back, the last store to each byte.
     pub(crate) tables: ByteTables,
-    // Of each event that has come and is a store or flush, the place of its line's row.
+    // Of each event that has come and is a store or flush, the place of its line.
     pub(crate) places: Vec<u32>,
     // What is found, apart from stores that are never persisted.
     pub(crate) found: Vec<Finding>,
@@ -59,8 +55,8 @@ pub(crate) struct Progress {
 }
 
 /// The findings and verdicts of the trace, all that is kept of it, and how many lines it stores or flushes: one pass forward over the
-/// events, and one over the stores for those that are never persisted. It takes at most one look-up for each store and flush, some 75
-/// bytes a line (some 160 where none of its fifteen neighbours is there) and 12 an event; where the trace has assertions, some 120 bytes
+/// events, and one over the stores for those that are never persisted. It takes at most one look-up for each store and flush, some 60
+/// bytes a line (some 150 where none of its fifteen neighbours is there) and 12 an event; where the trace has assertions, some 120 bytes
 /// more for each line that is stored; where over 16 stores to a line follow one another without a flush, at most 4 bytes more for each byte
 /// of the line, and some 60 for the line.
 ///
@@ -85,9 +81,7 @@ impl Progress {
     {
         Ok(Progress {
             format,
-            rows: Rows::new(alloc),
-            open_flushes: OpenFlushes::new(alloc)?,
-            open_numbers: OpenNumbers::new(alloc)?,
+            lines: Lines::new(alloc),
             before: Vec::new(alloc),
             notes: Vec::new(alloc),
             tables: ByteTables::new(alloc),
@@ -123,21 +117,18 @@ impl Progress {
         }
     }
 
-    // A store of these bytes to the line: the place of its row.
+    // A store of these bytes to the line: its place.
     pub(crate) fn take_store(&mut self, line: u64, bytes: Bytes) -> Result<usize, OutOfMemory>
         requires room { taken self.old < event_limit }
         requires so_far { (T : Recording) × IsSweepOf T self.old × StoresBytes T (suc (taken self.old)) line bytes.low bytes.high }
         ensures so_far { (T : Recording) → IsSweepOf T self.old → StoresBytes T (suc (taken self.old)) line bytes.low bytes.high → OnOk result (IsSweepOf T self.new) }
-        ensures place { IfOk result (λ place. IsPlaceOf line place self.new.rows) }
+        ensures small { IfOk result (λ place. place < 2 ^ 32) }
+        ensures place { (T : Recording) → IsSweepOf T self.old → StoresBytes T (suc (taken self.old)) line bytes.low bytes.high → IfOk result (λ place. IsPlaceOf line place (lines_of (history T (suc (taken self.old))))) }
         ensures one { OnOk result (taken self.new ≡ suc (taken self.old)) }
     {
         let number = self.before.len() as u32 + 1;
-        let place = self.rows.place_of(line)?;
-        let row = self.rows.at(place);
-        let last = LastOfLine {
-            store: row.store,
-            flush: row.flush,
-        };
+        let place = self.lines.place_of(line)?;
+        let last = self.lines.last(place);
         push_overwritten_by(
             &mut self.found,
             &mut self.tables,
@@ -148,7 +139,7 @@ impl Progress {
             last,
             bytes,
         )?;
-        self.rows.store(line, place, number);
+        self.lines.store(place, number);
         let note = note_of(start_of(self.format, line), bytes);
         self.before.push(last.store)?;
         self.notes.push(note)?;
@@ -165,17 +156,14 @@ impl Progress {
         ensures one { OnOk result (taken self.new ≡ suc (taken self.old)) }
     {
         let number = self.before.len() as u32 + 1;
-        let place = self.rows.place_of(line)?;
-        let is_covered = is_flush_covered(&self.rows.at(place).state, thread);
+        let place = self.lines.place_of(line)?;
+        let is_covered = self.lines.flush(thread, place, number)?;
         let event = number as u64;
         push_if(
             &mut self.found,
             is_covered,
             Finding::RedundantFlush { event },
         )?;
-        self.rows.flush(line, place, thread, number)?;
-        self.open_flushes.add(thread, place)?;
-        self.open_numbers.add(thread, number)?;
         self.before.push(0)?;
         self.notes.push(Note::Flush { thread })?;
         self.places.push(place as u32)?;
@@ -183,51 +171,44 @@ impl Progress {
         Ok(())
     }
 
-    // A clflush of the line: the place of its row.
+    // A clflush of the line: its place.
     pub(crate) fn take_clflush(&mut self, line: u64) -> Result<usize, OutOfMemory>
         requires room { taken self.old < event_limit }
         requires so_far { (T : Recording) × IsSweepOf T self.old }
         ensures so_far { (T : Recording) → IsAct T (suc (taken self.old)) (Clflushes line) → IsSweepOf T self.old → OnOk result (IsSweepOf T self.new) }
-        ensures place { IfOk result (λ place. IsPlaceOf line place self.new.rows) }
+        ensures small { IfOk result (λ place. place < 2 ^ 32) }
+        ensures place { (T : Recording) → IsSweepOf T self.old → IsAct T (suc (taken self.old)) (Clflushes line) → IfOk result (λ place. IsPlaceOf line place (lines_of (history T (suc (taken self.old))))) }
         ensures one { OnOk result (taken self.new ≡ suc (taken self.old)) }
     {
         let number = self.before.len() as u32 + 1;
-        let place = self.rows.place_of(line)?;
-        let is_covered = is_clflush_covered(&self.rows.at(place).state);
+        let place = self.lines.place_of(line)?;
+        let rises = self.lines.clflush(place, number);
         let event = number as u64;
-        push_if(
-            &mut self.found,
-            is_covered,
-            Finding::RedundantFlush { event },
-        )?;
-        self.rows.clflush(line, place, number);
+        push_if(&mut self.found, !rises, Finding::RedundantFlush { event })?;
         self.before.push(0)?;
         self.notes.push(Note::Clflush)?;
         self.places.push(place as u32)?;
-        self.kept.push(!is_covered)?;
+        self.kept.push(rises)?;
         Ok(place)
     }
 
     // A fence by the thread.
     pub(crate) fn take_fence(&mut self, thread: u8) -> Result<(), OutOfMemory>
         requires room { taken self.old < event_limit }
-        requires so_far { (T : Recording) × IsSweepOf T self.old }
+        requires so_far { (T : Recording) × IsSweepOf T self.old × IsAct T (suc (taken self.old)) (Fences thread) }
         ensures so_far { (T : Recording) → IsAct T (suc (taken self.old)) (Fences thread) → IsSweepOf T self.old → OnOk result (IsSweepOf T self.new) }
+        ensures decided { (T : Recording) → IsAct T (suc (taken self.old)) (Fences thread) → IsSweepOf T self.old → OnOk result (HasFenced T (taken self.old) thread self.new.lines.live) }
         ensures one { OnOk result (taken self.new ≡ suc (taken self.old)) }
     {
         let event = self.before.len() as u64 + 1;
-        let places = self.open_flushes.of(thread);
+        let is_kept = self.lines.live.fence(thread);
+        let decided = self.lines.live.decided();
         push_if(
             &mut self.found,
-            places.is_empty(),
+            decided.is_empty(),
             Finding::FenceWithoutFlush { event },
         )?;
-        let numbers = self.open_numbers.of(thread);
-        let is_kept = self
-            .rows
-            .fence(thread, places, numbers, self.kept.as_mut_slice());
-        self.open_flushes.clear(thread);
-        self.open_numbers.clear(thread);
+        flag_decided(self.kept.as_mut_slice(), decided);
         self.before.push(0)?;
         self.notes.push(Note::Fence { thread })?;
         self.places.push(0)?;
@@ -257,9 +238,7 @@ impl Progress {
     {
         let Progress {
             format: _,
-            rows,
-            open_flushes: _,
-            open_numbers: _,
+            lines,
             before,
             notes,
             tables,
@@ -269,32 +248,17 @@ impl Progress {
         } = self;
         drop(before);
         drop(tables);
-        let lines = rows.len();
-        let late = never_persisted(alloc, &rows, places.as_slice(), notes.as_slice())?;
-        drop(rows);
+        let count = lines.len();
+        let late = never_persisted(alloc, &lines, places.as_slice(), notes.as_slice())?;
+        drop(lines);
         drop(places);
         drop(notes);
         let findings = joined(found, late)?;
         Ok(Swept {
-            lines,
+            lines: count,
             findings,
             verdicts,
             kept,
         })
     }
-}
-
-// Whether the front or the mark of the thread counts all stores to the line already.
-fn is_flush_covered(state: &LineState, thread: u8) -> bool
-    ensures { result ≡ is_flush_covered state.now thread }
-{
-    let mark = state.mark(thread).unwrap_or(0);
-    state.count() <= state.front().max(mark)
-}
-
-// Whether the front counts all stores to the line already.
-fn is_clflush_covered(state: &LineState) -> bool
-    ensures { result ≡ nat_le state.now.count state.now.front }
-{
-    state.count() <= state.front()
 }

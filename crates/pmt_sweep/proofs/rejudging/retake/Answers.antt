@@ -70,12 +70,29 @@ line_at-requires-in-Clflush-clause-line c =
     let noted = note-read T c.args.old.now c.args.index c.index-note.result.now _ h.sweep c.requires.within c.index-note.ensures c.in-Clflush.is in
     (T, noted.0, h.sweep, clflush-line T (suc c.args.index) noted.0 noted.1)
 
+pub take_clflush-requires-clause-so_far : goal.take_clflush-requires-clause-so_far
+take_clflush-requires-clause-so_far c =
+    let T = c.requires.so_far.0 in
+    let h = c.requires.so_far.1 in
+    let is = c.requires.so_far.2 in
+    let noted = note-read T c.args.old.now c.args.index c.index-note.result.now _ h.sweep c.requires.within c.index-note.ensures c.in-Clflush.is in
+    let line = c.line_at-in-Clflush.ensures T noted.0 h.sweep (clflush-line T (suc c.args.index) noted.0 noted.1) in
+    (T, judging-here T c.args.index c.args.judging.now is, clflush-again T c.args.index (taken c.args.judging.now.progress) noted.0 c.line_at-in-Clflush.result line is.known.here noted.1)
+
 pub returns-in-Clflush : goal.returns-in-Clflush
 returns-in-Clflush c T h is =
     let noted = note-read T c.args.old.now c.args.index c.index-note.result.now _ h.sweep c.requires.within c.index-note.ensures c.in-Clflush.is in
     let line = c.line_at-in-Clflush.ensures T noted.0 h.sweep (clflush-line T (suc c.args.index) noted.0 noted.1) in
     subst (λ n. OnOk c.take_clflush.result (IsJudgingOf T (suc n) c.take_clflush.new.self)) is.known.here
     (c.take_clflush.ensures T (judging-here T c.args.index c.args.judging.now is) (clflush-again T c.args.index (taken c.args.judging.now.progress) noted.0 c.line_at-in-Clflush.result line is.known.here noted.1))
+
+pub take_fence-requires-clause-so_far : goal.take_fence-requires-clause-so_far
+take_fence-requires-clause-so_far c =
+    let T = c.requires.so_far.0 in
+    let h = c.requires.so_far.1 in
+    let is = c.requires.so_far.2 in
+    let noted = note-read T c.args.old.now c.args.index c.index-note.result.now _ h.sweep c.requires.within c.index-note.ensures c.in-Fence.is in
+    (T, judging-here T c.args.index c.args.judging.now is, fence-again T c.args.index (taken c.args.judging.now.progress) c.in-Fence.thread is.known.here noted)
 
 pub returns-in-Fence : goal.returns-in-Fence
 returns-in-Fence c T h is =

@@ -1,26 +1,34 @@
-use Rattle.std.proofs.Common.{take, get_or, sym, subst, ◌∙◌}
-use Rattle.std.proofs.lemmas.List.{take_more}
+use Rattle.std.proofs.Common.{◌≡◌, ℕ, ◌-◌, ◌<◌, [], ◌∷◌, ◌++◌, take, get_or, length, map, sym, subst, ◌∙◌, arith}
+use Rattle.std.proofs.lemmas.List.{get_or-map, length-map, take_more}
+use Rattle.pmt_live.specs.declared.open.OpenFlush.{OpenFlush}
+use Rattle.pmt_live.specs.Fencing.{place_in}
 use Rattle.pmt_sweep.specs.LineWriters.{SettlesAll}
-use Rattle.pmt_sweep.specs.Settling.{fence_front}
-use Rattle.pmt_sweep.proofs.SettlingLemmas.{settles-more, settles-again, seen-before, fence_front-read}
+use Rattle.pmt_sweep.specs.Settling.{front_there}
+use Rattle.pmt_sweep.proofs.SettlingLemmas.{settles-more, settles-again, seen-before, there-place, rows-lines}
 use Rattle.pmt_sweep.proofs.settling.settle_next.Goals as goal
 
-pub returns-then-places-index : goal.returns-then-places-index
-returns-then-places-index c first so_far =
-    let fronts = fence_front c.args.thread c.args.rows.now in
-    let places = c.args.places.now in
+abbrev none : OpenFlush
+none = record { number = 0; place = 0; stores = 0 }
+
+pub returns-then-flushes-index : goal.returns-then-flushes-index
+returns-then-flushes-index c = λ lines h first live so_far.
+    let places = map place_in c.args.flushes.now in
     let index = c.args.index in
-    let place = get_or places index 0 in
-    subst (λ ps. SettlesAll fronts ps c.args.number first c.args.writers.now) (sym (take_more places index 0 c.requires.within))
-    (settles-again fronts (take index places) place c.args.number first c.args.writers.now (seen-before places index c.if-index-gt0.true c.requires.within c.if-places-index.true) so_far)
+    let within : index < length places = omega (arith, c.requires.within, length-map c.args.flushes.now place_in) in
+    let same : get_or places (index - 1) 0 ≡ get_or places index 0 =
+    get_or-map place_in c.args.flushes.now (index - 1) none 0 (omega (arith, c.requires.within)) ∙ c.if-flushes-index.true ∙ sym (get_or-map place_in c.args.flushes.now index none 0 c.requires.within) in
+    subst (λ ps. SettlesAll (front_there lines h) ps c.args.number first c.args.writers.now) (sym (take_more places index 0 within))
+    (settles-again (front_there lines h) (take index places) (get_or places index 0) c.args.number first c.args.writers.now (seen-before places index c.if-index-gt0.true within same) so_far)
 
 pub returns : goal.returns
-returns c first so_far =
-    let fronts = fence_front c.args.thread c.args.rows.now in
-    let places = c.args.places.now in
+returns c = λ lines h first live so_far.
+    let places = map place_in c.args.flushes.now in
     let index = c.args.index in
-    let place = get_or places index 0 in
-    let within = c.requires.within in
-    let front = c.front_after-front.ensures ∙ fence_front-read c.args.thread c.args.rows.now place c.at.result.now (c.requires.placed index 0 within) c.at.ensures.value in
-    subst (λ ps. SettlesAll fronts ps c.args.number first c.settle.new.self) (sym (take_more places index 0 within))
-    (settles-more fronts (take index places) place c.front_after-front.result c.args.number first c.args.writers.now c.settle.new.self front so_far c.settle.ensures)
+    let within : index < length places = omega (arith, c.requires.within, length-map c.args.flushes.now place_in) in
+    let read : get_or places index 0 ≡ (get_or c.args.flushes.now index none).place = get_or-map place_in c.args.flushes.now index none 0 c.requires.within in
+    let inside = c.requires.placed index none c.requires.within in
+    let place : ℕ = (get_or c.args.flushes.now index none).place in
+    let front = c.front-front.ensures lines h _ (there-place lines place (rows-lines lines h c.args.live.now place live inside)) live in
+    subst (λ ps. SettlesAll (front_there lines h) ps c.args.number first c.settle.new.self) (sym (take_more places index 0 within))
+    (subst (λ p. SettlesAll (front_there lines h) (take index places ++ p ∷ []) c.args.number first c.settle.new.self) (sym read)
+    (settles-more (front_there lines h) (take index places) place c.front-front.result c.args.number first c.args.writers.now c.settle.new.self front so_far c.settle.ensures))

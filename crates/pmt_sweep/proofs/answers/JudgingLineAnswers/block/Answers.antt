@@ -1,8 +1,8 @@
 use Rattle.std.proofs.Common.{refl}
 use Rattle.pmt_model.specs.Values.{line_of}
-use Rattle.pmt_sweep.proofs.AnswerLemmas.{unplaced, rows-known}
+use Rattle.pmt_sweep.proofs.AnswerLemmas.{unplaced, none-known}
 use Rattle.pmt_sweep.proofs.answers.JudgingLineAnswers.block.Goals as goal
 
 pub returns : goal.returns
 returns c = λ none T n trace known b same.
-    unplaced T (line_of T.format b) n b c.args.self.now.progress.rows trace (rows-known T n c.args.self.now known) (λ place. c.block.ensures none (line_of T.format b) place same) refl
+    unplaced T (line_of T.format b) n b trace (none-known T n c.args.self.now (line_of T.format b) known (λ place. c.block.ensures none (line_of T.format b) place same)) refl

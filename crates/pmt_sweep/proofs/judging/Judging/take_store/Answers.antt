@@ -1,12 +1,8 @@
-use Rattle.std.proofs.Common.{◌≡◌, suc, ◌+◌, ◌*◌, ◌-◌, length, refl, ap, subst, ◌∙◌, arith}
+use Rattle.std.proofs.Common.{◌≡◌, suc, ◌+◌, ◌*◌, ◌-◌, length, refl, arith}
 use Rattle.pmt_model.specs.Machine.{Stores}
-use Rattle.pmt_model.specs.Traces.{history, count_at}
+use Rattle.pmt_model.specs.Traces.{history, count_at, lines_of}
 use Rattle.pmt_sweep.specs.Sweeping.{taken}
-use Rattle.pmt_sweep.specs.Rows.{AreRows}
-use Rattle.pmt_laws.proofs.Histories.{length-history}
-use Rattle.pmt_sweep.proofs.OpenLemmas.{rows-within}
-use Rattle.pmt_sweep.proofs.RowLemmas.{place-within}
-use Rattle.pmt_sweep.proofs.JudgingLemmas.{known-store}
+use Rattle.pmt_sweep.proofs.JudgingLemmas.{live-at, row-there, known-store}
 use Rattle.pmt_sweep.proofs.StoringLemmas.{few-bytes, line-start, stored-after, stored-inside, stored-line_small, stored-some}
 use Rattle.pmt_sweep.proofs.VerdictsSoFar.{verdicts-act}
 use Rattle.pmt_sweep.proofs.judging.Judging.take_store.Goals as goal
@@ -14,15 +10,18 @@ use Rattle.pmt_sweep.proofs.judging.Judging.take_store.Goals as goal
 pub take_store-requires-clause-so_far : goal.take_store-requires-clause-so_far
 take_store-requires-clause-so_far c = (c.requires.so_far.0, c.requires.so_far.1.known.sweep, c.requires.so_far.2)
 
-pub at-requires : goal.at-requires
-at-requires c = place-within c.args.line c.in_ok-place.place c.take_store.new.self.rows c.in_ok-place.ensures.place
+pub count-stores-requires : goal.count-stores-requires
+count-stores-requires c =
+    let T = c.requires.so_far.0 in
+    let sweep = c.in_ok-place.ensures.so_far T c.requires.so_far.1.known.sweep c.requires.so_far.2 in
+    row-there T (suc (taken c.args.self.now.progress)) c.take_store.new.self c.args.line c.in_ok-place.place sweep c.in_ok-place.ensures.one (c.in_ok-place.ensures.place T c.requires.so_far.1.known.sweep c.requires.so_far.2)
 
 pub start_of-start-requires : goal.start_of-start-requires
 start_of-start-requires c =
     stored-line_small c.requires.so_far.0 (suc (taken c.args.self.now.progress)) c.args.line c.args.bytes.low c.args.bytes.high c.requires.so_far.1.known.sweep.linked.trace c.requires.so_far.2
 
-pub overflow_cast-writer-3 : goal.overflow_cast-writer-3
-overflow_cast-writer-3 c =
+pub overflow_cast-writer-2 : goal.overflow_cast-writer-2
+overflow_cast-writer-2 c =
     let T = c.requires.so_far.0 in
     let trace = c.requires.so_far.1.known.sweep.linked.trace in
     let stores = c.requires.so_far.2 in
@@ -30,14 +29,6 @@ overflow_cast-writer-3 c =
     let start : c.start_of-start.result ≡ c.args.line * T.format.line_size = line-start T c.take_store.new.self.format c.args.line c.start_of-start.result sweep.format c.start_of-start.ensures in
     let inside = stored-inside T _ c.args.line c.args.bytes.low c.args.bytes.high trace stores in
     omega (arith, start, inside, few-bytes T trace)
-
-pub overflow_cast-place : goal.overflow_cast-place
-overflow_cast-place c =
-    let T = c.requires.so_far.0 in
-    let sweep = c.in_ok-place.ensures.so_far T c.requires.so_far.1.known.sweep c.requires.so_far.2 in
-    let new = c.take_store.new.self in
-    let within = place-within c.args.line c.in_ok-place.place new.rows c.in_ok-place.ensures.place in
-    omega (arith, within, rows-within (history T (taken new)) new.rows sweep.rows.lines_in_order, length-history T (taken new) sweep.linked.within, sweep.linked.within, sweep.linked.trace.few)
 
 pub store-requires : goal.store-requires
 store-requires c =
@@ -61,10 +52,8 @@ returns c T so_far stores =
     let new = c.take_store.new.self in
     let sweep = c.in_ok-place.ensures.so_far T so_far.known.sweep stores in
     let trace = so_far.known.sweep.linked.trace in
-    let rows : AreRows (history T (suc n)) new.rows = subst (λ k. AreRows (history T k) new.rows) c.in_ok-place.ensures.one sweep.rows in
-    let row = c.at.ensures.row (history T (suc n)) rows.each in
-    let here = c.in_ok-place.ensures.place in
-    let rank : c.count-stores.result ≡ count_at T l (suc n) = c.count-stores.ensures.value ∙ row.follows.counts ∙ ap (λ k. count_at T k (suc n)) (c.at.ensures.line l here) in
+    let here = c.in_ok-place.ensures.place T so_far.known.sweep stores in
+    let rank : c.count-stores.result ≡ count_at T l (suc n) = c.count-stores.ensures (lines_of (history T (suc n))) (history T (suc n)) l here (live-at T (suc n) new sweep c.in_ok-place.ensures.one) in
     let start : c.start_of-start.result ≡ l * T.format.line_size = line-start T new.format l c.start_of-start.result sweep.format c.start_of-start.ensures in
     let after = stored-after T (suc n) l low high trace stores in
     let first : l * T.format.line_size + (low - c.start_of-start.result) ≡ s.addr = omega (arith, start, stores.from, after) in

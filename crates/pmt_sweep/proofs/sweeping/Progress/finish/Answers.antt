@@ -14,7 +14,7 @@ never_persisted-requires c =
 
 pub returns-clause-findings : goal.returns-clause-findings
 returns-clause-findings c T so_far all =
-    let end : IsAtEnd T c.args.self.rows c.as_slice.result.now c.as_slice-2.result.now = rw (c.as_slice.ensures.value, c.as_slice-2.ensures.value) (at-end T c.args.self so_far all) in
+    let end : IsAtEnd T c.args.self.lines c.as_slice.result.now c.as_slice-2.result.now = rw (c.as_slice.ensures.value, c.as_slice-2.ensures.value) (at-end T c.args.self so_far all) in
     c.in_ok-findings.ensures T (subst (λ n. AreKnownTo T n c.args.self.found.items) all so_far.known) (c.in_ok-late.ensures T end)
 
 pub returns-clause-kept : goal.returns-clause-kept

@@ -6,12 +6,10 @@ returns-clause-so_far c T trace format =
     record {
       format = format;
       linked = record { trace = trace; within = search rules; chained = search rules; all = search rules; noted = search rules };
-      rows = search rules;
-      opens = search rules;
+      lines = search rules;
       tables = search rules;
       all = search rules;
       standing = search rules;
       known = search rules;
-      numbered = search rules;
       flags = search rules;
     }
