@@ -1,11 +1,7 @@
 pub mod CausingLemmas
-pub mod CountingLemmas
 pub mod IgnoringLemmas
 pub mod LabellingLemmas
 pub mod MendingLemmas
-pub mod NoFloats
-pub mod Pushing
 pub mod ShowingLemmas
 pub mod UnwritingLemmas
-pub mod WordLemmas
 pub mod WrittenLemmas

@@ -1,17 +1,11 @@
 pub mod Asking
 pub mod Causing
 pub mod Choosing
-pub mod Counting
-pub mod Entries
 pub mod Explaining
 pub mod Failing
 pub mod Finding
-pub mod Groups
 pub mod Ignoring
 pub mod Labelling
 pub mod Numbering
-pub mod Parts
 pub mod Showing
-pub mod Summing
-pub mod Tables
 pub mod Unwriting

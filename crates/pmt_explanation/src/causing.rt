@@ -39,8 +39,8 @@ pub(crate) fn first_members<K>(alloc: Global, groups: &[Group<K>]) -> Result<Vec
     groups.iter().map(|group| first_of(group)).collect(alloc)
 }
 
-// The group's first member, or 0 of none.
-pub(crate) fn first_of<K>(group: &Group<K>) -> u64
+/// The group's first member, or 0 of none.
+pub fn first_of<K>(group: &Group<K>) -> u64
     ensures { result ≡ first_in group.now }
 {
     match group.members.first() {

@@ -4,7 +4,7 @@ ghost use Rattle.pmt_reasons.specs.Failures.{IsFailureAt};
 ghost use Rattle.pmt_explanation.specs.Failing.{failing_events as failing_in};
 ghost use Rattle.pmt_explanation.specs.Showing.{AreRangesAfter, AreShown, IsRangeAfter, IsShown, failure_mend, lines_with_loss, store_line};
 
-use crate::counting::first;
+use crate::limit::first;
 use crate::mending::mend_for;
 use pmt_explain::{CrashByte, LineCount, SafePlaces, cause, crash_bytes, crash_lines, failure_by};
 use pmt_model::{Op, OutOfMemory, Range, Trace, Verdict, line_of};
@@ -136,7 +136,7 @@ fn mend_of_failure(trace: &Trace, found: &Failure, why: Cause) -> Mend
 }
 
 // The line of the store with this number.
-pub(crate) fn line_of_store(trace: &Trace, store: u64) -> Option<u64>
+fn line_of_store(trace: &Trace, store: u64) -> Option<u64>
     ensures { result ≡ store_line trace.now store }
 {
     let op = trace.get(store)?.op;

@@ -30,7 +30,7 @@ fn is_byte_ignored(ranges: &[ByteRange], byte: u64) -> bool
 }
 
 /// Whether each byte of the store lies in one of the ranges.
-pub fn is_store_ignored(ranges: &[ByteRange], store: &WordStore) -> bool
+pub(crate) fn is_store_ignored(ranges: &[ByteRange], store: &WordStore) -> bool
     ensures { result ≡ store_ignored ranges.now store.now }
 {
     let first = store.addr().get();
@@ -44,7 +44,7 @@ pub fn is_store_ignored(ranges: &[ByteRange], store: &WordStore) -> bool
 }
 
 /// Whether the event is a store each of whose bytes lies in one of the ranges.
-pub fn is_ignored(trace: &Trace, ranges: &[ByteRange], number: u64) -> bool
+pub(crate) fn is_ignored(trace: &Trace, ranges: &[ByteRange], number: u64) -> bool
     ensures { result ≡ event_ignored trace.now ranges.now number }
 {
     let Some(event) = trace.get(number) else {
@@ -61,7 +61,7 @@ pub fn is_ignored(trace: &Trace, ranges: &[ByteRange], number: u64) -> bool
 ///
 /// # Errors
 /// Where memory was refused.
-pub fn lost_stores(
+pub(crate) fn lost_stores(
     alloc: Global,
     trace: &Trace,
     findings: &[Finding],
@@ -80,7 +80,7 @@ pub fn lost_stores(
 ///
 /// # Errors
 /// Where memory was refused.
-pub fn overwritings(
+pub(crate) fn overwritings(
     alloc: Global,
     trace: &Trace,
     findings: &[Finding],

@@ -23,7 +23,10 @@ pub struct Unwritten {
 ///
 /// # Errors
 /// Where memory was refused.
-pub fn unwritten_assertions(alloc: Global, trace: &Trace) -> Result<Vec<Unwritten>, OutOfMemory>
+pub(crate) fn unwritten_assertions(
+    alloc: Global,
+    trace: &Trace,
+) -> Result<Vec<Unwritten>, OutOfMemory>
     ensures { IfOk result (λ found. found.items ≡ unwritten_of trace.now) }
 {
     let mut found = Vec::new(alloc);

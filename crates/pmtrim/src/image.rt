@@ -7,7 +7,7 @@ use crate::opener::{OpenError, Opener};
 use crate::reading::{read_whole, system_fault};
 use pmt_analysis::Analysis;
 use pmt_explain::failure;
-use pmt_explanation::failures::failing_events;
+use pmt_explanation::failing_events;
 use pmt_image::{
     CopyFault, CountFault, Crash, ImageFault, LineStores, Pool, Stop, crash_at, crash_of_failure,
     write_image,

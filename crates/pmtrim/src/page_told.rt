@@ -3,8 +3,10 @@
 use crate::explain_words::ExplainWords;
 use crate::page_labels::size_on_page;
 use pmt_explain::SafePlaces;
-use pmt_explanation::failures::shown_failures;
-use pmt_explanation::{Explanation, Labels, Options, ShownFailure, explanation_of, json_text};
+use pmt_explain_text::json_text;
+use pmt_explanation::{
+    Explanation, Labels, Options, ShownFailure, explanation_of, shown_failures,
+};
 use pmt_model::OutOfMemory;
 use pmt_page::explained_text;
 use std::alloc::Global;

@@ -1,0 +1,4 @@
+pub mod CountingLemmas
+pub mod NoFloats
+pub mod Pushing
+pub mod WordLemmas

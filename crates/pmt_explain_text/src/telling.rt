@@ -1,0 +1,28 @@
+//! What each part of the text for people is told of.
+
+use pmt_explanation::{Choice, Explanation, Labels};
+use pmt_model::Trace;
+use std::alloc::Global;
+
+/// How long the text is, and what the commands that it names are given.
+#[derive(Drop)]
+pub struct Screen<'a> {
+    /// The most lines; none where all entries up to the limit are shown.
+    pub rows: Option<usize>,
+    /// What was asked for.
+    pub choice: &'a Choice,
+    /// The file of the trace; none for standard input.
+    pub trace: Option<&'a str>,
+    /// The file of the labels, if there is one.
+    pub labels: Option<&'a str>,
+}
+
+// What is told, and how.
+#[derive(Drop)]
+pub(crate) struct Telling<'a> {
+    pub(crate) alloc: Global,
+    pub(crate) trace: &'a Trace,
+    pub(crate) explanation: &'a Explanation,
+    pub(crate) labels: &'a Labels,
+    pub(crate) screen: &'a Screen<'a>,
+}
