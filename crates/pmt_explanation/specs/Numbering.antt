@@ -1,9 +1,10 @@
 -- The numbers of labels.
-use Rattle.std.specs.Prelude.{◌≡◌, ℕ, ◌+◌, ◌<◌, ◌≤◌, List, length, Option, None, Some, slice_get, bytes_eq}
+use Rattle.std.specs.Prelude.{◌≡◌, ℕ, ◌<◌, ◌≤◌, List, length, Option, None, Some, bytes_eq}
 use Rattle.std.specs.Borrow.{Bor}
 use Rattle.std.specs.declared.hash.FoldHasher.{FoldHasher}
 use Rattle.std.specs.declared.hash.BuildHasherDefault.{BuildHasherDefault}
 use Rattle.std.specs.HashMap.{HashMap, get_by}
+use Rattle.pmt_causes.specs.Labels.{label_of as number_of}
 use Rattle.pmt_explanation.specs.declared.labels.Labels.{Labels}
 use Rattle.pmt_explanation.specs.Labelling.{label_of}
 
@@ -18,10 +19,10 @@ abbrev pub IsLabelNumber : Labels → ℕ → Option ℕ → Type 0
 IsLabelNumber labels i None = label_of labels i ≡ None
 IsLabelNumber labels i (Some j) = (text : List ℕ) × (label_of labels i ≡ Some text) × IsFirstWith labels text j
 
--- The numbers of the labels of the first n events.
+-- The numbers of the labels of the first n events. Where the list ends before that, no later one of them has a label.
 pub record AreLabelNumbers (labels : Labels) (n : ℕ) (numbers : List (Option ℕ)) : Type 0 where
-  pub size : length numbers ≡ n
-  pub each : (k : ℕ) (o : Option ℕ) → slice_get numbers k ≡ Some o → IsLabelNumber labels (k + 1) o
+  pub size : length numbers ≤ n
+  pub each : (i : ℕ) → 0 < i → i ≤ n → IsLabelNumber labels i (number_of numbers i)
 
 -- The first one of the first n events that has this label; none where they don't have it.
 abbrev pub IsFirstAmong : Labels → ℕ → List ℕ → Option ℕ → Type 0

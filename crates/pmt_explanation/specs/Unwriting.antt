@@ -1,7 +1,8 @@
 -- Assertions on bytes that no store has written.
-use Rattle.std.specs.Prelude.{ℕ, ◌/◌, ◌%◌, ◌||◌, nat_eq, if◌then◌else◌, Bool, false, true, List, length, Option, None, Some, is_some, slice_index_or}
+use Rattle.std.specs.Prelude.{ℕ, ◌/◌, ◌%◌, ◌||◌, nat_eq, if◌then◌else◌, Bool, false, true, List, length, Option, None, Some, is_some, unwrap_or}
 use Rattle.std.specs.List.{list_any, filter_map, range_with_len}
 use Rattle.std.specs.HashMap.{get}
+use Rattle.std.specs.Int.{bit_at}
 use Rattle.pmt_model.specs.Values.{Span}
 use Rattle.pmt_model.specs.declared.event.Event.{Event}
 use Rattle.pmt_model.specs.declared.event.Op.{Op}
@@ -76,12 +77,12 @@ unwritten_among T n = filter_map (unwritten_at T) (range_with_len 1 n)
 abbrev pub unwritten_of : Recording → List Unwritten
 unwritten_of T = unwritten_among T (length T.events)
 
--- ---- The bytes that are written, word by word
+-- ---- The bytes that are written, by blocks of 64
 
-abbrev pub word_has : Option (List Bool) → ℕ → Bool
-word_has None k = false
-word_has (Some bytes) k = slice_index_or bytes k false
+-- Which bytes of the block with this number are written: bit k tells it of byte k.
+abbrev pub bits_of : WrittenBytes → ℕ → ℕ
+bits_of written n = unwrap_or (get nat_eq written.blocks n) 0
 
 -- The byte is one of those that were written.
 abbrev pub has_byte : WrittenBytes → ℕ → Bool
-has_byte written b = word_has (get nat_eq written.words (b / 8)) (b % 8)
+has_byte written b = nat_eq (bit_at (bits_of written (b / 64)) (b % 64)) 1

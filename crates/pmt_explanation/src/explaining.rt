@@ -41,7 +41,7 @@ pub struct Explanation {
     pub failing: Vec<u64>,
     /// Those of them that are asked for.
     pub asked_failing: Vec<u64>,
-    /// Of each event, in order, the number of its label: that of the first event with it.
+    /// Of each event, in order, the number of its label: that of the first event with it. Nothing where no event has a label.
     pub label_numbers: Vec<Option<u64>>,
     /// Those of `asked_failing`, by cause.
     pub causes: Vec<Group<FailureKey>>,

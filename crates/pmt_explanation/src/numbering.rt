@@ -10,7 +10,8 @@ use std::collections::HashMap;
 // The first event with each label, by its text.
 type Firsts<'a> = HashMap<&'a str, u64>;
 
-// Of each of so many events, in order, the number of its label: that of the first event with it. None where it has no label.
+// Of each of so many events, in order, the number of its label: that of the first event with it. None where it has no label; nothing at
+// all where no event has one.
 pub(crate) fn label_numbers(
     alloc: Global,
     labels: &Labels,
@@ -18,6 +19,9 @@ pub(crate) fn label_numbers(
 ) -> Result<Vec<Option<u64>>, OutOfMemory>
     ensures { IfOk result (λ numbers. AreLabelNumbers labels.now events numbers.items) }
 {
+    if labels.texts.is_empty() {
+        return Ok(Vec::new(alloc));
+    }
     let mut firsts = HashMap::new(alloc);
     let mut numbers = Vec::with_capacity(alloc, events)?;
     for index in 0..events {

@@ -1,10 +1,11 @@
-//! The bytes that stores have written.
-ghost use Rattle.std.specs.Prelude.{◌≡◌, ℕ, ◌+◌, ◌<◌, ◌≤◌, ◌||◌, ◌&&◌, nat_eq, nat_le, nat_lt, true, false, IsTrue, IsFalse, OnOk, slice_index_or, unwrap_or, replicate, []};
+//! The bytes that stores have written, by blocks of 64.
+ghost use Rattle.std.specs.Prelude.{◌≡◌, ◌-◌, ◌^◌, ◌≤◌, ◌<◌, ◌||◌, nat_eq, ℕ, cond, IsTrue, IsFalse, OnOk, []};
 ghost use Rattle.std.specs.List.{list_any, range_with_len};
-ghost use Rattle.std.specs.HashMap.{get};
+ghost use Rattle.std.specs.Int.{bit_at};
+ghost use Rattle.std.specs.Int.Bits.{bit_or};
 ghost use Rattle.pmt_model.specs.Machine.{writes};
 ghost use Rattle.pmt_explain.specs.LastStores.{written_by};
-ghost use Rattle.pmt_explanation.specs.Unwriting.{has_byte};
+ghost use Rattle.pmt_explanation.specs.Unwriting.{bits_of, has_byte};
 
 use pmt_model::{Op, OutOfMemory, Range, WordStore};
 use std::alloc::Global;
@@ -13,17 +14,17 @@ use std::collections::HashMap;
 /// The bytes that stores have written.
 #[derive(Drop)]
 pub(crate) struct WrittenBytes {
-    // of each aligned word of 8 bytes, by its number, which of its bytes are written
-    words: HashMap<u64, [bool; 8]>,
+    // of each aligned block of 64 bytes, by its number, which of its bytes are written: bit k tells it of byte k
+    blocks: HashMap<u64, u64>,
 }
 
 impl WrittenBytes {
     /// None is written.
     pub(crate) fn new(alloc: Global) -> Self
-        ensures { result.words.entries ≡ [] }
+        ensures { result.blocks.entries ≡ [] }
     {
         WrittenBytes {
-            words: HashMap::new(alloc),
+            blocks: HashMap::new(alloc),
         }
     }
 
@@ -46,34 +47,34 @@ impl WrittenBytes {
         }
     }
 
-    // Notes the bytes of the store, which lie in one aligned word.
+    // Notes the bytes of the store, which lie in one aligned word, and so in one block.
     fn note_store(&mut self, store: &WordStore) -> Result<(), OutOfMemory>
         ensures { OnOk result ((b : ℕ) → has_byte self.new b ≡ (writes store.now b || has_byte self.old b)) }
     {
         let first = store.addr().get();
-        let len = store.bytes().len();
-        let before = self.others(first / 8, len);
-        let after = with_bytes(before, (first % 8) as usize, len);
-        self.words.insert(first / 8, after)?;
+        let low = first % 64;
+        let len = store.bytes().len() as u64;
+        self.note_bits(first / 64, bits_between(low, low + len))
+    }
+
+    // Notes these bits of the block with this number.
+    fn note_bits(&mut self, number: u64, bits: u64) -> Result<(), OutOfMemory>
+        ensures { OnOk result ((q : ℕ) → bits_of self.new q ≡ cond (nat_eq number q) (bit_or (bits_of self.old number) bits) (bits_of self.old q)) }
+    {
+        let before = self.block(number);
+        let after = before | bits;
+        if after == before {
+            return Ok(());
+        }
+        self.blocks.insert(number, after)?;
         Ok(())
     }
 
-    // Which bytes of the aligned word with this number are written. Of a store to all of them it need not be known.
-    fn others(&self, number: u64, len: usize) -> [bool; 8]
-        ensures { len < 8 → result ≡ unwrap_or (get nat_eq self.now.words number) (replicate 8 false) }
+    // Which bytes of the block with this number are written.
+    fn block(&self, number: u64) -> u64
+        ensures { result ≡ bits_of self.now number }
     {
-        if len < 8 {
-            self.word(number)
-        } else {
-            [false; 8]
-        }
-    }
-
-    // Which bytes of the aligned word with this number are written.
-    fn word(&self, number: u64) -> [bool; 8]
-        ensures { result ≡ unwrap_or (get nat_eq self.now.words number) (replicate 8 false) }
-    {
-        self.words.get(&number).copied().unwrap_or([false; 8])
+        self.blocks.get(&number).copied().unwrap_or(0)
     }
 
     /// Whether a byte of the range is written.
@@ -82,12 +83,11 @@ impl WrittenBytes {
     {
         let first = range.addr().get();
         let end = first + range.len();
-        for number in first / 8..(end + 7) / 8 {
-            let start = number * 8;
-            let low = first.saturating_sub(start) as usize;
-            let high = (end - start).min(8) as usize;
-            let bytes = self.word(number);
-            if is_any_set(bytes, low, high) {
+        for number in first / 64..(end + 63) / 64 {
+            let start = number * 64;
+            let low = first.saturating_sub(start);
+            let high = (end - start).min(64);
+            if is_any_set(self.block(number), low, high) {
                 return true;
             }
         }
@@ -95,28 +95,21 @@ impl WrittenBytes {
     }
 }
 
-// The bytes of a word, with `len` of them from `offset` on written too.
-fn with_bytes(bytes: [bool; 8], offset: usize, len: usize) -> [bool; 8]
-    requires { offset + len ≤ 8 }
-    ensures { (k : ℕ) → slice_index_or result k false ≡ (nat_le offset k && nat_lt k (offset + len) || slice_index_or bytes k false) }
+// The bits from `low` on that come before `high`.
+fn bits_between(low: u64, high: u64) -> u64
+    requires order { low ≤ high }
+    requires within { high ≤ 64 }
+    ensures { result ≡ 2 ^ high - 2 ^ low }
 {
-    let mut after = bytes;
-    for at in offset..offset + len {
-        after[at] = true;
-    }
-    after
+    ((1u128 << high) - (1u128 << low)) as u64
 }
 
-// Whether one of the bytes of a word from `low` to `high` is written.
-fn is_any_set(bytes: [bool; 8], low: usize, high: usize) -> bool
-    requires { high ≤ 8 }
-    ensures yes { IsTrue result → (k : ℕ) × (low ≤ k) × (k < high) × (slice_index_or bytes k false ≡ true) }
-    ensures no { IsFalse result → (k : ℕ) → low ≤ k → k < high → slice_index_or bytes k false ≡ false }
+// Whether one of these bits from `low` on that come before `high` is set.
+fn is_any_set(bits: u64, low: u64, high: u64) -> bool
+    requires order { low ≤ high }
+    requires within { high ≤ 64 }
+    ensures yes { IsTrue result → (k : ℕ) × (low ≤ k) × (k < high) × (bit_at bits k ≡ 1) }
+    ensures no { IsFalse result → (k : ℕ) → low ≤ k → k < high → bit_at bits k ≡ 0 }
 {
-    for k in low..high {
-        if bytes[k] {
-            return true;
-        }
-    }
-    false
+    bits & bits_between(low, high) != 0
 }

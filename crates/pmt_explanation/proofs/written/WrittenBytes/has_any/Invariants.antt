@@ -3,4 +3,4 @@ use Rattle.pmt_explanation.specs.Unwriting.{has_byte}
 use Rattle.pmt_explanation.proofs.written.WrittenBytes.has_any.Given as goal
 
 abbrev pub invariant-loop-number : goal.invariant-loop-number
-invariant-loop-number l = (b : ℕ) → l.first ≤ b → b < l.end → b < l.number * 8 → has_byte l.self b ≡ false
+invariant-loop-number l = (b : ℕ) → l.first ≤ b → b < l.end → b < l.number * 64 → has_byte l.self b ≡ false
