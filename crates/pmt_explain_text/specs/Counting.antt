@@ -1,9 +1,10 @@
 -- How many events of each kind and threads there are.
-use Rattle.std.specs.Prelude.{ℕ, ◌-◌, ◌*◌, ◌/◌, ◌^◌, ◌==◌, min, if◌then◌else◌, Bool, true, false, List, count_by}
+use Rattle.std.specs.Prelude.{◌≡◌, ℕ, ◌-◌, ◌*◌, ◌/◌, ◌^◌, ◌==◌, min, if◌then◌else◌, Bool, true, false, List, count_by}
 use Rattle.std.specs.List.{list_any, range_with_len}
 use Rattle.pmt_model.specs.declared.event.Event.{Event}
 use Rattle.pmt_model.specs.declared.event.Op.{Op}
 use Rattle.pmt_model.specs.declared.event.Op.TheVariants.{Store, Clwb, ClflushOpt, Clflush, Sfence, Mfence, IsPersist, IsOrderedBefore}
+use Rattle.pmt_explain_text.specs.declared.counting.Counts.{Counts}
 use Rattle.pmt_reasons.specs.declared.reason.Reason.{Reason}
 use Rattle.pmt_reasons.specs.declared.reason.Reason.TheVariants.{Safe, Unfenced, Repeated, Overtaken, Empty, Useless}
 
@@ -57,3 +58,10 @@ has_made events t = list_any (λ (e : Event). e.thread == t) events
 -- How many threads have made the events: their numbers are below 256.
 unfoldable pub threads_of : List Event → ℕ
 threads_of events = count_by (has_made events) (range_with_len 0 256)
+
+-- The counts are those of the events.
+pub record AreCounts (events : List Event) (c : Counts) : Type 0 where
+  pub stores : c.stores ≡ count_by (λ (e : Event). is_store e.op) events
+  pub flushes : c.flushes ≡ count_by (λ (e : Event). is_flush e.op) events
+  pub fences : c.fences ≡ count_by (λ (e : Event). is_fence e.op) events
+  pub threads : c.threads ≡ threads_of events

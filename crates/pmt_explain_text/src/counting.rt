@@ -1,72 +1,62 @@
 //! How many events of each kind and threads there are.
-ghost use Rattle.std.specs.Prelude.{◌≡◌, ℕ, ◌<◌, Bool, false, count_by, get_or, length};
-ghost use Rattle.pmt_explain_text.specs.Counting.{has_made, is_fence as op_fences, is_flush as op_flushes, is_reason_of_fence as drops_fence, is_store as op_stores, per_cent as share_of, threads_of};
+ghost use Rattle.std.specs.Prelude.{◌≡◌, ◌+◌, ◌^◌, ◌<◌, ◌≤◌, Bool, cond, count_by};
+ghost use Rattle.pmt_explain_text.specs.Counting.{AreCounts, is_fence, is_flush, is_store, is_reason_of_fence as drops_fence, per_cent as share_of};
 
 use pmt_model::{Event, Op};
 use pmt_reasons::Reason;
 
-// How many events are stores.
-pub(crate) fn count_stores(events: &[Event]) -> usize
-    ensures { result ≡ count_by (λ event. op_stores event.op) events.now }
-{
-    events.iter().filter(|event| is_store(event.op)).count()
+// How many events of each kind there are, and how many threads have made one.
+#[derive(Clone, Copy)]
+pub(crate) struct Counts {
+    pub(crate) stores: usize,
+    // clwb, clflushopt and clflush
+    pub(crate) flushes: usize,
+    pub(crate) fences: usize,
+    pub(crate) threads: usize,
 }
 
-// How many events are flushes: clwb, clflushopt or clflush.
-pub(crate) fn count_flushes(events: &[Event]) -> usize
-    ensures { result ≡ count_by (λ event. op_flushes event.op) events.now }
-{
-    events.iter().filter(|event| is_flush(event.op)).count()
-}
-
-// How many events are fences.
-pub(crate) fn count_fences(events: &[Event]) -> usize
-    ensures { result ≡ count_by (λ event. op_fences event.op) events.now }
-{
-    events.iter().filter(|event| is_fence(event.op)).count()
-}
-
-// Whether the op is a store.
-pub(crate) fn is_store(op: Op) -> bool
-    ensures { result ≡ op_stores op }
-{
-    match op {
-        Op::Store(_) => true,
-        Op::Clwb(_)
-        | Op::ClflushOpt(_)
-        | Op::Clflush(_)
-        | Op::Sfence
-        | Op::Mfence
-        | Op::IsPersist(_)
-        | Op::IsOrderedBefore(_, _) => false,
-    }
-}
-
-// Whether the op is a flush.
-pub(crate) fn is_flush(op: Op) -> bool
-    ensures { result ≡ op_flushes op }
-{
-    match op {
-        Op::Clwb(_) | Op::ClflushOpt(_) | Op::Clflush(_) => true,
-        Op::Store(_) | Op::Sfence | Op::Mfence | Op::IsPersist(_) | Op::IsOrderedBefore(_, _) => {
-            false
+impl Counts {
+    // Counts an event with this op.
+    fn add(&mut self, op: Op)
+        requires { self.old.stores + self.old.flushes + self.old.fences < 2 ^ 63 }
+        ensures stores { self.new.stores ≡ self.old.stores + cond (is_store op) 1 0 }
+        ensures flushes { self.new.flushes ≡ self.old.flushes + cond (is_flush op) 1 0 }
+        ensures fences { self.new.fences ≡ self.old.fences + cond (is_fence op) 1 0 }
+        ensures one { self.new.stores + self.new.flushes + self.new.fences ≤ self.old.stores + self.old.flushes + self.old.fences + 1 }
+    {
+        match op {
+            Op::Store(_) => self.stores += 1,
+            Op::Clwb(_) | Op::ClflushOpt(_) | Op::Clflush(_) => self.flushes += 1,
+            Op::Sfence | Op::Mfence => self.fences += 1,
+            Op::IsPersist(_) | Op::IsOrderedBefore(_, _) => {}
         }
     }
 }
 
-// Whether the op is a fence.
-pub(crate) fn is_fence(op: Op) -> bool
-    ensures { result ≡ op_fences op }
+// The counts of these events, in one pass.
+pub(crate) fn counts_of(events: &[Event]) -> Counts
+    ensures { AreCounts events.now result }
 {
-    match op {
-        Op::Sfence | Op::Mfence => true,
-        Op::Store(_)
-        | Op::Clwb(_)
-        | Op::ClflushOpt(_)
-        | Op::Clflush(_)
-        | Op::IsPersist(_)
-        | Op::IsOrderedBefore(_, _) => false,
+    let mut counts = Counts {
+        stores: 0,
+        flushes: 0,
+        fences: 0,
+        threads: 0,
+    };
+    let mut seen = [false; 256];
+    for event in events {
+        seen[event.thread as usize] = true;
+        counts.add(event.op);
     }
+    counts.threads = count_seen(&seen);
+    counts
+}
+
+// How many are true.
+fn count_seen(seen: &[bool; 256]) -> usize
+    ensures { result ≡ count_by (λ (is_seen : Bool). is_seen) seen.now }
+{
+    seen.iter().filter(|is_seen| **is_seen).count()
 }
 
 // Whether it is a fence that is dropped for this reason.
@@ -81,33 +71,6 @@ pub(crate) fn is_reason_of_fence(reason: Reason) -> bool
         Reason::Repeated { by: _ } => false,
         Reason::Overtaken { by: _ } => false,
     }
-}
-
-// How many threads have made these events.
-pub(crate) fn count_threads(events: &[Event]) -> usize
-    ensures { result ≡ threads_of events.now }
-{
-    let seen = threads_seen(events);
-    count_seen(&seen)
-}
-
-// Which threads have made these events.
-fn threads_seen(events: &[Event]) -> [bool; 256]
-    ensures all { length result ≡ 256 }
-    ensures each { (t : ℕ) → t < 256 → get_or result t false ≡ has_made events.now t }
-{
-    let mut seen = [false; 256];
-    for event in events {
-        seen[event.thread as usize] = true;
-    }
-    seen
-}
-
-// How many are true.
-fn count_seen(seen: &[bool; 256]) -> usize
-    ensures { result ≡ count_by (λ (is_seen : Bool). is_seen) seen.now }
-{
-    seen.iter().filter(|is_seen| **is_seen).count()
 }
 
 // The whole per cent that the part is of the whole, rounded down; 0 of nothing.

@@ -41,7 +41,8 @@ fn push_unflushed(told: &Telling<'_>, entries: &mut Vec<String>) -> Result<(), O
     let claimed = claimed_lines(told)?;
     let mut guesses = 0usize;
     for group in told.explanation.lost.as_slice() {
-        let is_quiet = is_unflushed(group.cause) && !flushed.contains_key(&group.line);
+        let is_flushed = flushed.get(&group.line).copied().unwrap_or(true);
+        let is_quiet = is_unflushed(group.cause) && !is_flushed;
         if guesses < FEW && is_quiet && !is_claimed(told.trace, &claimed, group.line) {
             push_line_guess(told, entries, group)?;
             guesses = guesses.saturating_add(1);
@@ -119,14 +120,25 @@ fn is_claimed(trace: &Trace, claimed: &HashMap<u64, u64>, line: u64) -> bool {
     false
 }
 
-// The lines that are flushed.
+// Of each line with stores that no flush follows, whether an event flushes it.
 fn flushed_lines(told: &Telling<'_>) -> Result<HashMap<u64, bool>, OutOfMemory> {
     let mut lines = HashMap::new(told.alloc);
+    for group in told.explanation.lost.as_slice() {
+        if is_unflushed(group.cause) {
+            lines.insert(group.line, false)?;
+        }
+    }
+    if lines.is_empty() {
+        return Ok(lines);
+    }
     for event in told.trace.events() {
         let op = event.op;
         match op {
             Op::Clwb(addr) | Op::ClflushOpt(addr) | Op::Clflush(addr) => {
-                lines.insert(line_of(told.trace.format(), addr), true)?;
+                let line = line_of(told.trace.format(), addr);
+                if lines.contains_key(&line) {
+                    lines.insert(line, true)?;
+                }
             }
             Op::Store(_) | Op::Sfence | Op::Mfence | Op::IsPersist(_) | Op::IsOrderedBefore(_, _) =>
                 {}

@@ -85,12 +85,9 @@ fn last_stores(
 // Notes the store at the bytes that it writes, of those from `first` on.
 fn note_store(last: &mut [Option<u64>], first: u64, store: &WordStore, number: u64) {
     let start = store.addr().get();
-    for offset in 0..store.bytes().len() as u64 {
-        let byte = start.saturating_add(offset);
-        if byte < first {
-            continue;
-        }
-        let place = (byte - first) as usize;
+    let end = start.saturating_add(store.bytes().len() as u64);
+    for byte in start.max(first)..end.min(first.saturating_add(last.len() as u64)) {
+        let place = byte.saturating_sub(first) as usize;
         if place < last.len() {
             last[place] = Some(number);
         }

@@ -79,35 +79,7 @@ fn range_lines(
         let line = (cell.addr / size).saturating_sub(first) as usize;
         note_cell(lines.as_mut_slice(), line, *cell);
     }
-    for index in 0..place {
-        let number = index.saturating_add(1);
-        let Some(event) = told.trace.get(number) else {
-            break;
-        };
-        let Event { thread, op } = event;
-        match op {
-            Op::Clwb(addr) | Op::ClflushOpt(addr) => {
-                let line = line_of(told.trace.format(), addr);
-                note_flush(
-                    lines.as_mut_slice(),
-                    first,
-                    line,
-                    flush_of(number, thread, false),
-                );
-            }
-            Op::Clflush(addr) => {
-                let line = line_of(told.trace.format(), addr);
-                note_flush(
-                    lines.as_mut_slice(),
-                    first,
-                    line,
-                    flush_of(number, thread, true),
-                );
-            }
-            Op::Sfence | Op::Mfence => note_fence(lines.as_mut_slice(), number, thread),
-            Op::Store(_) | Op::IsPersist(_) | Op::IsOrderedBefore(_, _) => {}
-        }
-    }
+    note_flushes(told.trace, place, first, lines.as_mut_slice());
     Ok(lines)
 }
 
@@ -133,38 +105,49 @@ fn note_cell(lines: &mut [RangeLine], line: usize, cell: Cell) {
     }
 }
 
-fn flush_of(event: u64, thread: u8, is_complete: bool) -> LastFlush {
-    LastFlush {
-        event,
-        thread,
-        is_complete,
-        fence: None,
-    }
-}
-
-// Notes the flush at its line, if the range has it.
-fn note_flush(lines: &mut [RangeLine], first: u64, line: u64, flush: LastFlush) {
-    if line < first {
-        return;
-    }
-    let place = (line - first) as usize;
-    if place < lines.len() {
-        lines[place].flush = Some(flush);
-    }
-}
-
-// Notes the fence at each line whose last flush waits for it.
-fn note_fence(lines: &mut [RangeLine], fence: u64, thread: u8) {
-    for place in 0..lines.len() {
-        if let Some(flush) = lines[place].flush {
-            if flush.thread == thread && flush.fence.is_none() {
-                lines[place].flush = Some(LastFlush {
-                    fence: Some(fence),
-                    ..flush
-                });
+// Notes the last flush of each line by the place. It goes back from there, and knows the next fence of each thread.
+fn note_flushes(trace: &Trace, place: u64, first: u64, lines: &mut [RangeLine]) {
+    let mut fences = [None; 256];
+    let mut left = lines.len();
+    for index in (0..place).rev() {
+        if left == 0 {
+            break;
+        }
+        let number = index.saturating_add(1);
+        let Some(event) = trace.get(number) else {
+            break;
+        };
+        let Event { thread, op } = event;
+        let made = LastFlush {
+            event: number,
+            thread,
+            is_complete: matches!(op, Op::Clflush(_)),
+            fence: fences[thread as usize],
+        };
+        match op {
+            Op::Clwb(addr) | Op::ClflushOpt(addr) | Op::Clflush(addr) => {
+                let line = line_of(trace.format(), addr);
+                if note_flush(lines, first, line, made) {
+                    left = left.saturating_sub(1);
+                }
             }
+            Op::Sfence | Op::Mfence => fences[thread as usize] = Some(number),
+            Op::Store(_) | Op::IsPersist(_) | Op::IsOrderedBefore(_, _) => {}
         }
     }
+}
+
+// Notes the flush at its line, if the range has it and knows none of it, and tells whether that is so.
+fn note_flush(lines: &mut [RangeLine], first: u64, line: u64, flush: LastFlush) -> bool {
+    let Some(place) = line.checked_sub(first) else {
+        return false;
+    };
+    let place = place as usize;
+    if place >= lines.len() || lines[place].flush.is_some() {
+        return false;
+    }
+    lines[place].flush = Some(flush);
+    true
 }
 
 // Adds the lines, of which the first has this number: if they are many, those that lose a store.

@@ -1,9 +1,7 @@
 //! What an explanation begins with.
 ghost use Rattle.pmt_explain_text.specs.Summing.{IsSummary};
 
-use crate::counting::{
-    count_fences, count_flushes, count_stores, count_threads, is_reason_of_fence,
-};
+use crate::counting::{Counts, counts_of, is_reason_of_fence};
 use pmt_explanation::Explanation;
 
 // The counts of an explanation.
@@ -42,6 +40,12 @@ pub(crate) fn summary_of(explanation: &Explanation) -> Summary
     ensures { IsSummary explanation.now result }
 {
     let events = explanation.analysis.trace().events();
+    let Counts {
+        stores,
+        flushes,
+        fences,
+        threads,
+    } = counts_of(events);
     let dropped = explanation.dropped.len();
     let fences_dropped = explanation
         .dropped
@@ -50,15 +54,15 @@ pub(crate) fn summary_of(explanation: &Explanation) -> Summary
         .count();
     Summary {
         events: events.len() as u64,
-        threads: count_threads(events) as u64,
+        threads: threads as u64,
         cache_lines: explanation.analysis.lines() as u64,
         assertions: explanation.analysis.verdicts().len() as u64,
         failing: explanation.failing.len() as u64,
-        stores: count_stores(events) as u64,
+        stores: stores as u64,
         never_persisted: explanation.stores.len() as u64,
-        flushes: count_flushes(events) as u64,
+        flushes: flushes as u64,
         flushes_dropped: dropped.saturating_sub(fences_dropped) as u64,
-        fences: count_fences(events) as u64,
+        fences: fences as u64,
         fences_dropped: fences_dropped as u64,
         ignored_never_persisted: explanation.ignored_never_persisted,
         ignored_overwritten: explanation.ignored_overwritten,

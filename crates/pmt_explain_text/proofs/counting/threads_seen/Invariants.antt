@@ -1,9 +1,0 @@
-use Rattle.std.proofs.Common.{◌≡◌, ℕ, ◌<◌, false, get_or, length, take}
-use Rattle.pmt_explain_text.specs.Counting.{has_made}
-use Rattle.pmt_explain_text.proofs.counting.threads_seen.Given as goal
-
-abbrev pub invariant-loop-event : goal.invariant-loop-event
-invariant-loop-event l = record {
-  all : length l.seen ≡ 256;
-  each : (t : ℕ) → t < 256 → get_or l.seen t false ≡ has_made (take l.event-index l.events) t;
-}
