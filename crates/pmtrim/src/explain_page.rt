@@ -74,7 +74,7 @@ pub fn page_of<O: Opener>(
     files: &O,
     explanation: Explanation,
     labels: &Labels,
-    mut words: ExplainWords<'_>,
+    words: ExplainWords<'_>,
     bytes: &[u8],
 ) -> Result<Vec<u8>, Fault> {
     let text = people_text(alloc, &explanation, labels, &words)?;
@@ -88,7 +88,7 @@ pub fn page_of<O: Opener>(
         name: name_of(&words),
         source: words.source,
     };
-    let told = told_within(alloc, explanation, labels, &mut words, WIDE.told)?;
+    let told = told_within(alloc, explanation, labels, &words, WIDE.told)?;
     for room in [WIDE, FINDINGS] {
         let page = page_within(alloc, files, asked, &told, room)?;
         if page.len() <= MOST_PAGE {
@@ -100,7 +100,7 @@ pub fn page_of<O: Opener>(
         text: _,
         is_last: _,
     } = told;
-    let told = told_within(alloc, explanation, labels, &mut words, NARROW.told)?;
+    let told = told_within(alloc, explanation, labels, &words, NARROW.told)?;
     page_within(alloc, files, asked, &told, NARROW)
 }
 

@@ -4,9 +4,7 @@ use crate::explain_words::ExplainWords;
 use crate::page_labels::size_on_page;
 use pmt_explain::SafePlaces;
 use pmt_explain_text::json_text;
-use pmt_explanation::{
-    Explanation, Labels, Options, ShownFailure, explanation_of, shown_failures,
-};
+use pmt_explanation::{Explanation, Labels, ShownFailure, shown_failures};
 use pmt_model::OutOfMemory;
 use pmt_page::explained_text;
 use std::alloc::Global;
@@ -31,7 +29,7 @@ pub fn told_within(
     alloc: Global,
     explanation: Explanation,
     labels: &Labels,
-    words: &mut ExplainWords<'_>,
+    words: &ExplainWords<'_>,
     most: usize,
 ) -> Result<Told, OutOfMemory> {
     let explanation = with_each_failure(alloc, explanation)?;
@@ -58,7 +56,7 @@ fn with_more(
     alloc: Global,
     told: Told,
     labels: &Labels,
-    words: &mut ExplainWords<'_>,
+    words: &ExplainWords<'_>,
     limit: usize,
     most: usize,
 ) -> Result<Told, OutOfMemory> {
@@ -70,8 +68,7 @@ fn with_more(
         text,
         is_last: _,
     } = told;
-    words.options.limit = limit;
-    let explanation = explained_again(alloc, explanation, labels, &words.options)?;
+    let explanation = with_limit(alloc, explanation, limit)?;
     let longer = text_of(alloc, &explanation, labels, words)?;
     let has_room = size_on_page(longer.as_slice()) <= most;
     Ok(Told {
@@ -86,7 +83,7 @@ fn with_fewer(
     alloc: Global,
     told: Told,
     labels: &Labels,
-    words: &mut ExplainWords<'_>,
+    words: &ExplainWords<'_>,
     limit: usize,
     most: usize,
 ) -> Result<Told, OutOfMemory> {
@@ -98,8 +95,7 @@ fn with_fewer(
         text: _,
         is_last: _,
     } = told;
-    words.options.limit = limit;
-    let explanation = explained_again(alloc, explanation, labels, &words.options)?;
+    let explanation = with_limit(alloc, explanation, limit)?;
     let text = text_of(alloc, &explanation, labels, words)?;
     let has_room = size_on_page(text.as_slice()) <= most;
     Ok(Told {
@@ -120,6 +116,25 @@ fn with_each_failure(
     Ok(explanation)
 }
 
+// The explanation, which has each failed assertion up to its limit, with those up to another limit. All else that it tells is the same
+// for every limit.
+fn with_limit(
+    alloc: Global,
+    mut explanation: Explanation,
+    limit: usize,
+) -> Result<Explanation, OutOfMemory> {
+    let shown = explanation.failures.len();
+    explanation.limit = limit;
+    if limit < shown {
+        explanation.failures.truncate(limit);
+        return Ok(explanation);
+    }
+    if shown == explanation.asked_failing.len() {
+        return Ok(explanation);
+    }
+    with_each_failure(alloc, explanation)
+}
+
 // Each failed assertion that is asked for, up to the limit.
 fn each_failure(
     alloc: Global,
@@ -128,18 +143,6 @@ fn each_failure(
     let safe = SafePlaces::of(alloc, explanation.analysis.trace())?;
     let asked = explanation.asked_failing.as_slice();
     shown_failures(alloc, &safe, asked, explanation.limit)
-}
-
-// The explanation of the same trace with these options.
-fn explained_again(
-    alloc: Global,
-    explanation: Explanation,
-    labels: &Labels,
-    options: &Options,
-) -> Result<Explanation, OutOfMemory> {
-    let analysis = explanation.analysis;
-    let again = explanation_of(alloc, analysis, labels, options)?;
-    with_each_failure(alloc, again)
 }
 
 // What the explanation tells.
