@@ -15,6 +15,7 @@ LATE = "note: stores that two fences or more of their own thread left unsafe, mo
 THREADS = "table: what each thread makes, and how many of its flushes and fences do nothing:"
 LABELS = "table: what is made at each source place, those first where most does nothing:"
 GUESSES = "guess: if a crash may lose these, as locks or statistics, this leaves them out:"
+NOTHING_FOUND = "Nothing of what is asked for was found."
 COLUMNS = "   stores  flushes   fences  do nothing"
 REASONS = {
     "safe": "its line has no store that is not safe already",
@@ -255,9 +256,27 @@ def asked_lines(explained):
     return [f"  told below: {told} (--{word})" for word, told in words.items() if asked[word] is not None]
 
 
+def idle_lines(explained):
+    """What the summary says of ranges to ignore that have no byte of a store that is left out."""
+    told = [*explained.lost_stores(), *(earlier for earlier, _ in explained.pairs())]
+    left_out = {byte for store in told if explained.is_ignored(store) for byte in explained.bytes_of(store)}
+    idle = sum(not any(low <= byte < low + length for byte in left_out) for low, length in explained.ignored)
+    return [f"  ranges to ignore that leave out nothing: {idle} of {len(explained.ignored)}"] if idle else []
+
+
+def found_nothing(explained):
+    """Whether something is asked for that no finding meets."""
+    found = (explained.causes, explained.never_persisted(), explained.dropped(), explained.overwritten(), explained.unwritten(), grouped.late(explained))
+    return explained.asked != NOTHING and not any(found)
+
+
 def wrong_text(explained, told):
     """What is wrong with the text that shows all."""
     lines = told.decode().splitlines()
+    if [line for line in lines if line.startswith("  ranges to ignore ")] != idle_lines(explained):
+        return f"ranges to ignore: wanted {idle_lines(explained)}, in\n{told.decode()}"
+    if (lines[-1] == NOTHING_FOUND) != found_nothing(explained):
+        return f"found nothing: {found_nothing(explained)}, in\n{told.decode()}"
     if [line for line in lines if line.startswith("  told below: ")] != asked_lines(explained):
         return f"what is asked for: wanted {asked_lines(explained)}, in\n{told.decode()}"
     sections = [(DROPPED, dropped_lines), (OVERWRITTEN, overwritten_lines), (LATE, late_lines), (GUESSES, guess_lines)]

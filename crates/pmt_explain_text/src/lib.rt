@@ -19,6 +19,7 @@ mod people_dropped;
 mod people_entries;
 mod people_failures;
 mod people_guesses;
+mod people_ignored;
 mod people_late;
 mod people_memory;
 mod people_overwritten;

@@ -9,8 +9,8 @@ use crate::people_overwritten::overwritten_section;
 use crate::people_summary::push_summary;
 use crate::people_tables::{labels_section, threads_section};
 use crate::screen::{Section, push_sections};
-use crate::telling::{Screen, Telling};
-use pmt_explanation::{Explanation, Labels};
+use crate::telling::{Screen, Telling, tells_all};
+use pmt_explanation::{Choice, Explanation, Labels};
 use pmt_model::OutOfMemory;
 use std::alloc::Global;
 
@@ -38,6 +38,7 @@ pub fn text(
     push_found(&mut sections, &told)?;
     push_other(&mut sections, &told)?;
     push_sections(alloc, &mut out, sections.as_slice(), screen.rows)?;
+    push_nothing(&mut out, sections.as_slice(), screen.choice)?;
     Vec::from_slice(alloc, out.as_bytes())
 }
 
@@ -56,6 +57,18 @@ fn push_other(sections: &mut Vec<Section>, told: &Telling<'_>) -> Result<(), Out
     push_made(sections, guesses_section(told))?;
     push_made(sections, threads_section(told))?;
     push_made(sections, labels_section(told))
+}
+
+// Says that nothing was found, where something was asked for.
+fn push_nothing(
+    out: &mut String,
+    sections: &[Section],
+    choice: &Choice,
+) -> Result<(), OutOfMemory> {
+    if tells_all(choice) || sections.iter().any(|section| section.total > 0) {
+        return Ok(());
+    }
+    out.push_str("\nNothing of what is asked for was found.\n")
 }
 
 // Adds the section, if there was memory for it.

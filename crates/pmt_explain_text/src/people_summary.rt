@@ -2,6 +2,7 @@
 
 use crate::counting::per_cent;
 use crate::json_summary::kind_name;
+use crate::people_ignored::push_ignored;
 use crate::people_parts::{is_unflushed, plural};
 use crate::summary::{Summary, summary_of};
 use crate::telling::Telling;
@@ -13,7 +14,7 @@ pub(crate) fn push_summary(out: &mut String, told: &Telling<'_>) -> Result<(), O
     let counts = summary_of(told.explanation);
     push_size(out, &counts, told.trace.format().line_size())?;
     push_counts(out, &counts)?;
-    push_ignored(out, &counts)?;
+    push_ignored(out, told, &counts)?;
     push_choice(out, told.screen.choice)?;
     push_legend(out, told)
 }
@@ -89,19 +90,6 @@ fn push_share(out: &mut String, part: u64, whole: u64, what: &str) -> Result<(),
     writeln!(
         out,
         "  {what} that do nothing: {part} of {whole} ({share}%)"
-    )
-}
-
-// Adds how many findings are ignored, if any are.
-fn push_ignored(out: &mut String, counts: &Summary) -> Result<(), OutOfMemory> {
-    let lost = counts.ignored_never_persisted;
-    let overwritten = counts.ignored_overwritten;
-    if lost == 0 && overwritten == 0 {
-        return Ok(());
-    }
-    writeln!(
-        out,
-        "  left out as ignored: {lost} never persisted, {overwritten} overwritten"
     )
 }
 

@@ -2,9 +2,9 @@
 
 use crate::people_parts::push_label;
 use crate::screen::Section;
-use crate::telling::Telling;
+use crate::telling::{Telling, tells_all};
 use pmt_causes::Row;
-use pmt_explanation::{Choice, first};
+use pmt_explanation::first;
 use pmt_model::OutOfMemory;
 
 const THREADS: &str =
@@ -75,16 +75,6 @@ fn push_label_row(out: &mut String, told: &Telling<'_>, row: &Row<u64>) -> Resul
     out.push_str(" ")?;
     push_label(out, told, row.key)?;
     out.push_str("\n")
-}
-
-// Whether the words choose nothing, so that the whole trace is told of.
-fn tells_all(choice: &Choice) -> bool {
-    choice.only.is_none()
-        && choice.thread.is_none()
-        && choice.range.is_none()
-        && choice.from.is_none()
-        && choice.to.is_none()
-        && choice.label.is_none()
 }
 
 // Adds the counts of the row.

@@ -1,6 +1,6 @@
 //! What each part of the text for people is told of.
 
-use pmt_explanation::{Choice, Explanation, Labels};
+use pmt_explanation::{ByteRange, Choice, Explanation, Labels};
 use pmt_model::Trace;
 use std::alloc::Global;
 
@@ -11,6 +11,8 @@ pub struct Screen<'a> {
     pub rows: Option<usize>,
     /// What was asked for.
     pub choice: &'a Choice,
+    /// The ranges in which stores are ignored.
+    pub ignored: &'a [ByteRange],
     /// The file of the trace; none for standard input.
     pub trace: Option<&'a str>,
     /// The file of the labels, if there is one.
@@ -25,4 +27,14 @@ pub(crate) struct Telling<'a> {
     pub(crate) explanation: &'a Explanation,
     pub(crate) labels: &'a Labels,
     pub(crate) screen: &'a Screen<'a>,
+}
+
+// Whether the words choose nothing, so that the whole trace is told of.
+pub(crate) fn tells_all(choice: &Choice) -> bool {
+    choice.only.is_none()
+        && choice.thread.is_none()
+        && choice.range.is_none()
+        && choice.from.is_none()
+        && choice.to.is_none()
+        && choice.label.is_none()
 }

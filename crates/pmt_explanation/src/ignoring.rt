@@ -44,7 +44,7 @@ pub(crate) fn is_store_ignored(ranges: &[ByteRange], store: &WordStore) -> bool
 }
 
 /// Whether the event is a store each of whose bytes lies in one of the ranges.
-pub(crate) fn is_ignored(trace: &Trace, ranges: &[ByteRange], number: u64) -> bool
+pub fn is_ignored(trace: &Trace, ranges: &[ByteRange], number: u64) -> bool
     ensures { result ≡ event_ignored trace.now ranges.now number }
 {
     let Some(event) = trace.get(number) else {

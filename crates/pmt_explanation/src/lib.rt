@@ -24,7 +24,7 @@ pub use crate::causing::first_of;
 pub use crate::choosing::{Choice, Kind};
 pub use crate::explaining::{Explanation, Options, explanation_of, has_failed};
 pub use crate::failures::{RangeAfter, ShownFailure, failing_events, shown_failures};
-pub use crate::ignoring::ByteRange;
+pub use crate::ignoring::{ByteRange, is_ignored};
 pub use crate::labels::Labels;
 pub use crate::limit::first;
 pub use crate::mending::mend_for;

@@ -215,6 +215,7 @@ pub fn people_text(
     let screen = Screen {
         rows: if words.is_limited { None } else { Some(ROWS) },
         choice: &words.options.choice,
+        ignored: words.options.ignored.as_slice(),
         trace: words.file,
         labels: words.labels,
     };
