@@ -142,8 +142,8 @@ def answers_of_many_lines(folder):
 
 
 def under_a_limit(program, trace, words):
-    """A million events, with too little memory for them: 60 MB of addresses, which hold little more than the text or the trace."""
-    limited = ["bash", "-c", 'ulimit -v 60000; exec "$@"', "limited", program, *words, trace]
+    """A million events, with too little memory for them: 40 MB of addresses, which hold little more than the text or the lines."""
+    limited = ["bash", "-c", 'ulimit -v 40000; exec "$@"', "limited", program, *words, trace]
     done = subprocess.run(limited, capture_output=True, timeout=120)
     answer = Answer(done.returncode, done.stdout, done.stderr)
     return [] if answer == WANT_OF_MEMORY else [f"{words}, a million events: {faulty.short(answer)}"]
