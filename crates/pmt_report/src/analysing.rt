@@ -9,7 +9,7 @@ ghost use Rattle.pmt_workers.specs.Halving.{is_worker_count};
 ghost use Rattle.pmt_report.specs.Runs.{IsAnalysisFault, coming_from_reader, run_read_faults, tells_workers};
 
 use crate::fault::{RunError, run_error};
-use crate::swept::swept;
+use crate::sweeping::swept;
 use pmt_analysis::Analysis;
 use pmt_lines::TakeError;
 use pmt_text::{Counted, EventSource, TextSource};

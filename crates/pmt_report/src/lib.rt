@@ -1,4 +1,4 @@
-//! Reports of traces, the runs that read a trace, judge it and write the answer, and the run that explains a trace.
+//! Reports of traces, and the runs that read a trace, judge it and write the answer.
 //!
 //! The definitions stand in `specs/`: the text of each answer, and the line and status of each fault.
 #![tactic(auto)]
@@ -6,7 +6,6 @@
 pub mod analysing;
 pub mod check;
 mod checked;
-pub mod explaining;
 pub mod fault;
 mod first_lines;
 mod fronts;
@@ -15,15 +14,15 @@ pub mod listing;
 mod output;
 pub mod record_fault;
 mod report;
-mod swept;
+pub mod sweeping;
 mod taking;
 mod texts;
 pub mod trim;
 
 pub use crate::analysing::analysed;
 pub use crate::check::{failed, report_text, run_check};
-pub use crate::explaining::explain;
 pub use crate::fault::{RunError, fault_text, run_error};
 pub use crate::fronts_run::run_fronts;
 pub use crate::record_fault::RecordFault;
+pub use crate::sweeping::swept;
 pub use crate::trim::run_trim;

@@ -1,7 +1,7 @@
 use Rattle.std.proofs.Common.{List, ℕ, sym, ap, subst, ◌∙◌}
 use Rattle.pmt_model.specs.Keeping.{IsKeep}
 use Rattle.pmt_trim.specs.Marking.{marked_from}
-use Rattle.pmt_report.proofs.swept.swept_trace.Goals as goal
+use Rattle.pmt_report.proofs.sweeping.swept_trace.Goals as goal
 
 pub new-requires : goal.new-requires
 new-requires c = record {

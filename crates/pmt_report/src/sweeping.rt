@@ -18,7 +18,7 @@ use std::alloc::Global;
 /// # Errors
 /// `Source` with the fault that the source told, or with `Failed` where it had told a fault before. `OutOfMemory` where memory was
 /// refused to the analysis itself; the source told no fault then. The source stands past the events that were taken.
-pub(crate) fn swept<S: EventSource>(alloc: Global, source: &mut S) -> Result<Analysis, TakeError>
+pub fn swept<S: EventSource>(alloc: Global, source: &mut S) -> Result<Analysis, TakeError>
     ensures right { IfOk result IsAnalysed }
     ensures whole { IfOk result (λ a. ComesWhole (S.coming source.old) a.trace) }
     ensures fault { IfErr (told_by result) (λ e. IfSome (S.coming source.old) (λ c. IsFaultOf c e)) }

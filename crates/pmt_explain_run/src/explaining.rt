@@ -6,9 +6,9 @@ ghost use Rattle.pmt_lines.specs.Sourcing.{IsFaultOf, TellsTaken, told_by};
 ghost use Rattle.pmt_analysis.specs.Analysing.{IsAnalysed};
 ghost use Rattle.pmt_explanation.specs.Explaining.{IsExplanation};
 
-use crate::swept::swept;
 use pmt_explanation::{Explanation, Labels, Options, explanation_of};
 use pmt_lines::TakeError;
+use pmt_report::swept;
 use pmt_text::EventSource;
 use std::alloc::Global;
 
