@@ -82,6 +82,10 @@ abbrev pub late_items : Recording → List (Option ℕ) → List ℕ → ℕ →
 late_items T labels waited zero = []
 late_items T labels waited (suc n) = with_spot (suc n) (spot_of T labels waited (suc n)) (late_items T labels waited n)
 
+-- The late stores of the trace, in their order, each with its spot.
+abbrev pub AreLateItems : Recording → List (Option ℕ) → List (Keyed LateSpot) → Type 0
+AreLateItems T labels items = (waited : List ℕ) × AreWaited T waited × (items ≡ late_items T labels waited (length T.events))
+
 -- The late stores of the trace, in groups by their spots.
 abbrev pub AreLateGroups : Recording → List (Option ℕ) → List (Group LateSpot) → Type 0
-AreLateGroups T labels groups = (waited : List ℕ) × AreWaited T waited × AreGrouped (late_items T labels waited (length T.events)) groups
+AreLateGroups T labels groups = (items : List (Keyed LateSpot)) × AreLateItems T labels items × AreGrouped items groups

@@ -5,7 +5,7 @@ ghost use Rattle.std.specs.List.{count_by};
 ghost use Rattle.std.specs.List.Sorted.{IsNonDecreasingBy};
 ghost use Rattle.pmt_explain.specs.Saving.{AreSafePlaces};
 ghost use Rattle.pmt_causes.specs.Fences.{AreFences, list_by, wait_of, with_fence};
-ghost use Rattle.pmt_causes.specs.Late.{AreLateGroups, AreWaited, late_items as late_items_in, late_spot as late_spot_in, spot_of_op as spot_of_op_in, with_spot};
+ghost use Rattle.pmt_causes.specs.Late.{AreLateGroups, AreLateItems, AreWaited, late_items as late_items_in, late_spot as late_spot_in, spot_of_op as spot_of_op_in, with_spot};
 
 use crate::grouping::{Group, Keyed, groups};
 use crate::labels::label_of;
@@ -63,8 +63,8 @@ fn fences_waited_by(alloc: Global, trace: &Trace, safe: &[u64]) -> Result<Vec<u6
 pub struct LateStores {
     /// What `fences_waited` tells of the trace.
     pub waited: Vec<u64>,
-    /// What `late_groups` tells of it.
-    pub groups: Vec<Group<LateSpot>>,
+    /// The late stores, by rising event number, each with its spot.
+    pub items: Vec<Keyed<LateSpot>>,
 }
 
 /// The late stores of the trace of these places, and for how many fences each of its stores waits.
@@ -79,12 +79,12 @@ pub fn late_stores(
     labels: &[Option<u64>],
 ) -> Result<LateStores, OutOfMemory>
     ensures waited { IfOk result (λ late. AreWaited safe.now.trace.now late.waited.items) }
-    ensures groups { IfOk result (λ late. AreLateGroups safe.now.trace.now labels.now late.groups.items) }
+    ensures items { IfOk result (λ late. AreLateItems safe.now.trace.now labels.now late.items.items) }
 {
     let trace = safe.trace();
     let waited = fences_waited_by(alloc, trace, safe.places())?;
-    let groups = late_groups_by(alloc, trace, labels, waited.as_slice())?;
-    Ok(LateStores { waited, groups })
+    let items = late_items(alloc, trace, labels, waited.as_slice())?;
+    Ok(LateStores { waited, items })
 }
 
 /// The stores whose own thread made two fences or more before they were safe, in groups by spot: those with most members first,
@@ -99,21 +99,8 @@ pub fn late_groups(
 ) -> Result<Vec<Group<LateSpot>>, OutOfMemory>
     ensures { IfOk result (λ gs. AreLateGroups trace.now labels.now gs.items) }
 {
-    let waited = fences_waited(alloc, trace)?;
-    late_groups_by(alloc, trace, labels, waited.as_slice())
-}
-
-// The same, where the stores wait for so many fences.
-fn late_groups_by(
-    alloc: Global,
-    trace: &Trace,
-    labels: &[Option<u64>],
-    waited: &[u64],
-) -> Result<Vec<Group<LateSpot>>, OutOfMemory>
-    requires { AreWaited trace.now waited.now }
-    ensures { IfOk result (λ gs. AreLateGroups trace.now labels.now gs.items) }
-{
-    let items = late_items(alloc, trace, labels, waited)?;
+    let waits = fences_waited(alloc, trace)?;
+    let items = late_items(alloc, trace, labels, waits.as_slice())?;
     groups(alloc, items.as_slice())
 }
 

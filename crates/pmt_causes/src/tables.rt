@@ -321,8 +321,11 @@ fn count_drop(drops: &mut Drops, key: Option<u64>) -> Result<(), OutOfMemory>
     match key {
         None => Ok(()),
         Some(key) => {
-            let old = drops_in(drops, key);
-            drops.insert(key, old + 1)?;
+            if let Some(count) = drops.get_mut(&key) {
+                *count += 1;
+                return Ok(());
+            }
+            drops.insert(key, 1)?;
             Ok(())
         }
     }

@@ -1,5 +1,5 @@
 -- The causes of all stores at the end of a trace, kept event by event from there back, are their causes.
-use Rattle.std.proofs.Common.{◌≡◌, ◌≢◌, ◌↔◌, ℕ, suc, ◌<◌, ◌≤◌, ◌⊎◌, inl, inr, ◌==◌, Bool, true, false, List, length, Option, None, Some, refl, sym, ap, subst, ◌∙◌, arith, get_or, set, get_or-set_same, get_or-set_other, eq-eqb, eqb-true}
+use Rattle.std.proofs.Common.{◌≡◌, ◌≢◌, ◌↔◌, ℕ, suc, ◌+◌, ◌-◌, ◌<◌, ◌≤◌, ◌⊎◌, inl, inr, ◌==◌, Bool, true, false, List, length, Option, None, Some, refl, sym, ap, subst, ◌∙◌, arith, get_or, set, get_or-set_same, get_or-set_other, eq-eqb, eqb-true}
 use Rattle.std.specs.Prelude.{slice_get, MatchOption, if◌then◌else◌}
 use Rattle.std.proofs.Math.ListN.{length-set, replicate}
 use Rattle.std.proofs.lemmas.List.{length-replicate, get_or-replicate}
@@ -210,35 +210,37 @@ told-cause T n i (Fences t) causes is why = λ l w at. let same = act-unique T i
 told-cause T n i Asserts causes is why = λ l w at. let same = act-unique T i Asserts (Stores l w) is at in cc
 
 -- what comes after place i, and the causes of the events after it
-pub record IsBack (T : Recording) (i : ℕ) (fenced : List Bool) (fence : Option ℕ) (causes : ℕ → Option Cause) (told : List (Option Cause)) : Type 0 where
+pub record IsBack (T : Recording) (start i : ℕ) (fenced : List Bool) (fence : Option ℕ) (causes : ℕ → Option Cause) (told : List (Option Cause)) : Type 0 where
   pub ahead : IsAhead T (length T.events) i fenced fence causes
-  pub size : length told ≡ length T.events
-  pub each : (k : ℕ) (o : Option Cause) → i ≤ k → slice_get told k ≡ Some o → IsCauseOf T (length T.events) (suc k) o
+  pub size : length told + start ≡ length T.events
+  pub each : (k : ℕ) (o : Option Cause) → i ≤ k + start → slice_get told k ≡ Some o → IsCauseOf T (length T.events) (suc k + start) o
 
-pub back-end : (T : Recording) (n : ℕ) (fenced : List Bool) (fence : Option ℕ) (causes : ℕ → Option Cause) (told : List (Option Cause)) → n ≡ length T.events → fenced ≡ replicate 256 false → fence ≡ None →
-    ((l : ℕ) → causes l ≡ Some Unflushed) → length told ≡ n → IsBack T n fenced fence causes told
-back-end T n fenced fence causes told end start none unflushed size = subst (λ m. IsBack T m fenced fence causes told) (sym end) (record {
+pub back-end : (T : Recording) (start n : ℕ) (fenced : List Bool) (fence : Option ℕ) (causes : ℕ → Option Cause) (told : List (Option Cause)) → n ≡ length T.events → fenced ≡ replicate 256 false → fence ≡ None →
+    ((l : ℕ) → causes l ≡ Some Unflushed) → length told + start ≡ n → IsBack T start n fenced fence causes told
+back-end T from n fenced fence causes told end start none unflushed size = subst (λ m. IsBack T from m fenced fence causes told) (sym end) (record {
   ahead = subst (λ o. IsAhead T (length T.events) (length T.events) fenced o causes) (sym none) (ahead-end T (length T.events) fenced causes start unflushed);
   size = size ∙ end;
-  each = λ k o past at. let within = slice_get_within told k o at in absurd (omega arith);
+  each = λ k o past at. let within = slice_get_within told k o at in absurd (omega (arith, size, end));
 })
 
 -- back over one more event
-pub back-event : (T : Recording) (f : Layout) (es : List Event) (i j number : ℕ) (e : Event) (fenced marked : List Bool) (fence first : Option ℕ) (causes before : ℕ → Option Cause)
-    (told : List (Option Cause)) (o : Option Cause) → f ≡ T.format → es ≡ T.events → i ≡ suc j → number ≡ suc j → slice_get es j ≡ Some e → IsTrace T →
+pub back-event : (T : Recording) (f : Layout) (es : List Event) (start i j number : ℕ) (e : Event) (fenced marked : List Bool) (fence first : Option ℕ) (causes before : ℕ → Option Cause)
+    (told : List (Option Cause)) (o : Option Cause) → f ≡ T.format → es ≡ T.events → start ≤ j → i ≡ suc j → number ≡ suc j → slice_get es j ≡ Some e → IsTrace T →
     marked ≡ fenced_before (act f e) fenced → first ≡ fence_before (act f e) number fence → ((l : ℕ) → before l ≡ cause_before (act f e) number fenced fence causes l) →
-    o ≡ cause_told (act f e) causes → IsBack T i fenced fence causes told → IsBack T j marked first before (set told j o)
-back-event T f es i j number e fenced marked fence first causes before told o format events place numbered at trace marks fences lines tells s = record {
+    o ≡ cause_told (act f e) causes → IsBack T start i fenced fence causes told → IsBack T start j marked first before (set told (j - start) o)
+back-event T f es start i j number e fenced marked fence first causes before told o format events below place numbered at trace marks fences lines tells s = record {
   ahead = record {
     size = ap (λ bs. length bs) marks ∙ next.size;
     threads = subst (λ bs. (t : ℕ) → t < 256 → (get_or bs t false ≡ true) ↔ IsFencedAfter T j n t) (sym marks) next.threads;
     first = subst (IsFirstFence T j n) (sym (fences ∙ ap (λ m. fence_before a m fence) numbered)) next.first;
     why = λ l. subst (IsCauseAfter T l n j) (sym (lines l ∙ ap (λ m. cause_before a m fenced fence causes l) numbered)) (next.why l);
   };
-  size = length-set told j o ∙ s.size;
+  size = omega (arith, length-set told (j - start) o, s.size);
   each = λ k p past here.
-      told-set (IsCauseOf T n) told j k o p (omega (arith, s.size, within)) (subst (IsCauseOf T n (suc j)) (sym tells) (told-cause T n (suc j) a causes is now.why))
-      (λ m q later there. s.each m q (omega arith) there) past here;
+      let number : suc (j - start) + start ≡ suc j = omega arith in
+      told-set (λ m q. IsCauseOf T n (m + start) q) told (j - start) k o p (omega (arith, s.size, within))
+      (subst (λ m. IsCauseOf T n m o) (sym number) (subst (IsCauseOf T n (suc j)) (sym tells) (told-cause T n (suc j) a causes is now.why))) (λ m q later there. s.each m q (omega arith) there) (omega arith)
+      here;
 }
   where
     n : ℕ

@@ -119,8 +119,8 @@ pub safe-lost : (T : Recording) (i : ℕ) → IsCauseOf T (length T.events) i No
 safe-lost T i safe (l, c, x) = safe l x.what x.is_store ((cause_exists T l (length T.events) i x.what x.is_store).1 (c, x.why))
 
 -- the cause that is read of an event
-pub cause-read : (T : Recording) (causes : List (Option Cause)) (i : ℕ) (o : Option Cause) → TellCauses T causes → 1 ≤ i → slice_get causes (i - 1) ≡ Some o → IsCauseOf T (length T.events) i o
-cause-read T causes i o tell first read = let number : suc (i - 1) ≡ i = omega arith in subst (λ k. IsCauseOf T (length T.events) k o) number (tell (i - 1) o read)
+pub cause-read : (T : Recording) (start : ℕ) (causes : List (Option Cause)) (i : ℕ) (o : Option Cause) → TellCauses T start causes → start + 1 ≤ i → slice_get causes (i - 1 - start) ≡ Some o → IsCauseOf T (length T.events) i o
+cause-read T start causes i o tell first read = let number : suc (i - 1 - start) + start ≡ i = omega arith in subst (λ k. IsCauseOf T (length T.events) k o) number (tell (i - 1 - start) o read)
 
 -- a store with a cause is lost
 pub lost-alone : (T : Recording) (i l : ℕ) (c : Cause) (w : Written) → IsAct T i (Stores l w) → IsCauseOf T (length T.events) i (Some c) →

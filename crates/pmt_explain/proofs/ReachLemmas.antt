@@ -82,7 +82,7 @@ module _ (T : Recording) (t l n safe : ℕ) (f : Following) (is : IsAct T (suc n
 
   pub flush-repeated : suc n ≤ safe → f.fence ≢ past_of T → f.again < f.fence → IsReason T (suc n) (Repeated f.again)
   flush-repeated late some before =
-      let x = after.again.has (omega (arith, after.fence.within)) in
+      let x = after.again.has before in
       OfFlush t l is (record {
         marks = marks late;
         fence = f.fence;

@@ -1,5 +1,5 @@
 -- The causes of all events at the end of a trace, event by event from there back.
-use Rattle.std.specs.Prelude.{◌≡◌, ℕ, suc, Bool, false, if◌then◌else◌, ◌==◌, List, Option, None, Some, length, slice_get, slice_index_or, unwrap_or, nat_eq}
+use Rattle.std.specs.Prelude.{◌≡◌, ℕ, suc, ◌+◌, Bool, false, if◌then◌else◌, ◌==◌, List, Option, None, Some, length, slice_get, slice_index_or, unwrap_or, nat_eq}
 use Rattle.std.specs.declared.hash.FoldHasher.{FoldHasher}
 use Rattle.std.specs.declared.hash.BuildHasherDefault.{BuildHasherDefault}
 use Rattle.indexmap.specs.IndexMap.{IndexMap, get}
@@ -9,14 +9,18 @@ use Rattle.pmt_reasons.specs.declared.cause.Cause.{Cause}
 use Rattle.pmt_reasons.specs.declared.cause.Cause.TheVariants.{Unflushed, Unfenced}
 use Rattle.pmt_explain.specs.CauseOf.{IsCauseOf}
 
--- Of the first events, in order, their causes at the end of the trace, where they have one.
-abbrev pub TellCauses : Recording → List (Option Cause) → Type 0
-TellCauses T causes = (k : ℕ) (o : Option Cause) → slice_get causes k ≡ Some o → IsCauseOf T (length T.events) (suc k) o
+-- Of events after the first `start`, in order, their causes at the end of the trace, where they have one.
+abbrev pub TellCauses : Recording → ℕ → List (Option Cause) → Type 0
+TellCauses T start causes = (k : ℕ) (o : Option Cause) → slice_get causes k ≡ Some o → IsCauseOf T (length T.events) (suc k + start) o
+
+-- Those of all events after the first `start`.
+pub record AreCausesAfter (T : Recording) (start : ℕ) (causes : List (Option Cause)) : Type 0 where
+  pub all : length causes + start ≡ length T.events
+  pub each : TellCauses T start causes
 
 -- Those of all events.
-pub record AreCausesAtEnd (T : Recording) (causes : List (Option Cause)) : Type 0 where
-  pub all : length causes ≡ length T.events
-  pub each : TellCauses T causes
+abbrev pub AreCausesAtEnd : Recording → List (Option Cause) → Type 0
+AreCausesAtEnd T causes = AreCausesAfter T 0 causes
 
 -- Of each line that is flushed after a place, the cause of a store to it there; none where it would be safe.
 abbrev pub Causes : Type 0

@@ -1,8 +1,8 @@
 //! Why each store of a trace is not safe at its end.
 
-ghost use Rattle.std.specs.Prelude.{◌≡◌, ℕ, false, replicate, None, Some, IfOk, OnOk};
+ghost use Rattle.std.specs.Prelude.{◌≡◌, ◌≤◌, ℕ, false, length, replicate, None, Some, IfOk, OnOk};
 ghost use Rattle.pmt_model.specs.Traces.{act_of};
-ghost use Rattle.pmt_explain.specs.AtEnd.{AreCausesAtEnd, cause_in, before_flush, cause_before, fence_before, cause_told};
+ghost use Rattle.pmt_explain.specs.AtEnd.{AreCausesAfter, AreCausesAtEnd, cause_in, before_flush, cause_before, fence_before, cause_told};
 ghost use Rattle.pmt_explain.specs.Completed.{fenced_before};
 
 use indexmap::IndexMap;
@@ -20,14 +20,26 @@ use std::alloc::Global;
 pub fn causes_at_end(alloc: Global, trace: &Trace) -> Result<Vec<Option<Cause>>, OutOfMemory>
     ensures { IfOk result (λ causes. AreCausesAtEnd trace.now causes.items) }
 {
+    causes_after(alloc, trace, 0)
+}
+
+// The same of the events after the first so many.
+pub(crate) fn causes_after(
+    alloc: Global,
+    trace: &Trace,
+    start: usize,
+) -> Result<Vec<Option<Cause>>, OutOfMemory>
+    requires { start ≤ length trace.now.events }
+    ensures { IfOk result (λ causes. AreCausesAfter trace.now start causes.items) }
+{
     let format = trace.format();
     let events = trace.events();
-    let mut causes = vec![in alloc; None; events.len()]?;
+    let mut causes = vec![in alloc; None; events.len() - start]?;
     let mut ahead = Ahead::new(alloc);
-    for index in (0..events.len()).rev() {
+    for index in (start..events.len()).rev() {
         let event = events[index];
         let number = index as u64 + 1;
-        causes[index] = ahead.go_back(format, event.thread, event.op, number)?;
+        causes[index - start] = ahead.go_back(format, event.thread, event.op, number)?;
     }
     Ok(causes)
 }

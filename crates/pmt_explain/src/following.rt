@@ -1,22 +1,31 @@
 //! What comes after each flush and each store of a trace.
 
-ghost use Rattle.std.specs.Prelude.{◌≡◌, ℕ, ◌+◌, ◌<◌, ◌^◌, suc, length, IfOk, OnOk};
-ghost use Rattle.pmt_model.specs.Values.{Written, line_of as line_in};
+ghost use Rattle.std.specs.Prelude.{◌≡◌, ℕ, suc, length, nat_eq, All, [], None, IfOk, OnOk};
+ghost use Rattle.indexmap.specs.IndexMap.{get};
+ghost use Rattle.pmt_model.specs.Values.{Written};
 ghost use Rattle.pmt_model.specs.Machine.{Stores, Flushes, Clflushes, Fences};
 ghost use Rattle.pmt_model.specs.Traces.{Recording, IsAct, act_of};
-ghost use Rattle.pmt_explain.specs.Following.{past_of, pair_of as pair_in, TellsFollowing, AreFollowing, IsAhead};
+ghost use Rattle.pmt_explain.specs.Following.{past_of, TellsFollowing, AreFollowing, IsAhead};
 ghost use Rattle.pmt_explain.specs.Saving.{AreSafePlaces, AreStored, IsStored, TellsStored};
 
 use crate::numbers::Numbers;
-use pmt_model::{Addr, Format, Op, OutOfMemory, Trace, line_of};
+use indexmap::IndexMap;
+use pmt_model::{Format, Op, OutOfMemory, Trace, line_of};
 use std::alloc::Global;
+
+// Of how many lines the flushes keep their room for those before the next fence.
+const ROOM: usize = 64;
+
+// The next flush of each of these lines: its number by the line's.
+type NextFlushes = IndexMap<u64, u64>;
 
 /// What comes after a flush or a store, by numbers of events; one more than the last number where there is no such event.
 #[derive(Clone, Copy, Debug, PartialEq, Eq)]
 pub(crate) struct Following {
     /// The next fence of a flush's thread.
     pub(crate) fence: u64,
-    /// The next flush of a flush's line by its thread. Of a store 0, where a flush of its line follows.
+    /// The next flush of a flush's line by its thread, if it comes before that fence; else the fence. Of a store 0, where a flush of
+    /// its line follows.
     pub(crate) again: u64,
     /// The first event that completes a later flush of its line: a fence by that one's thread, or a clflush.
     pub(crate) completed: u64,
@@ -28,8 +37,8 @@ pub(crate) struct Ahead {
     past: u64,
     // of each thread, its next fence
     fences: [u64; 256],
-    // of each thread and line, by the number of both, the next flush
-    flushes: Numbers,
+    // of each thread, the next flush of each line that it flushes before that fence
+    flushes: Vec<NextFlushes>,
     // of each line, the first event that completes a flush after the place
     completed: Numbers,
 }
@@ -52,7 +61,7 @@ pub(crate) fn all_coming(alloc: Global, trace: &Trace) -> Result<Coming, OutOfMe
     let format = trace.format();
     let events = trace.events();
     let past = events.len() as u64 + 1;
-    let mut ahead = Ahead::new(alloc, past);
+    let mut ahead = Ahead::new(alloc, past)?;
     let mut following = vec![in alloc; none(past); events.len()]?;
     let mut safe = vec![in alloc; past; events.len()]?;
     for index in (0..events.len()).rev() {
@@ -76,34 +85,41 @@ fn none(past: u64) -> Following
     }
 }
 
-// The number of a thread and a line: the lines of one thread have neighbouring ones.
-fn pair_of(thread: u8, line: u64) -> u64
-    requires { line < 2 ^ 48 }
-    ensures { result ≡ pair_in thread line }
+// Of each of the 256 threads, by its number, no flush.
+fn no_flushes(alloc: Global) -> Result<Vec<NextFlushes>, OutOfMemory>
+    ensures size { IfOk result (λ flushes. length flushes.items ≡ 256) }
+    ensures none { IfOk result (λ flushes. All (λ map. map.entries ≡ []) flushes.items) }
 {
-    thread as u64 * (1 << 48) + line
+    let mut flushes = Vec::new(alloc);
+    while flushes.len() < 256 {
+        flushes.push(IndexMap::new(alloc))?;
+    }
+    Ok(flushes)
 }
 
-// The line of the address, which is below 2^48.
-fn small_line(format: Format, addr: Addr) -> u64
-    ensures line { result ≡ line_in format addr }
-    ensures small { result < 2 ^ 48 }
+// Drops what is noted. The room of many lines is given back, since each time all of it is gone over.
+fn forget(flushes: &mut NextFlushes)
+    ensures { (l : ℕ) → get nat_eq flushes.new l ≡ None }
 {
-    let _address = addr.get();
-    line_of(format, addr)
+    if flushes.len() > ROOM {
+        *flushes = IndexMap::new(*flushes.allocator());
+    } else {
+        flushes.clear();
+    }
 }
 
 impl Ahead {
     // Before any event is read.
-    pub(crate) fn new(alloc: Global, past: u64) -> Self
-        ensures { (T : Recording) → past ≡ past_of T → IsAhead T (length T.events) result }
+    pub(crate) fn new(alloc: Global, past: u64) -> Result<Self, OutOfMemory>
+        ensures { IfOk result (λ ahead. (T : Recording) → past ≡ past_of T → IsAhead T (length T.events) ahead) }
     {
-        Ahead {
+        let flushes = no_flushes(alloc)?;
+        Ok(Ahead {
             past,
             fences: [past; 256],
-            flushes: Numbers::new(alloc),
+            flushes,
             completed: Numbers::new(alloc),
-        }
+        })
     }
 
     // Goes back over the event with this number: what comes after it, if it is a flush or a store.
@@ -114,13 +130,14 @@ impl Ahead {
         op: Op,
         number: u64,
     ) -> Result<Following, OutOfMemory>
+        requires { length self.old.flushes.items ≡ 256 }
         ensures tells { (T : Recording) (n : ℕ) → IsAct T (suc n) (act_of format thread op) → number ≡ suc n → IsAhead T (suc n) self.old → IfOk result (TellsFollowing T (suc n)) }
         ensures stored { (T : Recording) (n : ℕ) → IsAct T (suc n) (act_of format thread op) → IsAhead T (suc n) self.old → IfOk result (TellsStored T (suc n)) }
         ensures ahead { (T : Recording) (n : ℕ) → IsAct T (suc n) (act_of format thread op) → number ≡ suc n → IsAhead T (suc n) self.old → OnOk result (IsAhead T n self.new) }
     {
         match op {
-            Op::Clwb(addr) => self.over_flush(thread, small_line(format, addr), number),
-            Op::ClflushOpt(addr) => self.over_flush(thread, small_line(format, addr), number),
+            Op::Clwb(addr) => self.over_flush(thread, line_of(format, addr), number),
+            Op::ClflushOpt(addr) => self.over_flush(thread, line_of(format, addr), number),
             Op::Clflush(addr) => self.over_clflush(line_of(format, addr), number),
             Op::Sfence => Ok(self.over_fence(thread, number)),
             Op::Mfence => Ok(self.over_fence(thread, number)),
@@ -146,18 +163,17 @@ impl Ahead {
 
     // A flush of the line by the thread.
     fn over_flush(&mut self, thread: u8, line: u64, number: u64) -> Result<Following, OutOfMemory>
-        requires { line < 2 ^ 48 }
+        requires { length self.old.flushes.items ≡ 256 }
         ensures tells { (T : Recording) (n : ℕ) → IsAct T (suc n) (Flushes thread line) → number ≡ suc n → IsAhead T (suc n) self.old → IfOk result (TellsFollowing T (suc n)) }
         ensures stored { (T : Recording) (n : ℕ) → IsAct T (suc n) (Flushes thread line) → IfOk result (TellsStored T (suc n)) }
         ensures ahead { (T : Recording) (n : ℕ) → IsAct T (suc n) (Flushes thread line) → number ≡ suc n → IsAhead T (suc n) self.old → OnOk result (IsAhead T n self.new) }
     {
         let fence = self.fences[thread as usize];
         let completed = self.completed.lower(line, self.past, fence)?;
-        let pair = pair_of(thread, line);
-        let again = self.flushes.replace(pair, self.past, number)?;
+        let again = self.flushes[thread as usize].insert(line, number)?;
         Ok(Following {
             fence,
-            again,
+            again: again.unwrap_or(fence).min(fence),
             completed,
         })
     }
@@ -174,9 +190,11 @@ impl Ahead {
 
     // A fence by the thread.
     fn over_fence(&mut self, thread: u8, number: u64) -> Following
+        requires { length self.old.flushes.items ≡ 256 }
         ensures { (T : Recording) (n : ℕ) → IsAct T (suc n) (Fences thread) → number ≡ suc n → IsAhead T (suc n) self.old → IsAhead T n self.new }
     {
         self.fences[thread as usize] = number;
+        forget(&mut self.flushes[thread as usize]);
         none(self.past)
     }
 }

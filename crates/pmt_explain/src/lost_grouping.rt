@@ -6,7 +6,7 @@ ghost use Rattle.pmt_explain.specs.AtEnd.{TellCauses};
 ghost use Rattle.pmt_explain.specs.CauseOf.{IsCauseOf};
 ghost use Rattle.pmt_explain.specs.LostGroups.{AreLostGroups, IsLostStore, IsLostAlone, key_for, group_key, place_in, AddsStore};
 
-use crate::at_end::causes_at_end;
+use crate::at_end::causes_after;
 use crate::causing::cause as cause_at;
 use crate::lost::line_of_store;
 use crate::numbers::Numbers;
@@ -46,29 +46,40 @@ pub fn lost_groups(
     if stores.is_empty() {
         return Ok(Vec::new(alloc));
     }
-    let causes = causes_for(alloc, trace, stores)?;
+    let start = start_of(trace, stores);
+    let causes = causes_for(alloc, trace, start, stores)?;
     let mut groups = Vec::new(alloc);
     let mut places = Places::new(alloc);
     for store in stores {
-        if let Some(group) = group_of(trace, causes.as_slice(), *store) {
+        if let Some(group) = group_of(trace, start, causes.as_slice(), *store) {
             add_group(&mut groups, &mut places, group)?;
         }
     }
     Ok(groups)
 }
 
-// The causes of all events at the trace's end. None are listed where it takes less time to ask for those of these stores alone.
+// How many events come before the first of these stores.
+fn start_of(trace: &Trace, stores: &[u64]) -> usize
+    ensures { result ≤ length trace.now.events }
+{
+    let first = stores.first().copied().unwrap_or(1);
+    (first.saturating_sub(1) as usize).min(trace.len())
+}
+
+// The causes of the events after the first so many at the trace's end. None are listed where it takes less time to ask for those of these stores alone.
 fn causes_for(
     alloc: Global,
     trace: &Trace,
+    start: usize,
     stores: &[u64],
 ) -> Result<Vec<Option<Cause>>, OutOfMemory>
-    ensures { IfOk result (λ causes. TellCauses trace.now causes.items) }
+    requires { start ≤ length trace.now.events }
+    ensures { IfOk result (λ causes. TellCauses trace.now start causes.items) }
 {
     if are_near_end(stores, trace.len() as u64) {
         return Ok(Vec::new(alloc));
     }
-    causes_at_end(alloc, trace)
+    causes_after(alloc, trace, start)
 }
 
 // Whether so many times the events after the first of these stores are no more than all events.
@@ -83,25 +94,25 @@ fn are_near_end(stores: &[u64], events: u64) -> bool {
 }
 
 // Why the event with this number is not safe at the trace's end, if it is a store: by the list, where it has the event.
-fn cause_of(trace: &Trace, causes: &[Option<Cause>], store: u64) -> Option<Cause>
-    requires causes { TellCauses trace.now causes.now }
+fn cause_of(trace: &Trace, start: usize, causes: &[Option<Cause>], store: u64) -> Option<Cause>
+    requires causes { TellCauses trace.now start causes.now }
     requires first { 1 ≤ store }
     ensures { IsCauseOf trace.now (length trace.now.events) store result }
 {
     let index = (store - 1) as usize;
-    if index < causes.len() {
-        return causes[index];
+    if start <= index && index - start < causes.len() {
+        return causes[index - start];
     }
     cause_at(trace, store, trace.len() as u64)
 }
 
 // The group of this store alone, if it is never persisted.
-fn group_of(trace: &Trace, causes: &[Option<Cause>], store: u64) -> Option<LostGroup>
-    requires { TellCauses trace.now causes.now }
+fn group_of(trace: &Trace, start: usize, causes: &[Option<Cause>], store: u64) -> Option<LostGroup>
+    requires { TellCauses trace.now start causes.now }
     ensures { MatchOption result (¬ IsLostStore trace.now store) (IsLostAlone trace.now store) }
 {
     let line = line_of_store(trace, store)?;
-    let cause = cause_of(trace, causes, store)?;
+    let cause = cause_of(trace, start, causes, store)?;
     Some(LostGroup {
         line,
         cause,

@@ -63,7 +63,7 @@ pub fn safe_places(alloc: Global, trace: &Trace) -> Result<Vec<u64>, OutOfMemory
     let format = trace.format();
     let events = trace.events();
     let past = events.len() as u64 + 1;
-    let mut ahead = Ahead::new(alloc, past);
+    let mut ahead = Ahead::new(alloc, past)?;
     let mut places = vec![in alloc; past; events.len()]?;
     for index in (0..events.len()).rev() {
         let event = events[index];

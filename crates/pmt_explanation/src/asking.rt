@@ -1,10 +1,13 @@
 //! The findings that are asked for.
 ghost use Rattle.std.specs.Prelude.{◌≡◌, IfOk};
 ghost use Rattle.pmt_explanation.specs.Asking.{asked_dropped, asked_numbers as numbers_asked, asked_pairs as pairs_asked, asked_unwritten, is_asked_for as asked_for, is_pair_asked as pair_asked};
+ghost use Rattle.pmt_explanation.specs.Causing.{asked_items};
+ghost use Rattle.pmt_explanation.specs.declared.choosing.Kind.TheVariants.{Late};
 
 use crate::choosing::{Choice, Kind, is_asked, is_chosen};
 use crate::labels::Labels;
 use crate::unwritten::Unwritten;
+use pmt_causes::{Keyed, LateSpot};
 use pmt_explain::{Dropped, Overwriting};
 use pmt_model::{OutOfMemory, Trace};
 use std::alloc::Global;
@@ -91,4 +94,16 @@ pub(crate) fn asked_unwrittens(
         .copied()
         .filter(|entry| is_asked_for(trace, labels, choice, Kind::Unwritten, entry.event))
         .collect(alloc)
+}
+
+// Of the late stores those are left that are asked for.
+pub(crate) fn keep_asked(
+    trace: &Trace,
+    labels: &Labels,
+    choice: &Choice,
+    items: &mut Vec<Keyed<LateSpot>>,
+)
+    ensures { items.new.items ≡ asked_items (asked_for trace.now labels.now choice.now Late) items.old.items }
+{
+    items.retain(|item| is_asked_for(trace, labels, choice, Kind::Late, item.number));
 }

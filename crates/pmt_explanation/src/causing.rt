@@ -1,20 +1,18 @@
 //! Findings in groups, by what they have in common.
-ghost use Rattle.std.specs.Prelude.{◌≡◌, ◌++◌, IfOk, OnOk};
+ghost use Rattle.std.specs.Prelude.{◌≡◌, IfOk};
 ghost use Rattle.pmt_causes.specs.FailureKeys.{AreFailureGroups};
 ghost use Rattle.pmt_causes.specs.Groups.{first_in};
 ghost use Rattle.pmt_causes.specs.Late.{AreWaited};
 ghost use Rattle.pmt_explanation.specs.Asking.{is_asked_for as asked_for};
-ghost use Rattle.pmt_explanation.specs.Causing.{AreAskedLate, asked_members, asked_of, first_members as first_members_of};
+ghost use Rattle.pmt_explanation.specs.Causing.{AreAskedLate, first_members as first_members_of};
 ghost use Rattle.pmt_explanation.specs.declared.choosing.Kind.TheVariants.{Late};
 
-use crate::asking::asked_numbers;
-use crate::choosing::{Choice, Kind};
+use crate::asking::keep_asked;
+use crate::choosing::Choice;
 use crate::labels::Labels;
-use pmt_causes::{
-    FailureKey, Group, Keyed, LateSpot, LateStores, failure_groups, groups, late_stores,
-};
+use pmt_causes::{FailureKey, Group, LateSpot, LateStores, failure_groups, groups, late_stores};
 use pmt_explain::SafePlaces;
-use pmt_model::{OutOfMemory, Trace};
+use pmt_model::OutOfMemory;
 use std::alloc::Global;
 
 // Those of these events that fail, by cause. The trace is looked at only where there are any.
@@ -49,6 +47,15 @@ pub fn first_of<K>(group: &Group<K>) -> u64
     }
 }
 
+/// The late stores that are asked for.
+#[derive(Drop)]
+pub(crate) struct AskedLate {
+    /// For how many fences each event of the trace waits.
+    pub(crate) waited: Vec<u64>,
+    /// These stores by spot.
+    pub(crate) groups: Vec<Group<LateSpot>>,
+}
+
 // The late stores that are asked for, by spot, and for how many fences each store of the trace waits.
 pub(crate) fn asked_late(
     alloc: Global,
@@ -56,55 +63,15 @@ pub(crate) fn asked_late(
     labels: &Labels,
     label_numbers: &[Option<u64>],
     choice: &Choice,
-) -> Result<LateStores, OutOfMemory>
+) -> Result<AskedLate, OutOfMemory>
     ensures waited { IfOk result (λ late. AreWaited safe.now.trace.now late.waited.items) }
     ensures groups { IfOk result (λ late. AreAskedLate safe.now.trace.now label_numbers.now (asked_for safe.now.trace.now labels.now choice.now Late) late.groups.items) }
 {
     let LateStores {
         waited,
-        groups: all,
+        items: mut late,
     } = late_stores(alloc, safe, label_numbers)?;
-    let asked = asked_stores(alloc, safe.trace(), labels, choice, all.as_slice())?;
-    let groups = groups(alloc, asked.as_slice())?;
-    Ok(LateStores { waited, groups })
-}
-
-// The members of these groups that are asked for, each with its spot.
-fn asked_stores(
-    alloc: Global,
-    trace: &Trace,
-    labels: &Labels,
-    choice: &Choice,
-    groups: &[Group<LateSpot>],
-) -> Result<Vec<Keyed<LateSpot>>, OutOfMemory>
-    ensures { IfOk result (λ items. items.items ≡ asked_of (asked_for trace.now labels.now choice.now Late) groups.now) }
-{
-    let mut items = Vec::new(alloc);
-    for group in groups {
-        push_asked(alloc, &mut items, trace, labels, choice, group)?;
-    }
-    Ok(items)
-}
-
-// Adds the members of the group that are asked for, each with its spot.
-fn push_asked(
-    alloc: Global,
-    items: &mut Vec<Keyed<LateSpot>>,
-    trace: &Trace,
-    labels: &Labels,
-    choice: &Choice,
-    group: &Group<LateSpot>,
-) -> Result<(), OutOfMemory>
-    ensures { OnOk result (items.new.items ≡ items.old.items ++ asked_members (asked_for trace.now labels.now choice.now Late) group.now) }
-{
-    let members = group.members.as_slice();
-    let asked = asked_numbers(alloc, trace, labels, choice, Kind::Late, members)?;
-    let numbers = asked.as_slice();
-    for number in numbers {
-        items.push(Keyed {
-            key: group.key,
-            number: *number,
-        })?;
-    }
-    Ok(())
+    keep_asked(safe.trace(), labels, choice, &mut late);
+    let groups = groups(alloc, late.as_slice())?;
+    Ok(AskedLate { waited, groups })
 }

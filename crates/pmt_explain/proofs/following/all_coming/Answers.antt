@@ -14,7 +14,7 @@ loop-index-init c =
     record {
       size = size;
       places = places;
-      ahead = subst (λ xs. IsAhead T (length xs) c.new-ahead.result) (sym c.events-events.ensures.value) (c.new-ahead.ensures T (omega (arith, ap (λ xs. length xs) c.events-events.ensures.value)));
+      ahead = subst (λ xs. IsAhead T (length xs) c.in_ok-ahead.ahead) (sym c.events-events.ensures.value) (c.in_ok-ahead.ensures T (omega (arith, ap (λ xs. length xs) c.events-events.ensures.value)));
       each = λ n f from is. absurd (omega (arith, slice_get_within c.in_ok-following.following.items n f is, size, ap (λ xs. length xs) c.events-events.ensures.value));
       stored = λ n f from is. absurd (omega (arith, slice_get_within c.in_ok-following.following.items n f is, size, ap (λ xs. length xs) c.events-events.ensures.value));
       safe = λ n p from is. absurd (omega (arith, slice_get_within c.in_ok-safe.safe.items n p is, places, ap (λ xs. length xs) c.events-events.ensures.value));

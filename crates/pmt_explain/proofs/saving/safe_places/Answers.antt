@@ -12,7 +12,7 @@ loop-index-init c =
     let size : length c.in_ok-places.places.items ≡ length T.events = omega (arith, c.in_ok-places.ensures.len, ap (λ xs. length xs) c.events-events.ensures.value) in
     record {
       size = size;
-      ahead = subst (λ xs. IsAhead T (length xs) c.new-ahead.result) (sym c.events-events.ensures.value) (c.new-ahead.ensures T (omega (arith, ap (λ xs. length xs) c.events-events.ensures.value)));
+      ahead = subst (λ xs. IsAhead T (length xs) c.in_ok-ahead.ahead) (sym c.events-events.ensures.value) (c.in_ok-ahead.ensures T (omega (arith, ap (λ xs. length xs) c.events-events.ensures.value)));
       each = λ n p from is. absurd (omega (arith, slice_get_within c.in_ok-places.places.items n p is, size, ap (λ xs. length xs) c.events-events.ensures.value));
     }
 
