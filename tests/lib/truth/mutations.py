@@ -84,7 +84,9 @@ def event_dropped(record):
 
 
 def event_doubled(record):
-    at = record.one_of("store", "clwb", "clflushopt", "clflush", "sfence", "mfence", "isPersist", "isOrderedBefore")
+    """In a watched pool no store: the same bytes may have been stored there plainly before it."""
+    stores = () if record.program.watched else ("store",)
+    at = record.one_of(*stores, "clwb", "clflushopt", "clflush", "sfence", "mfence", "isPersist", "isOrderedBefore")
     return record.replaced(at, [record.lines[at]] * 2) if at else None
 
 

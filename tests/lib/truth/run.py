@@ -25,6 +25,7 @@ from records import read_logs, read_memory, read_text
 
 BATCH = 12
 MUTATED = 10  # of each so many programs one gives false records
+ROUNDS = 20  # at most so often 100 programs more are run, since threads meet by chance
 DEATHS = {"abort": -6, "fault": -11, "return": 0, "thread_exit": 0, "close": 0}
 MUST_SUCCEED = ("open", "close", "watch", "stop", "start", "store", "copy", "move", "within", "fill", "stream", "spawn", "join", "fork")
 
@@ -162,6 +163,34 @@ def run_all(jobs):
     return passed, failed, refused
 
 
+def never_made(refused):
+    """The changes that no record was made false by."""
+    return [change.__name__ for change in MUTATIONS if refused[change.__name__] == 0]
+
+
+class Runs:
+    """The jobs of one call, in two folders by turns, and what came of them."""
+
+    def __init__(self, pmtrim, folders, data):
+        self.pmtrim = pmtrim
+        self.folders = itertools.cycle(folders)
+        self.data = data
+        self.passed, self.failed, self.refused = 0, 0, collections.Counter()
+
+    def run(self, jobs):
+        passed, failed, refused = run_all([(*job, self.pmtrim, folder, self.data) for job, folder in zip(jobs, self.folders)])
+        self.passed += passed
+        self.failed += failed
+        self.refused.update(refused)
+
+    def run_until_all_are_made(self, interpreters, first):
+        """Runs programs of the seeds from `first` on, each of which gives false records, until each change was made once."""
+        for seed in range(first, first + ROUNDS * 100 * MUTATED, 100 * MUTATED):
+            if self.failed or not never_made(self.refused):
+                return
+            self.run(list(shared_out(interpreters, range(seed, seed + 100 * MUTATED, MUTATED))))
+
+
 def main():
     pmtrim = sys.argv[1]
     count = int(sys.argv[2]) if len(sys.argv) > 2 else 1000
@@ -170,23 +199,26 @@ def main():
     built, data = folders[0] / "built", folders[0] / "data"
     built.mkdir()
     data.write_bytes(DATA)
-    jobs = list(shared_out(build_in_c(built), range(first, first + count)))
+    in_c = build_in_c(built)
+    jobs = list(shared_out(in_c, range(first, first + count)))
     for interpreter in (build_in_rust(built), in_python()):
         jobs += shared_out([interpreter], range(first, first + count // 10))
-    places = zip(jobs, itertools.cycle(folders))
-    passed, failed, refused = run_all([(*job, pmtrim, folder, data) for job, folder in places])
-    never = [change.__name__ for change in MUTATIONS if refused[change.__name__] == 0]
-    if never and count >= 1000:
-        print(f"no record was made false by {' '.join(never)}")
-        failed += len(never)
-    if failed:
+    runs = Runs(pmtrim, folders, data)
+    runs.run(jobs)
+    if count >= 1000:
+        runs.run_until_all_are_made(in_c, -(-(first + count) // MUTATED) * MUTATED)
+        never = never_made(runs.refused)
+        if never:
+            print(f"no record was made false by {' '.join(never)}")
+        runs.failed += len(never)
+    if runs.failed:
         print("what they left is in", *folders)
     else:
         for folder in folders:
             shutil.rmtree(folder)
-    print(f"{passed} programs recorded truly, {refused.total()} false records refused")
-    print(f"{passed + refused.total()} passed, {failed} failed")
-    return 1 if failed else 0
+    print(f"{runs.passed} programs recorded truly, {runs.refused.total()} false records refused")
+    print(f"{runs.passed + runs.refused.total()} passed, {runs.failed} failed")
+    return 1 if runs.failed else 0
 
 
 if __name__ == "__main__":
