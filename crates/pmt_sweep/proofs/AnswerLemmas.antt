@@ -21,11 +21,10 @@ use Rattle.pmt_asserts.specs.Judging.{EachIn, IsOldestOfLine}
 use Rattle.pmt_asserts.proofs.JudgeLemmas.{own-line}
 use Rattle.pmt_asserts.proofs.PartLemmas.{IsPartOf}
 use Rattle.pmt_asserts.proofs.TraceLemmas.{count_at-before}
-use Rattle.pmt_live.specs.Live.{IsLive}
 use Rattle.pmt_live.specs.Places.{IsPlaceOf}
 use Rattle.pmt_live.proofs.ListLemmas.{list_any-has_line, list_any-place}
 use Rattle.pmt_live.proofs.LiveLemmas.{place-in}
-use Rattle.pmt_sweep.specs.declared.judging.Judging.{Judging}
+use Rattle.pmt_sweep.specs.declared.answers.KnownLines.{KnownLines}
 use Rattle.pmt_sweep.specs.declared.writers.Writer.{Writer}
 use Rattle.pmt_sweep.specs.Writers.{AreRankedBy, AreSafeBy, AreWriters, IsFirst, IsSafe, Meets}
 use Rattle.pmt_sweep.specs.Distances.{AreDistances}
@@ -239,18 +238,12 @@ module _ (T : Recording) (l n : ℕ) (A : Span) (p : Part) (ws : List Writer) (t
 pub none-met : (ws : List Writer) (low high : ℕ) (w : Writer) → ws ≡ [] → Contains ws w → Meets low high w → ⊥
 none-met ws low high w none has m = let there = subst (λ (xs : List Writer). Contains xs w) none has in absurd (omega (arith, there.1))
 
--- the lines with a place are those of the events that a sweep has taken
-pub live-known : (T : Recording) (n : ℕ) (j : Judging) → IsKnownTo T n j → IsLive (history T n) j.progress.lines.live
-live-known T n j known = subst (λ k. IsLive (history T k) j.progress.lines.live) known.here known.sweep.lines.live
+-- the lines with a place are those of the events that have come
+pub place-known : (T : Recording) (n : ℕ) (k : KnownLines) (l place : ℕ) → IsKnownTo T n k → IsPlaceOf l place k.live.now.lines → IsPlaceOf l place (lines_of (history T n))
+place-known T n k l place known at = place-in (lines_of (history T n)) (history T n) l place k.live.now at known.live.lines
 
-pub place-known : (T : Recording) (n : ℕ) (j : Judging) (l place : ℕ) → IsKnownTo T n j → IsPlaceOf l place j.progress.lines.live.lines → IsPlaceOf l place (lines_of (history T n))
-place-known T n j l place known at = place-in (lines_of (history T n)) (history T n) l place j.progress.lines.live at (live-known T n j known)
-
-pub none-known : (T : Recording) (n : ℕ) (j : Judging) (l : ℕ) → IsKnownTo T n j → ((place : ℕ) → IsPlaceOf l place j.progress.lines.live.lines → ⊥) → (place : ℕ) → IsPlaceOf l place (lines_of (history T n)) → ⊥
-none-known T n j l known none place at = none place (ap (λ ls. slice_get ls place) (live-known T n j known).placed ∙ at)
-
-pub known-within : (T : Recording) (n : ℕ) (j : Judging) → IsKnownTo T n j → n ≤ length T.events
-known-within T n j known = subst (λ k. k ≤ length T.events) known.here known.sweep.linked.within
+pub none-known : (T : Recording) (n : ℕ) (k : KnownLines) (l : ℕ) → IsKnownTo T n k → ((place : ℕ) → IsPlaceOf l place k.live.now.lines → ⊥) → (place : ℕ) → IsPlaceOf l place (lines_of (history T n)) → ⊥
+none-known T n k l known none place at = none place (ap (λ ls. slice_get ls place) known.live.lines.placed ∙ at)
 
 -- where no distance is told, no byte of the range lies in the line
 pub apart-of_part : (T : Recording) (A : Span) (l b : ℕ) (p : Part) → IsTrace T → AreDistances T.format A l p → p.high ≤ p.low → InSpan A b → line_of T.format b ≡ l → ⊥

@@ -25,11 +25,12 @@ use Rattle.pmt_laws.proofs.DecidedLemmas.{IsSameTo, act-more, act-less, event-mo
 use Rattle.pmt_laws.proofs.PassLemmas.{are_open}
 use Rattle.pmt_asserts.specs.Tables.{IsLastAt}
 use Rattle.pmt_asserts.specs.Judging.{event_asserts}
+use Rattle.pmt_live.specs.Live.{IsLive}
 use Rattle.pmt_live.specs.Places.{IsPlaceOf}
 use Rattle.pmt_sweep.specs.declared.byte_tables.ByteTable.{ByteTable}
 use Rattle.pmt_sweep.specs.declared.writers.Writer.{Writer}
 use Rattle.pmt_sweep.specs.declared.sweeping.Progress.{Progress}
-use Rattle.pmt_sweep.specs.declared.judging.Judging.{Judging}
+use Rattle.pmt_sweep.specs.declared.judge.Judge.{Judge}
 use Rattle.pmt_sweep.specs.declared.growing.Sweeper.{Sweeper}
 use Rattle.pmt_sweep.specs.Known.{is_known_late, AreKnownTo}
 use Rattle.pmt_sweep.specs.Pasts.{last_line_store}
@@ -45,7 +46,7 @@ use Rattle.pmt_sweep.specs.Sweeping.{IsSweepOf, taken}
 use Rattle.pmt_sweep.specs.Writers.{AreWriters, IsSafe as IsSafeFrom}
 use Rattle.pmt_sweep.specs.LineWriters.{AreLineWriters, writers_at}
 use Rattle.pmt_sweep.specs.VerdictsSoFar.{AreVerdictsTo}
-use Rattle.pmt_sweep.specs.Judging.{IsJudgingOf}
+use Rattle.pmt_sweep.specs.Judging.{IsJudgeOf, IsJudgingOf}
 use Rattle.pmt_sweep.proofs.VerdictsSoFar.{verdicts-empty, verdicts-end}
 use Rattle.pmt_sweep.specs.Rejudging.{HasTakenAll}
 use Rattle.pmt_sweep.specs.Growing.{AreNext, HasSwept}
@@ -277,15 +278,8 @@ module _ (S : Recording) (more : List Event) where
 
   -- ---- A sweep
 
-  judging-more : (j : Judging) → IsTrace grown → IsJudgingOf S (length S.events) j → IsJudgingOf grown (length S.events) j
-  judging-more j trace is = record {
-    known = record {
-      here = is.known.here;
-      sweep = sweep-more j.progress trace is.known.here is.known.sweep;
-      writers = line_writers-more (length S.events) j.writers (omega arith) is.known.writers;
-    };
-    verdicts = verdicts-more j.verdicts.items is.verdicts;
-  }
+  judge-more : (j : Judge) → IsJudgeOf S (length S.events) j → IsJudgeOf grown (length S.events) j
+  judge-more j is = record { writers = line_writers-more (length S.events) j.writers (omega arith) is.writers; verdicts = verdicts-more j.verdicts.items is.verdicts }
 
   next-more : AreNext grown (length S.events) more
   next-more i d within =
@@ -299,54 +293,61 @@ next-counted T n k es e are = subst (λ m. AreNext T m es) (sym e) are
 pub next-one : (T : Recording) (n k i : ℕ) (es : List Event) (e : Event) → AreNext T n es → i < length es → k ≡ n + i → e ≡ get_or es i e → slice_get T.events k ≡ Some e
 next-one T n k i es e are within at is = ap (slice_get T.events) at ∙ are i e within ∙ ap (λ (x : Event). Some x) (sym is)
 
--- What a sweep knows that judges, before and after more events.
-pub judging-before : (S : Recording) (es : List Event) (s : Sweeper) → IsTrace (with_events S es) → HasSwept S s → s.judges ≡ true → IsJudgingOf (with_events S es) (taken s.judging.progress) s.judging
-judging-before S es s trace swept judges = subst (λ n. IsJudgingOf (with_events S es) n s.judging) (sym swept.here) (judging-more S es s.judging trace (swept.judging judges))
+-- ---- What has taken all events, before and after more of them
 
-pub next-before : (S : Recording) (es : List Event) (s : Sweeper) → HasSwept S s → AreNext (with_events S es) (taken s.judging.progress) es
-next-before S es s swept = next-counted (with_events S es) (length S.events) (taken s.judging.progress) es swept.here (next-more S es)
+module _ (S : Recording) (es : List Event) (s : Sweeper) (swept : HasSwept S s) where
+  pub sweep-before : IsTrace (with_events S es) → IsSweepOf (with_events S es) s.judging.progress
+  sweep-before trace = sweep-more S es s.judging.progress trace swept.here swept.sweep
 
-pub rejudged-before : (S : Recording) (es : List Event) (j : Judging) → IsTrace (with_events S es) → IsJudgingOf S (length S.events) j → IsJudgingOf (with_events S es) (taken j.progress) j
-rejudged-before S es j trace is = subst (λ n. IsJudgingOf (with_events S es) n j) (sym is.known.here) (judging-more S es j trace is)
+  pub next-before : AreNext (with_events S es) (taken s.judging.progress) es
+  next-before = next-counted (with_events S es) (length S.events) (taken s.judging.progress) es swept.here (next-more S es)
 
-pub rejudged-next : (S : Recording) (es : List Event) (j : Judging) → IsJudgingOf S (length S.events) j → AreNext (with_events S es) (taken j.progress) es
-rejudged-next S es j is = next-counted (with_events S es) (length S.events) (taken j.progress) es is.known.here (next-more S es)
+  pub judging-before : (j : Judge) → IsTrace (with_events S es) → IsJudgeOf S (length S.events) j → IsJudgingOf (with_events S es) (taken s.judging.progress) (record { progress = s.judging.progress; judge = j })
+  judging-before j trace judge = record { here = refl; sweep = sweep-before trace; judge = subst (λ n. IsJudgeOf (with_events S es) n j) (sym swept.here) (judge-more S es j judge) }
 
-pub swept-judging : (S : Recording) (es : List Event) (n : ℕ) (new : Sweeper) → new.judges ≡ true → n ≡ length S.events → IsJudgingOf (with_events S es) (n + length es) new.judging → HasSwept (with_events S es) new
-swept-judging S es n new judges count is =
-    let T = with_events S es in
-    let all : n + length es ≡ length T.events = omega (arith, count, length-append S.events es) in
-    let whole : IsJudgingOf T (length T.events) new.judging = subst (λ m. IsJudgingOf T m new.judging) all is in
-    record {
-      here = whole.known.here;
-      sweep = whole.known.sweep;
-      judging = λ e. whole;
-      unasserted = λ e. absurd (true≢false (sym judges ∙ e));
-      none = λ e. absurd (true≢false (sym judges ∙ e));
-    }
+  all-after : (n : ℕ) → n ≡ taken s.judging.progress + length es → n ≡ length (with_events S es).events
+  all-after n count = omega (arith, count, swept.here, length-append S.events es)
 
-pub swept-unjudged :
-    (S : Recording) (es : List Event) (s new : Sweeper) → HasSwept S s → s.judges ≡ false → new.judges ≡ s.judges → new.judging.verdicts ≡ s.judging.verdicts → list_any event_asserts es ≡ false →
-    IsSweepOf (with_events S es) new.judging.progress → taken new.judging.progress ≡ taken s.judging.progress + length es → HasSwept (with_events S es) new
-swept-unjudged S es s new swept unjudged same verdicts none sweep all = record {
-  here = omega (arith, all, swept.here, length-append S.events es);
-  sweep = sweep;
-  judging = λ e. absurd (true≢false (sym e ∙ same ∙ unjudged));
-  unasserted = λ e. list_any-append event_asserts S.events es ∙ rw (swept.unasserted unjudged) none;
-  none = λ e. ap (λ v. v.items) verdicts ∙ swept.none unjudged;
-}
+  -- it judges
+  pub swept-judging : (new : Sweeper) → new.judges ≡ true → IsJudgingOf (with_events S es) (taken s.judging.progress + length es) new.judging → HasSwept (with_events S es) new
+  swept-judging new on is = record {
+    here = all-after (taken new.judging.progress) is.here;
+    sweep = is.sweep;
+    judging = λ e. subst (λ n. IsJudgeOf (with_events S es) n new.judging.judge) (all-after (taken s.judging.progress + length es) refl) is.judge;
+    unasserted = λ e. absurd (true≢false (sym on ∙ e));
+    none = λ e. absurd (true≢false (sym on ∙ e));
+  }
 
--- What was swept was taken whole.
-pub taken-all : (S : Recording) (s : Sweeper) → HasSwept S s → s.judges ≡ false → HasTakenAll S s.judging.progress
-taken-all S s swept unjudged = record { sweep = swept.sweep; all = swept.here; none = swept.unasserted unjudged }
+  -- it judges none of them
+  pub swept-unjudged :
+      (new : Progress) → s.judges ≡ false → list_any event_asserts es ≡ false → IsSweepOf (with_events S es) new → taken new ≡ taken s.judging.progress + length es →
+      HasSwept (with_events S es) (record { judging = record { progress = new; judge = s.judging.judge }; judges = s.judges })
+  swept-unjudged new off none sweep count = record {
+    here = all-after (taken new) count;
+    sweep = sweep;
+    judging = λ e. absurd (true≢false (sym e ∙ off));
+    unasserted = λ e. list_any-append event_asserts S.events es ∙ rw (swept.unasserted off) none;
+    none = swept.none;
+  }
+
+  -- it has judged none so far
+  pub taken-all : s.judges ≡ false → HasTakenAll S s.judging.progress
+  taken-all off = record { sweep = swept.sweep; all = swept.here; none = swept.unasserted off }
 
 -- The verdicts of all events.
-pub swept-verdicts : (T : Recording) (s : Sweeper) → HasSwept T s → IsVerdicts T s.judging.verdicts.items
+pub swept-verdicts : (T : Recording) (s : Sweeper) → HasSwept T s → IsVerdicts T s.judging.judge.verdicts.items
 swept-verdicts T s swept = go s.judges refl
   where
-    go : (b : Bool) → s.judges ≡ b → IsVerdicts T s.judging.verdicts.items
-    go true e = verdicts-end T s.judging.verdicts.items (swept.judging e).verdicts
+    go : (x : Bool) → s.judges ≡ x → IsVerdicts T s.judging.judge.verdicts.items
+    go true e = verdicts-end T s.judging.judge.verdicts.items (swept.judging e).verdicts
     go false e = subst (IsVerdicts T) (sym (swept.none e)) (verdicts-empty T (swept.unasserted e))
+
+-- No event yet.
+pub swept-none : (f : Layout) (s : Sweeper) → IsFormat f → s.judges ≡ false → s.judging.judge.verdicts.items ≡ [] → ((T : Recording) → IsTrace T → T.format ≡ f → IsSweepOf T s.judging.progress) → taken s.judging.progress ≡ 0 → HasSwept (empty f) s
+swept-none f s format off none is zero_taken =
+    let T = empty f in
+    let trace : IsTrace T = record { format = format; few = omega arith; each = tt } in
+    record { here = zero_taken; sweep = is T trace refl; judging = λ e. absurd (true≢false (sym e ∙ off)); unasserted = λ e. refl; none = λ e. none }
 
 -- Two facts of a call that may have been refused memory.
 pub on_ok-both : {A E : Type 0} (r : Result A E) (P Q R : Type 0) → (P → Q → R) → OnOk r P → OnOk r Q → OnOk r R
@@ -356,21 +357,6 @@ on_ok-both (Err e) P Q R both p q = tt
 pub on_ok-more : {A E : Type 0} (r : Result A E) (P R : Type 0) → (P → R) → OnOk r P → OnOk r R
 on_ok-more (Ok x) P R more p = more p
 on_ok-more (Err e) P R more p = tt
-
-pub judging-here : (T : Recording) (n : ℕ) (j : Judging) → IsJudgingOf T n j → IsJudgingOf T (taken j.progress) j
-judging-here T n j is = subst (λ m. IsJudgingOf T m j) (sym is.known.here) is
-
--- One that does not judge, before more events.
-pub sweep-before : (S : Recording) (es : List Event) (s : Sweeper) → IsTrace (with_events S es) → HasSwept S s → IsSweepOf (with_events S es) s.judging.progress
-sweep-before S es s trace swept = sweep-more S es s.judging.progress trace swept.here swept.sweep
-
--- No event yet.
-pub swept-none : (f : Layout) (s : Sweeper) → IsFormat f → s.judges ≡ false → s.judging.verdicts.items ≡ [] → ((T : Recording) → IsTrace T → T.format ≡ f → IsJudgingOf T 0 s.judging) → HasSwept (empty f) s
-swept-none f s format unjudged none is =
-    let T = empty f in
-    let trace : IsTrace T = record { format = format; few = omega arith; each = tt } in
-    let judging = is T trace refl in
-    record { here = judging.known.here; sweep = judging.known.sweep; judging = λ e. judging; unasserted = λ e. refl; none = λ e. none }
 
 -- All events at once.
 pub swept-whole : (T : Recording) (f : Layout) (es : List Event) (s : Sweeper) → f ≡ T.format → es ≡ T.events → IsTrace T → (IsTrace (with_events (empty f) es) → HasSwept (with_events (empty f) es) s) → HasSwept T s

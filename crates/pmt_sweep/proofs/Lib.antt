@@ -20,5 +20,6 @@ pub mod SettlingLemmas
 pub mod VerdictsSoFar
 pub mod AnswerLemmas
 pub mod JudgingLemmas
+pub mod AloneLemmas
 pub mod RejudgingLemmas
 pub mod GrowingLemmas

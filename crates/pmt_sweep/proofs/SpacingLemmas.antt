@@ -1,12 +1,12 @@
 -- Stores in the order of their bytes, and how a new one takes its place among them.
-use Rattle.std.proofs.Common.{◌≡◌, ◌≢◌, ℕ, ◌+◌, ◌^◌, ◌<◌, ◌≤◌, ◌⊎◌, inl, inr, Bool, true, false, List, [], ◌∷◌, ◌++◌, length, map, get_or, set, refl, sym, subst, ◌∙◌, append-nil, arith}
-use Rattle.std.specs.Prelude.{Contains, if◌then◌else◌, nat_lt, min, max}
-use Rattle.std.proofs.lemmas.Bool.{cases_eq, cases_lt, lt-ltb, ltb-true}
-use Rattle.std.proofs.lemmas.List.{length-map, length-set, length_push, get_or-map, get_or-set_same, get_or-set_other, get_or_append_left, get_or_push, get_or_default}
+use Rattle.std.proofs.Common.{◌≡◌, ◌≢◌, ℕ, zero, suc, ◌+◌, ◌-◌, ◌^◌, ◌<◌, ◌≤◌, ◌⊎◌, inl, inr, Bool, true, false, List, [], ◌∷◌, ◌++◌, length, map, get_or, set, take, drop, ap, refl, sym, subst, ◌∙◌, append-nil, arith}
+use Rattle.std.specs.Prelude.{Contains, if◌then◌else◌, nat_le, nat_lt, min, max}
+use Rattle.std.proofs.lemmas.Bool.{cases_eq, cases_lt, leb-true, leb-false, lt-ltb, ltb-true}
+use Rattle.std.proofs.lemmas.List.{length-drop, length-map, length-set, length_push, append_assoc, take_more, get_or-drop, get_or-map, get_or-set_same, get_or-set_other, get_or_append_left, get_or_push, get_or_default}
 use Rattle.std.proofs.lemmas.List.Elements.{Contains-get_or, Contains-append_left, Contains-push, Contains-push_cases}
-use Rattle.std.specs.List.Sorted.{IsNonDecreasingBy}
+use Rattle.std.specs.List.Sorted.{IsNonDecreasingBy, IsPartitionPoint}
 use Rattle.pmt_sweep.specs.declared.writers.Writer.{Writer}
-use Rattle.pmt_sweep.specs.Giving.{part_of, IsPartOf, HasParts, IsSeat}
+use Rattle.pmt_sweep.specs.Giving.{part_of, EndsBelow, IsPartOf, HasParts, IsSeat}
 use Rattle.pmt_sweep.specs.Writers.{settled, Wrote, IsRest, IsSpaced, TakesOver}
 use Rattle.pmt_sweep.proofs.WriterLemmas.{IsSettled, settled-is}
 use Rattle.pmt_sweep.proofs.WriterListLemmas.{no_writer}
@@ -57,6 +57,27 @@ ends-rise ws is i k d le to = go (cases_eq i k)
     go : (i ≡ k) ⊎ (i ≡ k → ⊥) → (get_or ws i d).high ≤ (get_or ws k d).high
     go (inl same) = subst (λ j. (get_or ws i d).high ≤ (get_or ws j d).high) same (omega arith)
     go (inr other) = omega (arith, is.rising i k d (omega arith) to, is.some k d to)
+
+-- how many end below a byte, by bisection
+pub ends-below :
+    (byte : ℕ) (ws : List Writer) (place : ℕ) → place ≤ length ws → IsPartitionPoint (λ (w : Writer). nat_le w.high byte ≡ true) (λ (w : Writer). nat_le w.high byte ≡ false) ws place →
+    EndsBelow byte ws place
+ends-below byte ws place within point = record {
+  within = within;
+  below = λ k d to. leb-true (get_or ws k d).high byte (point.0 k d (omega arith) to);
+  past = λ k d from to. leb-false (get_or ws k d).high byte (point.1 k d from to);
+}
+
+-- all of them, where the last one does
+pub ends-all : (byte : ℕ) (ws : List Writer) → IsSpaced ws → 1 ≤ length ws → (get_or ws (length ws - 1) no_writer).high ≤ byte → EndsBelow byte ws (length ws)
+ends-all byte ws is some last = record {
+  within = omega arith;
+  below = λ k d to.
+      let h = ends-rise ws is k (length ws - 1) d (omega arith) (omega (arith, some)) in
+      let l = subst (λ (z : Writer). z.high ≤ byte) (get_or_default ws (length ws - 1) no_writer d (omega (arith, some))) last in
+      omega (arith, h, l);
+  past = λ k d from to. absurd (omega arith);
+}
 
 -- those that are persisted for sure now have the bytes that they had
 pub spaced-settled : (front n : ℕ) (ws : List Writer) → IsSpaced ws → IsSpaced (map (settled front n) ws)
@@ -169,12 +190,12 @@ before-end w ws place past seat z at = subst (λ (v : Writer). v.high ≤ w.low)
 
 -- the seat that is found by the ends of the bytes
 pub seat-at :
-    (w : Writer) (ws : List Writer) (place : ℕ) → IsSpaced ws → place ≤ length ws → ((k : ℕ) (d : Writer) → k < place → (get_or ws k d).high ≤ w.low) →
+    (w : Writer) (ws : List Writer) (place : ℕ) → IsSpaced ws → EndsBelow w.low ws place →
     (place < length ws → (w.low ≤ (get_or ws place no_writer).low) × ((get_or ws place no_writer).high ≤ w.high)) →
     (place + 1 < length ws → w.high ≤ (get_or ws (place + 1) no_writer).low) → IsSeat w ws place
-seat-at w ws place is within before own next = record {
-  within = within;
-  before = before;
+seat-at w ws place is ends own next = record {
+  within = ends.within;
+  before = ends.below;
   own = λ d to. subst (λ (z : Writer). (w.low ≤ z.low) × (z.high ≤ w.high)) (get_or_default ws place no_writer d to) (own to);
   after = λ k d less to. go k d less to (cases_eq k (place + 1));
 }
@@ -195,8 +216,14 @@ pub record HasPartsBelow (low high i : ℕ) (ws base new : List Writer) : Type 0
   pub just : (x : Writer) → Contains new x → Contains base x ⊎ ((k : ℕ) × (k < i) × IsPartOf (get_or ws k no_writer) x × (low ≤ x.low) × (x.high ≤ high))
   pub all : (k o : ℕ) → k < i → Wrote (get_or ws k no_writer) o → low ≤ o → o < high → (x : Writer) × Contains new x × Wrote x o
 
-pub parts-none : (low high : ℕ) (ws base : List Writer) → IsSpaced base → HasPartsBelow low high 0 ws base base
-parts-none low high ws base is = record { spaced = is; kept = λ x at. at; just = λ x at. inl at; all = λ k o to. absurd (omega arith) }
+-- none, of stores that wrote no byte from low on
+pub parts-passed : (low high i : ℕ) (ws base : List Writer) → IsSpaced base → ((k : ℕ) (d : Writer) → k < i → (get_or ws k d).high ≤ low) → HasPartsBelow low high i ws base base
+parts-passed low high i ws base is passed = record {
+  spaced = is;
+  kept = λ x at. at;
+  just = λ x at. inl at;
+  all = λ k o to wrote from upto. absurd (omega (arith, passed k no_writer to, wrote.1, from));
+}
 
 -- one more store
 module _ (low high i : ℕ) (ws base new : List Writer) (left right : ℕ) (within : i < length ws) (rising : IsSpaced ws) (below : (x : Writer) → Contains base x → x.high ≤ low)
@@ -270,13 +297,90 @@ module _ (low high i : ℕ) (ws base new : List Writer) (left right : ℕ) (with
       go (inr none) true e = absurd (omega (arith, ltb-true left right e))
       go (inr none) false e = subst (HasPartsBelow low high (i + 1) ws base) (sym (append-nil new)) (same none)
 
-pub parts-all : (low high i : ℕ) (ws base new : List Writer) → length ws ≤ i → i ≤ length ws → HasPartsBelow low high i ws base new → HasParts low high ws base new
-parts-all low high i ws base new all inside h = record {
+-- one more store, all of it
+part-whole : (y : Writer) → y.low < y.high → part_of y y.low y.high ≡ y ∷ []
+part-whole y bytes = ap (λ b. if b then y ∷ [] else []) (lt-ltb y.low y.high bytes)
+
+-- n more stores, all of them
+pub parts-wholes :
+    (low high i n : ℕ) (ws base new : List Writer) → i + n ≤ length ws → IsSpaced ws → ((x : Writer) → Contains base x → x.high ≤ low) →
+    ((k : ℕ) (d : Writer) → i ≤ k → k < i + n → (low ≤ (get_or ws k d).low) × ((get_or ws k d).high ≤ high)) → HasPartsBelow low high i ws base new →
+    HasPartsBelow low high (i + n) ws base (new ++ take n (drop i ws))
+parts-wholes low high i zero ws base new within is below inside h =
+    let e : i + zero ≡ i = omega arith in
+    subst (λ j. HasPartsBelow low high j ws base (new ++ [])) (sym e) (subst (HasPartsBelow low high i ws base) (sym (append-nil new)) h)
+parts-wholes low high i (suc n) ws base new within is below inside h =
+    let y = get_or ws (i + n) no_writer in
+    let own = inside (i + n) no_writer (omega arith) (omega arith) in
+    let bytes = is.some (i + n) no_writer (omega arith) in
+    let before = parts-wholes low high i n ws base new (omega arith) is below (λ k d from to. inside k d from (omega arith)) h in
+    let more = parts-more low high (i + n) ws base (new ++ take n (drop i ws)) y.low y.high (omega arith) is below (omega (arith, own.0)) (omega (arith, own.1)) before in
+    let long : length (drop i ws) ≡ length ws - i = length-drop i ws in
+    let one : take (n + 1) (drop i ws) ≡ take n (drop i ws) ++ y ∷ [] =
+    take_more (drop i ws) n no_writer (omega (arith, long)) ∙ ap (λ z. take n (drop i ws) ++ z ∷ []) (get_or-drop i ws n no_writer) in
+    let there : (new ++ take n (drop i ws)) ++ part_of y y.low y.high ≡ new ++ take (n + 1) (drop i ws) =
+    ap (λ part. (new ++ take n (drop i ws)) ++ part) (part-whole y bytes) ∙ append_assoc new (take n (drop i ws)) (y ∷ []) ∙ ap (λ xs. new ++ xs) (sym one) in
+    let at : i + n + 1 ≡ i + suc n = omega arith in
+    let next : n + 1 ≡ suc n = omega arith in
+    subst (λ j. HasPartsBelow low high j ws base (new ++ take (suc n) (drop i ws))) at
+    (subst (λ m. HasPartsBelow low high (i + n + 1) ws base (new ++ take m (drop i ws))) next
+    (subst (HasPartsBelow low high (i + n + 1) ws base) there more))
+
+-- the stores from place i on wrote bytes from high on alone
+pub parts-end :
+    (low high i : ℕ) (ws base new : List Writer) → i ≤ length ws → ((k : ℕ) (d : Writer) → i ≤ k → k < length ws → high ≤ (get_or ws k d).low) →
+    HasPartsBelow low high i ws base new → HasParts low high ws base new
+parts-end low high i ws base new inside past h = record {
   spaced = h.spaced;
   kept = h.kept;
   just = λ x at. elim (h.just x at) [ inl old ↦ inl old | inr p ↦ inr (get_or ws p.0 no_writer, Contains-get_or ws p.0 no_writer (omega (arith, p.1)), p.2, p.3, p.4) ];
-  all = λ y o at wrote from upto. h.all at.0 o (omega (arith, at.1)) (subst (λ (z : Writer). Wrote z o) (sym (get_or_default ws at.0 no_writer y at.1 ∙ at.2)) wrote) from upto;
+  all = λ y o at wrote from upto. all y o at wrote from upto (cases_lt at.0 i);
 }
+  where
+    all : (y : Writer) (o : ℕ) (at : Contains ws y) → Wrote y o → low ≤ o → o < high → (at.0 < i) ⊎ (i ≤ at.0) → (x : Writer) × Contains new x × Wrote x o
+    all y o at wrote from upto (inl before) = h.all at.0 o before (subst (λ (z : Writer). Wrote z o) (sym (get_or_default ws at.0 no_writer y at.1 ∙ at.2)) wrote) from upto
+    all y o at wrote from upto (inr later) =
+        let f = subst (λ (z : Writer). high ≤ z.low) at.2 (past at.0 y later at.1) in
+        absurd (omega (arith, f, wrote.0, upto))
+
+-- what the stores wrote below high: all of the first i, and a part of the next one
+module _ (high i : ℕ) (ws : List Writer) (is : IsSpaced ws) (ends : EndsBelow high ws i) where
+  wholes : HasPartsBelow 0 high i ws [] (take i ws)
+  wholes =
+      let e : 0 + i ≡ i = omega arith in
+      let none = parts-passed 0 high 0 ws [] spaced-nil (λ k d to. absurd (omega arith)) in
+      subst (λ j. HasPartsBelow 0 high j ws [] (take i ws)) e
+      (parts-wholes 0 high 0 i ws [] [] (omega (arith, e, ends.within)) is (λ x at. absurd (omega (arith, at.1))) (λ k d from to. (omega arith, ends.below k d (omega (arith, to, e)))) none)
+
+  pub before-whole : length ws ≤ i → HasParts 0 high ws [] (take i ws)
+  before-whole all = parts-end 0 high i ws [] (take i ws) ends.within (λ k d from to. absurd (omega (arith, from, to, all))) wholes
+
+  pub before-part : i < length ws → HasParts 0 high ws [] (take i ws ++ part_of (get_or ws i no_writer) (get_or ws i no_writer).low high)
+  before-part within =
+      let y = get_or ws i no_writer in
+      let past = ends.past i no_writer (omega arith) within in
+      parts-end 0 high (i + 1) ws [] (take i ws ++ part_of y y.low high) (omega arith) (λ k d from to. omega (arith, ends.past i d (omega arith) within, is.rising i k d (omega arith) to))
+      (parts-more 0 high i ws [] (take i ws) y.low high within is (λ x at. absurd (omega (arith, at.1))) (omega arith) (omega (arith, past)) wholes)
+
+-- what they wrote from low on: a part of the next one, and all of those after it
+module _ (low i : ℕ) (ws base : List Writer) (is : IsSpaced ws) (ends : EndsBelow low ws i) (spaced : IsSpaced base) (below : (x : Writer) → Contains base x → x.high ≤ low) where
+  pub after-none : length ws ≤ i → HasParts low 65535 ws base base
+  after-none all =
+      parts-end low 65535 i ws base base ends.within (λ k d from to. absurd (omega (arith, from, to, all))) (parts-passed low 65535 i ws base spaced ends.below)
+
+  pub after-part : (left : ℕ) → i < length ws → left ≡ max (get_or ws i no_writer).low low →
+      HasParts low 65535 ws base ((base ++ part_of (get_or ws i no_writer) left (get_or ws i no_writer).high) ++ take (length ws - (i + 1)) (drop (i + 1) ws))
+  after-part left within l =
+      let y = get_or ws i no_writer in
+      let part = base ++ part_of y left y.high in
+      let fits = is.fits i no_writer within in
+      let one = parts-more low 65535 i ws base base left y.high within is below l (omega (arith, fits)) (parts-passed low 65535 i ws base spaced ends.below) in
+      let later : (k : ℕ) (d : Writer) → i + 1 ≤ k → k < length ws → (low ≤ (get_or ws k d).low) × ((get_or ws k d).high ≤ 65535) =
+      λ k d from to. (omega (arith, ends.past i d (omega arith) within, is.rising i k d (omega arith) to), omega (arith, is.fits k d to)) in
+      let n : ℕ = length ws - (i + 1) in
+      let all : (i + 1) + n ≡ length ws = omega arith in
+      parts-end low 65535 ((i + 1) + n) ws base (part ++ take n (drop (i + 1) ws)) (omega (arith, all)) (λ k d from to. absurd (omega (arith, from, to, all)))
+      (parts-wholes low 65535 (i + 1) n ws base part (omega (arith, all)) is below (λ k d from to. later k d from (omega (arith, to, all))) one)
 
 -- the new store between the parts on its left and those on its right
 module _ (w : Writer) (ws left mid new : List Writer) (last : ℕ) (bytes : w.low < w.high) (fits : w.high < 2 ^ 16) (wide : 2 ^ 16 ≤ last + 1) (is : IsSpaced ws)

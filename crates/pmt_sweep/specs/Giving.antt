@@ -22,6 +22,12 @@ pub record HasParts (low high : ℕ) (ws base new : List Writer) : Type 0 where
   pub just : (x : Writer) → Contains new x → Contains base x ⊎ ((y : Writer) × Contains ws y × IsPartOf y x × (low ≤ x.low) × (x.high ≤ high))
   pub all : (y : Writer) (o : ℕ) → Contains ws y → Wrote y o → low ≤ o → o < high → (x : Writer) × Contains new x × Wrote x o
 
+-- The stores before this place wrote bytes below this one alone, and the others not.
+pub record EndsBelow (byte : ℕ) (ws : List Writer) (place : ℕ) : Type 0 where
+  pub within : place ≤ length ws
+  pub below : (k : ℕ) (d : Writer) → k < place → (get_or ws k d).high ≤ byte
+  pub past : (k : ℕ) (d : Writer) → place ≤ k → k < length ws → byte < (get_or ws k d).high
+
 -- The store w may stand at this place, with the others as they are: the store there, if any, wrote bytes of w alone, those before it wrote
 -- bytes before w's, and those after it bytes after w's.
 pub record IsSeat (w : Writer) (ws : List Writer) (place : ℕ) : Type 0 where

@@ -5,7 +5,7 @@ use Rattle.pmt_model.specs.declared.event.Event.{Event}
 use Rattle.pmt_model.specs.Traces.{Recording}
 use Rattle.pmt_asserts.specs.Judging.{event_asserts}
 use Rattle.pmt_sweep.specs.declared.growing.Sweeper.{Sweeper}
-use Rattle.pmt_sweep.specs.Judging.{IsJudgingOf}
+use Rattle.pmt_sweep.specs.Judging.{IsJudgeOf}
 use Rattle.pmt_sweep.specs.Sweeping.{IsSweepOf, taken}
 
 -- These events come after the first n.
@@ -16,6 +16,6 @@ AreNext T n es = (i : ℕ) (d : Event) → i < length es → slice_get T.events 
 pub record HasSwept (T : Recording) (s : Sweeper) : Type 0 where
   pub here : taken s.judging.progress ≡ length T.events
   pub sweep : IsSweepOf T s.judging.progress
-  pub judging : s.judges ≡ true → IsJudgingOf T (length T.events) s.judging
+  pub judging : s.judges ≡ true → IsJudgeOf T (length T.events) s.judging.judge
   pub unasserted : s.judges ≡ false → list_any event_asserts T.events ≡ false
-  pub none : s.judges ≡ false → s.judging.verdicts.items ≡ []
+  pub none : s.judges ≡ false → s.judging.judge.verdicts.items ≡ []

@@ -2,21 +2,27 @@
 ghost use Rattle.std.specs.Prelude.{◌<◌, ◌^◌};
 ghost use Rattle.pmt_sweep.specs.Distances.{AreDistances};
 
-use crate::judging::Judging;
+use crate::line_writers::LineWriters;
 use pmt_asserts::{LineAnswers, Oldest, Part, Spot, part_of};
+use pmt_live::LiveLines;
 use pmt_model::{Format, Range};
 
-impl LineAnswers for Judging {
-    ghost use Rattle.std.specs.Prelude.{◌≤◌, length};
-    ghost use Rattle.std.proofs.Common.{subst};
+/// The lines after some events, and who wrote their bytes.
+#[derive(Drop)]
+pub(crate) struct KnownLines<'a> {
+    pub(crate) live: &'a LiveLines,
+    pub(crate) writers: &'a LineWriters,
+}
+
+impl LineAnswers for KnownLines<'_> {
     ghost use Rattle.pmt_sweep.specs.Judging.{IsKnownTo};
 
-    ghost is_of = { λ j T n. IsKnownTo T n j };
+    ghost is_of = { λ k T n. IsKnownTo T n k };
 
-    ghost within = { λ j T n known. subst (λ k. k ≤ length T.events) known.here known.sweep.linked.within };
+    ghost within = { λ k T n known. known.live.within };
 
     fn block(&self, line: u64) -> Option<usize> {
-        self.progress.lines.live.block(line)
+        self.live.block(line)
     }
 
     fn is_line_persisted(
@@ -27,7 +33,7 @@ impl LineAnswers for Judging {
         _number: u64,
         by: u64,
     ) -> bool {
-        let Some(place) = self.progress.lines.live.find(spot.line, spot.block) else {
+        let Some(place) = self.live.find(spot.line, spot.block) else {
             return true;
         };
         let part = distances(format, range, spot.line);
@@ -45,7 +51,7 @@ impl LineAnswers for Judging {
         _number: u64,
         rank: u64,
     ) -> bool {
-        let Some(place) = self.progress.lines.live.find(spot.line, spot.block) else {
+        let Some(place) = self.live.find(spot.line, spot.block) else {
             return true;
         };
         let part = distances(format, range, spot.line);
@@ -66,7 +72,7 @@ impl LineAnswers for Judging {
         if part.high <= part.low {
             return None;
         }
-        let Some(place) = self.progress.lines.live.find(spot.line, spot.block) else {
+        let Some(place) = self.live.find(spot.line, spot.block) else {
             return None;
         };
         match self.writers.at(place) {

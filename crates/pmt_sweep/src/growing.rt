@@ -52,7 +52,8 @@ impl Sweeper {
             return judge_each(&mut self.judging, events);
         }
         if has_assertion(events) {
-            self.judging = rejudged(alloc, &self.judging.progress)?;
+            let judge = rejudged(alloc, &self.judging.progress)?.into_judge();
+            self.judging.judge = judge;
             self.judges = true;
             return judge_each(&mut self.judging, events);
         }
@@ -71,15 +72,8 @@ impl Sweeper {
         ensures kept { (T : Recording) → HasSwept T self → IfOk result (λ s. IsKeep T (marked_from 0 s.kept.items)) }
     {
         let Sweeper { judging, judges: _ } = self;
-        let Judging {
-            progress,
-            writers,
-            verdicts,
-            stale,
-        } = judging;
-        drop(writers);
-        drop(stale);
-        progress.finish(alloc, verdicts)
+        let Judging { progress, judge } = judging;
+        progress.finish(alloc, judge.into_verdicts())
     }
 }
 

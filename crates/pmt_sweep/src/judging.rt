@@ -6,36 +6,29 @@ ghost use Rattle.pmt_sweep.specs.Notes.{StoresBytes};
 ghost use Rattle.pmt_sweep.specs.Judging.{IsJudgingOf};
 ghost use Rattle.pmt_sweep.specs.Sweeping.{taken};
 
-use crate::line_writers::LineWriters;
-use crate::note::{Bytes, bytes_of, start_of};
-use crate::settling::settle_fence;
+use crate::judge::Judge;
+use crate::note::{Bytes, bytes_of};
 use crate::sweeping::Progress;
-use crate::writers::Writer;
-use pmt_asserts::verdict_by;
-use pmt_model::{Event, Format, Op, OutOfMemory, Verdict, line_of};
+use pmt_model::{Event, Format, Op, OutOfMemory, line_of};
 use std::alloc::Global;
 
 /// What is known of a trace while its events go by, with the verdicts of its assertions so far.
 #[derive(Drop)]
 pub(crate) struct Judging {
     pub(crate) progress: Progress,
-    pub(crate) writers: LineWriters,
-    pub(crate) verdicts: Vec<Verdict>,
-    // The places of lines of which the oldest store has to be found again before an assertion is judged.
-    pub(crate) stale: Vec<u32>,
+    pub(crate) judge: Judge,
 }
 
 impl Judging {
     // No events of this format yet.
     pub(crate) fn new(alloc: Global, format: Format) -> Result<Self, OutOfMemory>
         ensures so_far { (T : Recording) → IsTrace T → T.format ≡ format → IfOk result (IsJudgingOf T 0) }
-        ensures empty { IfOk result (λ j. j.verdicts.items ≡ []) }
+        ensures none { IfOk result (λ j. taken j.progress ≡ 0) }
+        ensures empty { IfOk result (λ j. j.judge.verdicts.items ≡ []) }
     {
         Ok(Judging {
             progress: Progress::new(alloc, format)?,
-            writers: LineWriters::new(alloc),
-            verdicts: Vec::new(alloc),
-            stale: Vec::new(alloc),
+            judge: Judge::new(alloc),
         })
     }
 
@@ -59,30 +52,22 @@ impl Judging {
     }
 
     // A store of these bytes to the line.
-    pub(crate) fn take_store(&mut self, line: u64, bytes: Bytes) -> Result<(), OutOfMemory>
+    fn take_store(&mut self, line: u64, bytes: Bytes) -> Result<(), OutOfMemory>
         requires room { taken self.old.progress < event_limit }
         requires so_far { (T : Recording) × IsJudgingOf T (taken self.old.progress) self.old × StoresBytes T (suc (taken self.old.progress)) line bytes.low bytes.high }
         ensures { (T : Recording) → IsJudgingOf T (taken self.old.progress) self.old → StoresBytes T (suc (taken self.old.progress)) line bytes.low bytes.high → OnOk result (IsJudgingOf T (suc (taken self.old.progress)) self.new) }
     {
-        let number = self.progress.before.len() as u32 + 1;
+        let format = self.progress.format;
         let place = self.progress.take_store(line, bytes)?;
-        let stores = self.progress.lines.live.count(place);
-        let start = start_of(self.progress.format, line);
-        let writer = Writer {
-            number,
-            rank: stores,
-            safe: 0,
-            low: (bytes.low - start) as u16,
-            high: (bytes.high - start) as u16,
-        };
-        let is_fresh = self.writers.is_fresh(place);
-        push_stale(&mut self.stale, is_fresh, place as u32)?;
-        self.writers.store(place, writer)?;
+        let number = self.progress.before.len() as u32;
+        let live = &self.progress.lines.live;
+        self.judge
+            .take_store(format, live, place, line, bytes, number)?;
         Ok(())
     }
 
     // A flush of the line by the thread.
-    pub(crate) fn take_flush(&mut self, line: u64, thread: u8) -> Result<(), OutOfMemory>
+    fn take_flush(&mut self, line: u64, thread: u8) -> Result<(), OutOfMemory>
         requires room { taken self.old.progress < event_limit }
         requires so_far { (T : Recording) × IsJudgingOf T (taken self.old.progress) self.old }
         ensures { (T : Recording) → IsJudgingOf T (taken self.old.progress) self.old → IsAct T (suc (taken self.old.progress)) (Flushes thread line) → OnOk result (IsJudgingOf T (suc (taken self.old.progress)) self.new) }
@@ -92,50 +77,40 @@ impl Judging {
     }
 
     // A clflush of the line.
-    pub(crate) fn take_clflush(&mut self, line: u64) -> Result<(), OutOfMemory>
+    fn take_clflush(&mut self, line: u64) -> Result<(), OutOfMemory>
         requires room { taken self.old.progress < event_limit }
         requires so_far { (T : Recording) × IsJudgingOf T (taken self.old.progress) self.old × IsAct T (suc (taken self.old.progress)) (Clflushes line) }
         ensures { (T : Recording) → IsJudgingOf T (taken self.old.progress) self.old → IsAct T (suc (taken self.old.progress)) (Clflushes line) → OnOk result (IsJudgingOf T (suc (taken self.old.progress)) self.new) }
     {
         let place = self.progress.take_clflush(line)?;
-        let front = self.progress.lines.live.front(place);
         let number = self.progress.before.len() as u32;
-        self.writers.settle(place, front as u64, number);
+        self.judge
+            .take_clflush(&self.progress.lines.live, place, number);
         Ok(())
     }
 
     // A fence by the thread.
-    pub(crate) fn take_fence(&mut self, thread: u8) -> Result<(), OutOfMemory>
+    fn take_fence(&mut self, thread: u8) -> Result<(), OutOfMemory>
         requires room { taken self.old.progress < event_limit }
         requires so_far { (T : Recording) × IsJudgingOf T (taken self.old.progress) self.old × IsAct T (suc (taken self.old.progress)) (Fences thread) }
         ensures { (T : Recording) → IsJudgingOf T (taken self.old.progress) self.old → IsAct T (suc (taken self.old.progress)) (Fences thread) → OnOk result (IsJudgingOf T (suc (taken self.old.progress)) self.new) }
     {
         self.progress.take_fence(thread)?;
         let number = self.progress.before.len() as u32;
-        settle_fence(&mut self.writers, &self.progress.lines.live, number);
+        self.judge.take_fence(&self.progress.lines.live, number);
         Ok(())
     }
 
     // An assertion.
     fn take_assertion(&mut self, event: &Event) -> Result<(), OutOfMemory>
+        requires room { taken self.old.progress < event_limit }
         ensures { (T : Recording) → IsJudgingOf T (taken self.old.progress) self.old → slice_get T.events (taken self.old.progress) ≡ Some event.now → IsAct T (suc (taken self.old.progress)) Asserts → OnOk result (IsJudgingOf T (suc (taken self.old.progress)) self.new) }
     {
         let format = self.progress.format;
         self.progress.take_assertion()?;
-        let number = self.progress.before.len() as u64;
-        self.writers.refresh(self.stale.as_slice());
-        self.stale.clear();
-        if let Some(verdict) = verdict_by(self, format, number, event.op) {
-            self.verdicts.push(verdict)?;
-        }
+        let number = self.progress.before.len() as u32;
+        self.judge
+            .take_assertion(format, &self.progress.lines.live, event, number)?;
         Ok(())
     }
-}
-
-// Adds the place, if its line was fresh.
-fn push_stale(stale: &mut Vec<u32>, is_fresh: bool, place: u32) -> Result<(), OutOfMemory> {
-    if is_fresh {
-        stale.push(place)?;
-    }
-    Ok(())
 }

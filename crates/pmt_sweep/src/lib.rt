@@ -3,6 +3,7 @@
 //! The definitions stand in `specs/` and in pmt_model.
 #![tactic(auto)]
 
+mod alone;
 mod answers;
 mod byte_tables;
 mod chain;
@@ -10,6 +11,7 @@ mod deciding;
 mod ending;
 pub mod growing;
 mod joining;
+mod judge;
 mod judging;
 mod line_writers;
 mod lines;

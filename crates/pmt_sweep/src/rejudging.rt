@@ -1,35 +1,35 @@
-//! A sweep that judges, over events that a sweep has taken which judged none.
+//! What judges, over events that a sweep has taken which judged none.
 ghost use Rattle.std.specs.Prelude.{◌≡◌, ℕ, suc, ◌<◌, false, length, IfOk, OnOk};
 ghost use Rattle.std.specs.List.{list_any};
 ghost use Rattle.pmt_model.specs.Traces.{Recording};
 ghost use Rattle.pmt_asserts.specs.Judging.{event_asserts};
-ghost use Rattle.pmt_sweep.specs.Judging.{IsJudgingOf};
+ghost use Rattle.pmt_sweep.specs.Judging.{IsAloneOf};
 ghost use Rattle.pmt_sweep.specs.Rejudging.{HasTakenAll, IsLineOf};
 ghost use Rattle.pmt_sweep.specs.Sweeping.{IsSweepOf, taken};
 
-use crate::judging::Judging;
+use crate::alone::JudgeAlone;
 use crate::note::{Note, bytes_at, start_of};
 use crate::sweeping::Progress;
 use pmt_model::OutOfMemory;
 use std::alloc::Global;
 
-// A sweep that judges, which has taken the same events. None of them is an assertion.
-pub(crate) fn rejudged(alloc: Global, old: &Progress) -> Result<Judging, OutOfMemory>
+// What judges, and has taken the same events. None of them is an assertion.
+pub(crate) fn rejudged(alloc: Global, old: &Progress) -> Result<JudgeAlone, OutOfMemory>
     requires { (T : Recording) × HasTakenAll T old.now }
-    ensures { (T : Recording) → HasTakenAll T old.now → IfOk result (IsJudgingOf T (length T.events)) }
+    ensures { (T : Recording) → HasTakenAll T old.now → IfOk result (IsAloneOf T (length T.events)) }
 {
-    let mut judging = Judging::new(alloc, old.format)?;
+    let mut alone = JudgeAlone::new(alloc, old.format);
     for index in 0..old.notes.len() {
-        retake(&mut judging, old, index)?;
+        retake(&mut alone, old, index)?;
     }
-    Ok(judging)
+    Ok(alone)
 }
 
 // Takes the event with this index again.
-fn retake(judging: &mut Judging, old: &Progress, index: usize) -> Result<(), OutOfMemory>
+fn retake(alone: &mut JudgeAlone, old: &Progress, index: usize) -> Result<(), OutOfMemory>
     requires within { index < length old.now.notes.items }
-    requires so_far { (T : Recording) × HasTakenAll T old.now × IsJudgingOf T index judging.old }
-    ensures { (T : Recording) → HasTakenAll T old.now → IsJudgingOf T index judging.old → OnOk result (IsJudgingOf T (suc index) judging.new) }
+    requires so_far { (T : Recording) × HasTakenAll T old.now × IsAloneOf T index alone.old }
+    ensures { (T : Recording) → HasTakenAll T old.now → IsAloneOf T index alone.old → OnOk result (IsAloneOf T (suc index) alone.new) }
 {
     let note = old.notes[index];
     match note {
@@ -37,11 +37,14 @@ fn retake(judging: &mut Judging, old: &Progress, index: usize) -> Result<(), Out
             let line = line_at(old, index);
             let start = start_of(old.format, line);
             let bytes = bytes_at(old.notes.as_slice(), start, index as u32 + 1);
-            judging.take_store(line, bytes)
+            alone.take_store(line, bytes)
         }
-        Note::Flush { thread } => judging.take_flush(line_at(old, index), thread),
-        Note::Clflush => judging.take_clflush(line_at(old, index)),
-        Note::Fence { thread } => judging.take_fence(thread),
+        Note::Flush { thread } => alone.take_flush(line_at(old, index), thread),
+        Note::Clflush => alone.take_clflush(line_at(old, index)),
+        Note::Fence { thread } => {
+            alone.take_fence(thread);
+            Ok(())
+        }
         Note::Assertion => unreachable!(),
     }
 }

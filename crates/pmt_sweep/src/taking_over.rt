@@ -1,7 +1,7 @@
 //! How a new store to a line takes over its bytes from the stores that wrote them before.
-ghost use Rattle.std.specs.Prelude.{◌≡◌, ◌<◌, ◌≤◌, ◌++◌, Contains, IfSome, OnOk};
+ghost use Rattle.std.specs.Prelude.{◌≡◌, ◌<◌, ◌≤◌, ◌++◌, [], Contains, IfSome, OnOk};
 ghost use Rattle.pmt_sweep.specs.Writers.{IsSpaced, TakesOver};
-ghost use Rattle.pmt_sweep.specs.Giving.{part_of, HasParts, IsSeat};
+ghost use Rattle.pmt_sweep.specs.Giving.{part_of, EndsBelow, HasParts, IsSeat};
 
 use crate::writers::{FEW, Writer};
 use pmt_model::OutOfMemory;
@@ -31,7 +31,7 @@ fn seat_of(held: &[Writer], writer: &Writer) -> Option<usize>
     requires { IsSpaced held.now }
     ensures { IfSome result (IsSeat writer.now held.now) }
 {
-    let seat = held.partition_point(|older| older.high <= writer.low);
+    let seat = count_below(held, writer.low);
     if seat == held.len() {
         return Some(seat);
     }
@@ -85,27 +85,62 @@ fn spread(
     ensures spaced { IsSpaced held.new.items }
 {
     spare.clear();
-    push_parts(spare, held.as_slice(), 0, writer.low)?;
+    push_before(spare, held.as_slice(), writer.low)?;
     spare.push(writer)?;
-    push_parts(spare, held.as_slice(), writer.high, u16::MAX)?;
+    push_after(spare, held.as_slice(), writer.high)?;
     swap(held, spare);
     Ok(())
 }
 
-// Adds what these stores wrote from `low` to `high`, after stores to bytes below `low`.
-fn push_parts(
+// How many of the stores wrote no byte from this one on: the first ones.
+fn count_below(held: &[Writer], byte: u16) -> usize
+    requires { IsSpaced held.now }
+    ensures { EndsBelow byte held.now result }
+{
+    let count = held.len();
+    if count == 0 {
+        return 0;
+    }
+    if held[count - 1].high <= byte {
+        return count;
+    }
+    held.partition_point(|older| older.high <= byte)
+}
+
+// Adds to no stores what these wrote below `high`.
+fn push_before(
+    spread: &mut SmallVec<Writer, FEW>,
+    held: &[Writer],
+    high: u16,
+) -> Result<(), OutOfMemory>
+    requires empty { spread.old.items ≡ [] }
+    requires spaced { IsSpaced held.now }
+    ensures { OnOk result (HasParts 0 high held.now [] spread.new.items) }
+{
+    let whole = count_below(held, high);
+    spread.extend_from_slice(&held[..whole])?;
+    if whole < held.len() {
+        push_part(spread, &held[whole], held[whole].low, high)?;
+    }
+    Ok(())
+}
+
+// Adds what these stores wrote from `low` on, after stores to bytes below `low`.
+fn push_after(
     spread: &mut SmallVec<Writer, FEW>,
     held: &[Writer],
     low: u16,
-    high: u16,
 ) -> Result<(), OutOfMemory>
     requires before { IsSpaced spread.old.items }
     requires below { (x : Writer) → Contains spread.old.items x → x.high ≤ low }
     requires spaced { IsSpaced held.now }
-    ensures { OnOk result (HasParts low high held.now spread.old.items spread.new.items) }
+    ensures { OnOk result (HasParts low 65535 held.now spread.old.items spread.new.items) }
 {
-    for older in held {
-        push_part(spread, older, older.low.max(low), older.high.min(high))?;
+    let passed = count_below(held, low);
+    if passed < held.len() {
+        let next = held[passed];
+        push_part(spread, &next, next.low.max(low), next.high)?;
+        spread.extend_from_slice(&held[passed + 1..])?;
     }
     Ok(())
 }

@@ -1,4 +1,4 @@
-use Rattle.std.proofs.Common.{◌≡◌, sym, ap, subst}
+use Rattle.std.proofs.Common.{sym, ap, subst, ◌∙◌}
 use Rattle.std.proofs.lemmas.Result.{IfOk-weaker}
 use Rattle.pmt_model.specs.Analyses.{IsVerdicts}
 use Rattle.pmt_sweep.proofs.GrowingLemmas.{swept-verdicts}
@@ -18,5 +18,4 @@ returns-clause-kept c T swept = c.finish.ensures.kept T swept.sweep swept.here
 
 pub returns-clause-verdicts : goal.returns-clause-verdicts
 returns-clause-verdicts c T swept =
-    let vs = c.args.self.judging.verdicts in
-    IfOk-weaker c.finish.result (λ s. s.verdicts ≡ vs) (λ s. IsVerdicts T s.verdicts.items) (λ s e. subst (IsVerdicts T) (sym (ap (λ v. v.items) e)) (swept-verdicts T c.args.self swept)) c.finish.ensures.verdicts
+    IfOk-weaker c.finish.result _ (λ r. IsVerdicts T r.verdicts.items) (λ r e. subst (IsVerdicts T) (sym (ap (λ v. v.items) (e ∙ c.into_verdicts.ensures))) (swept-verdicts T c.args.self swept)) c.finish.ensures.verdicts

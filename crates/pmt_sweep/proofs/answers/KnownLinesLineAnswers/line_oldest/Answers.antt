@@ -1,7 +1,7 @@
 use Rattle.std.proofs.Common.{None, sym, subst}
 use Rattle.pmt_sweep.specs.Writers.{AreWriters}
-use Rattle.pmt_sweep.proofs.AnswerLemmas.{unplaced, distances-moved, first-told, none-met, apart-of_part, none-known, place-known, known-within}
-use Rattle.pmt_sweep.proofs.answers.JudgingLineAnswers.line_oldest.Goals as goal
+use Rattle.pmt_sweep.proofs.AnswerLemmas.{unplaced, distances-moved, first-told, none-met, apart-of_part, none-known, place-known}
+use Rattle.pmt_sweep.proofs.answers.KnownLinesLineAnswers.line_oldest.Goals as goal
 
 pub returns-then-part : goal.returns-then-part
 returns-then-part c = λ T k b in_range own.
@@ -23,7 +23,7 @@ returns-in-None c = λ T k.
     let p = c.distances-part.result in
     let part = distances-moved c.args.format T.format c.args.range l p (sym k.formatted) c.distances-part.ensures in
     let are = k.is.writers.each l c.in-Some.place (place-known T c.args._number c.args.self.now l c.in-Some.place k.is (c.in-Some.ensures {u = tt})) in
-    first-told T l n c.args.range p _ k.trace part are None (known-within T n c.args.self.now k.is) (λ w has m. none-met _ p.low p.high w (c.in-None.ensures {u = tt}) has m)
+    first-told T l n c.args.range p _ k.trace part are None k.is.live.within (λ w has m. none-met _ p.low p.high w (c.in-None.ensures {u = tt}) has m)
 
 pub returns-in-Some-at : goal.returns-in-Some-at
 returns-in-Some-at c = λ T k.
@@ -32,4 +32,4 @@ returns-in-Some-at c = λ T k.
     let p = c.distances-part.result in
     let part = distances-moved c.args.format T.format c.args.range l p (sym k.formatted) c.distances-part.ensures in
     let are = k.is.writers.each l c.in-Some.place (place-known T c.args._number c.args.self.now l c.in-Some.place k.is (c.in-Some.ensures {u = tt})) in
-    first-told T l n c.args.range p c.in-Some-at.writers.now k.trace part (subst (AreWriters T l n) (sym (c.in-Some-at.ensures {u = tt})) are) c.oldest.result (known-within T n c.args.self.now k.is) c.oldest.ensures
+    first-told T l n c.args.range p c.in-Some-at.writers.now k.trace part (subst (AreWriters T l n) (sym (c.in-Some-at.ensures {u = tt})) are) c.oldest.result k.is.live.within c.oldest.ensures

@@ -1,7 +1,7 @@
 use Rattle.std.proofs.Common.{refl}
 use Rattle.pmt_model.specs.Values.{line_of}
 use Rattle.pmt_sweep.proofs.AnswerLemmas.{unplaced, none-known}
-use Rattle.pmt_sweep.proofs.answers.JudgingLineAnswers.block.Goals as goal
+use Rattle.pmt_sweep.proofs.answers.KnownLinesLineAnswers.block.Goals as goal
 
 pub returns : goal.returns
 returns c = λ none T n trace known b same.

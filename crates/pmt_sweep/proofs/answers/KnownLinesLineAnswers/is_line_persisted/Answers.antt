@@ -1,7 +1,7 @@
 use Rattle.std.proofs.Common.{refl, sym, subst}
 use Rattle.pmt_sweep.specs.Writers.{AreWriters}
 use Rattle.pmt_sweep.proofs.AnswerLemmas.{unplaced, unwritten-persisted, distances-moved, safe-told, none-met, none-known, place-known}
-use Rattle.pmt_sweep.proofs.answers.JudgingLineAnswers.is_line_persisted.Goals as goal
+use Rattle.pmt_sweep.proofs.answers.KnownLinesLineAnswers.is_line_persisted.Goals as goal
 
 pub returns-in_default : goal.returns-in_default
 returns-in_default c = λ T k h.
