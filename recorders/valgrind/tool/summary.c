@@ -99,7 +99,8 @@ void print_summary(void) {
     VG_(snprintf)(path, sizeof path, "%s.ignore", trace_path());
     ULong ignored = write_ignored(path);
     if (ignored > 0)
-        VG_(printf)("%s%llu ranges that the program calls clean or not persistent stand in %s\n", recorder_name(), ignored, path);
+        VG_(printf)("%s%llu range%s that the program calls clean or not persistent %s in %s\n", recorder_name(), ignored,
+                    ignored == 1 ? "" : "s", ignored == 1 ? "stands" : "stand", path);
     add("%s%llu events of %d thread%s in %s", recorder_name(), event_counts.events, thread_count(), thread_count() == 1 ? "" : "s",
         trace_path());
     add_all_missing();
