@@ -245,9 +245,9 @@ def touching_of(trace, lines, end):
 
 def told_first_is_right(picture, explained):
     trace, end = explained.trace, explained.end
-    lost = explained.never_persisted()
+    lost = grouped.lost(explained)
     if lost:
-        first, line = lost[0]["first"]["event"], int(lost[0]["cache_line"], 16) // trace.size
+        first, line = lost[0][0]["first"]["event"], int(lost[0][0]["cache_line"], 16) // trace.size
         crash = picture.crashes[0]
         told = crash.get("data-event") is None and int(crash.get("data-place")) == end and int(crash.get("data-lost")) == first
         headline = re.fullmatch(r"Never persisted: (\d+) stores? to line (0x[0-9a-f]+)", title_of(picture.root))

@@ -216,6 +216,31 @@ def cause_lines(explained, key, members):
     yield f"  loses:  byte {byte:#x}, in the {key[2]} cache line of its range, of {named(explained, store)}"
 
 
+def lost_lines(explained, group):
+    """Of the entry of what is never persisted for one cause those lines that tell the group and its first cache line."""
+    first, *others = group
+    stores, verb, them = ("store", "is", "it") if first["count"] == 1 else ("stores", "are", "them")
+    size = f"; {sum(line['count'] for line in group)} stores to {len(group)} cache lines for this cause" if others else ""
+    what = f"{first['count']} {stores} to cache line {first['cache_line']}"
+    yield f"error: {what} {verb} never persisted: a crash at the end can lose {them}{size}"
+    if first["count"] == 1:
+        yield f"  store:  {named(explained, first['first']['event'])}"
+    else:
+        yield f"  first:  {named(explained, first['first']['event'])}"
+        yield f"  last:   {named(explained, first['last']['event'])}"
+    if others:
+        more = f" and {len(others) - 10} more (--json has them)" if len(others) > 10 else ""
+        lines = " ".join(line["cache_line"] for line in others[:10])
+        yield f"  also:   cache line{'s' if len(others) > 1 else ''} {lines}{more}"
+
+
+def wrong_losses(explained, entries):
+    """What is wrong with the entries of what is never persisted."""
+    wanted = [list(lost_lines(explained, group)) for group in grouped.lost(explained)]
+    told = [entry[: entry.index(next(line for line in entry if line.startswith("  why: ")))] for entry in entries]
+    return None if told == wanted else f"never persisted: wanted {wanted}, in {told}"
+
+
 def errors_of(lines):
     """The lines of each error, from its first one to the last of its own."""
     starts = [at for at, line in enumerate(lines) if line.startswith("error: ")]
@@ -232,7 +257,7 @@ def told_of_range(entry):
 def wrong_draws(explained, entries):
     """Each error ends with the command of its picture."""
     failing = [(f"--failure {members[0]}", members[0]) for _, members in explained.causes]
-    lost = [(f"--line {group['cache_line']}", group["last"]["event"]) for group in explained.never_persisted()]
+    lost = [(f"--line {group[0]['cache_line']}", group[0]["last"]["event"]) for group in grouped.lost(explained)]
     wanted = [(f"  draw:   pmtrim draw {option} ", f" > event{number}.svg") for option, number in (*failing, *lost)]
     ends = [entry[-1] for entry in entries]
     if len(ends) != len(wanted) or not all(end.startswith(first) and end.endswith(last) for end, (first, last) in zip(ends, wanted)):
@@ -283,17 +308,17 @@ def wrong_text(explained, told):
     for heading, wanted in (*((heading, of(explained)) for heading, of in sections), *tables(explained)):
         if below(lines, heading) != wanted:
             return f"{heading} wanted {wanted}, in\n{told.decode()}"
-    causes = explained.causes
-    heads = [line for line in lines if line.startswith(("error: a crash", "  claim: ", "  also: ", "  loses: "))]
+    causes, entries = explained.causes, errors_of(lines)
+    failures = [line for entry in entries[: len(causes)] for line in entry]
+    heads = [line for line in failures if line.startswith(("error: ", "  claim: ", "  also: ", "  loses: "))]
     wanted = [line for key, members in causes for line in cause_lines(explained, key, members)]
     if heads != wanted:
         return f"causes: wanted {wanted}, in\n{told.decode()}"
-    entries = errors_of(lines)
     for (_, members), entry in zip(causes, entries):
         wanted = list(range_block(explained, explained.failure(members[0])))
         if told_of_range(entry) != wanted or not any(", lost: event " in row for row in wanted):
             return f"the range: wanted {wanted}, in\n{told.decode()}"
-    return wrong_draws(explained, entries)
+    return wrong_losses(explained, entries[len(causes) :]) or wrong_draws(explained, entries)
 
 
 def wrong_screen(explained, told):

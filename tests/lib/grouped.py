@@ -1,5 +1,5 @@
-"""What `explain` tells in groups and tables, by their definitions: failed assertions by cause, late stores by place, what is made by each
-thread and at each label.
+"""What `explain` tells in groups and tables, by their definitions: failed assertions and what is never persisted by cause, late stores by
+place, what is made by each thread and at each label.
 
 The findings are those of explained.py, and what a run can reach is that of machine.py.
 """
@@ -14,6 +14,12 @@ def grouped(keyed):
     for key, number in keyed:
         groups.setdefault(key, []).append(number)
     return sorted(groups.items(), key=lambda group: (-len(group[1]), group[1][0]))
+
+
+def origin(explained, number):
+    """Whence an event comes: its label, or without one its thread."""
+    label = explained.labels.get(number)
+    return ("thread", explained.trace.event(number)[1]) if label is None else ("label", label)
 
 
 # Failed assertions by cause
@@ -32,14 +38,22 @@ def cause_key(explained, number):
     """What failed assertions of one cause have in common: kind, cause, part of the range, and the label, or without one the thread."""
     trace = explained.trace
     _, place, _, (store, byte), _ = explained.violation(number)
-    label = explained.labels.get(number)
-    origin = ("thread", trace.event(number)[1]) if label is None else ("label", label)
-    return trace.event(number)[0], explained.cause(store, place)["cause"], part(trace, number, byte), origin
+    return trace.event(number)[0], explained.cause(store, place)["cause"], part(trace, number, byte), origin(explained, number)
 
 
 def causes(explained):
     """The failed assertions that are asked for, by cause."""
     return grouped((cause_key(explained, number), number) for number in explained.failing() if explained.is_asked("failure", number))
+
+
+# What is never persisted, by cause
+
+
+def lost(explained):
+    """The stores that are never persisted, by line, in groups by their cause and whence the last one comes."""
+    lines = {group["first"]["event"]: group for group in explained.never_persisted()}
+    keyed = (((group["cause"]["cause"], origin(explained, group["last"]["event"])), first) for first, group in lines.items())
+    return [[lines[first] for first in firsts] for _, firsts in grouped(keyed)]
 
 
 # Late stores

@@ -40,6 +40,9 @@ def turned(line):
 TEXT = {
     "a member of a group": (lambda lines: first_at(lines, "  also: "), raised(r"\d+(?= and |$)")),
     "the size of a group": (lambda lines: first_at(lines, " assertions fail for this cause"), raised(r"\d+(?= assertions)")),
+    "how many lost stores": (lambda lines: first_at(lines, " cache lines for this cause"), raised(r"\d+(?= stores? to \d+ cache lines)")),
+    "a lost cache line": (lambda lines: first_at(lines, "  also:   cache line"), lambda line: f"{line[:-1]}1"),
+    "lost cache lines left out": (lambda lines: first_at(lines, "  also:   cache line"), None),
     "where the lost line lies": (lambda lines: first_at(lines, "in the last cache line"), lambda line: line.replace("the last", "the inner")),
     "a line of a range": (range_at, turned),
     "a line of a range left out": (range_at, None),

@@ -1,4 +1,4 @@
--- Keys of failed assertions that their tests take for the same are the same.
+-- Keys of failed assertions and of lost stores that their tests take for the same are the same.
 use Rattle.std.proofs.Common.{◌≡◌, true, refl, ap, ◌∙◌}
 use Rattle.std.specs.Prelude.{◌&&◌}
 use Rattle.std.proofs.lemmas.Bool.{eqb-true, and_parts, false≢true}
@@ -11,11 +11,13 @@ use Rattle.pmt_causes.specs.declared.failure_keys.CauseKind.TheVariants.{Later, 
 use Rattle.pmt_causes.specs.declared.failure_keys.RangePart.{RangePart}
 use Rattle.pmt_causes.specs.declared.failure_keys.RangePart.TheVariants.{Only, First, Inner, Last}
 use Rattle.pmt_causes.specs.declared.failure_keys.FailureKey.{FailureKey}
+use Rattle.pmt_causes.specs.declared.lost.LostKey.{LostKey}
 use Rattle.pmt_causes.specs.contracts.failure_keys.OriginPartialEq.TheImpl as origin_eq
 use Rattle.pmt_causes.specs.contracts.failure_keys.AssertionKindPartialEq.TheImpl as kind_eq
 use Rattle.pmt_causes.specs.contracts.failure_keys.CauseKindPartialEq.TheImpl as cause_eq
 use Rattle.pmt_causes.specs.contracts.failure_keys.RangePartPartialEq.TheImpl as part_eq
 use Rattle.pmt_causes.specs.contracts.failure_keys.FailureKeyPartialEq.TheImpl as failure_eq
+use Rattle.pmt_causes.specs.contracts.lost.LostKeyPartialEq.TheImpl as lost_eq
 
 abbrev key_of_parts : AssertionKind → CauseKind → RangePart → Origin → FailureKey
 key_of_parts k c p o = record { kind = k; cause = c; part = p; origin = o }
@@ -71,3 +73,12 @@ failure-exact x y e =
     ∙ ap (λ c. key_of_parts y.kind c x.part x.origin) (cause-exact x.cause y.cause second.0)
     ∙ ap (λ p. key_of_parts y.kind y.cause p x.origin) (part-exact x.part y.part third.0)
     ∙ ap (λ o. key_of_parts y.kind y.cause y.part o) (origin-exact x.origin y.origin third.1)
+
+abbrev lost_of_parts : CauseKind → Origin → LostKey
+lost_of_parts c o = record { cause = c; origin = o }
+
+-- the key of stores that are never persisted
+pub lost-exact : (x y : LostKey) → (lost_eq.ghosts).eq x y ≡ true → x ≡ y
+lost-exact x y e =
+    let both = and_parts ((cause_eq.ghosts).eq x.cause y.cause) ((origin_eq.ghosts).eq x.origin y.origin) e in
+    ap (λ c. lost_of_parts c x.origin) (cause-exact x.cause y.cause both.0) ∙ ap (λ o. lost_of_parts y.cause o) (origin-exact x.origin y.origin both.1)

@@ -7,6 +7,7 @@ pub mod Flushing
 pub mod Groups
 pub mod Labels
 pub mod Late
+pub mod LostCauses
 pub mod Tables
 pub mod Tallies
 pub mod Writers

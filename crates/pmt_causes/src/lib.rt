@@ -1,5 +1,5 @@
-//! What `pmtrim explain` tells in groups and tables: failed assertions by cause, what is dropped and what is saved late by place,
-//! and what each thread and label has.
+//! What `pmtrim explain` tells in groups and tables: failed assertions and what is never persisted by cause, what is dropped and what
+//! is saved late by place, and what each thread and label has.
 //!
 //! The definitions stand in `specs/`.
 #![tactic(auto)]
@@ -11,6 +11,7 @@ mod flushing;
 pub mod grouping;
 mod labels;
 pub mod late;
+pub mod lost;
 pub mod tables;
 
 pub use crate::dropping::{DropWord, DroppedKey, ReasonKind, Spot, dropped_groups};
@@ -18,4 +19,5 @@ pub use crate::failing::failure_groups;
 pub use crate::failure_keys::{AssertionKind, CauseKind, FailureKey, Origin, RangePart};
 pub use crate::grouping::{Group, Keyed, groups};
 pub use crate::late::{LateSpot, LateStores, fences_waited, late_groups, late_stores};
+pub use crate::lost::{LostKey, lost_causes};
 pub use crate::tables::{Row, label_table, thread_table};

@@ -1,13 +1,14 @@
 //! An explanation as a text for people.
 
 use crate::people_dropped::dropped_section;
-use crate::people_entries::{lost_section, unwritten_section};
 use crate::people_failures::failures_section;
 use crate::people_guesses::guesses_section;
 use crate::people_late::late_section;
+use crate::people_lost::lost_section;
 use crate::people_overwritten::overwritten_section;
 use crate::people_summary::push_summary;
 use crate::people_tables::{labels_section, threads_section};
+use crate::people_unwritten::unwritten_section;
 use crate::screen::{Section, push_sections};
 use crate::telling::{Screen, Telling, tells_all};
 use pmt_explanation::{Choice, Explanation, Labels};

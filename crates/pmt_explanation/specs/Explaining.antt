@@ -9,6 +9,7 @@ use Rattle.pmt_causes.specs.Dropped.{dropped_item}
 use Rattle.pmt_causes.specs.FailureKeys.{AreFailureGroups}
 use Rattle.pmt_causes.specs.Groups.{AreGrouped}
 use Rattle.pmt_causes.specs.Late.{AreWaited}
+use Rattle.pmt_causes.specs.LostCauses.{lost_item}
 use Rattle.pmt_causes.specs.Tables.{AreLabelRows, AreThreadRows}
 use Rattle.pmt_analysis.specs.Analysing.{Analysed}
 use Rattle.pmt_explanation.specs.declared.explaining.Explanation.{Explanation}
@@ -34,6 +35,7 @@ pub record IsExplanation (a : Analysed) (labels : Labels) (o : Options) (x : Exp
   pub shown : map (λ (s : ShownFailure). s.event) x.failures.items ≡ take x.limit (first_members x.causes.items)
   pub stores : x.stores.items ≡ told_stores a.trace o.ignored.items a.findings
   pub lost : AreLostGroups a.trace (asked_numbers a.trace labels o.choice kinds.NeverPersisted x.stores.items) x.lost.items
+  pub lost_causes : AreGrouped (filter_map (lost_item a.trace x.label_numbers.items) x.lost.items) x.lost_causes.items
   pub dropped : AreDropped a.trace x.dropped.items
   pub asked_dropped : x.asked_dropped.items ≡ asked_dropped a.trace labels o.choice x.dropped.items
   pub dropped_groups : AreGrouped (filter_map (dropped_item a.trace x.label_numbers.items) x.asked_dropped.items) x.dropped_groups.items

@@ -14,7 +14,7 @@ use crate::losses::losses_of;
 use crate::numbering::label_numbers;
 use crate::unwritten::{Unwritten, unwritten_assertions};
 use pmt_analysis::Analysis;
-use pmt_causes::{DroppedKey, FailureKey, Group, LateSpot, Row};
+use pmt_causes::{DroppedKey, FailureKey, Group, LateSpot, LostKey, Row};
 use pmt_explain::{Dropped, LostGroup, OverwrittenGroup};
 use pmt_model::{OutOfMemory, Trace};
 use std::alloc::Global;
@@ -53,6 +53,8 @@ pub struct Explanation {
     pub ignored_never_persisted: u64,
     /// Those of `stores` that are asked for, by line and cause.
     pub lost: Vec<LostGroup>,
+    /// These by cause, each by the number of its first store.
+    pub lost_causes: Vec<Group<LostKey>>,
     /// The flushes and fences that are dropped, by rising event number.
     pub dropped: Vec<Dropped>,
     /// Those of them that are asked for.
@@ -92,7 +94,7 @@ pub fn explanation_of(
     let label_numbers = label_numbers(alloc, labels, analysis.trace().len())?;
     let numbers = label_numbers.as_slice();
     let found = found_of(alloc, &analysis, labels, numbers, options)?;
-    let lost = losses_of(alloc, &analysis, labels, options)?;
+    let lost = losses_of(alloc, &analysis, labels, numbers, options)?;
     let unwritten = unwritten_asked(alloc, analysis.trace(), labels, &options.choice)?;
     Ok(Explanation {
         analysis,
@@ -105,6 +107,7 @@ pub fn explanation_of(
         stores: lost.stores,
         ignored_never_persisted: lost.ignored_stores,
         lost: lost.groups,
+        lost_causes: lost.causes,
         dropped: found.dropped,
         asked_dropped: found.effects.asked_dropped,
         dropped_groups: found.effects.dropped_groups,

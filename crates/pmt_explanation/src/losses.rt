@@ -1,5 +1,8 @@
 //! What an explanation has of stores that are never persisted or overwritten.
 ghost use Rattle.std.specs.Prelude.{◌≡◌, ◌-◌, IfOk, count_by, is_some, length};
+ghost use Rattle.std.specs.List.{filter_map};
+ghost use Rattle.pmt_causes.specs.Groups.{AreGrouped};
+ghost use Rattle.pmt_causes.specs.LostCauses.{lost_item};
 ghost use Rattle.pmt_explain.specs.LostGroups.{AreLostGroups};
 ghost use Rattle.pmt_explain.specs.OverwrittenGroups.{AreOverwrittenGroups};
 ghost use Rattle.pmt_explanation.specs.Asking.{asked_numbers as numbers_asked, asked_pairs as pairs_asked};
@@ -12,6 +15,7 @@ use crate::explaining::Options;
 use crate::ignoring::{lost_store, lost_stores, overwriting, overwritings};
 use crate::labels::Labels;
 use pmt_analysis::Analysis;
+use pmt_causes::{Group, LostKey, lost_causes};
 use pmt_explain::{LostGroup, Overwriting, OverwrittenGroup, lost_groups, overwritten_groups};
 use pmt_model::{Finding, OutOfMemory, Trace};
 use std::alloc::Global;
@@ -25,22 +29,26 @@ pub(crate) struct Losses {
     pub(crate) ignored_stores: u64,
     /// Those of `stores` that are asked for, by line and cause.
     pub(crate) groups: Vec<LostGroup>,
+    /// These by cause, each by its first store.
+    pub(crate) causes: Vec<Group<LostKey>>,
     /// What is overwritten and asked for, by line, without what is ignored.
     pub(crate) overwritten: Vec<OverwrittenGroup>,
     /// How many pairs of an overwritten and an overwriting store are ignored.
     pub(crate) ignored_pairs: u64,
 }
 
-// The stores that are never persisted or overwritten.
+// The stores that are never persisted or overwritten, where the events have these numbers of labels.
 pub(crate) fn losses_of(
     alloc: Global,
     analysis: &Analysis,
     labels: &Labels,
+    numbers: &[Option<u64>],
     options: &Options,
 ) -> Result<Losses, OutOfMemory>
     ensures stores { IfOk result (λ l. l.stores.items ≡ told_stores analysis.now.trace options.now.ignored.items analysis.now.findings) }
     ensures ignored_stores { IfOk result (λ l. l.ignored_stores ≡ count_by (λ f. is_some (lost_of f)) analysis.now.findings - length l.stores.items) }
     ensures groups { IfOk result (λ l. AreLostGroups analysis.now.trace (numbers_asked analysis.now.trace labels.now options.now.choice NeverPersisted l.stores.items) l.groups.items) }
+    ensures causes { IfOk result (λ l. AreGrouped (filter_map (lost_item analysis.now.trace numbers.now) l.groups.items) l.causes.items) }
     ensures overwritten { IfOk result (λ l. AreOverwrittenGroups analysis.now.trace (pairs_asked analysis.now.trace labels.now options.now.choice (told_pairs analysis.now.trace options.now.ignored.items analysis.now.findings)) l.overwritten.items) }
     ensures ignored_pairs { IfOk result (λ l. l.ignored_pairs ≡ count_by (λ f. is_some (overwriting_of f)) analysis.now.findings - length (told_pairs analysis.now.trace options.now.ignored.items analysis.now.findings)) }
 {
@@ -51,6 +59,7 @@ pub(crate) fn losses_of(
     let stores = lost_stores(alloc, trace, findings, ranges)?;
     let ignored_stores = count_lost(findings).saturating_sub(stores.len()) as u64;
     let groups = asked_losses(alloc, trace, labels, choice, stores.as_slice())?;
+    let causes = lost_causes(alloc, trace, numbers, groups.as_slice())?;
     let pairs = overwritings(alloc, trace, findings, ranges)?;
     let ignored_pairs = count_overwritten(findings).saturating_sub(pairs.len()) as u64;
     let overwritten = asked_overwritten(alloc, trace, labels, choice, pairs.as_slice())?;
@@ -58,6 +67,7 @@ pub(crate) fn losses_of(
         stores,
         ignored_stores,
         groups,
+        causes,
         overwritten,
         ignored_pairs,
     })

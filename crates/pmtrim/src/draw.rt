@@ -9,7 +9,7 @@ use crate::writing::write_whole;
 use pmt_analysis::Analysis;
 use pmt_causes::Group;
 use pmt_draw::{Known, Label, Picture, Refusal, Span, View, picture_of, refusal_of, svg_text};
-use pmt_explain::OverwrittenGroup;
+use pmt_explain::{LostGroup, OverwrittenGroup};
 use pmt_explanation::{Choice, Explanation, Kind, Labels, Options, Unwritten, explanation_of};
 use pmt_model::OutOfMemory;
 use pmt_report::{RunError, analysed};
@@ -128,13 +128,14 @@ fn picture(alloc: Global, explanation: &Explanation, view: &View) -> Result<Pict
     let late = members_of(alloc, explanation.late.as_slice())?;
     let overwritten = told_overwritten(alloc, explanation.overwritten.as_slice())?;
     let unwritten = events_of(alloc, explanation.unwritten.as_slice())?;
+    let lost = told_lost(alloc, explanation)?;
     let known = Known {
         trace: analysis.trace(),
         lines: analysis.lines() as u64,
         verdicts: analysis.verdicts(),
         failing: failing.as_slice(),
         never: explanation.stores.as_slice(),
-        lost: explanation.lost.as_slice(),
+        lost: lost.as_slice(),
         dropped: explanation.dropped.as_slice(),
         useless: useless.as_slice(),
         overwritten: overwritten.as_slice(),
@@ -145,6 +146,21 @@ fn picture(alloc: Global, explanation: &Explanation, view: &View) -> Result<Pict
         Some(refusal) => Err(refused(alloc, refusal, analysis.trace().len())?),
         None => Ok(picture_of(alloc, known, view)?),
     }
+}
+
+// What is never persisted, by line, in the order of its causes.
+fn told_lost(alloc: Global, explanation: &Explanation) -> Result<Vec<LostGroup>, OutOfMemory> {
+    let lost = explanation.lost.as_slice();
+    let numbers = members_of(alloc, explanation.lost_causes.as_slice())?;
+    let mut told = Vec::new(alloc);
+    for number in numbers.as_slice() {
+        if let Ok(place) = lost.binary_search_by_key(number, |group| group.first) {
+            if let Some(group) = lost.get(place) {
+                told.push(*group)?;
+            }
+        }
+    }
+    Ok(told)
 }
 
 // The members of these groups, in their order.

@@ -23,6 +23,7 @@ returns-clause-explained c =
       shown = shown-firsts T numbers failed.asked.items failed.causes.items o.limit failed.shown.items are.causes are.shown;
       stores = search rules;
       lost = search rules;
+      lost_causes = search rules;
       dropped = are.dropped;
       asked_dropped = are.asked_dropped;
       dropped_groups = are.dropped_groups;
