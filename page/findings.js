@@ -79,7 +79,7 @@ const COMMON = {
   }),
   never_persisted: (trace, entry) => ({
     words: `store: ${causeWords(entry)}`,
-    owner: ownerOf(trace, entry.first.event),
+    owner: ownerOf(trace, entry.last.event),
     count: entry.count,
   }),
   dropped: (trace, entry) => {
