@@ -1,4 +1,5 @@
 """What checkers said, by image; and the file in which it stands, so that a run that was stopped goes on."""
+import contextlib
 import fcntl
 import hashlib
 import json
@@ -107,17 +108,20 @@ class KeptResults(Results):
 
 
 def remove_tree(path):
-    """Removes a folder with all that a checker may have left there."""
+    """Removes a folder, if it is there, with all that a checker may have left in it. Nothing outside it is touched."""
+    if os.path.islink(path):
+        with contextlib.suppress(OSError):
+            os.unlink(path)
+        return
+    let_in(path)
+    for folder, inner, _ in os.walk(path):
+        for name in inner:
+            let_in(os.path.join(folder, name))
+    shutil.rmtree(path, ignore_errors=True)
 
-    def allow(_function, name, _error):
-        try:
-            os.chmod(os.path.dirname(name), 0o700)
-            os.chmod(name, 0o700)
-            if os.path.isdir(name) and not os.path.islink(name):
-                shutil.rmtree(name, ignore_errors=True)
-            else:
-                os.unlink(name)
-        except OSError:
-            pass
 
-    shutil.rmtree(path, onerror=allow)
+def let_in(path):
+    """Lets the owner into a folder. What a link leads to stays as it is."""
+    with contextlib.suppress(OSError):
+        if not os.path.islink(path):
+            os.chmod(path, 0o700)

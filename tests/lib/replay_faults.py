@@ -37,7 +37,7 @@ class FaultTests(Runs):
     """What may go wrong."""
 
     def fault_tests(self):
-        return self.checkers, self.kept_images, self.refusals, self.full, self.stopped, self.others_results, self.large
+        return self.checkers, self.folders, self.kept_images, self.refusals, self.full, self.stopped, self.others_results, self.large
 
     def small(self, name="small.trace", lines=(), size=128):
         self.write_trace(self.folder / name, "pmtrace 2 64", lines or TWO_LINES, bytes(size), 0)
@@ -62,6 +62,25 @@ class FaultTests(Runs):
             self.expect(f"{script}: told", told.count(said) == 4 and len(told) < 6000, told[:3000])
             self.expect(f"{script}: time", time.monotonic() - begun < 60, time.monotonic() - begun)
             self.expect(f"{script}: nothing runs on", not is_running("1234.5"), "a child of the checker")
+
+    def folders(self):
+        """What a checker leaves is removed. No folder around its own changes, nor what its links lead to."""
+        trace, outside, kept = self.small(), self.empty_folder("outside"), self.empty_folder("of_results")
+        around = (self.temporary, outside, kept)
+        for folder in around:
+            folder.chmod(0o755)
+        for script, words in (
+            ("true", []),
+            ("true", ["--keep", kept]),
+            ("rm -r $TMPDIR", []),
+            (f"ln -s {outside} $TMPDIR/link", []),
+            (f"rm -r $TMPDIR; ln -s {outside} $TMPDIR", []),
+            ("mkdir -p $TMPDIR/a/b; touch $TMPDIR/a/b/c; chmod 0 $TMPDIR/a/b $TMPDIR/a", []),
+        ):
+            status, told, faults = self.replay([*words, trace, *of_shell(script)])
+            self.expect(f"{words} {script}: status", (status, faults) == (0, ""), told + faults)
+            modes = [folder.stat().st_mode & 0o777 for folder in around]
+            self.expect(f"{words} {script}: the folders around", modes == [0o755] * 3, [oct(mode) for mode in modes])
 
     def kept_images(self):
         """What the checker does to its image is not seen in others, nor in what is kept."""
