@@ -109,7 +109,7 @@ class KeptResults(Results):
 
 def remove_tree(path):
     """Removes a folder, if it is there, with all that a checker may have left in it. Nothing outside it is touched."""
-    if os.path.islink(path):
+    if os.path.islink(path) or not os.path.isdir(path):
         with contextlib.suppress(OSError):
             os.unlink(path)
         return

@@ -75,6 +75,7 @@ class FaultTests(Runs):
             ("rm -r $TMPDIR", []),
             (f"ln -s {outside} $TMPDIR/link", []),
             (f"rm -r $TMPDIR; ln -s {outside} $TMPDIR", []),
+            ("rm -r $TMPDIR; touch $TMPDIR", []),
             ("mkdir -p $TMPDIR/a/b; touch $TMPDIR/a/b/c; chmod 0 $TMPDIR/a/b $TMPDIR/a", []),
         ):
             status, told, faults = self.replay([*words, trace, *of_shell(script)])
