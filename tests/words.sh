@@ -57,10 +57,32 @@ expect 2 'place past end 3' fronts examples/one_persist.trace 184467440737095516
 # The first script that is refused is told.
 printf 'store 0x1000 01\nclwb 0x1000\nsfence\n' > "$folder/good"
 printf 'sfence 0\n' > "$folder/bad"
+: > "$folder/empty"
 expect 3 'script 2 line 1: bad-field' record "$folder/good" "$folder/bad" "$folder/none"
 expect 4 'file fault' record "$folder/good" "$folder/none" "$folder/bad"
+
+# A million events are recorded, and no more.
 yes sfence | head -n 1000000 > "$folder/million"
+yes sfence | head -n 1000001 > "$folder/longer"
 expect 3 'trace full' record "$folder/million" "$folder/good"
+expect 3 'script 1 line 1000001: too-many-events' record "$folder/longer"
+expect 3 'script 2 line 1000001: too-many-events' record "$folder/good" "$folder/longer" "$folder/bad"
+told=$("$program" record "$folder/million" "$folder/empty" 2>&1 | grep -cx 'sfence 0')
+judge 'million_events' 0 0 "$told" 1000000
+
+# As many scripts as there may be, each a part of what is recorded; scripts without events; the events of version 2 are no words.
+printf 'clwb 0x1000\nsfence\n' > "$folder/flush"
+mapfile -t scripts < <(yes "$folder/flush" | head -n 256)
+told=$("$program" record "${scripts[@]}" 2>&1 | sort)
+wanted=$({ echo pmtrace 1; printf 'clwb %s 0x1000\n' {0..255}; printf 'sfence %s\n' {0..255}; } | sort)
+judge 'as many scripts as there may be' 0 0 "<$told>" "<$wanted>"
+expect 2 '' record "${scripts[@]}" "$folder/flush"
+told=$("$program" record "$folder/empty" "$folder/empty")
+judge 'scripts without events' "$?" 0 "<$told>" '<pmtrace 1>'
+printf 'sfence\nclflush 0x1000\n' > "$folder/clflush"
+printf 'mfence\n' > "$folder/mfence"
+expect 3 'script 2 line 2: bad-word' record "$folder/good" "$folder/clflush" "$folder/mfence"
+expect 3 'script 1 line 1: bad-word' record "$folder/mfence" "$folder/clflush"
 
 told=$("$program" trim examples/one_persist.trace 2>&1 > /dev/full)
 judge 'a full device' "$?" 4 "$told" 'file fault'

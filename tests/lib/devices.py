@@ -148,7 +148,13 @@ def refused_in_pieces(command):
     yield text, command.fault(2, b"out-of-range"), 0, {"fault": "read", "fault_at": len(text) + 1, "fault_piece": 1}
 
 
-def examples_in_pieces(run):
+def faulty_script_before_a_failing_read(command):
+    """A script is read to its end before its lines are judged, so the read that fails is told."""
+    for text in (b"sfence 0\n", b"sfence\nflush\n"):
+        yield text, FILE_FAULT, 1, {"fault": "read", "fault_at": len(text) + 1, "fault_piece": 1}
+
+
+def one_byte_per_read(run):
     """`check`, `trim` and the stream of all worked traces, from reads of a byte each and of seven."""
     complaints = []
     for trace in all_traces():
@@ -161,21 +167,26 @@ def examples_in_pieces(run):
     return complaints
 
 
-def stream_over_devices(command):
-    """Reads and writes of a byte each, one of which fails: what the stream has given out before stays out."""
+def stream_header_then_failing_read(command):
+    """Reads of a byte each, one of which fails: the header is out once it has come, and what the stream has given out stays out."""
     text, _ = command.whole()
     stored = b"".join(TRACE[:2])
     out = [b"", TRACE[0], stored, stored, text]
     for at in range(1, len(text) + 2):
         right = FILE_FAULT._replace(out=out[text[: at - 1].count(b"\n")])
         yield text, right, 1, {"fault": "read", "fault_at": at, "fault_piece": 1}
+
+
+def stream_to_a_failing_writer(command):
+    """Writes of a byte each, one of which fails."""
+    text, _ = command.whole()
     for at in range(1, len(text) + 1):
         right = FILE_FAULT._replace(out=text[: at - 1])
         yield text, right, 1, {"fault": "write", "fault_at": at, "fault_piece": 1}
     yield text, Answer(0, text), 0, {"fault_piece": 1}
 
 
-def long_inputs(command):
+def endless_readers(command):
     """Shell commands that write inputs which end late or never, and the answers."""
     too_long = Answer(3, b"", command.name + b" too long\n")
     letters = "tr '\\0' a < /dev/zero"
@@ -254,15 +265,15 @@ def main():
     program = sys.argv[1]
     with faulty.library() as library:
         run = partial(faulty.run, library, program)
-        judgements = [partial(finds_what_is_wrong, run), partial(examples_in_pieces, run), partial(explain_over_devices, run)]
+        judgements = [partial(finds_what_is_wrong, run), partial(one_byte_per_read, run), partial(explain_over_devices, run)]
         stream = Command(STREAM, TRACE, [Answer(0, b"".join(TRACE))])
-        judgements.append(partial(differences, run, stream, stream_over_devices(stream)))
+        judgements.append(partial(differences, run, stream, stream_header_then_failing_read(stream)))
+        judgements.append(partial(differences, run, stream, stream_to_a_failing_writer(stream)))
         judgements.append(partial(differences_over_long_inputs, program, stream, long_streams()))
         for command in commands():
-            judgements.append(partial(differences_over_long_inputs, program, command, long_inputs(command)))
+            judgements.append(partial(differences_over_long_inputs, program, command, endless_readers(command)))
             tables = [every_cut, every_read, every_write, every_write_of_a_fault, hostile_bytes]
-            if not command.reads_script():
-                tables.append(refused_in_pieces)
+            tables.append(faulty_script_before_a_failing_read if command.reads_script() else refused_in_pieces)
             judgements += [partial(differences, run, command, table(command)) for table in tables]
         faulty.judge(judgements)
 

@@ -1,12 +1,11 @@
 //! Tests of the workers over forty lines.
-mod analyse;
-
 ghost use Rattle.std.specs.Prelude.{◌≤◌};
 
-use pmt_lines::{Jobs, LineJob, StepKind, split};
-use pmt_model::{Event, Finding, Op, OutOfMemory, Trace};
+use crate::lines::has_steps;
+use pmt_lines::{Jobs, LineJob, split};
+use pmt_model::{Event, Op, OutOfMemory, Trace};
 use pmt_text::ListSource;
-use pmt_workers::{LineAnswer, ShardGate, analyse_with, run_shard};
+use pmt_workers::{Analysis, LineAnswer, ShardGate, analyse_with, run_shard};
 use std::alloc::Global;
 use std::process::Abort;
 use std::sync::atomic::{AtomicU64, Ordering};
@@ -14,25 +13,40 @@ use std::test::Fail;
 use std::thread;
 use std::thread::Threads;
 
-// The trace of so many stores to a line each, a flush of each, and two fences.
+// Adds the op as an event of thread 0.
+fn add(trace: &mut Trace, op: Op) -> Result<(), Fail> {
+    trace.push(Event { thread: 0, op })?;
+    Ok(())
+}
+
+// Adds a store to each of so many lines.
+fn add_stores(trace: &mut Trace, lines: u64) -> Result<(), Fail>
+    requires { lines ≤ 40 }
+{
+    for line in 0..lines {
+        add(trace, Op::store(0x1000 + 64 * line, &[1])?)?;
+    }
+    Ok(())
+}
+
+// Adds a flush of each of so many lines.
+fn add_flushes(trace: &mut Trace, lines: u64) -> Result<(), Fail>
+    requires { lines ≤ 40 }
+{
+    for line in 0..lines {
+        add(trace, Op::clwb(0x1000 + 64 * line)?)?;
+    }
+    Ok(())
+}
+
+// The trace of so many stores to a line each, a flush of each, and a fence.
 fn trace_of(alloc: Global, lines: u64) -> Result<Trace, Fail>
     requires { lines ≤ 40 }
 {
     let mut trace = Trace::new(alloc);
-    for line in 0..lines {
-        let op = Op::store(0x1000 + 64 * line, &[1])?;
-        trace.push(Event { thread: 0, op })?;
-    }
-    for line in 0..lines {
-        let op = Op::clwb(0x1000 + 64 * line)?;
-        trace.push(Event { thread: 0, op })?;
-    }
-    for _ in 0..2 {
-        trace.push(Event {
-            thread: 0,
-            op: Op::Sfence,
-        })?;
-    }
+    add_stores(&mut trace, lines)?;
+    add_flushes(&mut trace, lines)?;
+    add(&mut trace, Op::Sfence)?;
     Ok(trace)
 }
 
@@ -42,44 +56,13 @@ fn forty_lines(alloc: Global) -> Result<Jobs, Fail> {
     Ok(split(alloc, &mut ListSource::new(&trace))?)
 }
 
-// A store, a flush, and the first fence.
-fn has_three_steps(rt: &impl Abort, job: &LineJob) {
-    let steps = job.steps();
-    assert_eq!(rt; steps.len(), 3);
-    assert!(rt; matches!(steps[0].kind, StepKind::Store { .. }));
-    assert!(rt; matches!(steps[1].kind, StepKind::Flush));
-    assert!(rt; matches!(steps[2].kind, StepKind::Fence));
-    assert_eq!(rt; steps[2].number, 81);
-}
-
-// Each line has its store, its flush and the first fence.
+// Each line has its store, its flush and the fence.
 #[test]
 fn steps_of_a_job(rt: HostRuntime) -> Result<(), Fail> {
     let Jobs { lines, fences, .. } = forty_lines(rt.alloc())?;
-    assert_eq!(rt; fences.steps().len(), 42);
-    assert_eq!(rt; lines.len(), 40);
-    for job in &lines {
-        has_three_steps(&rt, job);
-    }
-    Ok(())
-}
-
-// The answer is that of the line at this place.
-fn is_kept(rt: &impl Abort, answer: &LineAnswer, place: u64) {
-    let flush = place.saturating_add(41);
-    let line = place.saturating_add(0x40);
-    assert_eq!(rt; answer.result.job().line(), line);
-    assert_eq!(rt; answer.kept.as_slice(), [flush, 81].as_slice());
-}
-
-// Each line keeps its flush and the first fence.
-#[test]
-fn kept_by_a_shard(rt: HostRuntime) -> Result<(), Fail> {
-    let Jobs { lines, .. } = forty_lines(rt.alloc())?;
-    let answers = run_shard(rt.alloc(), lines)?;
-    assert_eq!(rt; answers.len(), 40);
-    for (place, answer) in answers.iter().enumerate() {
-        is_kept(&rt, answer, place as u64);
+    assert_eq!(rt; (lines.len(), fences.steps().len()), (40, 41));
+    for (place, job) in lines.iter().enumerate() {
+        has_steps(&rt, job, (place as u64).saturating_add(64), 3, 81);
     }
     Ok(())
 }
@@ -143,6 +126,20 @@ fn have_met(rt: &impl Abort, gate: &Meeting, workers: u64)
     has_count(rt, &gate.numbers, (1u64 << workers).wrapping_sub(1));
 }
 
+// The analysis of a trace of so many lines, by workers that meet.
+fn analysed<R: Threads + Sync>(
+    rt: &R,
+    alloc: Global,
+    gate: &Meeting,
+    workers: usize,
+    lines: u64,
+) -> Result<Analysis, Fail>
+    requires { lines ≤ 40 }
+{
+    let trace = trace_of(alloc, lines)?;
+    Ok(analyse_with(rt, alloc, gate, &mut ListSource::new(&trace), workers)?)
+}
+
 // So many workers are at work at once, each with its part of the jobs, at most so many.
 fn meet<R: Threads + Abort + Sync>(
     rt: &R,
@@ -154,16 +151,11 @@ fn meet<R: Threads + Abort + Sync>(
     requires { (workers ≤ 16) × (lines ≤ 40) }
 {
     let gate = new_meeting(workers);
-    let trace = trace_of(alloc, lines)?;
-    let mut source = ListSource::new(&trace);
-    let analysis = analyse_with(rt, alloc, &gate, &mut source, workers as usize)?;
+    let analysis = analysed(rt, alloc, &gate, workers as usize, lines)?;
     have_met(rt, &gate, workers);
     has_count(rt, &gate.most, most);
     has_count(rt, &gate.jobs, lines);
     assert_eq!(rt; analysis.lines() as u64, lines);
-    let event = 2 * lines + 2;
-    let last = analysis.findings().last().copied();
-    assert_eq!(rt; last, Some(Finding::FenceWithoutFlush { event }));
     Ok(())
 }
 
@@ -179,6 +171,5 @@ fn workers_meet(rt: HostRuntime) -> Result<(), Fail> {
 #[test]
 fn workers_meet_over_few_lines(rt: HostRuntime) -> Result<(), Fail> {
     meet(&rt, rt.alloc(), 16, 1, 1)?;
-    meet(&rt, rt.alloc(), 4, 0, 0)?;
-    meet(&rt, rt.alloc(), 1, 0, 0)
+    meet(&rt, rt.alloc(), 4, 0, 0)
 }

@@ -6,7 +6,7 @@ ghost use Rattle.std.specs.Prelude.{◌≡◌};
 ghost use Rattle.pmt_model.specs.Formats.{first_version};
 
 use anyhow::{Error, Result, bail};
-use pmt_model::{NoGate, Op, Range, Trace};
+use pmt_model::{NoGate, Op, OpError, Range, Trace};
 use pmt_recorder::{Roll, Session, Tape};
 use pmt_text::ListSource;
 use pmt_workers::{Analysis, analyse_with, trimmed};
@@ -24,6 +24,17 @@ fn counter_of(thread: u8) -> u64 {
     0x1000 + 64 * thread as u64
 }
 
+// Records what the thread does.
+fn note<L: Roll, R: Wait>(
+    rt: &R,
+    session: &Session<L>,
+    tape: &mut Tape<L>,
+    op: Result<Op, OpError>,
+) -> Result<()> {
+    session.append(rt, tape, op?)?;
+    Ok(())
+}
+
 // One increment by the engine, recorded as it happens: the store of the new value, its flush and a fence, and the engine's claim that
 // the value is persisted now. The fence after it is one too many.
 fn increment<L: Roll, R: Wait>(
@@ -33,12 +44,12 @@ fn increment<L: Roll, R: Wait>(
     value: u8,
 ) -> Result<()> {
     let counter = counter_of(tape.thread());
-    session.append(rt, tape, Op::store(counter, &[value])?)?;
-    session.append(rt, tape, Op::clwb(counter)?)?;
-    session.append(rt, tape, Op::Sfence)?;
-    session.append(rt, tape, Op::IsPersist(Range::new(counter, 1)?))?;
-    session.append(rt, tape, Op::Sfence)?;
-    Ok(())
+    let claim = Range::new(counter, 1).map(Op::IsPersist);
+    note(rt, session, tape, Op::store(counter, &[value]))?;
+    note(rt, session, tape, Op::clwb(counter))?;
+    note(rt, session, tape, Ok(Op::Sfence))?;
+    note(rt, session, tape, claim)?;
+    note(rt, session, tape, Ok(Op::Sfence))
 }
 
 // Whether the counter's value is persisted for sure, whatever the other thread does.
@@ -60,6 +71,55 @@ fn work<L: Roll, R: Wait>(rt: &R, session: &Session<L>, tape: Tape<L>) -> Result
     Ok(tape)
 }
 
+// Both threads work, each by one of the tapes: gives these.
+fn work_both<L: Roll + Send + Sync, R: Threads + Wait + Sync>(
+    rt: &R,
+    session: &Session<L>,
+    first: Tape<L>,
+    second: Tape<L>,
+) -> (Result<Tape<L>>, Result<Tape<L>>) {
+    thread::join(
+        rt,
+        move || work(rt, session, first),
+        move || work(rt, session, second),
+    )
+}
+
+// Takes one of the tapes.
+fn take<L: Roll>(tapes: &mut Vec<Tape<L>>) -> Result<Tape<L>> {
+    match tapes.pop() {
+        Some(tape) => Ok(tape),
+        None => bail!("two tapes were asked for"),
+    }
+}
+
+// Puts the tape of a thread that has worked to the others.
+fn put<L: Roll>(tapes: &mut Vec<Tape<L>>, worked: Result<Tape<L>>) -> Result<()> {
+    tapes.push(worked?)?;
+    Ok(())
+}
+
+// Both threads work, and hand their tapes back.
+fn run<L: Roll + Send + Sync, R: Threads + Wait + Sync>(
+    rt: &R,
+    session: &Session<L>,
+    tapes: &mut Vec<Tape<L>>,
+) -> Result<()> {
+    let second = take(tapes)?;
+    let first = take(tapes)?;
+    let (first, second) = work_both(rt, session, first, second);
+    put(tapes, first)?;
+    put(tapes, second)
+}
+
+// The trace of the session.
+fn sealed<L: Roll>(session: Session<L>, tapes: Vec<Tape<L>>) -> Result<Trace> {
+    match session.seal(tapes) {
+        Ok(trace) => Ok(trace),
+        Err(fault) => Err(Error::from(fault.kind)),
+    }
+}
+
 // Records the two threads, in the session that L names.
 fn record<L: Roll + Send + Sync, R: Threads + Wait + Sync>(
     rt: &R,
@@ -72,45 +132,47 @@ fn record<L: Roll + Send + Sync, R: Threads + Wait + Sync>(
     requires format { first_version ≡ L.format }
 {
     let (session, mut tapes) = Session::<L>::start(alloc, blank, 2)?;
-    let (Some(second), Some(first)) = (tapes.pop(), tapes.pop()) else {
-        bail!("two tapes were asked for");
-    };
-    let shared = &session;
-    let (first, second) = thread::join(
-        rt,
-        move || work(rt, shared, first),
-        move || work(rt, shared, second),
-    );
-    tapes.push(first?)?;
-    tapes.push(second?)?;
-    match session.seal(tapes) {
-        Ok(trace) => Ok(trace),
-        Err(fault) => Err(Error::from(fault.kind)),
-    }
+    run(rt, &session, &mut tapes)?;
+    sealed(session, tapes)
 }
 
-// How many claims pass.
-fn passed(analysis: &Analysis) -> usize {
-    analysis
-        .verdicts()
-        .iter()
-        .filter(|verdict| verdict.pass)
-        .count()
+// How many claims there are, and how many of them pass.
+fn claims(analysis: &Analysis) -> (usize, usize) {
+    let verdicts = analysis.verdicts();
+    let passed = verdicts.iter().filter(|verdict| verdict.pass).count();
+    (verdicts.len(), passed)
+}
+
+fn tell_recorded(rt: &HostRuntime, events: usize) -> Result<()> {
+    println!(rt; "recorded {events} events")?;
+    Ok(())
+}
+
+fn tell_found(rt: &HostRuntime, claims: (usize, usize), findings: usize) -> Result<()> {
+    let (all, passed) = claims;
+    println!(rt; "{all} claims, of which {passed} pass; {findings} findings")?;
+    Ok(())
+}
+
+fn tell_trimmed(rt: &HostRuntime, events: usize) -> Result<()> {
+    println!(rt; "the trimmed trace has {events} events")?;
+    Ok(())
+}
+
+// The analysis of the trace.
+fn analysed<R: Threads + Sync>(rt: &R, alloc: Global, trace: &Trace) -> Result<Analysis> {
+    Ok(analyse_with(rt, alloc, &NoGate, &mut ListSource::new(trace), 2)?)
+}
+
+// What checking and trimming the trace comes to.
+fn tell(rt: &HostRuntime, analysis: &Analysis) -> Result<()> {
+    tell_found(rt, claims(analysis), analysis.findings().len())?;
+    tell_trimmed(rt, trimmed(analysis)?.len())
 }
 
 fn main(rt: HostRuntime) -> Result<()> {
     let trace = record::<Brand, HostRuntime>(&rt, rt.alloc(), Blank::new(256))?;
-    println!(rt; "recorded {} events", trace.len())?;
-    let analysis = analyse_with(&rt, rt.alloc(), &NoGate, &mut ListSource::new(&trace), 2)?;
-    println!(rt;
-        "{} claims, of which {} pass; {} findings",
-        analysis.verdicts().len(),
-        passed(&analysis),
-        analysis.findings().len()
-    )?;
-    println!(rt;
-        "the trimmed trace has {} events",
-        trimmed(&analysis)?.len()
-    )?;
-    Ok(())
+    tell_recorded(&rt, trace.len())?;
+    let analysis = analysed(&rt, rt.alloc(), &trace)?;
+    tell(&rt, &analysis)
 }

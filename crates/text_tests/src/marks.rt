@@ -1,35 +1,30 @@
-//! Tests of what is kept of one line.
+//! A test of what is kept of one line.
 use pmt_marks::LineState;
+use std::alloc::Global;
+use std::process::Abort;
 use std::test::Fail;
 
-// More marks than the four inline places: the first fence raises the front, and the copy is a state of its own.
-#[test]
-fn six_flushers(rt: HostRuntime) -> Result<(), Fail> {
-    let mut line = LineState::new(rt.alloc());
+// More marks than the four inline places.
+fn flushed_by_six(alloc: Global) -> Result<LineState, Fail> {
+    let mut line = LineState::new(alloc);
     line.on_store();
     for thread in 0..6 {
         line.on_flush(thread)?;
     }
-    let mut copy = line.copy()?;
-    assert_eq!(rt; copy.mark(5), Some(1));
-    assert!(rt; copy.on_fence(5));
-    assert!(rt; !copy.on_fence(4));
-    assert_eq!(rt; copy.mark(5), None);
-    assert_eq!(rt; copy.front(), 1);
-    assert_eq!(rt; line.front(), 0);
-    assert_eq!(rt; line.mark(4), Some(1));
-    Ok(())
+    Ok(line)
 }
 
+fn has_state(rt: &impl Abort, line: &LineState, front: u64, mark: Option<u64>) {
+    assert_eq!(rt; (line.front(), line.mark(5)), (front, mark));
+}
+
+// A fence raises the front of the copy, which is a state of its own.
 #[test]
-fn clflush_beats_clwb(rt: HostRuntime) -> Result<(), Fail> {
-    let mut line = LineState::new(rt.alloc());
-    line.on_store();
-    line.on_flush(0)?;
-    assert!(rt; line.on_clflush());
-    assert!(rt; !line.on_clflush());
-    assert!(rt; !line.on_fence(0));
-    assert_eq!(rt; line.count(), 1);
-    assert_eq!(rt; line.front(), 1);
+fn six_flushers(rt: HostRuntime) -> Result<(), Fail> {
+    let line = flushed_by_six(rt.alloc())?;
+    let mut copy = line.copy()?;
+    assert!(rt; copy.on_fence(5));
+    has_state(&rt, &copy, 1, None);
+    has_state(&rt, &line, 0, Some(1));
     Ok(())
 }

@@ -1,6 +1,4 @@
-//! Tests of texts, of sources over readers, of scripts and of writers.
+//! Tests of sources over readers, and of writers.
 
-mod script_input;
-mod text;
 mod text_source;
 mod write_all;

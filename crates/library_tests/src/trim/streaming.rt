@@ -1,15 +1,14 @@
 //! What is out while a stream goes on.
 use pmt_text::devices::{LimitedWriter, PieceReader};
-use pmt_text::{Counted, SourceError, TextSource};
+use pmt_text::{Counted, TextSource};
 use pmt_trim::{StreamError, trim_stream};
-use std::alloc::{AllocError, Global};
+use std::alloc::Global;
 use std::cell::Cell;
 use std::io;
 use std::io::{Error, ErrorKind, Read, Write};
 use std::process::Abort;
-use std::test::Fail;
 
-const ONE_PERSIST: &str = "pmtrace 1\nstore 0 0x1000 01\nclwb 0 0x1000\nsfence 0\n";
+const ONE_PERSIST: &[u8] = b"pmtrace 1\nstore 0 0x1000 01\nclwb 0 0x1000\nsfence 0\n";
 
 // A reader that gives one line at a read, and notes how many bytes were out when it was asked.
 #[derive(Drop)]
@@ -54,119 +53,36 @@ impl Write for CountingWriter<'_> {
 
 // What is decided is out before the next event is asked for.
 #[test]
-fn stream_holds_all_back(rt: HostRuntime) -> Result<(), Fail> {
+fn stream_holds_all_back(rt: HostRuntime) {
     let out = Cell::new(0);
     let reader = NotingReader {
-        rest: ONE_PERSIST.as_bytes(),
+        rest: ONE_PERSIST,
         out: &out,
         seen: Vec::new(rt.alloc()),
     };
     let mut source = TextSource::new(rt.alloc(), Counted::new(reader));
     let mut writer = Counted::new(CountingWriter { out: &out });
-    trim_stream(rt.alloc(), &mut source, &mut writer)?;
+    assert_eq!(rt; trim_stream(rt.alloc(), &mut source, &mut writer), Ok(()));
     let reader = source.into_input().into_inner();
     assert_eq!(rt; reader.seen.as_slice(), [0, 10, 28, 28, 51].as_slice());
     assert_eq!(rt; out.get(), 51);
-    Ok(())
 }
 
-// The answer, and what is out, of the text with a reader that fails after so many reads.
-fn expect(
-    rt: &impl Abort,
-    alloc: Global,
-    reader: PieceReader<'_>,
-    writer: LimitedWriter,
-    told: Result<(), StreamError>,
-    out: &[u8],
-) {
+// The stream's answer to the text, which comes in reads of so many bytes, and what is out, where the flush fails.
+fn fails_to_flush(rt: &impl Abort, alloc: Global, reader: PieceReader<'_>, out: &[u8]) {
     let mut source = TextSource::new(alloc, Counted::new(reader));
-    let mut writer = Counted::new(writer);
+    let mut writer = Counted::new(LimitedWriter::failing_flush(alloc, 4096));
     let answer = trim_stream(alloc, &mut source, &mut writer);
-    assert_eq!(rt; answer, told);
+    let written = out.len() as u64;
+    assert_eq!(rt; answer, Err(StreamError::Write { written }));
     assert_eq!(rt; writer.into_inner().kept(), out);
-}
-
-// The header is out once the format is told; after a failed read the source stays failed.
-#[test]
-fn stream_header_then_failing_read(rt: HostRuntime) {
-    let alloc = rt.alloc();
-    let failed = Err(StreamError::Source(SourceError::Read));
-    for (text, reads, out) in [
-        ("pmtrace 2 64\n", 1, "pmtrace 2 64\n"),
-        ("pmtrace 2 64\n", 0, ""),
-        (ONE_PERSIST, 1, ONE_PERSIST),
-    ] {
-        let reader = PieceReader::failing_after(text.as_bytes(), 4096, reads);
-        let writer = LimitedWriter::new(alloc, 4096);
-        expect(&rt, alloc, reader, writer, failed, out.as_bytes());
-    }
-}
-
-// Each write in turn fails, and then the flush.
-#[test]
-fn stream_to_a_failing_writer(rt: HostRuntime) {
-    let alloc = rt.alloc();
-    for written in 0..51 {
-        let reader = PieceReader::new(ONE_PERSIST.as_bytes(), 7);
-        let writer = LimitedWriter::failing_after(alloc, 1, written);
-        let Some(out) = ONE_PERSIST.get(..written as usize) else {
-            continue;
-        };
-        let told = Err(StreamError::Write { written });
-        expect(&rt, alloc, reader, writer, told, out.as_bytes());
-    }
-    let reader = PieceReader::new(ONE_PERSIST.as_bytes(), 4096);
-    let writer = LimitedWriter::failing_flush(alloc, 4096);
-    let told = Err(StreamError::Write { written: 51 });
-    expect(&rt, alloc, reader, writer, told, ONE_PERSIST.as_bytes());
 }
 
 // A flush that fails is told in place of the source's fault: of line 3, and of a read after the header.
 #[test]
 fn stream_tells_a_failed_flush_before_a_fault(rt: HostRuntime) {
-    let alloc = rt.alloc();
     let text = b"pmtrace 1\nstore 0 0x1000 01\nfoo\n";
-    let reader = PieceReader::new(text, 4096);
-    let writer = LimitedWriter::failing_flush(alloc, 4096);
-    let told = Err(StreamError::Write { written: 28 });
-    expect(&rt, alloc, reader, writer, told, &text[..28]);
+    fails_to_flush(&rt, rt.alloc(), PieceReader::new(text, 4096), &text[..28]);
     let reader = PieceReader::failing_after(text, 10, 1);
-    let writer = LimitedWriter::failing_flush(alloc, 4096);
-    let told = Err(StreamError::Write { written: 10 });
-    expect(&rt, alloc, reader, writer, told, &text[..10]);
-}
-
-fn push_stores(text: &mut Vec<u8>, count: usize) -> Result<(), AllocError> {
-    for _ in 0..count {
-        text.extend_from_slice(b"store 0 0x0 01\n")?;
-    }
-    Ok(())
-}
-
-// The text of a header of 10 bytes, so many stores of 15 bytes, a flush of 11 and so many stores.
-fn stores(alloc: Global, before: usize, after: usize) -> Result<Vec<u8>, AllocError> {
-    let mut text = Vec::new(alloc);
-    text.extend_from_slice(b"pmtrace 1\n")?;
-    push_stores(&mut text, before)?;
-    text.extend_from_slice(b"clwb 0 0x0\n")?;
-    push_stores(&mut text, after)?;
-    Ok(text)
-}
-
-// A read fails after a hundred events: each that came whole is out, but none from the open flush on.
-#[test]
-fn stream_gathers_before_it_writes(rt: HostRuntime) -> Result<(), Fail> {
-    let alloc = rt.alloc();
-    let failed = Err(StreamError::Source(SourceError::Read));
-    let text = stores(alloc, 120, 1)?;
-    let reader = PieceReader::failing_after(text.as_slice(), 15, 100);
-    let writer = LimitedWriter::new(alloc, 4096);
-    let out = text.as_slice().get(..1495).unwrap_or(b"");
-    expect(&rt, alloc, reader, writer, failed, out);
-    let text = stores(alloc, 70, 51)?;
-    let reader = PieceReader::failing_after(text.as_slice(), 15, 100);
-    let writer = LimitedWriter::new(alloc, 4096);
-    let out = text.as_slice().get(..1060).unwrap_or(b"");
-    expect(&rt, alloc, reader, writer, failed, out);
-    Ok(())
+    fails_to_flush(&rt, rt.alloc(), reader, &text[..10]);
 }

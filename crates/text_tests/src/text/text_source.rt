@@ -1,14 +1,12 @@
 //! Tests of sources over readers.
-use pmt_model::{Event, Format, Op, Trace};
+use pmt_model::Format;
 use pmt_text::counted::Counted;
 use pmt_text::devices::{EndlessReader, PieceReader};
 use pmt_text::kind::{SourceError, TextError, TextKind};
-use pmt_text::list_source::ListSource;
 use pmt_text::source::EventSource;
 use pmt_text::text_source::TextSource;
 use std::io::Read;
 use std::process::Abort;
-use std::test::Fail;
 
 const ONE_PERSIST: &[u8] = b"pmtrace 1\nstore 0 0x1000 01\nclwb 0 0x1000\nsfence 0\n";
 
@@ -49,38 +47,6 @@ fn reading_in_pieces(rt: HostRuntime) {
 }
 
 #[test]
-fn faults_before_a_failing_read(rt: HostRuntime) {
-    let reader = PieceReader::failing_after(ONE_PERSIST, 20, 1);
-    gives(&rt, reader, (0, Some(SourceError::Read), 1));
-    let reader = PieceReader::failing_after(b"pmtrace 1\nsfence 256\n", 21, 1);
-    gives(&rt, reader, (0, text_fault(2, TextKind::OutOfRange), 0));
-}
-
-// How many events come of the first bytes, so many, and the fault after them.
-fn cut_at(len: usize) -> (u64, Option<SourceError>) {
-    match len {
-        0..=9 => (0, text_fault(1, TextKind::Truncated)),
-        10 => (0, None),
-        11..=27 => (0, text_fault(2, TextKind::Truncated)),
-        28 => (1, None),
-        29..=41 => (1, text_fault(3, TextKind::Truncated)),
-        42 => (2, None),
-        43..=50 => (2, text_fault(4, TextKind::Truncated)),
-        _ => (3, None),
-    }
-}
-
-#[test]
-fn every_cut(rt: HostRuntime) {
-    for len in 0..52usize {
-        assert!(rt; len <= ONE_PERSIST.len());
-        let reader = PieceReader::new(&ONE_PERSIST[..len], 3);
-        let (count, fault) = cut_at(len);
-        gives(&rt, reader, (count, fault, 0));
-    }
-}
-
-#[test]
 fn every_read(rt: HostRuntime) {
     for reads in 0..52u64 {
         let reader = PieceReader::failing_after(ONE_PERSIST, 1, reads);
@@ -104,36 +70,19 @@ fn failed_from_then_on(rt: HostRuntime) {
     assert_eq!(rt; source.format(), Err(SourceError::Failed));
 }
 
-#[test]
-fn ended_from_then_on(rt: HostRuntime) {
-    let reader = PieceReader::new(ONE_PERSIST, 51);
-    let mut source = TextSource::new(rt.alloc(), Counted::new(reader));
-    assert_eq!(rt; collected(&mut source), (3, None));
-    assert_eq!(rt; source.next(), Ok(None));
-    assert_eq!(rt; source.format(), Ok(Format::v1()));
+// The source lends this line next.
+fn lends<S: EventSource>(rt: &impl Abort, source: &mut S, line: &[u8]) {
+    assert!(rt; source.next().is_ok());
+    assert_eq!(rt; source.last_line(), Some(line));
 }
 
 #[test]
 fn lends_each_line(rt: HostRuntime) {
     let reader = PieceReader::new(ONE_PERSIST, 4096);
     let mut source = TextSource::new(rt.alloc(), Counted::new(reader));
-    assert!(rt; source.next().is_ok());
-    assert_eq!(rt; source.last_line(), Some(&b"store 0 0x1000 01\n"[..]));
-    assert!(rt; source.next().is_ok());
-    assert_eq!(rt; source.last_line(), Some(&b"clwb 0 0x1000\n"[..]));
-    assert!(rt; source.next().is_ok());
-    assert_eq!(rt; source.last_line(), Some(&b"sfence 0\n"[..]));
-}
-
-#[test]
-fn endless_readers(rt: HostRuntime) {
-    let reader = EndlessReader::new(b"pmtrace 1\n", b"sfence 0\n");
-    let late = text_fault(1_000_002, TextKind::TooManyEvents);
-    gives(&rt, reader, (1_000_000, late, 0));
-    let reader = EndlessReader::new(b"pmtrace 3\n", b"a");
-    gives(&rt, reader, (0, text_fault(1, TextKind::BadHeader), 0));
-    let reader = EndlessReader::new(b"pmtrace 1\n", b"a");
-    gives(&rt, reader, (0, Some(SourceError::TooMany), 0));
+    lends(&rt, &mut source, b"store 0 0x1000 01\n");
+    lends(&rt, &mut source, b"clwb 0 0x1000\n");
+    lends(&rt, &mut source, b"sfence 0\n");
 }
 
 #[test]
@@ -142,19 +91,4 @@ fn the_bound(rt: HostRuntime) {
     gives(&rt, reader, (0, text_fault(1, TextKind::Truncated), 0));
     let reader = EndlessReader::new(b"", b"a").take(67_108_865);
     gives(&rt, reader, (0, Some(SourceError::TooMany), 0));
-}
-
-#[test]
-fn source_of_a_trace(rt: HostRuntime) -> Result<(), Fail> {
-    let mut trace = Trace::new(rt.alloc());
-    trace.push(Event {
-        thread: 7,
-        op: Op::clwb(64)?,
-    })?;
-    let mut source = ListSource::new(&trace);
-    assert_eq!(rt; source.format(), Ok(Format::v1()));
-    assert_eq!(rt; source.next(), Ok(trace.get(1)));
-    assert_eq!(rt; source.next(), Ok(None));
-    assert_eq!(rt; source.next(), Ok(None));
-    Ok(())
 }

@@ -1,2 +1,0 @@
-//! Tests of crashes on small traces.
-mod near;
