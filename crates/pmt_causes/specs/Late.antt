@@ -8,11 +8,9 @@ use Rattle.pmt_model.specs.declared.event.Op.TheVariants.{Store, Clwb, ClflushOp
 use Rattle.pmt_model.specs.Traces.{Recording, event, act, IsAct}
 use Rattle.pmt_explain.specs.Saving.{IsSafePlace}
 use Rattle.pmt_causes.specs.declared.grouping.Keyed.{Keyed}
-use Rattle.pmt_causes.specs.declared.grouping.Group.{Group}
 use Rattle.pmt_causes.specs.declared.late.LateSpot.{LateSpot}
 use Rattle.pmt_causes.specs.declared.late.LateSpot.TheVariants.{Label, Line}
 use Rattle.pmt_causes.specs.Counted.{counted}
-use Rattle.pmt_causes.specs.Groups.{AreGrouped}
 use Rattle.pmt_causes.specs.Labels.{label_of}
 
 abbrev pub is_fence : Op → Bool
@@ -85,7 +83,3 @@ late_items T labels waited (suc n) = with_spot (suc n) (spot_of T labels waited 
 -- The late stores of the trace, in their order, each with its spot.
 abbrev pub AreLateItems : Recording → List (Option ℕ) → List (Keyed LateSpot) → Type 0
 AreLateItems T labels items = (waited : List ℕ) × AreWaited T waited × (items ≡ late_items T labels waited (length T.events))
-
--- The late stores of the trace, in groups by their spots.
-abbrev pub AreLateGroups : Recording → List (Option ℕ) → List (Group LateSpot) → Type 0
-AreLateGroups T labels groups = (items : List (Keyed LateSpot)) × AreLateItems T labels items × AreGrouped items groups

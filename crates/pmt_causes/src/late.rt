@@ -5,11 +5,11 @@ ghost use Rattle.std.specs.List.{count_by};
 ghost use Rattle.std.specs.List.Sorted.{IsNonDecreasingBy};
 ghost use Rattle.pmt_explain.specs.Saving.{AreSafePlaces};
 ghost use Rattle.pmt_causes.specs.Fences.{AreFences, list_by, wait_of, with_fence};
-ghost use Rattle.pmt_causes.specs.Late.{AreLateGroups, AreLateItems, AreWaited, late_items as late_items_in, late_spot as late_spot_in, spot_of_op as spot_of_op_in, with_spot};
+ghost use Rattle.pmt_causes.specs.Late.{AreLateItems, AreWaited, late_items as late_items_in, late_spot as late_spot_in, spot_of_op as spot_of_op_in, with_spot};
 
-use crate::grouping::{Group, Keyed, groups};
+use crate::grouping::Keyed;
 use crate::labels::label_of;
-use pmt_explain::{SafePlaces, safe_places};
+use pmt_explain::SafePlaces;
 use pmt_model::{Format, Op, OutOfMemory, Trace, line_of};
 use std::alloc::Global;
 
@@ -25,22 +25,9 @@ pub enum LateSpot {
     Line(u64),
 }
 
-/// Of each event that is a store, in order, how many fences of its own thread stand after it and before the first place from which on
-/// every run has it persisted; before the end where there is none. A fence by which it is persisted does not count, so a store
-/// that is flushed and fenced next has 0. Of another event 0.
-///
-/// # Errors
-/// Where memory was refused.
-pub fn fences_waited(alloc: Global, trace: &Trace) -> Result<Vec<u64>, OutOfMemory>
-    ensures { IfOk result (λ list. AreWaited trace.now list.items) }
-{
-    let safe = safe_places(alloc, trace)?;
-    fences_waited_by(alloc, trace, safe.as_slice())
-}
-
-// The same, where these are the safe places. It takes two looks at each event, and at each store a few looks at the fences of its
-// thread, or a search in them.
-fn fences_waited_by(alloc: Global, trace: &Trace, safe: &[u64]) -> Result<Vec<u64>, OutOfMemory>
+// Of each event for how many fences it waits, where these are the safe places. It takes two looks at each event, and at each store a few
+// looks at the fences of its thread, or a search in them.
+fn fences_waited(alloc: Global, trace: &Trace, safe: &[u64]) -> Result<Vec<u64>, OutOfMemory>
     requires { AreSafePlaces trace.now safe.now }
     ensures { IfOk result (λ list. AreWaited trace.now list.items) }
 {
@@ -58,10 +45,12 @@ fn fences_waited_by(alloc: Global, trace: &Trace, safe: &[u64]) -> Result<Vec<u6
     Ok(waited)
 }
 
-/// Stores that are saved late.
+/// Stores that are saved late: their own thread made two fences or more before they were safe.
 #[derive(Drop)]
 pub struct LateStores {
-    /// What `fences_waited` tells of the trace.
+    /// Of each event that is a store, in order, how many fences of its own thread stand after it and before the first place from
+    /// which on every run has it persisted; before the end where there is none. A fence by which it is persisted does not count, so
+    /// a store that is flushed and fenced next has 0. Of another event 0.
     pub waited: Vec<u64>,
     /// The late stores, by rising event number, each with its spot.
     pub items: Vec<Keyed<LateSpot>>,
@@ -82,26 +71,9 @@ pub fn late_stores(
     ensures items { IfOk result (λ late. AreLateItems safe.now.trace.now labels.now late.items.items) }
 {
     let trace = safe.trace();
-    let waited = fences_waited_by(alloc, trace, safe.places())?;
+    let waited = fences_waited(alloc, trace, safe.places())?;
     let items = late_items(alloc, trace, labels, waited.as_slice())?;
     Ok(LateStores { waited, items })
-}
-
-/// The stores whose own thread made two fences or more before they were safe, in groups by spot: those with most members first,
-/// and of as many that with the lowest first one.
-///
-/// # Errors
-/// Where memory was refused.
-pub fn late_groups(
-    alloc: Global,
-    trace: &Trace,
-    labels: &[Option<u64>],
-) -> Result<Vec<Group<LateSpot>>, OutOfMemory>
-    ensures { IfOk result (λ gs. AreLateGroups trace.now labels.now gs.items) }
-{
-    let waits = fences_waited(alloc, trace)?;
-    let items = late_items(alloc, trace, labels, waits.as_slice())?;
-    groups(alloc, items.as_slice())
 }
 
 // Of each thread, by its number, the numbers of its fences.

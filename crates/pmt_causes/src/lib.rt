@@ -18,6 +18,6 @@ pub use crate::dropping::{DropWord, DroppedKey, ReasonKind, Spot, dropped_groups
 pub use crate::failing::failure_groups;
 pub use crate::failure_keys::{AssertionKind, CauseKind, FailureKey, Origin, RangePart};
 pub use crate::grouping::{Group, Keyed, groups};
-pub use crate::late::{LateSpot, LateStores, fences_waited, late_groups, late_stores};
+pub use crate::late::{LateSpot, LateStores, late_stores};
 pub use crate::lost::{LostKey, lost_causes};
 pub use crate::tables::{Row, label_table, thread_table};

@@ -18,10 +18,6 @@ pub record AreCausesAfter (T : Recording) (start : ℕ) (causes : List (Option C
   pub all : length causes + start ≡ length T.events
   pub each : TellCauses T start causes
 
--- Those of all events.
-abbrev pub AreCausesAtEnd : Recording → List (Option Cause) → Type 0
-AreCausesAtEnd T causes = AreCausesAfter T 0 causes
-
 -- Of each line that is flushed after a place, the cause of a store to it there; none where it would be safe.
 abbrev pub Causes : Type 0
 Causes = IndexMap ℕ (Option Cause) (BuildHasherDefault FoldHasher)

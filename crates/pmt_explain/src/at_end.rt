@@ -2,7 +2,7 @@
 
 ghost use Rattle.std.specs.Prelude.{◌≡◌, ◌≤◌, ℕ, false, length, replicate, None, Some, IfOk, OnOk};
 ghost use Rattle.pmt_model.specs.Traces.{act_of};
-ghost use Rattle.pmt_explain.specs.AtEnd.{AreCausesAfter, AreCausesAtEnd, cause_in, before_flush, cause_before, fence_before, cause_told};
+ghost use Rattle.pmt_explain.specs.AtEnd.{AreCausesAfter, cause_in, before_flush, cause_before, fence_before, cause_told};
 ghost use Rattle.pmt_explain.specs.Completed.{fenced_before};
 
 use indexmap::IndexMap;
@@ -10,20 +10,8 @@ use pmt_model::{Format, Op, OutOfMemory, Trace, line_of};
 use pmt_reasons::Cause;
 use std::alloc::Global;
 
-/// Of each event, in order, why it is not safe at the trace's end: some run of the whole trace ends without it. None where every
-/// run ends with it persisted, and where the event is no store.
-///
-/// It takes one look at each event.
-///
-/// # Errors
-/// Where memory was refused.
-pub fn causes_at_end(alloc: Global, trace: &Trace) -> Result<Vec<Option<Cause>>, OutOfMemory>
-    ensures { IfOk result (λ causes. AreCausesAtEnd trace.now causes.items) }
-{
-    causes_after(alloc, trace, 0)
-}
-
-// The same of the events after the first so many.
+// Of each event after the first so many, in order, why it is not safe at the trace's end: some run of the whole trace ends without
+// it. None where every run ends with it persisted, and where the event is no store. It takes one look at each event.
 pub(crate) fn causes_after(
     alloc: Global,
     trace: &Trace,

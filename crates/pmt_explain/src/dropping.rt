@@ -13,29 +13,16 @@ use pmt_model::{OutOfMemory, Trace};
 use pmt_reasons::Reason;
 use std::alloc::Global;
 
-/// The flushes, clflushes and fences that are dropped, by rising numbers, each with the reason why.
-///
-/// It goes over the events twice, with at most five look-ups for each.
-///
-/// # Errors
-/// Where memory was refused.
-pub fn dropped(alloc: Global, trace: &Trace) -> Result<Vec<Dropped>, OutOfMemory>
-    ensures { IfOk result (λ list. AreDropped trace.now list.items) }
-{
-    let coming = all_coming(alloc, trace)?;
-    dropped_before(alloc, trace, coming.following.as_slice())
-}
-
 /// What is dropped of a trace, and from which place on each of its stores is safe.
 #[derive(Drop)]
 pub struct EventEffects<'a> {
-    /// What `dropped` tells.
+    /// The flushes, clflushes and fences that are dropped, by rising numbers, each with the reason why.
     pub dropped: Vec<Dropped>,
     /// What `SafePlaces::of` tells.
     pub safe: SafePlaces<'a>,
 }
 
-/// What `dropped` and `SafePlaces::of` tell of the trace. It takes the time of `dropped` alone.
+/// What is dropped of the trace, and its safe places. It goes over the events twice, with at most five look-ups for each.
 ///
 /// # Errors
 /// Where memory was refused.

@@ -3,7 +3,7 @@
 //! The definitions stand in `specs/`, and in those of pmt_reasons.
 #![tactic(auto)]
 
-pub mod at_end;
+mod at_end;
 pub mod bytes;
 pub mod causing;
 mod completed;
@@ -26,11 +26,10 @@ mod runs;
 pub mod saving;
 mod wanted;
 
-pub use crate::at_end::causes_at_end;
 pub use crate::bytes::{CrashByte, StoredByte, crash_bytes};
 pub use crate::causing::cause;
 pub use crate::dropped_event::Dropped;
-pub use crate::dropping::{EventEffects, dropped, effects};
+pub use crate::dropping::{EventEffects, effects};
 pub use crate::failing::{failure, failure_by, ordered_failure, persist_failure};
 pub use crate::last_writers::LastWriters;
 pub use crate::lines::{LineCount, crash_lines};

@@ -8,7 +8,7 @@ use Rattle.pmt_causes.specs.Late.{IsWaited}
 use Rattle.pmt_causes.specs.Fences.{AreFencesBy}
 use Rattle.pmt_causes.proofs.FenceLemmas.{waited-told}
 use Rattle.pmt_causes.proofs.LateLemmas.{waited-set}
-use Rattle.pmt_causes.proofs.late.fences_waited_by.Goals as goal
+use Rattle.pmt_causes.proofs.late.fences_waited.Goals as goal
 
 pub loop-index-init : goal.loop-index-init
 loop-index-init c = record {

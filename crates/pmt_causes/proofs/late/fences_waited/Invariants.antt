@@ -1,7 +1,7 @@
 use Rattle.std.proofs.Common.{◌≡◌, ℕ, suc, ◌<◌, length}
 use Rattle.std.specs.Prelude.{slice_get, Some}
 use Rattle.pmt_causes.specs.Late.{IsWaited}
-use Rattle.pmt_causes.proofs.late.fences_waited_by.Given as goal
+use Rattle.pmt_causes.proofs.late.fences_waited.Given as goal
 
 abbrev pub invariant-loop-index : goal.invariant-loop-index
 invariant-loop-index l = record {
