@@ -17,8 +17,7 @@ import time
 
 BENCH = pathlib.Path(__file__).resolve().parent
 OUT = BENCH / "out"
-TEXT_BENCH = BENCH.parent / "crates" / "text_bench" / "out" / "text_bench"
-WORKER_BENCH = BENCH.parent / "crates" / "worker_bench" / "out" / "worker_bench"
+TRACE_BENCH = BENCH.parent / "crates" / "trace_bench" / "out" / "trace_bench"
 WANTED_BYTES = {"log_appends": 400, "many_lines": 700}
 COMMANDS = (["check"], ["check", "--workers", "4"], ["trim"], ["trim", "--stream"])
 GROWTH = (125_000, 250_000, 500_000, 1_000_000)
@@ -96,8 +95,8 @@ def run_kind(kind, trace, events, plain, program):
     read, write, peak = read_and_write([plain, trace])
     row(kind, "plain read", read, size, events, peak, None)
     row(kind, "plain write", write, size, events, peak, None)
-    if TEXT_BENCH.exists():
-        text_read, text_write, peak = read_and_write([TEXT_BENCH, "time"], trace)
+    if TRACE_BENCH.exists():
+        text_read, text_write, peak = read_and_write([TRACE_BENCH, "text"], trace)
         row(kind, "pmt_text read", text_read / 1e9, size, events, peak, read)
         row(kind, "pmt_text write", text_write / 1e9, size, events, peak, write)
         print(f"{kind:18} {'read trace':18} {(peak - 2 * size) / events:.0f} bytes an event, as the peak shows it beside both texts (wanted: at most 40)", flush=True)
@@ -120,12 +119,12 @@ def run_kind(kind, trace, events, plain, program):
 
 def compare_reading(plain, trace):
     """Reading a text from memory: the crate pmt_text beside the plain program, in turn, the best of five each."""
-    if not TEXT_BENCH.exists():
-        print("reading from memory: crates/text_bench is not built (bench/run.sh builds it)")
+    if not TRACE_BENCH.exists():
+        print("reading from memory: crates/trace_bench is not built (bench/run.sh builds it)")
         return
     ours, floor = [], []
     for _ in range(5):
-        ours.append(read_and_write([TEXT_BENCH, "time"], trace)[0] / 1e9)
+        ours.append(read_and_write([TRACE_BENCH, "text"], trace)[0] / 1e9)
         floor.append(read_and_write([plain, trace])[0])
     megabytes = trace.stat().st_size / 1e6
     print(f"reading {megabytes:.0f} MB from memory: {min(ours):.3f} s, plain Rust {min(floor):.3f} s, ratio {min(ours) / min(floor):.2f} (wanted: at most 1.3)")
@@ -133,8 +132,8 @@ def compare_reading(plain, trace):
 
 def compare_workers(traces):
     """The analysis by one worker, which goes over the events, and by 4, which share the lines, the best of three runs each."""
-    if not WORKER_BENCH.exists():
-        print("workers: crates/worker_bench is not built (bench/run.sh builds it)")
+    if not TRACE_BENCH.exists():
+        print("workers: crates/trace_bench is not built (bench/run.sh builds it)")
         return
     print(f"\nThe analysis of a trace by 1 worker, which makes no jobs, and by 4, on {os.cpu_count()} cores; reading and writing the texts stand beside it.")
     if os.getloadavg()[0] > 2:
@@ -164,10 +163,10 @@ def show_growth(kind, program):
 
 def shared_and_all(trace):
     """For 1 and for 4 workers the seconds of running the lines, by the slowest worker, and those of all the analysis."""
-    status, _, _, answer = timed([WORKER_BENCH, "time"], trace)
+    status, _, _, answer = timed([TRACE_BENCH, "workers"], trace)
     lines = [line.split() for line in answer.read_text().splitlines()]
     if status != 0 or [line[1] for line in lines] != ["1", "4"]:
-        sys.exit(f"{WORKER_BENCH} does not analyse {trace}")
+        sys.exit(f"{TRACE_BENCH} does not analyse {trace}")
     return {int(line[1]): (int(line[3]) / 1e9, int(line[5]) / 1e9) for line in lines}
 
 
