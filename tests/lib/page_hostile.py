@@ -2,7 +2,7 @@
 import itertools
 import random
 
-from page_large import EVENTS, FIRST, MOST_ELEMENTS, RUNS, STEP, STEPS, slowness, taken, timed
+from page_large import EVENTS, FIRST, MOST_ELEMENTS, MOST_RUNS, RUNS, STEP, STEPS, slowness, taken, timed
 from page_machine import read_steps
 
 # The most bytes of a page, and of the texts of labels, each counted once.
@@ -108,23 +108,31 @@ def opened(pages, page):
     return 1000 * taken(pages.browser)
 
 
+def least(limit, measure, runs):
+    """The least of so many measures, and of more where all are over the limit, since other programs run beside this one; and the limit."""
+    measures, most = [measure() for _ in range(runs)], limit
+    while min(measures) > most and len(measures) < MOST_RUNS:
+        most = max(most, limit * slowness())
+        if min(measures) > most:
+            measures.append(measure())
+    return min(measures), most
+
+
 def cases(pages):
-    slow = slowness()
     for name, (_, _, notes) in CASES.items():
         page, blocks = made(pages, name)
         size = page.stat().st_size
         yield f"{name}: sizes", wrong_size(size, blocks)
         pages.browser.send("Performance.enable", timeDomain="threadTicks")
-        # Other programs run beside this one, so the best of some runs counts.
-        first = min(opened(pages, page) for _ in range(RUNS))
+        first, most = least(FIRST, lambda: opened(pages, page), RUNS)
         told = pages.browser.run("[...document.querySelectorAll('#summary .note')].map((note) => note.textContent).join('; ')")
         yield f"{name}: notes", [f"{note} is not told: {told}" for note in notes if note not in told]
-        yield f"{name}: first picture", "" if first <= FIRST * slow else f"{first:.0f} ms"
-        steps = {step: min(timed(pages.browser, script) for _ in range(2)) for step, script in STEPS.items()}
+        yield f"{name}: first picture", "" if first <= most else f"{first:.0f} ms"
+        steps = {step: least(STEP, lambda: timed(pages.browser, script), 2) for step, script in STEPS.items()}
         pages.browser.send("Performance.disable")
-        yield f"{name}: steps", [f"{step} {time:.0f} ms" for step, time in steps.items() if time > STEP * slow]
+        yield f"{name}: steps", [f"{step} {time:.0f} ms" for step, (time, most) in steps.items() if time > most]
         elements = pages.browser.run("document.querySelectorAll('*').length")
         yield f"{name}: elements", "" if elements <= MOST_ELEMENTS else f"{elements}"
         yield f"{name}: console", pages.faults(page)
         page.unlink()
-        print(f"{name}: {size / 1e6:.1f} MB, first picture {first:.0f} ms of its thread, the slowest step {max(steps.values()):.0f} ms; {told}")
+        print(f"{name}: {size / 1e6:.1f} MB, first picture {first:.0f} ms of its thread, the slowest step {max(steps.values())[0]:.0f} ms; {told}")
