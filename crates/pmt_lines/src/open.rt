@@ -6,9 +6,9 @@ use pmt_model::OutOfMemory;
 use std::alloc::Global;
 use std::marker::Model;
 
-/// Of each thread the places of the lines that it has flushed since its last fence. A place may stand there more than once.
+// Of each thread the places of the lines that it has flushed since its last fence. A place may stand there more than once.
 #[derive(Debug, Drop)]
-pub struct OpenFlushes {
+pub(crate) struct OpenFlushes {
     places: Vec<Vec<usize>>,
 }
 
@@ -23,11 +23,8 @@ impl Model for OpenFlushes {
 }
 
 impl OpenFlushes {
-    /// None yet, of all 256 threads.
-    ///
-    /// # Errors
-    /// Where memory was refused.
-    pub fn new(alloc: Global) -> Result<Self, OutOfMemory>
+    // None yet, of all 256 threads.
+    pub(crate) fn new(alloc: Global) -> Result<Self, OutOfMemory>
         ensures threads { IfOk result (λ o. length o ≡ 256) }
         ensures empty { IfOk result (λ o. (t : ℕ) → places_of t o ≡ []) }
     {
@@ -38,26 +35,23 @@ impl OpenFlushes {
         Ok(OpenFlushes { places })
     }
 
-    /// The places of the thread.
-    pub fn of(&self, thread: u8) -> &[usize]
+    // The places of the thread.
+    pub(crate) fn of(&self, thread: u8) -> &[usize]
         ensures { result.now ≡ places_of thread self.now }
     {
         self.places[thread as usize].as_slice()
     }
 
-    /// Adds a place to those of the thread.
-    ///
-    /// # Errors
-    /// Where memory was refused.
-    pub fn add(&mut self, thread: u8, place: usize) -> Result<(), OutOfMemory>
+    // Adds a place to those of the thread.
+    pub(crate) fn add(&mut self, thread: u8, place: usize) -> Result<(), OutOfMemory>
         ensures { OnOk result (self.new ≡ with_place thread place self.old) }
     {
         self.places[thread as usize].push(place)?;
         Ok(())
     }
 
-    /// Forgets the places of the thread.
-    pub fn clear(&mut self, thread: u8)
+    // Forgets the places of the thread.
+    pub(crate) fn clear(&mut self, thread: u8)
         ensures { self.new ≡ slice_set self.old thread [] }
     {
         self.places[thread as usize].clear();

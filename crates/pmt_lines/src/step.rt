@@ -17,15 +17,15 @@ pub enum StepKind {
 impl StepKind {
     ghost use Rattle.pmt_lines.specs.Steps.{is_flush, is_fence};
 
-    /// Whether it is a clwb or a clflushopt.
-    pub fn is_flush(self) -> bool
+    // Whether it is a clwb or a clflushopt.
+    pub(crate) fn is_flush(self) -> bool
         ensures { result ≡ is_flush self }
     {
         matches!(self, StepKind::Flush)
     }
 
-    /// Whether it is a fence.
-    pub fn is_fence(self) -> bool
+    // Whether it is a fence.
+    pub(crate) fn is_fence(self) -> bool
         ensures { result ≡ is_fence self }
     {
         matches!(self, StepKind::Fence)
