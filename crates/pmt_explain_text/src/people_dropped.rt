@@ -1,9 +1,8 @@
 //! Flushes and fences that do nothing, in words: by source place, or by thread and cache line.
 
-use crate::json_parts::line_address;
 use crate::people_parts::{plural, push_label};
 use crate::screen::Section;
-use crate::telling::Telling;
+use crate::telling::{Telling, line_address};
 use pmt_causes::{DropWord, DroppedKey, Group, ReasonKind, Spot};
 use pmt_explanation::{first, first_of};
 use pmt_model::OutOfMemory;

@@ -1,12 +1,11 @@
 //! Failed assertions in words.
 
 use crate::commands::push_draw;
-use crate::json_parts::line_address;
 use crate::people_causes::{part_word, push_head, push_others};
 use crate::people_parts::{plural, push_event, push_named, push_remedy};
 use crate::people_ranges::push_range;
 use crate::screen::Section;
-use crate::telling::Telling;
+use crate::telling::{Telling, line_address};
 use pmt_causes::{FailureKey, Group};
 use pmt_explain::LineCount;
 use pmt_explanation::ShownFailure;

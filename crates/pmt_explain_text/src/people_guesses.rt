@@ -1,9 +1,8 @@
 //! Guesses at what is noise: what could be left out.
 
-use crate::json_parts::line_address;
 use crate::people_parts::{is_unflushed, plural};
 use crate::screen::Section;
-use crate::telling::Telling;
+use crate::telling::{Telling, line_address};
 use pmt_explain::{LostGroup, OverwrittenGroup};
 use pmt_model::{Op, OutOfMemory, Range, Trace, line_of};
 use std::collections::HashMap;

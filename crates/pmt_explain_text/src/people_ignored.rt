@@ -1,8 +1,7 @@
 //! What the ranges to ignore leave out, in words.
 
-use crate::summary::Summary;
 use crate::telling::Telling;
-use pmt_explanation::{ByteRange, is_ignored};
+use pmt_explanation::{ByteRange, Summary, is_ignored};
 use pmt_model::{Finding, Op, OutOfMemory, WordStore};
 
 // Adds how many findings are left out as ignored, if any are, and how many of the ranges leave out nothing, if some do.

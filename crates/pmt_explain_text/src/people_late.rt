@@ -1,9 +1,8 @@
 //! Stores that are saved late, in words.
 
-use crate::json_parts::line_address;
 use crate::people_parts::{plural, push_label};
 use crate::screen::Section;
-use crate::telling::Telling;
+use crate::telling::{Telling, line_address};
 use pmt_causes::{Group, LateSpot};
 use pmt_explanation::{first, first_of};
 use pmt_model::OutOfMemory;

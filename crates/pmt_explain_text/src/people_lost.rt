@@ -1,10 +1,9 @@
 //! What is never persisted, in words: each cause once.
 
 use crate::commands::push_draw_line;
-use crate::json_parts::line_address;
 use crate::people_parts::{plural, push_named, push_remedy};
 use crate::screen::Section;
-use crate::telling::Telling;
+use crate::telling::{Telling, line_address};
 use pmt_causes::{Group, LostKey};
 use pmt_explain::LostGroup;
 use pmt_explanation::{first, mend_for};

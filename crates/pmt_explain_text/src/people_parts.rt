@@ -1,10 +1,10 @@
 //! Events, causes and mends in words.
 
-use crate::json_parts::line_address;
-use crate::telling::Telling;
-use crate::words::words_of;
-use pmt_model::OutOfMemory;
+use crate::telling::{Telling, line_address};
+use pmt_model::{Event, OutOfMemory};
 use pmt_reasons::{Cause, Mend};
+use pmt_text::write_event;
+use std::alloc::{AllocError, Global};
 
 // The ending of a noun for so many.
 pub(crate) fn plural(count: u64) -> &'static str {
@@ -39,6 +39,17 @@ pub(crate) fn push_event(
     push_label(out, told, number)?;
     let words = words_of(told.alloc, event)?;
     writeln!(out, ": {words}")
+}
+
+// The event's line in the text of its trace, without its LF. It is ASCII; no proof says so, so it is checked.
+pub(crate) fn words_of(alloc: Global, event: Event) -> Result<String, OutOfMemory> {
+    let Event { thread, op } = event;
+    let mut line = write_event(alloc, Event { thread, op })?;
+    line.pop();
+    match String::from_utf8(line) {
+        Ok(text) => Ok(text),
+        Err(_) => Err(AllocError),
+    }
 }
 
 // Adds the event after the name that it has in its entry.

@@ -1,10 +1,8 @@
 //! The ranges of a failed assertion, cache line by cache line, in words.
 
-use crate::json_parts::line_address;
 use crate::people_memory::{Cell, cells_of, push_memory};
-use crate::people_parts::plural;
-use crate::telling::Telling;
-use crate::words::words_of;
+use crate::people_parts::{plural, words_of};
+use crate::telling::{Telling, line_address};
 use pmt_explanation::ShownFailure;
 use pmt_model::{Event, Op, OutOfMemory, Range, Trace, line_of};
 use std::alloc::Global;

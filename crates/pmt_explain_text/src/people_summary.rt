@@ -1,12 +1,9 @@
 //! The head of the text for people: counts, what is asked for, and what the words mean.
 
-use crate::counting::per_cent;
-use crate::json_summary::kind_name;
 use crate::people_ignored::push_ignored;
 use crate::people_parts::{is_unflushed, plural};
-use crate::summary::{Summary, summary_of};
 use crate::telling::Telling;
-use pmt_explanation::{Choice, Kind};
+use pmt_explanation::{Choice, Kind, Summary, per_cent, summary_of};
 use pmt_model::OutOfMemory;
 
 // Adds the counts, and what the words mean.
@@ -102,7 +99,7 @@ fn push_choice(out: &mut String, choice: &Choice) -> Result<(), OutOfMemory> {
         );
     }
     if let Some(only) = choice.only {
-        let name = kind_name(only);
+        let name = only.name();
         writeln!(out, "  told below: {name} alone (--only)")?;
     }
     if let Some(thread) = choice.thread {

@@ -38,3 +38,8 @@ pub(crate) fn tells_all(choice: &Choice) -> bool {
         && choice.to.is_none()
         && choice.label.is_none()
 }
+
+// The address of the line's first byte.
+pub(crate) fn line_address(trace: &Trace, line: u64) -> u64 {
+    line.saturating_mul(trace.format().line_size())
+}

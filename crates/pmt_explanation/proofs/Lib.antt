@@ -1,4 +1,5 @@
 pub mod CausingLemmas
+pub mod CountingLemmas
 pub mod IgnoringLemmas
 pub mod LabellingLemmas
 pub mod MendingLemmas

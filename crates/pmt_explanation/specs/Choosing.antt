@@ -1,5 +1,5 @@
 -- Which findings are asked for.
-use Rattle.std.specs.Prelude.{ℕ, ◌+◌, ◌-◌, ◌*◌, ◌^◌, ◌==◌, ◌&&◌, ◌||◌, nat_lt, nat_le, nat_eq, Bool, true, false, List, length, drop, Option, None, Some, unwrap_or, option_map, string_bytes}
+use Rattle.std.specs.Prelude.{ℕ, ◌+◌, ◌-◌, ◌*◌, ◌^◌, ◌==◌, ◌&&◌, ◌||◌, nat_lt, nat_le, nat_eq, Bool, true, false, List, length, drop, Option, None, Some, unwrap_or, option_map, string_bytes, codes}
 use Rattle.std.specs.List.{list_any, range_with_len, starts_with}
 use Rattle.pmt_model.specs.Values.{Layout, line_of}
 use Rattle.pmt_model.specs.declared.event.Event.{Event}
@@ -12,6 +12,15 @@ use Rattle.pmt_explanation.specs.declared.choosing.Kind.TheVariants as kinds
 use Rattle.pmt_explanation.specs.declared.ignoring.ByteRange.{ByteRange}
 use Rattle.pmt_explanation.specs.declared.labels.Labels.{Labels}
 use Rattle.pmt_explanation.specs.Labelling.{label_of}
+
+-- What a kind is called.
+abbrev pub kind_name : Kind → List ℕ
+kind_name kinds.Failure = codes "failure"
+kind_name kinds.NeverPersisted = codes "never_persisted"
+kind_name kinds.Dropped = codes "dropped"
+kind_name kinds.Overwritten = codes "overwritten"
+kind_name kinds.Unwritten = codes "unwritten"
+kind_name kinds.Late = codes "late"
 
 abbrev pub is_same_kind : Kind → Kind → Bool
 is_same_kind kinds.Failure kinds.Failure = true

@@ -1,6 +1,7 @@
 pub mod Asking
 pub mod Causing
 pub mod Choosing
+pub mod Counting
 pub mod Explaining
 pub mod Failing
 pub mod Finding
@@ -8,4 +9,5 @@ pub mod Ignoring
 pub mod Labelling
 pub mod Numbering
 pub mod Showing
+pub mod Summing
 pub mod Unwriting

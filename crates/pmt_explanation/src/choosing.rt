@@ -1,6 +1,6 @@
 //! Which findings are asked for.
 ghost use Rattle.std.specs.Prelude.{◌≡◌, ◌+◌, nat_lt};
-ghost use Rattle.pmt_explanation.specs.Choosing.{has_text as text_has, is_chosen as event_chosen, is_kind_chosen, is_label_chosen, is_same_kind as same_kind, is_thread_chosen, meets as ranges_meet, meets_line as line_met, op_meets, stands_between};
+ghost use Rattle.pmt_explanation.specs.Choosing.{has_text as text_has, is_chosen as event_chosen, is_kind_chosen, is_label_chosen, is_same_kind as same_kind, is_thread_chosen, kind_name, meets as ranges_meet, meets_line as line_met, op_meets, stands_between};
 
 use crate::ignoring::ByteRange;
 use crate::labels::Labels;
@@ -21,6 +21,22 @@ pub enum Kind {
     Unwritten,
     /// Stores that are persisted late.
     Late,
+}
+
+impl Kind {
+    /// What the kind is called.
+    pub fn name(self) -> &'static str
+        ensures { result.now ≡ kind_name self }
+    {
+        match self {
+            Kind::Failure => "failure",
+            Kind::NeverPersisted => "never_persisted",
+            Kind::Dropped => "dropped",
+            Kind::Overwritten => "overwritten",
+            Kind::Unwritten => "unwritten",
+            Kind::Late => "late",
+        }
+    }
 }
 
 /// Which findings are asked for: those that meet each part that is given.

@@ -6,6 +6,7 @@
 mod asking;
 mod causing;
 pub mod choosing;
+mod counting;
 mod effects;
 pub mod explaining;
 mod failed;
@@ -17,15 +18,18 @@ mod limit;
 mod losses;
 mod mending;
 mod numbering;
+pub mod summing;
 pub mod unwritten;
 mod written;
 
 pub use crate::causing::first_of;
 pub use crate::choosing::{Choice, Kind};
+pub use crate::counting::per_cent;
 pub use crate::explaining::{Explanation, Options, explanation_of, has_failed};
 pub use crate::failures::{RangeAfter, ShownFailure, failing_events, shown_failures};
 pub use crate::ignoring::{ByteRange, is_ignored};
 pub use crate::labels::Labels;
 pub use crate::limit::first;
 pub use crate::mending::mend_for;
+pub use crate::summing::{Summary, summary_of};
 pub use crate::unwritten::Unwritten;

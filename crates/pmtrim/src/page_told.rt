@@ -3,7 +3,7 @@
 use crate::explain_words::ExplainWords;
 use crate::page_labels::size_on_page;
 use pmt_explain::SafePlaces;
-use pmt_explain_text::json_text;
+use pmt_explain_json::json_text;
 use pmt_explanation::{Explanation, Labels, ShownFailure, shown_failures};
 use pmt_model::OutOfMemory;
 use pmt_page::explained_text;

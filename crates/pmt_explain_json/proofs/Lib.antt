@@ -1,0 +1,3 @@
+pub mod NoFloats
+pub mod Pushing
+pub mod WordLemmas

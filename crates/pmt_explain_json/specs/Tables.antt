@@ -1,0 +1,72 @@
+-- Late stores, and what threads and labels have, as JSON.
+use Rattle.std.specs.Prelude.{ℕ, List, [], ◌∷◌, ◌++◌, length, take, Option, None, Some, codes}
+use Rattle.std.specs.List.{flat_map}
+use Rattle.serde_json.specs.Data.{Data, string}
+use Rattle.pmt_model.specs.Traces.{Recording}
+use Rattle.pmt_causes.specs.declared.grouping.Group.{Group}
+use Rattle.pmt_causes.specs.declared.late.LateSpot.{LateSpot}
+use Rattle.pmt_causes.specs.declared.late.LateSpot.TheVariants.{Label, Line}
+use Rattle.pmt_causes.specs.declared.tables.Row.{Row}
+use Rattle.pmt_causes.specs.Groups.{first_in}
+use Rattle.pmt_explanation.specs.declared.explaining.Explanation.{Explanation}
+use Rattle.pmt_explanation.specs.declared.labels.Labels.{Labels}
+use Rattle.pmt_explanation.specs.Labelling.{label_of}
+use Rattle.pmt_explain_json.specs.Parts.{count_data, event_data, json_line, line_data, object_of, or_null}
+
+-- The line of stores that have no label.
+abbrev pub spot_line : LateSpot → Option ℕ
+spot_line (Label n) = None
+spot_line (Line l) = Some l
+
+-- The label of stores of one place in the program.
+abbrev pub spot_label : Labels → LateSpot → Option (List ℕ)
+spot_label labels (Label n) = label_of labels n
+spot_label labels (Line l) = None
+
+-- The late stores of one place.
+abbrev pub late_data : Recording → Labels → Group LateSpot → Data
+late_data T labels g = object_of
+    ((codes "cache_line", or_null (line_data T) (spot_line g.key))
+    ∷ (codes "count", count_data (length g.members.items))
+    ∷ (codes "first", event_data T labels (first_in g))
+    ∷ (codes "kind", string (codes "late"))
+    ∷ (codes "label", or_null string (spot_label labels g.key))
+    ∷ [])
+
+-- What a thread has.
+abbrev pub thread_row_data : Row ℕ → Data
+thread_row_data r = object_of
+    ((codes "dropped", count_data r.dropped)
+    ∷ (codes "fences", count_data r.fences)
+    ∷ (codes "flushes", count_data r.flushes)
+    ∷ (codes "kind", string (codes "thread"))
+    ∷ (codes "stores", count_data r.stores)
+    ∷ (codes "thread", count_data r.key)
+    ∷ [])
+
+-- What a label has.
+abbrev pub label_row_data : Labels → Row ℕ → Data
+label_row_data labels r = object_of
+    ((codes "dropped", count_data r.dropped)
+    ∷ (codes "fences", count_data r.fences)
+    ∷ (codes "flushes", count_data r.flushes)
+    ∷ (codes "kind", string (codes "label"))
+    ∷ (codes "label", or_null string (label_of labels r.key))
+    ∷ (codes "stores", count_data r.stores)
+    ∷ [])
+
+abbrev pub late_line : Recording → Labels → Group LateSpot → List ℕ
+late_line T labels g = json_line (late_data T labels g)
+
+abbrev pub thread_line : Row ℕ → List ℕ
+thread_line r = json_line (thread_row_data r)
+
+abbrev pub label_line : Labels → Row ℕ → List ℕ
+label_line labels r = json_line (label_row_data labels r)
+
+-- The late stores, the threads and the labels: of each kind at most as many as the limit says, the first ones.
+unfoldable pub table_lines : Explanation → Labels → List ℕ
+table_lines x labels =
+    flat_map (late_line x.analysis.trace labels) (take x.limit x.late.items)
+    ++ flat_map thread_line (take x.limit x.threads.items)
+    ++ flat_map (label_line labels) (take x.limit x.labelled.items)

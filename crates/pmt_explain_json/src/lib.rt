@@ -1,0 +1,16 @@
+//! What `pmtrim explain` writes of an explanation as JSON.
+//!
+//! The definitions stand in `specs/`.
+#![tactic(auto)]
+
+mod causes;
+mod entries;
+mod failures;
+mod lines;
+mod objects;
+mod parts;
+mod summary;
+mod tables;
+mod words;
+
+pub use crate::lines::json_text;

@@ -1,0 +1,167 @@
+//! The counts of an explanation as JSON.
+ghost use Rattle.std.specs.Prelude.{◌≡◌, IfOk, string_bytes};
+ghost use Rattle.serde_json.specs.Data.{string};
+ghost use Rattle.serde_json.specs.View.{view};
+ghost use Rattle.pmt_explain_json.specs.Parts.{or_null, count_data};
+ghost use Rattle.pmt_explanation.specs.Choosing.{kind_name};
+ghost use Rattle.pmt_explain_json.specs.Lines.{asked_data, byte_range_data, more_data, summary_data};
+
+use crate::objects::{object_made, object_value};
+use crate::parts::count_or_null;
+use crate::words::address_text;
+use pmt_explanation::{ByteRange, Choice, Explanation, Kind, Summary, per_cent};
+use pmt_model::OutOfMemory;
+use serde_json::Value;
+use std::alloc::Global;
+
+// The counts; `more` tells how many entries of each kind are not shown, and `limit` how many may be.
+pub(crate) fn summary_value(
+    alloc: Global,
+    summary: &Summary,
+    limit: usize,
+    choice: &Choice,
+    more: Value,
+) -> Result<Value, OutOfMemory>
+    ensures { IfOk result (λ v. view v ≡ summary_data summary.now limit choice.now (view more)) }
+{
+    let asked = asked_value(alloc, choice)?;
+    let kind = Value::try_from_str(alloc, "summary")?;
+    let of_fences = per_cent(summary.fences_dropped, summary.fences);
+    let of_flushes = per_cent(summary.flushes_dropped, summary.flushes);
+    let fields = vec![in alloc;
+        ("asked", asked),
+        ("assertions", Value::from(summary.assertions)),
+        ("cache_lines", Value::from(summary.cache_lines)),
+        ("events", Value::from(summary.events)),
+        ("failing", Value::from(summary.failing)),
+        ("fences", Value::from(summary.fences)),
+        ("fences_dropped", Value::from(summary.fences_dropped)),
+        ("fences_dropped_percent", Value::from(of_fences)),
+        ("flushes", Value::from(summary.flushes)),
+        ("flushes_dropped", Value::from(summary.flushes_dropped)),
+        ("flushes_dropped_percent", Value::from(of_flushes)),
+        (
+            "ignored_never_persisted",
+            Value::from(summary.ignored_never_persisted)
+        ),
+        (
+            "ignored_overwritten",
+            Value::from(summary.ignored_overwritten)
+        ),
+        ("kind", kind),
+        ("limit", Value::from(limit)),
+        ("more", more),
+        ("never_persisted", Value::from(summary.never_persisted)),
+        ("schema", Value::from(2u64)),
+        ("stores", Value::from(summary.stores)),
+        ("threads", Value::from(summary.threads)),
+    ]?;
+    object_value(alloc, fields)
+}
+
+// How many entries of each kind are not shown.
+pub(crate) fn more_value(alloc: Global, explanation: &Explanation) -> Result<Value, OutOfMemory>
+    ensures { IfOk result (λ v. view v ≡ more_data explanation.now) }
+{
+    let limit = explanation.limit;
+    let fields = vec![in alloc;
+        (
+            "cause",
+            Value::from(explanation.causes.len().saturating_sub(limit))
+        ),
+        (
+            "dropped",
+            Value::from(explanation.asked_dropped.len().saturating_sub(limit))
+        ),
+        (
+            "failure",
+            Value::from(explanation.causes.len().saturating_sub(limit))
+        ),
+        (
+            "label",
+            Value::from(explanation.labelled.len().saturating_sub(limit))
+        ),
+        (
+            "late",
+            Value::from(explanation.late.len().saturating_sub(limit))
+        ),
+        (
+            "never_persisted",
+            Value::from(explanation.lost.len().saturating_sub(limit))
+        ),
+        (
+            "overwritten",
+            Value::from(explanation.overwritten.len().saturating_sub(limit))
+        ),
+        (
+            "thread",
+            Value::from(explanation.threads.len().saturating_sub(limit))
+        ),
+        (
+            "unwritten",
+            Value::from(explanation.unwritten.len().saturating_sub(limit))
+        ),
+    ]?;
+    object_value(alloc, fields)
+}
+
+// What is asked for.
+fn asked_value(alloc: Global, choice: &Choice) -> Result<Value, OutOfMemory>
+    ensures { IfOk result (λ v. view v ≡ asked_data choice.now) }
+{
+    let label = text_or_null(alloc, &choice.label);
+    let only = kind_or_null(alloc, choice.only);
+    let range = range_or_null(alloc, choice.range);
+    let fields = vec![in alloc;
+        ("from", Ok(count_or_null(choice.from))),
+        ("label", label),
+        ("only", only),
+        ("range", range),
+        ("thread", Ok(thread_or_null(choice.thread))),
+        ("to", Ok(count_or_null(choice.to))),
+    ]?;
+    object_made(alloc, fields)
+}
+
+fn text_or_null(alloc: Global, text: &Option<String>) -> Result<Value, OutOfMemory>
+    ensures { IfOk result (λ v. view v ≡ or_null (λ s. string (string_bytes s)) text.now) }
+{
+    match text {
+        Some(text) => Value::try_from_str(alloc, text.as_str()),
+        None => Ok(Value::Null),
+    }
+}
+
+fn kind_or_null(alloc: Global, kind: Option<Kind>) -> Result<Value, OutOfMemory>
+    ensures { IfOk result (λ v. view v ≡ or_null (λ k. string (kind_name k)) kind) }
+{
+    match kind {
+        Some(kind) => Value::try_from_str(alloc, kind.name()),
+        None => Ok(Value::Null),
+    }
+}
+
+fn range_or_null(alloc: Global, range: Option<ByteRange>) -> Result<Value, OutOfMemory>
+    ensures { IfOk result (λ v. view v ≡ or_null byte_range_data range) }
+{
+    let Some(range) = range else {
+        return Ok(Value::Null);
+    };
+    let address = address_text(alloc, range.addr)?;
+    object_value(
+        alloc,
+        vec![in alloc;
+            ("address", Value::String(address)),
+            ("length", Value::from(range.len)),
+        ]?,
+    )
+}
+
+fn thread_or_null(thread: Option<u8>) -> Value
+    ensures { view result ≡ or_null count_data thread }
+{
+    match thread {
+        Some(thread) => Value::from(thread),
+        None => Value::Null,
+    }
+}

@@ -1,4 +1,0 @@
-pub mod CountingLemmas
-pub mod NoFloats
-pub mod Pushing
-pub mod WordLemmas

@@ -1,7 +1,0 @@
-use Rattle.std.proofs.Common.{◌≡◌, map, take}
-use Rattle.serde_json.specs.View.{view}
-use Rattle.pmt_explain_text.specs.Entries.{byte_value}
-use Rattle.pmt_explain_text.proofs.json_failures.values_value.Given as goal
-
-abbrev pub invariant-loop-byte : goal.invariant-loop-byte
-invariant-loop-byte l = map view l.values.items ≡ map byte_value (take l.byte-index l.bytes)

@@ -1,8 +1,0 @@
-use Rattle.std.proofs.Common.{◌≡◌, ◌++◌, drop}
-use Rattle.std.specs.List.{flat_map}
-use Rattle.pmt_explain_text.specs.Entries.{overwritten_line}
-use Rattle.pmt_explain_text.proofs.json_lines.push_overwritings.Given as goal
-
-abbrev pub invariant-loop-group : goal.invariant-loop-group
-invariant-loop-group l =
-    l.text.items ++ flat_map (overwritten_line l.trace l.labels) (drop l.group-index l.groups) ≡ l.initial.text.items ++ flat_map (overwritten_line l.trace l.labels) l.groups

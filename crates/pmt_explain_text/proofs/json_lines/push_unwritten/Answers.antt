@@ -1,7 +1,0 @@
-use Rattle.std.proofs.Common.{ap, ◌∙◌}
-use Rattle.serde_json.specs.Written.{has_float}
-use Rattle.pmt_explain_text.proofs.NoFloats.{unwritten-float}
-use Rattle.pmt_explain_text.proofs.json_lines.push_unwritten.Goals as goal
-
-pub push_value-requires : goal.push_value-requires
-push_value-requires c = ap has_float c.in_ok-value.ensures ∙ unwritten-float c.args.trace.now c.args.labels.now c.args.found.now

@@ -1,7 +1,0 @@
-use Rattle.serde_json.specs.Data.{Data, no_members}
-use Rattle.serde_json.specs.View.{members_view}
-use Rattle.pmt_explain_text.specs.Parts.{IsMadeOf}
-use Rattle.pmt_explain_text.proofs.json_objects.object_made.Given as goal
-
-abbrev pub invariant-loop-key : goal.invariant-loop-key
-invariant-loop-key l = (d : Data) → IsMadeOf l.key-iterator.rest.items (members_view l.members.entries) d → IsMadeOf l.fn.fields.items no_members d
