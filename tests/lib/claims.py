@@ -16,7 +16,7 @@ OWNER = re.compile(r"(?:pub )?(?:impl(?:<.*?>)? (?:([\w:]+)(?:<.*>)? for )?&?(\w
 # Methods of std's types have these names too, so a call of one of them tells nothing.
 COMMON = {"len", "get", "push", "is_empty", "new", "next", "iter", "take", "insert"}
 # The crates of `explain`, `draw` and `image`, of which the list has none.
-OWN = {"pmt_reasons", "pmt_explain", "pmt_explanation", "pmt_explain_json", "pmt_explain_text", "pmt_explain_run", "pmt_causes", "pmt_image", "pmt_page", "pmt_draw"}
+OWN = {"pmt_reasons", "pmt_explain", "pmt_explanation", "pmt_explain_json", "pmt_explain_text", "pmt_explain_run", "pmt_causes", "pmt_image", "pmt_page", "pmt_pen", "pmt_draw"}
 
 
 class Item(NamedTuple):

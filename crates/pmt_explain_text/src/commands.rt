@@ -1,57 +1,37 @@
 //! Commands that a text names.
 
 use crate::telling::Telling;
-use pmt_model::OutOfMemory;
+use pmt_pen::Pen;
 
-// Adds the command that draws the event, by the option of draw that names it.
-pub(crate) fn push_draw(
-    out: &mut String,
-    told: &Telling<'_>,
-    option: &str,
-    number: u64,
-) -> Result<(), OutOfMemory> {
-    write!(out, "  draw:   pmtrim draw {option} {number}")?;
-    push_files(out, told, number)
-}
-
-// Adds the command that draws the line of this address; the picture is named by the event.
-pub(crate) fn push_draw_line(
-    out: &mut String,
-    told: &Telling<'_>,
-    address: u64,
-    number: u64,
-) -> Result<(), OutOfMemory> {
-    write!(out, "  draw:   pmtrim draw --line {address:#x}")?;
-    push_files(out, told, number)
-}
-
-// Adds the files of the labels and of the trace, and the name of the picture of the event.
-fn push_files(out: &mut String, told: &Telling<'_>, number: u64) -> Result<(), OutOfMemory> {
+// Adds the command that draws what the words of draw and the number name; the picture is named by the event.
+pub(crate) fn push_draw(pen: &mut Pen, told: &Telling<'_>, words: &str, named: u64, event: u64) {
+    pen.put("  draw:   pmtrim draw ");
+    pen.fill(words, &[named]);
     if let Some(labels) = told.screen.labels {
-        out.push_str(" --labels ")?;
-        push_word(out, labels)?;
+        pen.put(" --labels ");
+        push_word(pen, labels);
     }
     if let Some(trace) = told.screen.trace {
-        out.push_str(" ")?;
-        push_word(out, trace)?;
+        pen.put(" ");
+        push_word(pen, trace);
     }
-    writeln!(out, " > event{number}.svg")
+    pen.fill(" > event#.svg\n", &[event]);
 }
 
 // Adds the word as a shell reads it.
-fn push_word(out: &mut String, word: &str) -> Result<(), OutOfMemory> {
+fn push_word(pen: &mut Pen, word: &str) {
     if word.as_bytes().iter().all(|byte| is_plain(*byte)) {
-        return out.push_str(word);
+        pen.put(word);
+        return;
     }
-    out.push_str("'")?;
+    pen.put("'");
     for letter in word.chars() {
-        if letter == '\'' {
-            out.push_str("'\\''")?;
-        } else {
-            out.push(letter)?;
+        match letter {
+            '\'' => pen.put("'\\''"),
+            _ => pen.letter(letter),
         }
     }
-    out.push_str("'")
+    pen.put("'");
 }
 
 // Whether a shell takes the byte as it is.

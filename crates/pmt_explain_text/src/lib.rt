@@ -1,24 +1,24 @@
 //! What `pmtrim explain` writes of an explanation as a text for people.
 #![tactic(auto)]
 
+mod causes;
 mod commands;
+mod dropped;
+mod failures;
+mod guesses;
+mod ignored;
+mod late;
+mod lost;
+mod memory;
+mod overwritten;
+mod parts;
 mod people;
-mod people_causes;
-mod people_dropped;
-mod people_failures;
-mod people_guesses;
-mod people_ignored;
-mod people_late;
-mod people_lost;
-mod people_memory;
-mod people_overwritten;
-mod people_parts;
-mod people_ranges;
-mod people_summary;
-mod people_tables;
-mod people_unwritten;
+mod ranges;
 mod screen;
+mod summary;
+mod tables;
 mod telling;
+mod unwritten;
 
 pub use crate::people::text;
 pub use crate::telling::Screen;

@@ -1,22 +1,23 @@
 //! An explanation as a text for people.
 
-use crate::people_dropped::dropped_section;
-use crate::people_failures::failures_section;
-use crate::people_guesses::guesses_section;
-use crate::people_late::late_section;
-use crate::people_lost::lost_section;
-use crate::people_overwritten::overwritten_section;
-use crate::people_summary::push_summary;
-use crate::people_tables::{labels_section, threads_section};
-use crate::people_unwritten::unwritten_section;
-use crate::screen::{Section, push_sections};
+use crate::dropped::dropped_section;
+use crate::failures::failures_section;
+use crate::guesses::guesses_section;
+use crate::late::late_section;
+use crate::lost::lost_section;
+use crate::overwritten::overwritten_section;
+use crate::screen::push_sections;
+use crate::summary::push_summary;
+use crate::tables::{labels_section, threads_section};
 use crate::telling::{Screen, Telling, tells_all};
-use pmt_explanation::{Choice, Explanation, Labels};
+use crate::unwritten::unwritten_section;
+use pmt_explanation::{Explanation, Labels};
 use pmt_model::OutOfMemory;
+use pmt_pen::Pen;
 use std::alloc::Global;
 
-/// The explanation for people: the summary, and then what was found, what matters most first. What is left out is counted, with the
-/// words that show it.
+/// The explanation for people: the summary, and then what was found, what matters most first, and last what may be none of the
+/// program's faults. What is left out is counted, with the words that show it.
 ///
 /// # Errors
 /// Where memory was refused.
@@ -33,50 +34,24 @@ pub fn text(
         labels,
         screen,
     };
-    let mut out = String::new(alloc);
-    push_summary(&mut out, &told)?;
-    let mut sections = Vec::with_capacity(alloc, 9)?;
-    push_found(&mut sections, &told)?;
-    push_other(&mut sections, &told)?;
-    push_sections(alloc, &mut out, sections.as_slice(), screen.rows)?;
-    push_nothing(&mut out, sections.as_slice(), screen.choice)?;
-    Vec::from_slice(alloc, out.as_bytes())
-}
-
-// Adds the sections of what was found, those first that matter most.
-fn push_found(sections: &mut Vec<Section>, told: &Telling<'_>) -> Result<(), OutOfMemory> {
-    push_made(sections, failures_section(told))?;
-    push_made(sections, lost_section(told))?;
-    push_made(sections, dropped_section(told))?;
-    push_made(sections, overwritten_section(told))?;
-    push_made(sections, late_section(told))
-}
-
-// Adds the sections of what may be none of the program's faults.
-fn push_other(sections: &mut Vec<Section>, told: &Telling<'_>) -> Result<(), OutOfMemory> {
-    push_made(sections, unwritten_section(told))?;
-    push_made(sections, guesses_section(told))?;
-    push_made(sections, threads_section(told))?;
-    push_made(sections, labels_section(told))
-}
-
-// Says that nothing was found, where something was asked for.
-fn push_nothing(
-    out: &mut String,
-    sections: &[Section],
-    choice: &Choice,
-) -> Result<(), OutOfMemory> {
-    if tells_all(choice) || sections.iter().any(|section| section.total > 0) {
-        return Ok(());
+    let mut sections = vec![in alloc;
+        failures_section(&told),
+        lost_section(&told),
+        dropped_section(&told),
+        overwritten_section(&told),
+        late_section(&told),
+        unwritten_section(&told),
+        guesses_section(&told),
+        threads_section(&told),
+        labels_section(&told),
+    ]?;
+    let mut pen = Pen::new(alloc);
+    push_summary(&mut pen, &told);
+    push_sections(&mut pen, sections.as_mut_slice(), screen.rows);
+    let is_quiet = sections.iter().all(|section| section.total == 0);
+    if is_quiet && !tells_all(screen.choice) {
+        pen.put("\nNothing of what is asked for was found.\n");
     }
-    out.push_str("\nNothing of what is asked for was found.\n")
-}
-
-// Adds the section, if there was memory for it.
-fn push_made(
-    sections: &mut Vec<Section>,
-    section: Result<Section, OutOfMemory>,
-) -> Result<(), OutOfMemory> {
-    sections.push(section?)?;
-    Ok(())
+    let written = pen.finish()?;
+    Ok(written.into_bytes())
 }

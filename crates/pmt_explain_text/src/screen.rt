@@ -1,86 +1,112 @@
 //! Sections of a text, cut to the lines that a screen has.
 
-use pmt_model::OutOfMemory;
+use pmt_pen::Pen;
 use std::alloc::Global;
 
 // Entries of one kind, what matters most first.
 #[derive(Drop)]
 pub(crate) struct Section {
     // What stands above the first entry; empty for none.
-    pub(crate) heading: String,
+    heading: &'static str,
     // The first entries, each of whole lines.
     pub(crate) entries: Vec<String>,
+    // Whether memory was refused to one of them.
+    is_refused: bool,
+    // How many of them are shown.
+    shown: usize,
     // How many entries there are, with those that are not here.
     pub(crate) total: usize,
     // What one of them is.
-    pub(crate) what: &'static str,
+    what: &'static str,
     // The words that show all of them.
-    pub(crate) words: &'static str,
+    words: &'static str,
 }
 
-// Adds the sections, in at most so many lines with those of `out`; with no such number, all entries that they have. Sections of
-// which no entry is shown stand last, a line each.
-pub(crate) fn push_sections(
-    alloc: Global,
-    out: &mut String,
-    sections: &[Section],
-    rows: Option<usize>,
-) -> Result<(), OutOfMemory> {
-    let counts = match rows {
-        Some(rows) => fitting(
-            alloc,
-            sections,
-            rows.saturating_sub(lines_of(out.as_bytes())),
-        )?,
-        None => all_of(alloc, sections)?,
-    };
-    for index in 0..sections.len() {
-        let count = counts.get(index).copied().unwrap_or(0);
-        push_section(out, &sections[index], count)?;
+impl Section {
+    // A section of so many entries, none of which is here yet.
+    pub(crate) fn new(
+        alloc: Global,
+        heading: &'static str,
+        total: usize,
+        what: &'static str,
+        words: &'static str,
+    ) -> Self {
+        Section {
+            heading,
+            entries: Vec::new(alloc),
+            is_refused: false,
+            shown: 0,
+            total,
+            what,
+            words,
+        }
     }
-    push_unshown(out, sections, counts.as_slice())
+
+    // Adds the entry. All are shown at first.
+    pub(crate) fn add(&mut self, entry: Pen) {
+        match entry.finish() {
+            Ok(entry) => self.is_refused = self.entries.push(entry).is_err() || self.is_refused,
+            Err(_) => self.is_refused = true,
+        }
+        self.shown = self.entries.len();
+    }
+
+    // Notes that memory was refused to an entry.
+    pub(crate) fn refuse(&mut self) {
+        self.is_refused = true;
+    }
 }
 
-// As many entries of each section as it has.
-fn all_of(alloc: Global, sections: &[Section]) -> Result<Vec<usize>, OutOfMemory> {
-    sections
-        .iter()
-        .map(|section| section.entries.len())
-        .collect(alloc)
+// Adds the sections, in at most so many lines with those that stand already; with no such number, all entries that they have.
+// Sections of which no entry is shown stand last, a line each.
+pub(crate) fn push_sections(pen: &mut Pen, sections: &mut [Section], rows: Option<usize>) {
+    if let Some(rows) = rows {
+        let used = lines_of(pen.as_str().as_bytes());
+        fit(sections, rows.saturating_sub(used));
+    }
+    let mut is_shown = true;
+    for index in 0..sections.len() {
+        push_section(pen, &sections[index]);
+    }
+    for index in 0..sections.len() {
+        let section = &sections[index];
+        if section.shown == 0 && section.total > 0 {
+            if is_shown {
+                pen.put("\n");
+                is_shown = false;
+            }
+            push_left(pen, section);
+        }
+    }
 }
 
-// How many entries of each section fit into so many lines: first one of each, and then as many as there is room for.
-fn fitting(alloc: Global, sections: &[Section], rows: usize) -> Result<Vec<usize>, OutOfMemory> {
-    let mut counts = vec![in alloc; 0usize; sections.len()]?;
+// Shows of each section what fits into so many lines: first one entry of each, and then as many as there is room for.
+fn fit(sections: &mut [Section], rows: usize) {
     let mut used = 1usize;
-    for section in sections {
-        used = used.saturating_add(cost(section, 0));
+    for index in 0..sections.len() {
+        sections[index].shown = 0;
+        used = used.saturating_add(cost(&sections[index], 0));
     }
     for most in [1usize, usize::MAX] {
         for index in 0..sections.len() {
-            let section = &sections[index];
-            let before = counts.get(index).copied().unwrap_or(0);
-            let (count, cost) = filled(section, before, most, rows.saturating_sub(used));
-            used = used.saturating_add(cost);
-            if index < counts.len() {
-                counts[index] = count;
-            }
+            let (count, more) = filled(&sections[index], most, rows.saturating_sub(used));
+            used = used.saturating_add(more);
+            sections[index].shown = count;
         }
     }
-    Ok(counts)
 }
 
-// How many entries are shown where so many are already, at most `most`, and there is room for so many lines more; and how many more
-// lines that takes.
-fn filled(section: &Section, before: usize, most: usize, room: usize) -> (usize, usize) {
-    let least = cost(section, before);
-    let mut count = before;
-    for next in before..section.entries.len().min(most) {
-        let more = cost(section, next.saturating_add(1));
-        if more > least.saturating_add(room) {
+// How many entries of the section are shown, at most `most`, where there is room for so many lines more; and how many more lines that
+// takes.
+fn filled(section: &Section, most: usize, room: usize) -> (usize, usize) {
+    let least = cost(section, section.shown);
+    let mut count = section.shown;
+    for next in section.shown..section.entries.len().min(most) {
+        let more = next.saturating_add(1);
+        if cost(section, more) > least.saturating_add(room) {
             break;
         }
-        count = next.saturating_add(1);
+        count = more;
     }
     (count, cost(section, count).saturating_sub(least))
 }
@@ -108,47 +134,35 @@ fn lines_of(text: &[u8]) -> usize {
     text.iter().filter(|byte| **byte == b'\n').count()
 }
 
-// Adds so many entries of the section, and how many more there are; nothing where no entry is shown.
-fn push_section(out: &mut String, section: &Section, count: usize) -> Result<(), OutOfMemory> {
-    if count == 0 {
-        return Ok(());
+// Adds the entries of the section that are shown, and how many more there are; nothing where none is shown.
+fn push_section(pen: &mut Pen, section: &Section) {
+    if section.is_refused {
+        pen.refuse();
     }
-    out.push_str("\n")?;
-    out.push_str(section.heading.as_str())?;
-    for entry in section.entries.iter().take(count) {
-        out.push_str(entry.as_str())?;
+    if section.shown == 0 {
+        return;
     }
-    push_left(out, section, count)
+    pen.put("\n");
+    pen.put(section.heading);
+    for entry in section.entries.iter().take(section.shown) {
+        pen.put(entry.as_str());
+    }
+    if section.shown < section.total {
+        push_left(pen, section);
+    }
 }
 
-// Adds how many entries there are of each section of which none is shown.
-fn push_unshown(
-    out: &mut String,
-    sections: &[Section],
-    counts: &[usize],
-) -> Result<(), OutOfMemory> {
-    let mut is_first = true;
-    for index in 0..sections.len() {
-        let section = &sections[index];
-        if section.total > 0 && counts.get(index).copied().unwrap_or(0) == 0 {
-            if is_first {
-                out.push_str("\n")?;
-                is_first = false;
-            }
-            push_left(out, section, 0)?;
-        }
-    }
-    Ok(())
-}
-
-// Adds how many entries are left out where so many are shown, if any are.
-fn push_left(out: &mut String, section: &Section, count: usize) -> Result<(), OutOfMemory> {
-    let left = section.total.saturating_sub(count);
-    if left == 0 {
-        return Ok(());
-    }
-    let what = section.what;
-    let words = section.words;
-    let more = if count == 0 { "" } else { " more" };
-    writeln!(out, "... {left}{more}: {what} ({words})")
+// Adds how many entries are left out.
+fn push_left(pen: &mut Pen, section: &Section) {
+    let left = section.total.saturating_sub(section.shown) as u64;
+    let form = if section.shown == 0 {
+        "... #: "
+    } else {
+        "... # more: "
+    };
+    pen.fill(form, &[left]);
+    pen.put(section.what);
+    pen.put(" (");
+    pen.put(section.words);
+    pen.put(")\n");
 }

@@ -1,74 +1,64 @@
 //! Flushes and fences that do nothing, in words: by source place, or by thread and cache line.
 
-use crate::people_parts::{plural, push_label};
+use crate::parts::{push_count, push_label};
 use crate::screen::Section;
 use crate::telling::{Telling, line_address};
 use pmt_causes::{DropWord, DroppedKey, Group, ReasonKind, Spot};
 use pmt_explanation::{first, first_of};
-use pmt_model::OutOfMemory;
+use pmt_pen::Pen;
 use pmt_reasons::Reason;
 
 // What does nothing.
-pub(crate) fn dropped_section(told: &Telling<'_>) -> Result<Section, OutOfMemory> {
+pub(crate) fn dropped_section(told: &Telling<'_>) -> Section {
     let groups = told.explanation.dropped_groups.as_slice();
-    let mut entries = Vec::new(told.alloc);
+    let mut section = Section::new(
+        told.alloc,
+        "note: flushes and fences that do nothing, most first:\n",
+        groups.len(),
+        "places of flushes and fences that do nothing",
+        "--only dropped --limit all",
+    );
     for group in first(groups, told.explanation.limit) {
-        let mut entry = String::new(told.alloc);
-        push_dropped(&mut entry, told, group)?;
-        entries.push(entry)?;
+        let mut pen = Pen::new(told.alloc);
+        push_dropped(&mut pen, told, group);
+        section.add(pen);
     }
-    Ok(Section {
-        heading: String::from_str(
-            told.alloc,
-            "note: flushes and fences that do nothing, most first:\n",
-        )?,
-        entries,
-        total: groups.len(),
-        what: "places of flushes and fences that do nothing",
-        words: "--only dropped --limit all",
-    })
+    section
 }
 
 // Adds the group.
-fn push_dropped(
-    out: &mut String,
-    told: &Telling<'_>,
-    group: &Group<DroppedKey>,
-) -> Result<(), OutOfMemory> {
-    let count = group.members.len() as u64;
-    let word = drop_word(group.key.word);
-    write!(out, "  {count} time{} {word}", plural(count))?;
-    push_spot(out, told, group.key.spot)?;
+fn push_dropped(pen: &mut Pen, told: &Telling<'_>, group: &Group<DroppedKey>) {
+    pen.put("  ");
+    push_count(pen, group.members.len() as u64, "time");
+    pen.put(" ");
+    pen.put(drop_word(group.key.word));
+    push_spot(pen, told, group.key.spot);
     let number = first_of(group);
-    let reason = reason_words(group.key.reason);
-    write!(out, ", first event {number}: {reason}")?;
-    push_by(out, told, number)?;
-    out.push_str("\n")
+    pen.fill(", first event #: ", &[number]);
+    pen.put(reason_words(group.key.reason));
+    if let Some(by) = by_of(told, number) {
+        pen.fill(" (event #)", &[by]);
+    }
+    pen.put("\n");
 }
 
 // Adds where the events of a group stand.
-fn push_spot(out: &mut String, told: &Telling<'_>, spot: Spot) -> Result<(), OutOfMemory> {
+fn push_spot(pen: &mut Pen, told: &Telling<'_>, spot: Spot) {
     match spot {
-        Spot::Label(label) => push_label(out, told, label),
+        Spot::Label(label) => push_label(pen, told, label),
         Spot::Line { thread, line } => {
             let line = line_address(told.trace, line);
-            write!(out, " of {line:#x} by thread {thread}")
+            pen.fill(" of @ by thread #", &[line, thread as u64]);
         }
-        Spot::Thread(thread) => write!(out, " by thread {thread}"),
+        Spot::Thread(thread) => pen.fill(" by thread #", &[thread as u64]),
     }
 }
 
-// Adds the event in whose favour this one is dropped, if there is one.
-fn push_by(out: &mut String, told: &Telling<'_>, number: u64) -> Result<(), OutOfMemory> {
-    match reason_at(told, number) {
-        Some(Reason::Repeated { by }) | Some(Reason::Overtaken { by }) => {
-            write!(out, " (event {by})")
-        }
-        Some(Reason::Safe)
-        | Some(Reason::Unfenced)
-        | Some(Reason::Empty)
-        | Some(Reason::Useless)
-        | None => Ok(()),
+// The event in whose favour this one is dropped, if there is one.
+fn by_of(told: &Telling<'_>, number: u64) -> Option<u64> {
+    match reason_at(told, number)? {
+        Reason::Repeated { by } | Reason::Overtaken { by } => Some(by),
+        Reason::Safe | Reason::Unfenced | Reason::Empty | Reason::Useless => None,
     }
 }
 

@@ -1,10 +1,11 @@
 //! Guesses at what is noise: what could be left out.
 
-use crate::people_parts::{is_unflushed, plural};
+use crate::parts::{is_unflushed, push_count};
 use crate::screen::Section;
 use crate::telling::{Telling, line_address};
 use pmt_explain::{LostGroup, OverwrittenGroup};
 use pmt_model::{Op, OutOfMemory, Range, Trace, line_of};
+use pmt_pen::Pen;
 use std::collections::HashMap;
 
 // The most guesses of each kind.
@@ -14,28 +15,24 @@ const FEW: usize = 3;
 const LONGEST: u64 = 4096;
 
 // What looks like noise: stores to a line that no event flushes, and stores that always write the same bytes again.
-pub(crate) fn guesses_section(told: &Telling<'_>) -> Result<Section, OutOfMemory> {
-    let mut entries = Vec::new(told.alloc);
-    push_unflushed(told, &mut entries)?;
-    push_repeated(told, &mut entries)?;
-    let total = entries.len();
-    Ok(Section {
-        heading: String::from_str(
-            told.alloc,
-            "guess: if a crash may lose these, as locks or statistics, this leaves them out:\n",
-        )?,
-        entries,
-        total,
-        what: "guesses at what could be ignored",
-        words: "--limit all",
-    })
+pub(crate) fn guesses_section(told: &Telling<'_>) -> Section {
+    let mut section = Section::new(
+        told.alloc,
+        "guess: if a crash may lose these, as locks or statistics, this leaves them out:\n",
+        0,
+        "guesses at what could be ignored",
+        "--limit all",
+    );
+    if !told.explanation.lost.is_empty() && add_unflushed(&mut section, told).is_err() {
+        section.refuse();
+    }
+    add_repeated(&mut section, told);
+    section.total = section.entries.len();
+    section
 }
 
 // Adds the first lines of never persisted stores that no event flushes and no failed assertion names.
-fn push_unflushed(told: &Telling<'_>, entries: &mut Vec<String>) -> Result<(), OutOfMemory> {
-    if told.explanation.lost.is_empty() {
-        return Ok(());
-    }
+fn add_unflushed(section: &mut Section, told: &Telling<'_>) -> Result<(), OutOfMemory> {
     let flushed = flushed_lines(told)?;
     let claimed = claimed_lines(told)?;
     let mut guesses = 0usize;
@@ -43,27 +40,21 @@ fn push_unflushed(told: &Telling<'_>, entries: &mut Vec<String>) -> Result<(), O
         let is_flushed = flushed.get(&group.line).copied().unwrap_or(true);
         let is_quiet = is_unflushed(group.cause) && !is_flushed;
         if guesses < FEW && is_quiet && !is_claimed(told.trace, &claimed, group.line) {
-            push_line_guess(told, entries, group)?;
+            section.add(line_guess(told, group));
             guesses = guesses.saturating_add(1);
         }
     }
     Ok(())
 }
 
-// Adds the line of the stores.
-fn push_line_guess(
-    told: &Telling<'_>,
-    entries: &mut Vec<String>,
-    group: &LostGroup,
-) -> Result<(), OutOfMemory> {
+// The guess at the line of the stores.
+fn line_guess(told: &Telling<'_>, group: &LostGroup) -> Pen {
     let line = line_address(told.trace, group.line);
-    let size = told.trace.format().line_size();
-    let count = group.count;
-    entries.push(format!(in told.alloc;
-        "  --ignore {line:#x}:{size}  {count} store{}, and no flush of the line in the whole trace\n",
-        plural(count)
-    )?)?;
-    Ok(())
+    let mut pen = Pen::new(told.alloc);
+    pen.fill("  --ignore @:#  ", &[line, told.trace.format().line_size()]);
+    push_count(&mut pen, group.count, "store");
+    pen.put(", and no flush of the line in the whole trace\n");
+    pen
 }
 
 // The ranges of failed assertions: of each line with which one begins the last line of the longest one.
@@ -147,21 +138,23 @@ fn flushed_lines(told: &Telling<'_>) -> Result<HashMap<u64, bool>, OutOfMemory> 
 }
 
 // Adds the first lines whose overwritten stores all write the same bytes again.
-fn push_repeated(told: &Telling<'_>, entries: &mut Vec<String>) -> Result<(), OutOfMemory> {
+fn add_repeated(section: &mut Section, told: &Telling<'_>) {
     let mut guesses = 0usize;
     for group in told.explanation.overwritten.as_slice() {
         if guesses < FEW && group.same == group.count {
             if let Some((addr, len)) = bytes_of(told.trace, group) {
-                let count = group.count;
-                entries.push(format!(in told.alloc;
-                    "  --ignore {addr:#x}:{len}  the same bytes are stored again, {count} time{} in this line\n",
-                    plural(count)
-                )?)?;
+                let mut pen = Pen::new(told.alloc);
+                pen.fill(
+                    "  --ignore @:#  the same bytes are stored again, ",
+                    &[addr, len],
+                );
+                push_count(&mut pen, group.count, "time");
+                pen.put(" in this line\n");
+                section.add(pen);
                 guesses = guesses.saturating_add(1);
             }
         }
     }
-    Ok(())
 }
 
 // The bytes of the first store that is overwritten.

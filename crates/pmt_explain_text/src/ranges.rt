@@ -1,10 +1,11 @@
 //! The ranges of a failed assertion, cache line by cache line, in words.
 
-use crate::people_memory::{Cell, cells_of, push_memory};
-use crate::people_parts::{plural, words_of};
+use crate::memory::{Cell, cells_of, push_memory};
+use crate::parts::{push_count, push_words};
 use crate::telling::{Telling, line_address};
-use pmt_explanation::ShownFailure;
+use pmt_explanation::{RangeAfter, ShownFailure};
 use pmt_model::{Event, Op, OutOfMemory, Range, Trace, line_of};
+use pmt_pen::Pen;
 use std::alloc::Global;
 
 // The most cache lines that are shown of a range.
@@ -30,35 +31,34 @@ struct RangeLine {
 }
 
 // Adds the lines of the range that the assertion wants kept.
-pub(crate) fn push_range(
-    out: &mut String,
-    told: &Telling<'_>,
-    shown: &ShownFailure,
-) -> Result<(), OutOfMemory> {
+pub(crate) fn push_range(pen: &mut Pen, told: &Telling<'_>, shown: &ShownFailure) {
     let Some(after) = shown.ranges.first() else {
-        return Ok(());
+        return;
     };
-    let addr = after.range.addr().get();
-    let len = after.range.len();
-    writeln!(
-        out,
-        "  the {len} byte{} from {addr:#x} on, by cache line, at the crash:",
-        plural(len)
-    )?;
-    let cells = cells_of(told.alloc, told.trace, shown.event, after)?;
-    let lines = range_lines(told, shown.failure.place, after.range, cells.as_slice())?;
-    push_lines(
-        out,
-        told,
-        first_line(told.trace, after.range),
-        lines.as_slice(),
-    )?;
-    push_memory(out, cells.as_slice())
+    pen.put("  the ");
+    push_count(pen, after.range.len(), "byte");
+    pen.fill(
+        " from @ on, by cache line, at the crash:\n",
+        &[after.range.addr().get()],
+    );
+    if push_after(pen, told, shown, after).is_err() {
+        pen.refuse();
+    }
 }
 
-// The number of the range's first line.
-fn first_line(trace: &Trace, range: Range) -> u64 {
-    line_of(trace.format(), range.addr())
+// Adds what the crash leaves of the range.
+fn push_after(
+    pen: &mut Pen,
+    told: &Telling<'_>,
+    shown: &ShownFailure,
+    after: &RangeAfter,
+) -> Result<(), OutOfMemory> {
+    let cells = cells_of(told, shown.event, after)?;
+    let lines = range_lines(told, shown.failure.place, after.range, cells.as_slice())?;
+    let first = line_of(told.trace.format(), after.range.addr());
+    push_lines(pen, told, first, lines.as_slice());
+    push_memory(pen, cells.as_slice());
+    Ok(())
 }
 
 // The lines of the range, lowest first.
@@ -68,7 +68,7 @@ fn range_lines(
     range: Range,
     cells: &[Cell],
 ) -> Result<Vec<RangeLine>, OutOfMemory> {
-    let first = first_line(told.trace, range);
+    let first = line_of(told.trace.format(), range.addr());
     let size = told.trace.format().line_size();
     let end = range.addr().get().saturating_add(range.len());
     let count = end.saturating_add(size - 1) / size;
@@ -149,81 +149,55 @@ fn note_flush(lines: &mut [RangeLine], first: u64, line: u64, flush: LastFlush) 
 }
 
 // Adds the lines, of which the first has this number: if they are many, those that lose a store.
-fn push_lines(
-    out: &mut String,
-    told: &Telling<'_>,
-    first: u64,
-    lines: &[RangeLine],
-) -> Result<(), OutOfMemory> {
+fn push_lines(pen: &mut Pen, told: &Telling<'_>, first: u64, lines: &[RangeLine]) {
     let are_many = lines.len() > ROWS;
     let mut rows = 0usize;
+    let mut losing = 0usize;
     for place in 0..lines.len() {
         let line = lines[place];
+        if line.lost.is_some() {
+            losing = losing.saturating_add(1);
+        }
         if rows < ROWS && (line.lost.is_some() || !are_many) {
             let number = first.saturating_add(place as u64);
-            push_line(out, told, number, line)?;
+            push_line(pen, told, number, line);
             rows = rows.saturating_add(1);
         }
     }
-    push_rest(out, lines, rows)
-}
-
-// Adds how many lines are not shown.
-fn push_rest(out: &mut String, lines: &[RangeLine], rows: usize) -> Result<(), OutOfMemory> {
-    let losing = lines.iter().filter(|line| line.lost.is_some()).count();
     let left = lines.len().saturating_sub(rows);
-    if left == 0 {
-        return Ok(());
+    if left > 0 {
+        let more = losing.saturating_sub(rows);
+        pen.fill(
+            "    and # more that lose stores, # that are kept\n",
+            &[more as u64, left.saturating_sub(more) as u64],
+        );
     }
-    let more = losing.saturating_sub(rows);
-    let kept = left.saturating_sub(more);
-    writeln!(
-        out,
-        "    and {more} more that lose stores, {kept} that are kept"
-    )
 }
 
-// Adds the line.
-fn push_line(
-    out: &mut String,
-    told: &Telling<'_>,
-    number: u64,
-    line: RangeLine,
-) -> Result<(), OutOfMemory> {
-    let addr = line_address(told.trace, number);
-    write!(out, "    {addr:#x}: ")?;
-    push_lost(out, line.lost)?;
+// Adds the line: which store is lost, if one is, and its last flush.
+fn push_line(pen: &mut Pen, told: &Telling<'_>, number: u64, line: RangeLine) {
+    pen.fill("    @: ", &[line_address(told.trace, number)]);
+    match line.lost {
+        Some(store) => pen.fill("loses event #; ", &[store]),
+        None => pen.put("kept; "),
+    }
     match line.flush {
-        Some(flush) => push_flush(out, told, flush),
-        None => out.push_str("no flush by then\n"),
+        Some(flush) => push_flush(pen, told, flush),
+        None => pen.put("no flush by then\n"),
     }
 }
 
-// Adds which store is lost, if one is.
-fn push_lost(out: &mut String, lost: Option<u64>) -> Result<(), OutOfMemory> {
-    match lost {
-        Some(store) => write!(out, "loses event {store}; "),
-        None => out.push_str("kept; "),
+// Adds the last flush of the line, and the fence that completes it.
+fn push_flush(pen: &mut Pen, told: &Telling<'_>, flush: LastFlush) {
+    pen.fill("last flush event #", &[flush.event]);
+    if let Some(event) = told.trace.get(flush.event) {
+        pen.put(" (");
+        push_words(pen, event);
+        pen.put(")");
     }
-}
-
-// Adds the last flush of the line, and what completes it.
-fn push_flush(out: &mut String, told: &Telling<'_>, flush: LastFlush) -> Result<(), OutOfMemory> {
-    let event = flush.event;
-    write!(out, "last flush event {event}")?;
-    if let Some(made) = told.trace.get(event) {
-        let words = words_of(told.alloc, made)?;
-        write!(out, " ({words})")?;
-    }
-    push_fence(out, flush)
-}
-
-// Adds the fence that completes the flush.
-fn push_fence(out: &mut String, flush: LastFlush) -> Result<(), OutOfMemory> {
-    let thread = flush.thread;
     match flush.fence {
-        _ if flush.is_complete => out.push_str(", complete at once\n"),
-        Some(fence) => writeln!(out, ", fence event {fence}"),
-        None => writeln!(out, ", no fence of thread {thread} after it"),
+        _ if flush.is_complete => pen.put(", complete at once\n"),
+        Some(fence) => pen.fill(", fence event #\n", &[fence]),
+        None => pen.fill(", no fence of thread # after it\n", &[flush.thread as u64]),
     }
 }

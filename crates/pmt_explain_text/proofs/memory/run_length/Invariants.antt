@@ -1,5 +1,5 @@
 use Rattle.std.proofs.Common.{length, ◌-◌, ◌≤◌}
-use Rattle.pmt_explain_text.proofs.people_memory.run_length.Given as goal
+use Rattle.pmt_explain_text.proofs.memory.run_length.Given as goal
 
 abbrev pub invariant-loop-count : goal.invariant-loop-count
 invariant-loop-count l = l.count ≤ length l.cells

@@ -1,0 +1,82 @@
+//! Failed assertions in words.
+
+use crate::causes::{part_word, push_head, push_others};
+use crate::commands::push_draw;
+use crate::parts::{plural, push_event, push_named, push_remedy};
+use crate::ranges::push_range;
+use crate::screen::Section;
+use crate::telling::{Telling, line_address};
+use pmt_causes::{FailureKey, Group};
+use pmt_explanation::ShownFailure;
+use pmt_pen::Pen;
+
+// The most cache lines that are named.
+const FEW: usize = 3;
+
+// The failed assertions, each cause once.
+pub(crate) fn failures_section(told: &Telling<'_>) -> Section {
+    let failures = told.explanation.failures.as_slice();
+    let causes = told.explanation.causes.as_slice();
+    let mut section = Section::new(
+        told.alloc,
+        "",
+        causes.len(),
+        "causes of failed assertions",
+        "--only failure --limit all",
+    );
+    for (shown, group) in failures.iter().zip(causes.iter()) {
+        let mut pen = Pen::new(told.alloc);
+        push_failure(&mut pen, told, shown, group);
+        section.add(pen);
+    }
+    section
+}
+
+// Adds the failed assertion in full.
+fn push_failure(
+    pen: &mut Pen,
+    told: &Telling<'_>,
+    shown: &ShownFailure,
+    group: &Group<FailureKey>,
+) {
+    push_head(pen, group, shown.event);
+    push_named(pen, told, "  claim:  ", shown.event);
+    push_others(pen, group);
+    push_crash(pen, told, shown, group);
+    let line = shown.failure.lost.byte / told.trace.format().line_size();
+    push_remedy(pen, told, shown.cause, line, shown.mend);
+    push_range(pen, told, shown);
+    push_lines(pen, told, shown);
+    push_draw(pen, told, "--failure #", shown.event, shown.event);
+}
+
+// Adds the crash: where it comes, and which store it keeps, if that is told, and which it loses.
+fn push_crash(pen: &mut Pen, told: &Telling<'_>, shown: &ShownFailure, group: &Group<FailureKey>) {
+    pen.fill("  crash:  right after event #\n", &[shown.failure.place]);
+    if let Some(kept) = shown.failure.kept {
+        pen.fill("  keeps:  byte @ of ", &[kept.byte]);
+        push_event(pen, told, kept.store);
+    }
+    let lost = shown.failure.lost;
+    pen.fill("  loses:  byte @, in the ", &[lost.byte]);
+    pen.put(part_word(group.key.part));
+    pen.put(" cache line of its range, of ");
+    push_event(pen, told, lost.store);
+}
+
+// Adds of which cache lines the crash keeps fewer stores than there are, and of how many it keeps all.
+fn push_lines(pen: &mut Pen, told: &Telling<'_>, shown: &ShownFailure) {
+    pen.put("  kept:  ");
+    for line in shown.lines.iter().take(FEW) {
+        let addr = line_address(told.trace, line.line);
+        pen.fill(" # of # in @;", &[line.persisted, line.stores, addr]);
+    }
+    let more = shown.lines.len().saturating_sub(FEW);
+    if more > 0 {
+        pen.fill(" not all in # more (--json has them);", &[more as u64]);
+    }
+    let whole = shown.whole_lines;
+    pen.fill(" all stores in # other cache line", &[whole]);
+    pen.put(plural(whole));
+    pen.put("\n");
+}

@@ -1,0 +1,177 @@
+//! Events, causes and mends in words.
+
+use crate::telling::{Telling, line_address};
+use pmt_model::Event;
+use pmt_pen::Pen;
+use pmt_reasons::{Cause, Mend};
+use pmt_text::write_event;
+
+// The ending of a noun for so many.
+pub(crate) fn plural(count: u64) -> &'static str {
+    if count == 1 { "" } else { "s" }
+}
+
+// Adds how many there are of what the noun names.
+pub(crate) fn push_count(pen: &mut Pen, count: u64, noun: &str) {
+    pen.number(count);
+    pen.put(" ");
+    pen.put(noun);
+    pen.put(plural(count));
+}
+
+// Whether the cause is that no flush follows.
+pub(crate) fn is_unflushed(cause: Cause) -> bool {
+    match cause {
+        Cause::Unflushed => true,
+        Cause::Later
+        | Cause::Unfenced {
+            flush: _,
+            thread: _,
+            other: _,
+        } => false,
+    }
+}
+
+// Adds the event as a person finds it again: its number, line, thread, label and words.
+pub(crate) fn push_event(pen: &mut Pen, told: &Telling<'_>, number: u64) {
+    let Some(event) = told.trace.get(number) else {
+        pen.fill("event #\n", &[number]);
+        return;
+    };
+    let Event { thread, op } = event;
+    pen.fill(
+        "event # (line #, thread #)",
+        &[number, number.saturating_add(1), thread as u64],
+    );
+    push_label(pen, told, number);
+    pen.put(": ");
+    push_words(pen, Event { thread, op });
+    pen.put("\n");
+}
+
+// Adds the event's line in the text of its trace, which is ASCII, without its LF.
+pub(crate) fn push_words(pen: &mut Pen, event: Event) {
+    let Event { thread, op } = event;
+    let Ok(line) = write_event(pen.alloc(), Event { thread, op }) else {
+        pen.refuse();
+        return;
+    };
+    for byte in line.as_slice() {
+        if *byte != b'\n' {
+            pen.letter(char::from(*byte));
+        }
+    }
+}
+
+// Adds the event after the name that it has in its entry.
+pub(crate) fn push_named(pen: &mut Pen, told: &Telling<'_>, name: &str, number: u64) {
+    pen.put(name);
+    push_event(pen, told, number);
+}
+
+// Adds where the event is made, if it has a label.
+pub(crate) fn push_label(pen: &mut Pen, told: &Telling<'_>, number: u64) {
+    if let Some(label) = told.labels.get(number) {
+        pen.put(" at ");
+        pen.put(label.as_str());
+    }
+}
+
+// Adds why the store is not safe by then, and what mends it.
+pub(crate) fn push_remedy(pen: &mut Pen, told: &Telling<'_>, cause: Cause, line: u64, mend: Mend) {
+    pen.put("  why:    ");
+    push_cause(pen, told, cause, line);
+    pen.put("  fix:    ");
+    push_mend(pen, told, mend);
+}
+
+// Adds why the store is not safe by then, with the fence of another thread that came in the place of the one that is wanted.
+fn push_cause(pen: &mut Pen, told: &Telling<'_>, cause: Cause, line: u64) {
+    let line = line_address(told.trace, line);
+    match cause {
+        Cause::Later => pen.put("the store comes later than the crash\n"),
+        Cause::Unflushed => pen.fill(
+            "no flush of cache line @ follows the store by then\n",
+            &[line],
+        ),
+        Cause::Unfenced {
+            flush,
+            thread,
+            other,
+        } => {
+            pen.fill(
+                "cache line @ is flushed after the store, but thread # makes no fence after its flush by then\n",
+                &[line, thread as u64],
+            );
+            push_named(pen, told, "  flush:  ", flush);
+            if let Some(other) = other {
+                push_named(pen, told, OTHER, other);
+            }
+        }
+    }
+}
+
+const OTHER: &str =
+    "  note:   a fence completes the flushes of its own thread alone, so this one does not help: ";
+
+// Adds what mends the store.
+fn push_mend(pen: &mut Pen, told: &Telling<'_>, mend: Mend) {
+    match mend {
+        Mend::Fence {
+            thread,
+            after,
+            before,
+        } => {
+            pen.fill("Fence by thread # after ", &[thread as u64]);
+            push_when(pen, told, after, "", before);
+        }
+        Mend::FlushAndFence {
+            line,
+            after,
+            before,
+        } => {
+            let line = line_address(told.trace, line);
+            pen.fill("Flush cache line @ after ", &[line]);
+            push_when(pen, told, after, FENCED, before);
+        }
+        Mend::StoreFirst {
+            store,
+            before,
+            same_line,
+        } => {
+            pen.put("Make the store of ");
+            push_when(pen, told, store, " earlier", before);
+            pen.put(if same_line { ENOUGH } else { BETWEEN });
+        }
+    }
+}
+
+const FENCED: &str = ", and fence by the thread that flushes it";
+
+// What an earlier store wants besides.
+const ENOUGH: &str =
+    "          That is enough: stores to one cache line are persisted in their order.\n";
+
+const BETWEEN: &str =
+    "          Flush its cache line in between, and fence by the thread that flushes it.\n";
+
+// Adds the event, what is to be done besides, and by when.
+fn push_when(pen: &mut Pen, told: &Telling<'_>, number: u64, besides: &str, before: Option<u64>) {
+    push_place(pen, told, number);
+    pen.put(besides);
+    if let Some(event) = before {
+        pen.put(", before ");
+        push_place(pen, told, event);
+    }
+    pen.put(".\n");
+}
+
+// Adds the event's number, with its label if it has one.
+fn push_place(pen: &mut Pen, told: &Telling<'_>, number: u64) {
+    pen.fill("event #", &[number]);
+    if let Some(label) = told.labels.get(number) {
+        pen.put(" (");
+        pen.put(label.as_str());
+        pen.put(")");
+    }
+}

@@ -1,0 +1,131 @@
+//! The head of the text for people: counts, what is asked for, and what the words mean.
+
+use crate::ignored::push_ignored;
+use crate::parts::{is_unflushed, push_count};
+use crate::telling::Telling;
+use pmt_explanation::{Choice, Kind, Summary, per_cent, summary_of};
+use pmt_pen::Pen;
+
+// Adds the counts, and what the words mean.
+pub(crate) fn push_summary(pen: &mut Pen, told: &Telling<'_>) {
+    let counts = summary_of(told.explanation);
+    push_counts(pen, &counts, told.trace.format().line_size());
+    push_ignored(pen, told, &counts);
+    push_choice(pen, told.screen.choice);
+    pen.put(LEGEND);
+    if !told.explanation.asked_failing.is_empty() {
+        pen.put(CLAIMS);
+    }
+    if has_unflushed(told) {
+        pen.put(UNRECORDED);
+    }
+}
+
+// Adds how much there is, and how much of it is faulty, or does nothing.
+fn push_counts(pen: &mut Pen, counts: &Summary, line_size: u64) {
+    push_count(pen, counts.events, "event");
+    pen.put(", ");
+    push_count(pen, counts.threads, "thread");
+    pen.put(", ");
+    push_count(pen, counts.cache_lines, "cache line");
+    pen.fill(" of # bytes\n", &[line_size]);
+    pen.fill(
+        "  assertions that a crash can violate: # of #\n",
+        &[counts.failing, counts.assertions],
+    );
+    pen.fill(
+        "  stores never persisted, which a crash at the end can lose: # of #\n",
+        &[counts.never_persisted, counts.stores],
+    );
+    push_share(pen, "flushes", counts.flushes_dropped, counts.flushes);
+    push_share(pen, "fences", counts.fences_dropped, counts.fences);
+}
+
+// Adds how many of them do nothing.
+fn push_share(pen: &mut Pen, what: &str, part: u64, whole: u64) {
+    pen.put("  ");
+    pen.put(what);
+    pen.fill(
+        " that do nothing: # of # (#%)\n",
+        &[part, whole, per_cent(part, whole)],
+    );
+}
+
+// Whether a store is told as never persisted, since no flush follows.
+fn has_unflushed(told: &Telling<'_>) -> bool {
+    let lost = told.explanation.lost.as_slice();
+    lost.iter().any(|group| is_unflushed(group.cause))
+}
+
+const UNRECORDED: &str =
+    "Where no flush follows, look for one of another address: of memory outside the recorded pool, as a variable on the stack, a trace
+has no flushes.
+";
+
+const LEGEND: &str = "
+A store is safe from a crash once its cache line was flushed after it and the thread that flushed has fenced since; a clflush
+needs no fence. Before that a crash may keep it or lose it. Event N stands on line N + 1 of the trace.
+";
+
+const CLAIMS: &str =
+    "isPersist THREAD A N claims that a crash now keeps the last stores to the N bytes at A; isOrderedBefore THREAD A N B M, that
+no crash up to now keeps one of those to the M bytes at B without all of those to the N bytes at A.
+";
+
+// Adds which findings are told, if not all are.
+fn push_choice(pen: &mut Pen, choice: &Choice) {
+    if let Some(number) = failure_of(choice) {
+        pen.fill(
+            "  told below: the failed assertion of event # alone (--failure)\n",
+            &[number],
+        );
+        return;
+    }
+    if let Some(only) = choice.only {
+        push_told(pen, "", only.name(), " alone (--only)\n");
+    }
+    if let Some(thread) = choice.thread {
+        pen.fill(
+            "  told below: of thread # alone (--thread)\n",
+            &[thread as u64],
+        );
+    }
+    if let Some(range) = choice.range {
+        pen.put("  told below: of the ");
+        push_count(pen, range.len, "byte");
+        pen.fill(" from @ on alone (--range)\n", &[range.addr]);
+    }
+    if let Some(event) = choice.from {
+        pen.fill("  told below: from event # on alone (--from)\n", &[event]);
+    }
+    if let Some(event) = choice.to {
+        pen.fill("  told below: up to event # alone (--to)\n", &[event]);
+    }
+    if let Some(label) = &choice.label {
+        push_told(
+            pen,
+            "of labels with '",
+            label.as_str(),
+            "' in them alone (--label)\n",
+        );
+    }
+}
+
+// Adds what is told, with the words before and after it.
+fn push_told(pen: &mut Pen, before: &str, name: &str, after: &str) {
+    pen.put("  told below: ");
+    pen.put(before);
+    pen.put(name);
+    pen.put(after);
+}
+
+// The event of the failed assertion that is told alone, if one is.
+fn failure_of(choice: &Choice) -> Option<u64> {
+    let is_failure = matches!(choice.only, Some(Kind::Failure));
+    let is_all = choice.thread.is_none() && choice.range.is_none() && choice.label.is_none();
+    if is_failure && is_all && choice.from == choice.to {
+        choice.from
+    } else {
+        None
+    }
+}

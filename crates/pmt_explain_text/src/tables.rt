@@ -1,0 +1,81 @@
+//! What each thread and each label has in the trace, in tables.
+
+use crate::parts::push_label;
+use crate::screen::Section;
+use crate::telling::{Telling, tells_all};
+use pmt_causes::Row;
+use pmt_explanation::first;
+use pmt_pen::Pen;
+
+const THREADS: &str =
+    "table: what each thread makes, and how many of its flushes and fences do nothing:
+   stores  flushes   fences  do nothing
+";
+
+const LABELS: &str = "table: what is made at each source place, those first where most does nothing:
+   stores  flushes   fences  do nothing
+";
+
+// A row for each thread, where there are several.
+pub(crate) fn threads_section(told: &Telling<'_>) -> Section {
+    let all = told.explanation.threads.as_slice();
+    let rows = if all.len() > 1 && tells_all(told.screen.choice) {
+        all
+    } else {
+        &all[..0]
+    };
+    let mut section = Section::new(told.alloc, THREADS, rows.len(), "threads", "--limit all");
+    for row in first(rows, told.explanation.limit) {
+        let mut pen = Pen::new(told.alloc);
+        push_counts(&mut pen, row.stores, row.flushes, row.fences, row.dropped);
+        pen.fill("  thread #\n", &[row.key as u64]);
+        section.add(pen);
+    }
+    section
+}
+
+// A row for each label.
+pub(crate) fn labels_section(told: &Telling<'_>) -> Section {
+    let all = told.explanation.labelled.as_slice();
+    let rows = if tells_all(told.screen.choice) {
+        all
+    } else {
+        &all[..0]
+    };
+    let mut section = Section::new(
+        told.alloc,
+        LABELS,
+        rows.len(),
+        "source places",
+        "--limit all",
+    );
+    for row in first(rows, told.explanation.limit) {
+        let mut pen = Pen::new(told.alloc);
+        push_counts(&mut pen, row.stores, row.flushes, row.fences, row.dropped);
+        pen.put(" ");
+        push_label(&mut pen, told, row.key);
+        pen.put("\n");
+        section.add(pen);
+    }
+    section
+}
+
+// Adds the counts of a row.
+fn push_counts(pen: &mut Pen, stores: u64, flushes: u64, fences: u64, dropped: u64) {
+    push_column(pen, stores, 9);
+    push_column(pen, flushes, 9);
+    push_column(pen, fences, 9);
+    push_column(pen, dropped, 12);
+}
+
+// Adds the number at the right of a column of so many letters.
+fn push_column(pen: &mut Pen, number: u64, width: usize) {
+    let mut least = 1u64;
+    for _ in 1..width {
+        least = least.saturating_mul(10);
+        if number < least {
+            pen.letter(' ');
+        }
+    }
+    pen.number(number);
+}
