@@ -1,6 +1,5 @@
 //! The bytes that the failed assertion speaks of.
-use pmt_model::{Format, Op, OutOfMemory, Range};
-use std::alloc::Global;
+use pmt_model::{Format, Op, Range};
 
 /// What the assertion claims of the bytes.
 #[derive(Clone, Copy)]
@@ -25,10 +24,16 @@ pub struct Asserted {
 }
 
 impl Asserted {
+    /// The first and the last line of the bytes.
+    pub fn lines(&self, format: Format) -> (u64, u64) {
+        let size = format.line_size();
+        (self.first / size, self.last / size)
+    }
+
     /// The first and the last of the bytes in the line, counted from its start; none where it has none of them.
     pub fn within(&self, format: Format, line: u64) -> Option<(u64, u64)> {
         let size = format.line_size();
-        let (first, last) = (self.first / size, self.last / size);
+        let (first, last) = self.lines(format);
         if line < first || last < line {
             return None;
         }
@@ -43,18 +48,16 @@ impl Asserted {
 }
 
 /// The bytes of each range of the assertion; none of another event.
-pub fn asserted_of(alloc: Global, op: Op) -> Result<Vec<Asserted>, OutOfMemory> {
-    let mut all = Vec::new(alloc);
+pub fn asserted_of(op: Op) -> [Option<Asserted>; 2] {
     match op {
-        Op::IsPersist(range) => all.push(bytes_of(range, Role::Saved))?,
-        Op::IsOrderedBefore(first, second) => {
-            all.push(bytes_of(first, Role::First))?;
-            all.push(bytes_of(second, Role::Second))?;
-        }
+        Op::IsPersist(range) => [Some(bytes_of(range, Role::Saved)), None],
+        Op::IsOrderedBefore(first, second) => [
+            Some(bytes_of(first, Role::First)),
+            Some(bytes_of(second, Role::Second)),
+        ],
         Op::Store(_) | Op::Clwb(_) | Op::ClflushOpt(_) | Op::Clflush(_) | Op::Sfence | Op::Mfence =>
-            {}
+            [None, None],
     }
-    Ok(all)
 }
 
 // The bytes of the range.

@@ -1,10 +1,10 @@
 //! A band of a picture: columns that stand side by side, with the rows that have something there.
 use crate::bars::{Bar, Row};
 use crate::layout::{GAP, LANE, LEFT, NAME, STRIP, TAG, THREAD, content};
-use crate::picture::{Column, Picture};
+use crate::picture::Picture;
 use crate::spans::line_of_op;
 use pmt_model::OutOfMemory;
-use std::alloc::Global;
+use std::alloc::{AllocError, Global};
 
 /// The most threads that have a row of their own.
 pub const MOST_THREADS: usize = 16;
@@ -60,6 +60,8 @@ pub struct Band {
     pub threads: Vec<u8>,
     /// Whether other threads share one more row.
     pub others: bool,
+    // Whether memory was refused to it.
+    refused: bool,
 }
 
 impl Band {
@@ -81,25 +83,30 @@ impl Band {
             right: LEFT,
             threads: Vec::new(alloc),
             others: false,
+            refused: false,
         };
         for place in picture.columns.iter().skip(start.column) {
             let is_full = band.slots.len() >= most || !band.has_room(picture, place.number);
             if is_full && !band.slots.is_empty() {
                 break;
             }
-            band.push_column(picture, place.number)?;
+            band.push_column(picture, place.number);
         }
         if band.next.column >= picture.columns.len() {
-            band.end(picture)?;
+            band.end(picture);
         }
-        band.take_threads(picture)?;
+        band.take_threads(picture);
+        band.threads.sort_unstable();
+        if band.refused {
+            return Err(AllocError);
+        }
         Ok(band)
     }
 
-    // Whether the column of the event has room, with its crashes and what is left out before it; behind the last one also with what stands
-    // at the end.
+    // Whether the next column, that of the event, has room, with its crashes and what is left out before it; behind the last one also with
+    // what stands at the end.
     fn has_room(&self, picture: &Picture, number: u64) -> bool {
-        let is_last = picture.columns.last().map(|column| column.number) == Some(number);
+        let is_last = self.next.column.saturating_add(1) >= picture.columns.len();
         let mut need = self.column;
         if number != self.next.before.saturating_add(1) {
             need = need.saturating_add(GAP);
@@ -116,28 +123,27 @@ impl Band {
     }
 
     // Adds the column of the event, with what stands before it and the crashes right after it.
-    fn push_column(&mut self, picture: &Picture, number: u64) -> Result<(), OutOfMemory> {
+    fn push_column(&mut self, picture: &Picture, number: u64) {
         let gap = self.take_gap(number != self.next.before.saturating_add(1));
-        self.push_crashes(picture, number.saturating_sub(1))?;
-        self.slots.push(Slot {
+        self.push_crashes(picture, number.saturating_sub(1));
+        let slot = Slot {
             number,
             left: self.right,
             gap,
-        })?;
+        };
+        self.refused = self.refused || self.slots.push(slot).is_err();
         self.right = self.right.saturating_add(self.column);
-        self.push_crashes(picture, number)?;
+        self.push_crashes(picture, number);
         self.next.before = number;
         self.next.column = self.next.column.saturating_add(1);
-        Ok(())
     }
 
     // Adds what stands after all columns.
-    fn end(&mut self, picture: &Picture) -> Result<(), OutOfMemory> {
+    fn end(&mut self, picture: &Picture) {
         let is_gap = !self.slots.is_empty() && self.next.before < picture.events;
         self.gap = self.take_gap(is_gap);
-        self.push_crashes(picture, u64::MAX)?;
+        self.push_crashes(picture, u64::MAX);
         self.right = self.right.max(LEFT.saturating_add(self.column));
-        Ok(())
     }
 
     // Where events are left out, takes the room for them and answers the middle of it.
@@ -151,65 +157,58 @@ impl Band {
     }
 
     // Adds the next crashes that come right after event `last` or before, side by side.
-    fn push_crashes(&mut self, picture: &Picture, last: u64) -> Result<(), OutOfMemory> {
+    fn push_crashes(&mut self, picture: &Picture, last: u64) {
         for crash in picture.crashes.iter().skip(self.next.crash) {
             if crash.failure.place > last {
                 break;
             }
-            self.sides.push(Side {
+            let side = Side {
                 crash: self.next.crash,
                 x: self.right,
-            })?;
+            };
+            self.refused = self.refused || self.sides.push(side).is_err();
             self.next.crash = self.next.crash.saturating_add(1);
             self.right = self.right.saturating_add(TAG);
         }
-        Ok(())
     }
 
     // Gives rows to threads while there is room: to those of the crashes' assertions, to those of the columns, the last first, and to
-    // those whose flushes wait.
-    fn take_threads(&mut self, picture: &Picture) -> Result<(), OutOfMemory> {
+    // those whose flushes of a band before wait for a fence in this one or later.
+    fn take_threads(&mut self, picture: &Picture) {
         for crash in picture.crashes.iter().skip(self.start.crash) {
             if let Some(assertion) = crash.assertion {
-                if self.has_event(assertion.number) {
-                    if let Some(column) = picture.column(assertion.number) {
-                        self.give_row(column.event.thread)?;
+                if let Some(column) = picture.column(assertion.number) {
+                    if self.has_event(column.number) {
+                        self.give_row(column.event.thread);
                     }
                 }
             }
         }
         for column in picture.columns.iter().rev() {
-            if self.has_event(column.number) && !self.give_row(column.event.thread)? {
-                self.others = true;
+            if self.has_event(column.number) {
+                self.give_row(column.event.thread);
+                self.others = self.others || !self.has_thread(column.event.thread);
             }
         }
         for column in &picture.columns {
-            if self.waits(column) {
-                let _has_row = self.give_row(column.event.thread)?;
+            if let Some(fence) = column.fence {
+                if column.number <= self.start.before && self.start.before < fence {
+                    self.give_row(column.event.thread);
+                }
             }
         }
-        self.threads.sort_unstable();
-        Ok(())
     }
 
-    // Gives the thread a row while there is room; tells whether it has one.
-    fn give_row(&mut self, thread: u8) -> Result<bool, OutOfMemory> {
-        if self.threads.as_slice().contains(&thread) {
-            return Ok(true);
+    // Gives the thread a row, if it has none, while there is room.
+    fn give_row(&mut self, thread: u8) {
+        if !self.has_thread(thread) && self.threads.len() < MOST_THREADS {
+            self.refused = self.refused || self.threads.push(thread).is_err();
         }
-        if self.threads.len() >= MOST_THREADS {
-            return Ok(false);
-        }
-        self.threads.push(thread)?;
-        Ok(true)
     }
 
-    // Whether the column is a flush of a band before, whose fence comes in this one or later.
-    fn waits(&self, column: &Column) -> bool {
-        match column.fence {
-            Some(fence) => column.number <= self.start.before && self.start.before < fence,
-            None => false,
-        }
+    /// Whether the thread has a row of its own.
+    pub fn has_thread(&self, thread: u8) -> bool {
+        self.threads.as_slice().contains(&thread)
     }
 
     /// Whether the event is drawn in this band, given that it is drawn.
@@ -272,34 +271,61 @@ impl Band {
         !is_over && bar.store <= self.next.before
     }
 
-    /// Whether something happens to the row's line in this band: an event of it, stores that get safe, or a crash that tells of them. A
-    /// picture of one band has each row there, and another one those with no event in its last band.
-    pub fn has_row(&self, picture: &Picture, row: &Row) -> bool {
+    // Whether something happens to the row's line in this band: an event of it, stores that get safe, or a crash that tells of them. A
+    // picture of one band has each row there, and another one those with no event in its last band.
+    fn has_row(&self, picture: &Picture, row: &Row) -> bool {
         let is_last = self.next.column >= picture.columns.len();
-        let is_only = is_last && self.start.column == 0;
-        is_only
-            || is_last && !has_event_of(picture, row.line)
-            || self
-                .slots
-                .iter()
-                .any(|slot| is_of_line(picture, slot.number, row.line))
-            || row.bars.iter().any(|bar| self.saves(bar))
-            || self
-                .sides
-                .iter()
-                .any(|side| tells_of(picture, side.crash, row))
-    }
-
-    // Whether the bar's stores get safe in this band.
-    fn saves(&self, bar: &Bar) -> bool {
-        match bar.safe {
-            Some(safe) => self.has_event(safe),
-            None => false,
+        if is_last && self.start.column == 0 {
+            return true;
         }
+        let mut is_drawn = false;
+        for column in &picture.columns {
+            if line_of_op(picture.format, column.event.op) == Some(row.line) {
+                if self.has_event(column.number) {
+                    return true;
+                }
+                is_drawn = true;
+            }
+        }
+        is_last && !is_drawn || self.saves(row) || self.tells_of(picture, row.line)
     }
 
-    /// The height of a line's row.
-    pub fn row_height(&self, row: &Row) -> u64 {
+    // Whether stores of the row get safe in this band.
+    fn saves(&self, row: &Row) -> bool {
+        for bar in &row.bars {
+            if let Some(safe) = bar.safe {
+                if self.has_event(safe) {
+                    return true;
+                }
+            }
+        }
+        false
+    }
+
+    // Whether a crash of this band loses or keeps a store of the line.
+    fn tells_of(&self, picture: &Picture, line: u64) -> bool {
+        for side in &self.sides {
+            if let Some(crash) = picture.crashes.get(side.crash) {
+                for store in &crash.lost {
+                    if is_of_line(picture, *store, line) {
+                        return true;
+                    }
+                }
+                if let Some(kept) = crash.failure.kept {
+                    if is_of_line(picture, kept.store, line) {
+                        return true;
+                    }
+                }
+            }
+        }
+        false
+    }
+
+    /// The height of a line's row; 0 where the band has none of it.
+    pub fn row_height(&self, picture: &Picture, row: &Row) -> u64 {
+        if !self.has_row(picture, row) {
+            return 0;
+        }
         let mut lanes: u64 = 0;
         for bar in &row.bars {
             if self.has_bar(bar) {
@@ -318,27 +344,6 @@ fn is_of_line(picture: &Picture, number: u64, line: u64) -> bool {
         Some(column) => line_of_op(picture.format, column.event.op) == Some(line),
         None => false,
     }
-}
-
-// Whether an event is drawn that stores to the line or flushes it.
-fn has_event_of(picture: &Picture, line: u64) -> bool {
-    picture.columns.iter().any(|column| line_of_op(picture.format, column.event.op) == Some(line))
-}
-
-// Whether the crash loses or keeps a store of the row.
-fn tells_of(picture: &Picture, crash: usize, row: &Row) -> bool {
-    let Some(crash) = picture.crashes.get(crash) else {
-        return false;
-    };
-    if let Some(kept) = crash.failure.kept {
-        if is_of_line(picture, kept.store, row.line) {
-            return true;
-        }
-    }
-    crash
-        .lost
-        .iter()
-        .any(|store| is_of_line(picture, *store, row.line))
 }
 
 // The least height of a line's row: its name, and what is asserted of its bytes.

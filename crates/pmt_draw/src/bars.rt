@@ -1,9 +1,10 @@
 //! The stores of a line, and when each of them changes its state.
-use crate::numbered::{count_before, is_listed};
+use crate::numbered::{Numbers, count_before, is_listed};
+use crate::picture::Column;
 use crate::spans::line_of_op;
 use crate::waiting::{is_fence, is_flush};
-use pmt_model::{OutOfMemory, Trace};
-use std::alloc::Global;
+use pmt_model::{Format, Op, OutOfMemory, Trace};
+use std::alloc::{AllocError, Global};
 
 /// The most lanes of a row, beside those of stores that the picture tells of.
 pub const MOST_LANES: usize = 8;
@@ -52,9 +53,14 @@ pub struct Bar {
 }
 
 impl Bar {
-    /// Whether the store with this number is one of its stores, given that it is one of its line.
-    pub fn has(&self, store: u64) -> bool {
-        self.store <= store && store <= self.last
+    /// Whether the column is one of its stores that are drawn.
+    pub fn has(&self, format: Format, column: &Column) -> bool {
+        let op = column.event.op;
+        let is_within = self.store <= column.number && column.number <= self.last;
+        is_within
+            && self.drawn > 0
+            && matches!(op, Op::Store(_))
+            && line_of_op(format, op) == Some(self.line)
     }
 }
 
@@ -71,6 +77,8 @@ pub struct Row {
     pub lanes: usize,
     /// How many bars have no lane left.
     pub crowded: u64,
+    // Whether memory was refused to it.
+    refused: bool,
 }
 
 impl Row {
@@ -82,6 +90,7 @@ impl Row {
             flushes: Vec::new(alloc),
             lanes: 0,
             crowded: 0,
+            refused: false,
         }
     }
 }
@@ -121,22 +130,31 @@ impl Drawn<'_> {
 pub fn row_of(alloc: Global, drawn: Drawn<'_>, line: u64) -> Result<Row, OutOfMemory> {
     let events = events_of(alloc, drawn, line)?;
     let mut row = Row::new(alloc, line);
-    let mut from = 0;
-    for column in drawn.columns {
-        if let Some(bar) = hidden_bar(drawn, &events, from, *column) {
-            push_bar(&mut row, drawn, bar)?;
-        }
-        if is_listed(events.stores.as_slice(), *column) {
-            push_bar(&mut row, drawn, bar_of(drawn, &events, *column))?;
-        }
-        from = count_before(events.stores.as_slice(), column.saturating_add(1));
-    }
+    push_bars(&mut row, drawn, &events);
     for flush in &events.flushes {
         if is_listed(drawn.columns, flush.number) {
-            row.flushes.push(*flush)?;
+            row.refused = row.refused || row.flushes.push(*flush).is_err();
         }
     }
+    if row.refused {
+        return Err(AllocError);
+    }
     Ok(row)
+}
+
+// Adds the bars of the line's stores.
+fn push_bars(row: &mut Row, drawn: Drawn<'_>, events: &LineEvents) {
+    let stores = events.stores.as_slice();
+    let mut from = 0;
+    for column in drawn.columns {
+        if let Some(bar) = hidden_bar(drawn, events, from, *column) {
+            push_bar(row, drawn, bar);
+        }
+        if is_listed(stores, *column) {
+            push_bar(row, drawn, bar_of(drawn, events, *column));
+        }
+        from = count_before(stores, column.saturating_add(1));
+    }
 }
 
 // The stores and the flushes of a line up to the last event that is drawn.
@@ -153,7 +171,7 @@ struct LineEvents {
 // Those of the line with this number.
 fn events_of(alloc: Global, drawn: Drawn<'_>, line: u64) -> Result<LineEvents, OutOfMemory> {
     let format = drawn.trace.format();
-    let mut stores = Vec::new(alloc);
+    let mut stores = Numbers::new(alloc);
     let mut flushes = Vec::new(alloc);
     let end = drawn.last() as usize;
     for (index, event) in drawn.trace.events().iter().enumerate().take(end) {
@@ -168,12 +186,12 @@ fn events_of(alloc: Global, drawn: Drawn<'_>, line: u64) -> Result<LineEvents, O
                 thread: event.thread,
             })?;
         } else {
-            stores.push(number)?;
+            stores.push(number);
         }
     }
     Ok(LineEvents {
         line,
-        stores,
+        stores: stores.rising()?,
         flushes,
     })
 }
@@ -203,10 +221,10 @@ fn hidden_bar(drawn: Drawn<'_>, events: &LineEvents, from: usize, next: u64) -> 
 // The bar of the store alone, with no lane yet.
 fn bar_of(drawn: Drawn<'_>, events: &LineEvents, store: u64) -> Bar {
     let place = drawn.safe_place(store);
-    let safe = if place <= drawn.last() {
-        Some(place)
+    let (safe, saver) = if place <= drawn.last() {
+        (Some(place), saver_of(drawn.trace, place))
     } else {
-        None
+        (None, None)
     };
     let later = events
         .flushes
@@ -219,28 +237,27 @@ fn bar_of(drawn: Drawn<'_>, events: &LineEvents, store: u64) -> Bar {
         older: 0,
         flush: events.flushes.get(later).copied(),
         safe,
-        saver: safe.and_then(|place| saver_of(drawn.trace, place)),
+        saver,
         lane: 0,
         until: None,
     }
 }
 
 // Adds the bar: to the last one, where they share their states, or else in the first lane that is free.
-fn push_bar(row: &mut Row, drawn: Drawn<'_>, bar: Bar) -> Result<(), OutOfMemory> {
+fn push_bar(row: &mut Row, drawn: Drawn<'_>, bar: Bar) {
     if joins(row.bars.as_mut_slice(), drawn.places, &bar) {
-        return Ok(());
+        return;
     }
     let lane = take_lane(row.bars.as_mut_slice(), row.lanes, bar.store);
     let is_told = bar.drawn > 0 && is_listed(drawn.told, bar.store);
     if lane >= MOST_LANES.max(row.lanes) && !is_told {
         row.crowded = row.crowded.saturating_add(1);
-        return Ok(());
+        return;
     }
     row.lanes = row.lanes.max(lane.saturating_add(1));
     let mut placed = bar;
     placed.lane = lane;
-    row.bars.push(placed)?;
-    Ok(())
+    row.refused = row.refused || row.bars.push(placed).is_err();
 }
 
 // Whether the last of these bars takes the bar in: both are of stores that are drawn, or both are of others, no crash comes between,

@@ -1,5 +1,6 @@
 //! The crashes that are drawn.
 use crate::known::Known;
+use crate::numbered::Numbers;
 use crate::spans::line_of_op;
 use pmt_explain::{LostGroup, cause, failure, lost_in_range};
 use pmt_model::{Op, OutOfMemory, Trace};
@@ -75,11 +76,11 @@ pub fn crash_at_end(
     group: LostGroup,
 ) -> Result<Crash, OutOfMemory> {
     let format = known.trace.format();
-    let mut lost = Vec::new(alloc);
+    let mut lost = Numbers::new(alloc);
     for number in known.never {
         if let Some(event) = known.trace.get(*number) {
             if line_of_op(format, event.op) == Some(group.line) {
-                lost.push(*number)?;
+                lost.push(*number);
             }
         }
     }
@@ -94,7 +95,7 @@ pub fn crash_at_end(
             },
         },
         cause: Some(group.cause),
-        lost,
+        lost: lost.rising()?,
     })
 }
 

@@ -1,12 +1,13 @@
 //! What stands over the drawing: what it is about, and what is left out.
 use crate::crash::Crash;
 use crate::layout::{EDGE, LINE, Layout};
-use crate::pen::Pen;
 use crate::picture::{MOST_CRASHES, Picture};
+use crate::shapes::push_shape;
 use crate::spans::address_of;
 use crate::subject::Subject;
 use crate::view::Span;
 use crate::words::{push_assertion, push_cause, push_claim, push_event, push_reason, push_shown};
+use pmt_pen::Pen;
 
 // The width of a letter of the told lines, in tenths of a pixel.
 const LETTER: u64 = 79;
@@ -33,7 +34,10 @@ pub fn push_head(pen: &mut Pen, picture: &Picture, layout: &Layout) -> u64 {
 // Adds the words of the first line, which is the page's title too.
 fn push_headline(pen: &mut Pen, picture: &Picture) {
     match picture.subject {
-        Subject::Failure(_) => push_failure_headline(pen, picture),
+        Subject::Failure(_) => if let Some(crash) = picture.focus() {
+            push_assertion(pen, crash);
+            pen.put(".");
+        },
         Subject::Lost(group) => {
             let line = address_of(picture.format, group.line);
             pen.fill("Never persisted: #", &[group.count]);
@@ -44,9 +48,7 @@ fn push_headline(pen: &mut Pen, picture: &Picture) {
             });
             pen.fill(" to line @", &[line]);
         }
-        Subject::Dropped(event) => {
-            pen.fill("Event # has no effect", &[event.event]);
-        }
+        Subject::Dropped(event) => pen.fill("Event # has no effect", &[event.event]),
         Subject::Overwritten(pair) => pen.fill(
             "Store # is written over by store # before any flush",
             &[pair.earlier, pair.later],
@@ -56,23 +58,10 @@ fn push_headline(pen: &mut Pen, picture: &Picture) {
             "The assertion of event # speaks of bytes that no store has written",
             &[number],
         ),
-        Subject::Events => push_events_headline(pen, picture),
-    }
-}
-
-// Adds which assertion fails.
-fn push_failure_headline(pen: &mut Pen, picture: &Picture) {
-    if let Some(crash) = picture.focus() {
-        push_assertion(pen, crash);
-        pen.put(".");
-    }
-}
-
-// Adds which events are drawn.
-fn push_events_headline(pen: &mut Pen, picture: &Picture) {
-    match (picture.columns.first(), picture.columns.last()) {
-        (Some(first), Some(last)) => pen.fill("Events # to #", &[first.number, last.number]),
-        _ => pen.put("No events"),
+        Subject::Events => match (picture.columns.first(), picture.columns.last()) {
+            (Some(first), Some(last)) => pen.fill("Events # to #", &[first.number, last.number]),
+            _ => pen.put("No events"),
+        },
     }
 }
 
@@ -95,32 +84,27 @@ fn push_focus(pen: &mut Pen, picture: &Picture, crash: &Crash, letters: u64, top
 
 // Adds what is told of what the picture is about, where that is no crash, and answers where that ends.
 fn push_about(pen: &mut Pen, picture: &Picture, letters: u64, top: u64) -> u64 {
+    let number = match picture.subject {
+        Subject::Dropped(event) => event.event,
+        Subject::Late(number) | Subject::Unwritten(number) => number,
+        _ => return top,
+    };
     let mut words = Pen::new(pen.alloc());
+    if let Some(column) = picture.column(number) {
+        push_event(&mut words, column);
+        words.put(": ");
+    }
     match picture.subject {
         Subject::Dropped(event) => {
-            push_subject(&mut words, picture, event.event);
             push_reason(&mut words, event.reason);
             words.put(".");
         }
-        Subject::Late(store) => {
-            push_subject(&mut words, picture, store);
-            words.put("two fences or more of its own thread come after it and leave it unsafe.");
-        }
-        Subject::Unwritten(number) => {
-            push_subject(&mut words, picture, number);
-            words.put("it checks nothing there.");
-        }
-        _ => {}
+        Subject::Late(_) => words.put(
+            "two fences or more of its own thread come after it and leave it unsafe.",
+        ),
+        _ => words.put("it checks nothing there."),
     }
     push_told(pen, "told", &words, letters, top)
-}
-
-// Adds the event that the picture is about, if it is drawn.
-fn push_subject(words: &mut Pen, picture: &Picture, number: u64) {
-    if let Some(column) = picture.column(number) {
-        push_event(words, column);
-        words.put(": ");
-    }
 }
 
 // Adds what is drawn and what is left out, and answers where that ends.
@@ -212,7 +196,7 @@ fn push_told(pen: &mut Pen, class: &str, words: &Pen, letters: u64, top: u64) ->
             used = used.saturating_add(1);
         } else {
             y = y.saturating_add(LINE);
-            pen.shape("text", class, "x='#' y='#'>", &[EDGE, y]);
+            push_shape(pen, "text", class, "x='#' y='#'>", &[EDGE, y]);
         }
         pen.put(word);
         used = used.saturating_add(wide);

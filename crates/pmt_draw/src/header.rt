@@ -3,10 +3,10 @@ use crate::labels::{Label, label_of, push_cut, room_of};
 use crate::layout::Layout;
 use crate::marks::push_mark;
 use crate::page::Page;
-use crate::pen::Pen;
 use crate::picture::{Column, Picture};
 use crate::spans::{address_of, line_of_op};
 use crate::words::{push_event_words, push_reason, word_of};
+use pmt_pen::Pen;
 
 // The most letters of a label that stands upright.
 const LABEL_LETTERS: u64 = 28;
@@ -34,7 +34,9 @@ fn letters_of(column: &Column, labels: &[Label]) -> u64 {
     let word = word_of(column.event.op).len() as u64;
     let digits = column.number.checked_ilog10().unwrap_or(0) as u64;
     let label = match label_of(labels, column.number) {
-        Some(label) => room_of(label).min(LABEL_LETTERS).saturating_add(1),
+        Some(label) => room_of(label, label.len())
+            .min(LABEL_LETTERS)
+            .saturating_add(1),
         None => 0,
     };
     word.saturating_add(digits)
@@ -107,8 +109,7 @@ fn push_judgement(pen: &mut Pen, column: &Column) {
 fn push_words(pen: &mut Pen, page: Page<'_>, column: &Column, x: u64) {
     let label = label_of(page.labels, column.number).unwrap_or("");
     if page.layout.is_flat() {
-        push_flat(pen, page, column, x);
-        push_label(pen, page, label, x);
+        push_flat(pen, page, column, label, x);
     } else {
         push_upright(pen, page, column, label, x);
     }
@@ -130,8 +131,8 @@ fn push_upright(pen: &mut Pen, page: Page<'_>, column: &Column, label: &str, x: 
     pen.put("</tspan></text>");
 }
 
-// Adds the number, and the word under it.
-fn push_flat(pen: &mut Pen, page: Page<'_>, column: &Column, x: u64) {
+// Adds the number, the word under it, and under that the label, if there is one, as far as it has room.
+fn push_flat(pen: &mut Pen, page: Page<'_>, column: &Column, label: &str, x: u64) {
     pen.fill(
         "<text class='mid strong' x='#' y='#'>#</text><text class='mid' x='#' y='#'>",
         &[
@@ -144,10 +145,6 @@ fn push_flat(pen: &mut Pen, page: Page<'_>, column: &Column, x: u64) {
     );
     pen.put(word_of(column.event.op));
     pen.put("</text>");
-}
-
-// Adds the label under the word, if there is one, as far as it has room.
-fn push_label(pen: &mut Pen, page: Page<'_>, label: &str, x: u64) {
     if !label.is_empty() {
         pen.fill(
             "<text class='mid soft label' x='#' y='#'>",

@@ -33,23 +33,21 @@ pub struct Known<'a> {
 impl Known<'_> {
     /// Why the event with this number is dropped, if it is.
     pub fn reason(&self, number: u64) -> Option<Reason> {
-        match self
+        let index = self
             .dropped
             .binary_search_by_key(&number, |other| other.event)
-        {
-            Ok(index) => self.dropped.get(index).map(|other| other.reason),
-            Err(_) => None,
-        }
+            .ok()?;
+        let other = self.dropped.get(index)?;
+        Some(other.reason)
     }
 
     /// Whether the assertion with this number passes; none where the event is no assertion or there is none.
     pub fn pass(&self, number: u64) -> Option<bool> {
-        match self
+        let index = self
             .verdicts
             .binary_search_by_key(&number, |verdict| verdict.event)
-        {
-            Ok(index) => self.verdicts.get(index).map(|verdict| verdict.pass),
-            Err(_) => None,
-        }
+            .ok()?;
+        let verdict = self.verdicts.get(index)?;
+        Some(verdict.pass)
     }
 }

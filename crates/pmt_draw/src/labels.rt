@@ -1,6 +1,6 @@
 //! What the program calls its events.
-use crate::pen::Pen;
 use crate::words::push_letter;
+use pmt_pen::Pen;
 use unicode_width::UnicodeWidthChar;
 
 /// What the program calls an event, as the place in its source.
@@ -20,15 +20,6 @@ pub fn label_of(labels: &[Label], number: u64) -> Option<&str> {
     }
 }
 
-/// How many letters' room the text takes: wide letters, as those of Chinese, take two.
-pub fn room_of(text: &str) -> u64 {
-    let mut room: u64 = 0;
-    for letter in text.chars() {
-        room = room.saturating_add(letter_room(letter));
-    }
-    room
-}
-
 // How many letters' room the letter takes.
 fn letter_room(letter: char) -> u64 {
     letter.width().unwrap_or(1) as u64
@@ -41,15 +32,13 @@ const CALLER: &str = " < ";
 /// place, which tells most.
 pub fn push_cut(pen: &mut Pen, label: &str, most: u64) {
     let place = match label.find(CALLER) {
-        Some(end) if room_of(label) > most => end,
+        Some(end) if room_of(label, label.len()) > most => end,
         _ => label.len(),
     };
-    let (callers, room) = if place < label.len() {
-        (2, room_before(label, place))
-    } else {
-        (0, room_of(label))
-    };
-    let mut over = room.saturating_add(callers).saturating_sub(most);
+    let callers = if place < label.len() { 2 } else { 0 };
+    let mut over = room_of(label, place)
+        .saturating_add(callers)
+        .saturating_sub(most);
     if over > 0 {
         over = over.saturating_add(1);
         pen.letter('…');
@@ -68,8 +57,8 @@ pub fn push_cut(pen: &mut Pen, label: &str, most: u64) {
     }
 }
 
-// How many letters' room the first bytes of the text take.
-fn room_before(text: &str, end: usize) -> u64 {
+/// How many letters' room the first bytes of the text take: wide letters, as those of Chinese, take two.
+pub fn room_of(text: &str, end: usize) -> u64 {
     let mut room: u64 = 0;
     let mut at = 0;
     for letter in text.chars() {

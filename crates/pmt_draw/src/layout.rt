@@ -130,47 +130,28 @@ pub fn content(picture: &Picture) -> u64 {
     }
 }
 
-// The width of each column: as wide as so many bands have room for, or the least.
+// The width of each column: as wide as so many bands have room for, or the least, in which the names of two threads do not touch. Events
+// may be left out before, between and after those that are drawn.
 fn column_width(picture: &Picture, bands: u64) -> u64 {
     let columns = picture.columns.len() as u64;
-    let narrow = narrowest(picture);
-    if columns == 0 {
-        return narrow;
-    }
-    let crashes = TAG.saturating_mul(picture.crashes.len() as u64);
-    let gaps = GAP.saturating_mul(gaps_of(picture));
-    let free = content(picture)
-        .saturating_mul(bands)
-        .saturating_sub(crashes)
-        .saturating_sub(gaps);
-    (free / columns).max(narrow).min(WIDE)
-}
-
-// The least width of a column, in which the names of two threads do not touch.
-fn narrowest(picture: &Picture) -> u64 {
-    if picture
-        .columns
-        .iter()
-        .any(|column| column.event.thread >= 100)
-    {
-        THREE_DIGITS
-    } else {
-        NARROW
-    }
-}
-
-// How often events are left out: before, between and after those that are drawn.
-fn gaps_of(picture: &Picture) -> u64 {
-    let mut gaps: u64 = 0;
+    let mut narrow = NARROW;
+    let mut taken = TAG.saturating_mul(picture.crashes.len() as u64);
     let mut before: u64 = 0;
     for column in &picture.columns {
+        if column.event.thread >= 100 {
+            narrow = THREE_DIGITS;
+        }
         if column.number != before.saturating_add(1) {
-            gaps = gaps.saturating_add(1);
+            taken = taken.saturating_add(GAP);
         }
         before = column.number;
     }
-    if before < picture.events {
-        gaps = gaps.saturating_add(1);
+    if columns == 0 {
+        return narrow;
     }
-    gaps
+    if before < picture.events {
+        taken = taken.saturating_add(GAP);
+    }
+    let free = content(picture).saturating_mul(bands).saturating_sub(taken);
+    (free / columns).max(narrow).min(WIDE)
 }

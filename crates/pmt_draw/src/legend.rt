@@ -1,5 +1,5 @@
 //! What the marks mean.
-use crate::pen::Pen;
+use pmt_pen::Pen;
 
 /// The height of a line of the legend.
 const LINE: u64 = 20;

@@ -1,7 +1,8 @@
 //! The marks of events.
-use crate::pen::Pen;
 use crate::picture::Column;
+use crate::shapes::push_shape;
 use pmt_model::Op;
+use pmt_pen::Pen;
 use pmt_reasons::Reason;
 
 /// What the mark of a flush or fence says besides.
@@ -47,24 +48,23 @@ pub fn push_mark(pen: &mut Pen, column: &Column, x: u64, y: u64) {
                 &[left, y.saturating_add(9), right],
             );
         }
-        Op::Sfence | Op::Mfence => push_box(pen, fence_class(worth), x, y, 3, 9),
+        Op::Sfence | Op::Mfence => {
+            let class = match worth {
+                Worth::Counts => "mark fence",
+                Worth::Hollow | Worth::Unfenced => "mark dropped fence",
+            };
+            push_box(pen, class, x, y, 3, 9)
+        }
         Op::IsPersist(_) | Op::IsOrderedBefore(_, _) => {
             push_verdict(pen, column.pass == Some(true), x, y)
         }
     }
 }
 
-// The rules for the mark of a fence.
-fn fence_class(worth: Worth) -> &'static str {
-    match worth {
-        Worth::Counts => "mark fence",
-        Worth::Hollow | Worth::Unfenced => "mark dropped fence",
-    }
-}
-
 // Adds a box around this point, with half its width and height.
 fn push_box(pen: &mut Pen, class: &str, x: u64, y: u64, wide: u64, high: u64) {
-    pen.shape(
+    push_shape(
+        pen,
         "rect",
         class,
         "x='#' y='#' width='#' height='#'/>",
@@ -81,7 +81,8 @@ fn push_box(pen: &mut Pen, class: &str, x: u64, y: u64, wide: u64, high: u64) {
 fn push_triangle(pen: &mut Pen, worth: Worth, x: u64, y: u64) {
     let (left, right) = (x.saturating_sub(7), x.saturating_add(7));
     let (top, low) = (y.saturating_sub(6), y.saturating_add(6));
-    pen.shape(
+    push_shape(
+        pen,
         "path",
         class_of(worth),
         "d='M# #H#L# #Z'/>",
@@ -107,7 +108,8 @@ pub fn push_small_flush(pen: &mut Pen, worth: Worth, thread: u8, x: u64, top: u6
     }
     pen.put("</text>");
     let (left, right) = (x.saturating_sub(5), x.saturating_add(5));
-    pen.shape(
+    push_shape(
+        pen,
         "path",
         class_of(worth),
         "d='M# #H#L# #Z'/>\n",

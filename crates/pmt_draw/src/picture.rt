@@ -3,9 +3,9 @@ use crate::asserted::{Asserted, asserted_of};
 use crate::bars::{Drawn, Row, row_of};
 use crate::crash::{Crash, crash_at_end, crash_of};
 use crate::known::Known;
-use crate::numbered::{is_listed, push_once};
+use crate::numbered::{Numbers, is_listed};
 use crate::spans::{line_of_op, lines_of_addresses};
-use crate::story::{Story, lines_in_focus, story_of};
+use crate::story::{Story, push_lines_in_focus, story_of};
 use crate::subject::{Subject, subject_of};
 use crate::view::{MOST_ROWS, Span, View};
 use crate::waiting::{is_fence, waits_for_fence};
@@ -54,7 +54,7 @@ pub struct Picture {
     /// How many lines that the events touch are left out.
     pub hidden: u64,
     /// The bytes of the failed assertion that the picture is about.
-    pub asserted: Vec<Asserted>,
+    pub asserted: [Option<Asserted>; 2],
     /// The crashes that are drawn, at most `MOST_CRASHES`, by their places.
     pub crashes: Vec<Crash>,
     /// How many other failed assertions are drawn.
@@ -64,9 +64,12 @@ pub struct Picture {
 impl Picture {
     /// The crash that the picture is about, if it is about one.
     pub fn focus(&self) -> Option<&Crash> {
-        self.crashes
-            .iter()
-            .find(|crash| is_crash_of(crash, self.subject))
+        for crash in &self.crashes {
+            if is_crash_of(crash, self.subject) {
+                return Some(crash);
+            }
+        }
+        None
     }
 
     /// Whether the stores that the crash tells of are framed: it is what the picture is about, or the only one.
@@ -104,42 +107,77 @@ fn is_crash_of(crash: &Crash, subject: Subject) -> bool {
 /// # Errors
 /// Where memory was refused.
 pub fn picture_of(alloc: Global, known: Known<'_>, view: &View) -> Result<Picture, OutOfMemory> {
-    let trace = known.trace;
-    let format = trace.format();
-    let kept = lines_of_addresses(alloc, format, view.kept.as_slice())?;
-    let kept = kept.as_slice();
-    let subject = subject_of(alloc, known, view.span, kept)?;
+    let kept = lines_of_addresses(alloc, known.trace.format(), view.kept.as_slice())?;
+    let subject = subject_of(known, view.span, kept.as_slice());
     let focus = focus_of(alloc, known, subject)?;
-    let Story { numbers, cut } = story_of(alloc, known, view.span, kept, subject, focus.as_ref())?;
-    let numbers = numbers.as_slice();
-    let columns = columns_of(alloc, known, numbers)?;
-    let touched = touched_lines(alloc, trace, columns.as_slice(), kept, focus.as_ref())?;
-    let chosen = chosen_lines(alloc, touched.as_slice())?;
-    let asserted = asserted_in(alloc, trace, focus.as_ref())?;
-    let crashes = crashes_of(alloc, known, numbers, focus)?;
-    let untold = failing_of(columns.as_slice()).saturating_sub(failures_in(crashes.as_slice()));
-    let rows = rows_of(
+    let story = story_of(
         alloc,
-        trace,
-        chosen.as_slice(),
-        numbers,
-        crashes.as_slice(),
+        known,
+        view.span,
+        kept.as_slice(),
         subject,
+        focus.as_ref(),
     )?;
-    Ok(Picture {
-        format,
-        events: trace.len() as u64,
+    let empty = empty_picture(alloc, known, view.span, subject, story.cut);
+    filled(
+        alloc,
+        known,
+        empty,
+        story.numbers.as_slice(),
+        kept.as_slice(),
+        focus,
+    )
+}
+
+// The picture of the subject, without events.
+fn empty_picture(
+    alloc: Global,
+    known: Known<'_>,
+    span: Span,
+    subject: Subject,
+    cut: u64,
+) -> Picture {
+    Picture {
+        format: known.trace.format(),
+        events: known.trace.len() as u64,
         lines: known.lines,
-        span: view.span,
+        span,
         cut,
         subject,
-        columns,
-        rows,
-        hidden: touched.len().saturating_sub(chosen.len()) as u64,
-        asserted,
-        crashes,
-        untold,
-    })
+        columns: Vec::new(alloc),
+        rows: Vec::new(alloc),
+        hidden: 0,
+        asserted: [None, None],
+        crashes: Vec::new(alloc),
+        untold: 0,
+    }
+}
+
+// The picture with these events and the crash of its subject.
+fn filled(
+    alloc: Global,
+    known: Known<'_>,
+    empty: Picture,
+    numbers: &[u64],
+    kept: &[u64],
+    focus: Option<Crash>,
+) -> Result<Picture, OutOfMemory> {
+    let mut picture = empty;
+    picture.columns = columns_of(alloc, known, numbers)?;
+    picture.asserted = asserted_in(known.trace, focus.as_ref());
+    let touched = touched_lines(
+        alloc,
+        known.trace,
+        picture.columns.as_slice(),
+        kept,
+        focus.as_ref(),
+    );
+    let lines = chosen_lines(alloc, &touched)?;
+    picture.hidden = touched.as_slice().len().saturating_sub(lines.len()) as u64;
+    picture.crashes = crashes_of(alloc, known, numbers, focus)?;
+    picture.untold = untold_of(picture.columns.as_slice(), picture.crashes.as_slice());
+    picture.rows = rows_in(alloc, known.trace, lines.as_slice(), numbers, &picture)?;
+    Ok(picture)
 }
 
 // The crash of the subject, if it has one.
@@ -163,19 +201,15 @@ fn focus_of(
 }
 
 // The bytes of the assertion that the crash violates.
-fn asserted_in(
-    alloc: Global,
-    trace: &Trace,
-    focus: Option<&Crash>,
-) -> Result<Vec<Asserted>, OutOfMemory> {
+fn asserted_in(trace: &Trace, focus: Option<&Crash>) -> [Option<Asserted>; 2] {
     if let Some(crash) = focus {
         if let Some(assertion) = crash.assertion {
             if let Some(event) = trace.get(assertion.number) {
-                return asserted_of(alloc, event.op);
+                return asserted_of(event.op);
             }
         }
     }
-    Ok(Vec::new(alloc))
+    [None, None]
 }
 
 // The events with these numbers.
@@ -184,7 +218,7 @@ fn columns_of(
     known: Known<'_>,
     numbers: &[u64],
 ) -> Result<Vec<Column>, OutOfMemory> {
-    let mut columns: Vec<Column> = Vec::with_capacity(alloc, numbers.len())?;
+    let mut columns: Vec<Column> = Vec::new(alloc);
     for number in numbers {
         let Some(Event { thread, op }) = known.trace.get(*number) else {
             continue;
@@ -258,26 +292,20 @@ fn crashes_of(
     Ok(crashes)
 }
 
-// How many of these events are assertions that fail.
-fn failing_of(columns: &[Column]) -> u64 {
-    let mut failing: u64 = 0;
+// How many of these events are assertions that fail and have none of the crashes.
+fn untold_of(columns: &[Column], crashes: &[Crash]) -> u64 {
+    let mut untold: u64 = 0;
     for column in columns {
         if column.pass == Some(false) {
-            failing = failing.saturating_add(1);
+            untold = untold.saturating_add(1);
         }
     }
-    failing
-}
-
-// How many of these crashes violate an assertion.
-fn failures_in(crashes: &[Crash]) -> u64 {
-    let mut failures: u64 = 0;
     for crash in crashes {
         if crash.assertion.is_some() {
-            failures = failures.saturating_add(1);
+            untold = untold.saturating_sub(1);
         }
     }
-    failures
+    untold
 }
 
 // The lines that may be drawn, each once, those first that matter most: of the crash, then those that are kept by name, then the others that
@@ -288,43 +316,41 @@ fn touched_lines(
     columns: &[Column],
     kept: &[u64],
     focus: Option<&Crash>,
-) -> Result<Vec<u64>, OutOfMemory> {
-    let mut lines = match focus {
-        Some(crash) => lines_in_focus(alloc, trace, crash)?,
-        None => Vec::new(alloc),
-    };
+) -> Numbers {
+    let mut lines = Numbers::new(alloc);
+    if let Some(crash) = focus {
+        push_lines_in_focus(&mut lines, trace, crash);
+    }
     for line in kept {
-        push_once(&mut lines, *line)?;
+        lines.push_once(*line);
     }
     if kept.is_empty() {
         for column in columns.iter().rev() {
             if let Some(line) = line_of_op(trace.format(), column.event.op) {
-                push_once(&mut lines, line)?;
+                lines.push_once(line);
             }
         }
     }
-    Ok(lines)
+    lines
 }
 
 // The first of these lines, by rising number.
-fn chosen_lines(alloc: Global, touched: &[u64]) -> Result<Vec<u64>, OutOfMemory> {
-    let mut lines = Vec::with_capacity(alloc, MOST_ROWS)?;
-    for line in touched.iter().take(MOST_ROWS) {
-        lines.push(*line)?;
+fn chosen_lines(alloc: Global, touched: &Numbers) -> Result<Vec<u64>, OutOfMemory> {
+    let mut lines = Numbers::new(alloc);
+    lines.share(touched);
+    for line in touched.as_slice().iter().take(MOST_ROWS) {
+        lines.push(*line);
     }
-    lines.sort_unstable();
-    Ok(lines)
+    lines.rising()
 }
 
 // The places of these crashes, rising and each once.
 fn places_of(alloc: Global, crashes: &[Crash]) -> Result<Vec<u64>, OutOfMemory> {
-    let mut places = Vec::with_capacity(alloc, crashes.len())?;
+    let mut places = Numbers::new(alloc);
     for crash in crashes {
-        places.push(crash.failure.place)?;
+        places.push(crash.failure.place);
     }
-    places.sort_unstable();
-    places.dedup();
-    Ok(places)
+    places.rising()
 }
 
 // The stores that the crash of the subject loses or keeps, rising.
@@ -333,33 +359,32 @@ fn told_stores(
     crashes: &[Crash],
     subject: Subject,
 ) -> Result<Vec<u64>, OutOfMemory> {
-    let mut told = Vec::new(alloc);
+    let mut told = Numbers::new(alloc);
     for crash in crashes {
         if is_crash_of(crash, subject) {
             for store in &crash.lost {
-                told.push(*store)?;
+                told.push(*store);
             }
             if let Some(kept) = crash.failure.kept {
-                told.push(kept.store)?;
+                told.push(kept.store);
             }
         }
     }
-    told.sort_unstable();
-    Ok(told)
+    told.rising()
 }
 
-// The rows of these lines, up to the last of these events.
-fn rows_of(
+// The rows of these lines, up to the last of these events, with the crashes of the picture.
+fn rows_in(
     alloc: Global,
     trace: &Trace,
     lines: &[u64],
     numbers: &[u64],
-    crashes: &[Crash],
-    subject: Subject,
+    picture: &Picture,
 ) -> Result<Vec<Row>, OutOfMemory> {
+    let crashes = picture.crashes.as_slice();
     let safe = safe_places(alloc, trace)?;
     let places = places_of(alloc, crashes)?;
-    let told = told_stores(alloc, crashes, subject)?;
+    let told = told_stores(alloc, crashes, picture.subject)?;
     let drawn = Drawn {
         trace,
         safe: safe.as_slice(),
@@ -367,7 +392,12 @@ fn rows_of(
         places: places.as_slice(),
         told: told.as_slice(),
     };
-    let mut rows = Vec::with_capacity(alloc, lines.len())?;
+    rows_of(alloc, drawn, lines)
+}
+
+// The rows of these lines.
+fn rows_of(alloc: Global, drawn: Drawn<'_>, lines: &[u64]) -> Result<Vec<Row>, OutOfMemory> {
+    let mut rows = Vec::new(alloc);
     for line in lines {
         rows.push(row_of(alloc, drawn, *line)?)?;
     }

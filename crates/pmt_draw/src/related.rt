@@ -1,7 +1,7 @@
 //! The events that matter to some lines.
-use crate::spans::{is_among, lines_of};
+use crate::spans::{concerns, line_of_op};
 use crate::waiting::is_fence;
-use pmt_model::{Addr, Event, Format, Op, OutOfMemory, Range, Trace};
+use pmt_model::{Event, Format, OutOfMemory, Trace};
 use std::alloc::Global;
 
 /// The events that matter to the lines, by rising number: the stores and flushes of them, the assertions about them, and each fence
@@ -22,43 +22,23 @@ pub fn related(alloc: Global, trace: &Trace, lines: &[u64]) -> Result<Vec<u64>, 
 fn matters(format: Format, lines: &[u64], event: &Event, touched: &mut [bool; 256]) -> bool {
     let thread = event.thread as usize;
     let op = event.op;
-    match op {
-        Op::Store(written) => touches(format, lines, written.addr(), &mut touched[thread]),
-        Op::Clwb(addr) | Op::ClflushOpt(addr) | Op::Clflush(addr) => {
-            touches(format, lines, addr, &mut touched[thread])
-        }
-        Op::Sfence | Op::Mfence => {
-            let was = touched[thread];
-            touched[thread] = false;
-            was
-        }
-        Op::IsPersist(range) => meets(format, lines, range),
-        Op::IsOrderedBefore(first, second) => {
-            meets(format, lines, first) || meets(format, lines, second)
-        }
+    if is_fence(&op) {
+        let was = touched[thread];
+        touched[thread] = false;
+        return was;
     }
-}
-
-// Whether the address lies in one of the lines; the mark of its thread is set then.
-fn touches(format: Format, lines: &[u64], addr: Addr, mark: &mut bool) -> bool {
-    let found = is_among(format, lines, addr);
-    *mark = *mark || found;
+    let found = concerns(format, &op, lines);
+    if found && line_of_op(format, op).is_some() {
+        touched[thread] = true;
+    }
     found
-}
-
-// Whether the range reaches into one of the lines.
-fn meets(format: Format, lines: &[u64], range: Range) -> bool {
-    let (first, last) = lines_of(format, range);
-    lines.iter().any(|line| first <= *line && *line <= last)
 }
 
 /// Whether an event stores to the line, flushes it or asserts anything of it.
 pub fn touches_any(trace: &Trace, line: u64) -> bool {
-    let format = trace.format();
-    let mut touched = [false; 256];
     for event in trace.events() {
         let op = event.op;
-        if !is_fence(&op) && matters(format, &[line], event, &mut touched) {
+        if concerns(trace.format(), &op, &[line]) {
             return true;
         }
     }

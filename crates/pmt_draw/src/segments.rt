@@ -2,11 +2,11 @@
 use crate::bars::{Bar, Flush, Saver};
 use crate::layout::BAR;
 use crate::page::Page;
-use crate::pen::Pen;
 use crate::picture::Column;
-use crate::spans::line_of_op;
+use crate::shapes::push_shape;
 use crate::words::push_event_words;
-use pmt_model::{Op, line_of};
+use pmt_model::Op;
+use pmt_pen::Pen;
 
 // The width of a letter in a bar, in tenths of a pixel.
 const LETTER: u64 = 67;
@@ -22,22 +22,13 @@ enum State {
     Safe,
 }
 
-// The name of the state among the rules of the picture.
-fn class_of(state: State) -> &'static str {
-    match state {
-        State::Pending => "pending",
-        State::Flushed => "flushed",
-        State::Safe => "safe",
-    }
-}
-
 /// Adds the bar of stores to the line of this address.
 pub fn push_bar(pen: &mut Pen, page: Page<'_>, bar: &Bar, address: u64, top: u64) {
     pen.fill(
         "<g class='store' data-event='#' data-last='#' data-drawn='#' data-older='#' data-line='@'><title>",
         &[bar.store, bar.last, bar.drawn, bar.older, address],
     );
-    push_title(pen, page, bar, address);
+    push_title(pen, page, bar);
     pen.put("</title>");
     let flushed = bar.flush.map(|flush| flush.number);
     push_segment(pen, page, bar, State::Pending, bar.store, flushed, top);
@@ -49,12 +40,12 @@ pub fn push_bar(pen: &mut Pen, page: Page<'_>, bar: &Bar, address: u64, top: u64
     if let Some(safe) = bar.safe {
         push_segment(pen, page, bar, State::Safe, safe, bar.until, top);
     }
-    push_ticks(pen, page, bar, address, top);
+    push_ticks(pen, page, bar, top);
     pen.put("</g>\n");
 }
 
 // Adds what is told of a bar.
-fn push_title(pen: &mut Pen, page: Page<'_>, bar: &Bar, address: u64) {
+fn push_title(pen: &mut Pen, page: Page<'_>, bar: &Bar) {
     if bar.drawn == 0 {
         pen.fill(
             "event #, a store that is not drawn, and # more that are not",
@@ -63,10 +54,10 @@ fn push_title(pen: &mut Pen, page: Page<'_>, bar: &Bar, address: u64) {
     }
     let mut named: u64 = 0;
     for column in &page.picture.columns {
-        if let Some(offset) = offset_in(page, bar, address, column) {
+        if bar.has(page.picture.format, column) {
             if named < MOST_NAMED {
                 push_event_words(pen, column, page.labels);
-                pen.fill(", at +# of its line; ", &[offset]);
+                push_offset(pen, page, column);
             }
             named = named.saturating_add(1);
         }
@@ -98,48 +89,32 @@ fn push_safe_title(pen: &mut Pen, bar: &Bar) {
     }
 }
 
-// Where the store in the column begins in its line, if it is one of the bar's.
-fn offset_in(page: Page<'_>, bar: &Bar, address: u64, column: &Column) -> Option<u64> {
-    let format = page.picture.format;
+// Adds where the store in the column begins in its line.
+fn push_offset(pen: &mut Pen, page: Page<'_>, column: &Column) {
     let op = column.event.op;
-    match op {
-        Op::Store(written) => {
-            let line = line_of(format, written.addr());
-            let is_here = line == address / format.line_size();
-            if is_here && bar.drawn > 0 && bar.has(column.number) {
-                Some(written.addr().get() % format.line_size())
-            } else {
-                None
-            }
-        }
-        Op::Clwb(_)
-        | Op::ClflushOpt(_)
-        | Op::Clflush(_)
-        | Op::Sfence
-        | Op::Mfence
-        | Op::IsPersist(_)
-        | Op::IsOrderedBefore(_, _) => None,
+    if let Op::Store(written) = op {
+        let offset = written.addr().get() % page.picture.format.line_size();
+        pen.fill(", at +# of its line; ", &[offset]);
     }
 }
 
 // Adds a tick where each store of the bar but the first begins.
-fn push_ticks(pen: &mut Pen, page: Page<'_>, bar: &Bar, address: u64, top: u64) {
-    let line = address / page.picture.format.line_size();
-    if bar.drawn < 2 {
-        return;
-    }
+fn push_ticks(pen: &mut Pen, page: Page<'_>, bar: &Bar, top: u64) {
     for column in &page.picture.columns {
         let number = column.number;
-        let is_here = line_of_op(page.picture.format, column.event.op) == Some(line);
-        let is_store = matches!(column.event.op, Op::Store(_));
-        if is_store && is_here && bar.has(number) && number > bar.store {
-            if page.band.has_event(number) {
-                let x = page.band.middle(number);
-                pen.fill(
-                    "<path class='stored' data-store='#' d='M# #V#'/>",
-                    &[number, x, top, top.saturating_add(BAR)],
-                );
-            }
+        if number > bar.store
+            && page.band.has_event(number)
+            && bar.has(page.picture.format, column)
+        {
+            pen.fill(
+                "<path class='stored' data-store='#' d='M# #V#'/>",
+                &[
+                    number,
+                    page.band.middle(number),
+                    top,
+                    top.saturating_add(BAR),
+                ],
+            );
         }
     }
 }
@@ -162,9 +137,14 @@ fn push_segment(
     if end <= x {
         return;
     }
-    pen.shape(
+    push_shape(
+        pen,
         "rect",
-        class_of(state),
+        match state {
+            State::Pending => "pending",
+            State::Flushed => "flushed",
+            State::Safe => "safe",
+        },
         "data-from='#' x='#' y='#' width='#' height='#'/>",
         &[from, x, top, end.saturating_sub(x), BAR],
     );
@@ -185,55 +165,36 @@ fn push_longest(
 ) {
     for detail in [3, 2, 1, 0] {
         let mut words = Pen::new(pen.alloc());
-        push_state(&mut words, page, bar, state, detail);
+        match state {
+            State::Pending => push_pending(&mut words, page, bar, detail),
+            State::Flushed => push_flushed(&mut words, bar, detail),
+            State::Safe => push_safe(&mut words, bar, detail),
+        }
         pen.share(&words);
         if words.len() <= letters {
-            push_halo(pen, words.as_str(), start, top);
+            pen.fill(
+                "<text class='halo' x='#' y='#'>",
+                &[start.saturating_add(4), top.saturating_add(11)],
+            );
+            pen.put(words.as_str());
+            pen.put("</text>");
             return;
         }
     }
 }
 
-// Adds the words, if there are any, into a box from this side on.
-fn push_halo(pen: &mut Pen, words: &str, start: u64, top: u64) {
-    if !words.is_empty() {
-        pen.fill(
-            "<text class='halo' x='#' y='#'>",
-            &[start.saturating_add(4), top.saturating_add(11)],
-        );
-        pen.put(words);
-        pen.put("</text>");
-    }
-}
-
-// Where the last store of a bar of several begins in the band, if one does.
+// Where the last store of the bar but the first begins in the band, if one does.
 fn last_tick(page: Page<'_>, bar: &Bar) -> Option<u64> {
-    if bar.drawn < 2 {
-        return None;
-    }
-    let slot = page
-        .band
-        .slots
-        .iter()
-        .rev()
-        .find(|slot| is_store_of(page, bar, slot.number))?;
-    if slot.number > bar.store {
-        Some(page.band.middle(slot.number))
-    } else {
-        None
-    }
-}
-
-// Whether the event is drawn, and a store of the bar.
-fn is_store_of(page: Page<'_>, bar: &Bar, number: u64) -> bool {
-    match page.picture.column(number) {
-        Some(column) => {
-            let op = column.event.op;
-            let is_store = matches!(op, Op::Store(_));
-            is_store && bar.has(number) && line_of_op(page.picture.format, op) == Some(bar.line)
+    for column in page.picture.columns.iter().rev() {
+        let number = column.number;
+        if page.band.has_event(number) && bar.has(page.picture.format, column) {
+            if number == bar.store {
+                return None;
+            }
+            return Some(page.band.middle(number));
         }
-        None => false,
     }
+    None
 }
 
 // Where words of the bar have room between these sides, and how much: no crash line crosses them, and no tick of a store.
@@ -256,19 +217,6 @@ fn room_in(page: Page<'_>, bar: &Bar, left: u64, right: u64) -> (u64, u64) {
         }
     }
     (from, to.saturating_sub(from))
-}
-
-// Adds the words for the state: the more detail, the longer.
-fn push_state(pen: &mut Pen, page: Page<'_>, bar: &Bar, state: State, detail: u8) {
-    match state {
-        State::Pending => push_pending(pen, page, bar, detail),
-        State::Flushed => {
-            if let Some(flush) = bar.flush {
-                push_flushed(pen, flush.thread as u64, detail);
-            }
-        }
-        State::Safe => push_safe(pen, bar, detail),
-    }
 }
 
 // Adds the words for stores that are not flushed.
@@ -307,12 +255,15 @@ fn push_value(pen: &mut Pen, page: Page<'_>, store: u64) {
     }
 }
 
-// Adds the words for stores that a thread has flushed.
-fn push_flushed(pen: &mut Pen, thread: u64, detail: u8) {
-    match detail {
-        0 => pen.fill("T#", &[thread]),
-        1 => pen.fill("flushed by T#", &[thread]),
-        _ => pen.fill("flushed by T#, no fence of T# yet", &[thread, thread]),
+// Adds the words for stores that a thread has flushed: the more detail, the longer.
+fn push_flushed(pen: &mut Pen, bar: &Bar, detail: u8) {
+    if let Some(Flush { thread, number: _ }) = bar.flush {
+        let thread = thread as u64;
+        match detail {
+            0 => pen.fill("T#", &[thread]),
+            1 => pen.fill("flushed by T#", &[thread]),
+            _ => pen.fill("flushed by T#, no fence of T# yet", &[thread, thread]),
+        }
     }
 }
 

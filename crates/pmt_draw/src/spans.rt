@@ -1,17 +1,8 @@
 //! The lines that an event speaks of.
-ghost use Rattle.std.specs.Prelude.{◌≤◌};
-
-use crate::numbered::push_once;
-use pmt_model::{Addr, Format, Op, OutOfMemory, Range, line_of};
+use crate::asserted::asserted_of;
+use crate::numbered::Numbers;
+use pmt_model::{Format, Op, OutOfMemory, line_of};
 use std::alloc::Global;
-
-/// The first and the last line of the range.
-pub fn lines_of(format: Format, range: Range) -> (u64, u64) {
-    let len = range.len();
-    let first = range.addr().get();
-    let size = format.line_size();
-    (first / size, (first + (len - 1)) / size)
-}
 
 /// The line of the op, if it stores to one or flushes one.
 pub fn line_of_op(format: Format, op: Op) -> Option<u64> {
@@ -22,6 +13,25 @@ pub fn line_of_op(format: Format, op: Op) -> Option<u64> {
     }
 }
 
+/// Whether the op stores to one of the lines, flushes one or asserts anything of one.
+pub fn concerns(format: Format, op: &Op, lines: &[u64]) -> bool {
+    if let Some(line) = line_of_op(format, *op) {
+        return lines.contains(&line);
+    }
+    let claims = asserted_of(*op);
+    for claim in &claims {
+        if let Some(bytes) = claim {
+            let (first, last) = bytes.lines(format);
+            for line in lines {
+                if first <= *line && *line <= last {
+                    return true;
+                }
+            }
+        }
+    }
+    false
+}
+
 /// The numbers of the lines of these addresses, rising and each once.
 pub fn lines_of_addresses(
     alloc: Global,
@@ -29,13 +39,11 @@ pub fn lines_of_addresses(
     addresses: &[u64],
 ) -> Result<Vec<u64>, OutOfMemory> {
     let size = format.line_size();
-    let mut lines = Vec::with_capacity(alloc, addresses.len())?;
+    let mut lines = Numbers::new(alloc);
     for address in addresses {
-        lines.push(*address / size)?;
+        lines.push(*address / size);
     }
-    lines.sort_unstable();
-    lines.dedup();
-    Ok(lines)
+    lines.rising()
 }
 
 /// The lines of the assertion's ranges, of those that are kept, rising and each once. All are kept, if none is named.
@@ -45,63 +53,34 @@ pub fn lines_of_assertion(
     op: Op,
     kept: &[u64],
 ) -> Result<Vec<u64>, OutOfMemory> {
-    let mut lines = Vec::new(alloc);
-    match op {
-        Op::IsPersist(range) => push_range(&mut lines, format, range, kept)?,
-        Op::IsOrderedBefore(first, second) => {
-            push_range(&mut lines, format, first, kept)?;
-            push_range(&mut lines, format, second, kept)?;
-        }
-        Op::Store(_) | Op::Clwb(_) | Op::ClflushOpt(_) | Op::Clflush(_) | Op::Sfence | Op::Mfence =>
-            {}
-    }
-    lines.sort_unstable();
-    lines.dedup();
-    Ok(lines)
-}
-
-// Adds the lines of the range that are kept.
-fn push_range(
-    lines: &mut Vec<u64>,
-    format: Format,
-    range: Range,
-    kept: &[u64],
-) -> Result<(), OutOfMemory> {
-    let (first, last) = lines_of(format, range);
-    for line in first..=last {
-        if kept.is_empty() || kept.contains(&line) {
-            lines.push(line)?;
+    let mut lines = Numbers::new(alloc);
+    let claims = asserted_of(op);
+    for claim in &claims {
+        if let Some(bytes) = claim {
+            let (first, last) = bytes.lines(format);
+            for line in first..=last {
+                if kept.is_empty() || kept.contains(&line) {
+                    lines.push(line);
+                }
+            }
         }
     }
-    Ok(())
+    lines.rising()
 }
 
 /// Adds the first and the last line of each of the assertion's ranges, those that are not there.
-pub fn push_ends(lines: &mut Vec<u64>, format: Format, op: Op) -> Result<(), OutOfMemory> {
-    match op {
-        Op::IsPersist(range) => push_both(lines, format, range),
-        Op::IsOrderedBefore(first, second) => {
-            push_both(lines, format, first)?;
-            push_both(lines, format, second)
+pub fn push_ends(lines: &mut Numbers, format: Format, op: &Op) {
+    let claims = asserted_of(*op);
+    for claim in &claims {
+        if let Some(bytes) = claim {
+            let (first, last) = bytes.lines(format);
+            lines.push_once(first);
+            lines.push_once(last);
         }
-        Op::Store(_) | Op::Clwb(_) | Op::ClflushOpt(_) | Op::Clflush(_) | Op::Sfence | Op::Mfence =>
-            Ok(()),
     }
-}
-
-// Adds the first and the last line of the range, those that are not there.
-fn push_both(lines: &mut Vec<u64>, format: Format, range: Range) -> Result<(), OutOfMemory> {
-    let (first, last) = lines_of(format, range);
-    push_once(lines, first)?;
-    push_once(lines, last)
 }
 
 /// The first address of the line.
 pub fn address_of(format: Format, line: u64) -> u64 {
     line.saturating_mul(format.line_size())
-}
-
-/// Whether the address lies in one of the lines.
-pub fn is_among(format: Format, lines: &[u64], addr: Addr) -> bool {
-    lines.contains(&line_of(format, addr))
 }

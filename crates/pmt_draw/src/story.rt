@@ -1,15 +1,14 @@
 //! The events that tell what a picture is about.
 use crate::crash::Crash;
 use crate::known::Known;
-use crate::numbered::{count_before, push_once};
+use crate::numbered::{Numbers, count_before};
 use crate::related::related;
 use crate::spans::{line_of_op, lines_of_assertion, push_ends};
 use crate::subject::Subject;
 use crate::view::{MOST_COLUMNS, MOST_ROWS, Span};
 use crate::waiting::{is_fence, is_flush, waits_for_fence};
 use crate::window::{Aim, cut_of, window};
-use pmt_explain::Overwriting;
-use pmt_model::{OutOfMemory, Trace};
+use pmt_model::{Op, OutOfMemory, Trace};
 use pmt_reasons::{Cause, Reason};
 use std::alloc::Global;
 
@@ -40,69 +39,103 @@ pub fn story_of(
     subject: Subject,
     crash: Option<&Crash>,
 ) -> Result<Story, OutOfMemory> {
-    let numbers = match (subject, crash) {
-        (Subject::Failure(number), Some(crash)) => failure_events(
-            alloc,
-            known.trace,
-            kept,
-            number,
-            crash,
-        )?,
-        (Subject::Lost(group), Some(crash)) => {
-            let all = related(alloc, known.trace, &[group.line])?;
-            let mut needed = needed_of(alloc, crash)?;
-            push_once(&mut needed, group.last)?;
-            needed.sort_unstable();
-            window(
-                alloc,
-                Aim::From(group.first),
-                all.as_slice(),
-                needed.as_slice(),
-            )?
-        }
-        (Subject::Dropped(event), _) => dropped_events(
-            alloc,
-            known.trace,
-            kept,
-            event.event,
-            event.reason,
-        )?,
-        (Subject::Overwritten(pair), _) => overwritten_events(alloc, known.trace, pair)?,
-        (Subject::Late(store), _) => late_events(alloc, known.trace, store)?,
-        (Subject::Unwritten(number), _) => {
-            let all = related(alloc, known.trace, kept)?;
-            window(alloc, Aim::Around(number), all.as_slice(), &[number])?
-        }
-        _ => return asked_events(alloc, known.trace, span, kept),
+    let mut needed = Numbers::new(alloc);
+    push_needed(&mut needed, known.trace, span, subject, crash);
+    let candidates = candidates_of(alloc, known.trace, kept, subject, crash, &mut needed)?;
+    let needed = needed.rising()?;
+    let aim = aim_of(known.trace, span, subject, crash);
+    let numbers = window(alloc, aim, candidates.as_slice(), needed.as_slice())?;
+    let cut = match (subject, span) {
+        (Subject::Events, Span::Between { first, last }) => cut_of(
+            candidates.as_slice(),
+            numbers.as_slice(),
+            first,
+            last,
+        ),
+        _ => 0,
     };
-    Ok(Story { numbers, cut: 0 })
+    Ok(Story { numbers, cut })
 }
 
-// The events that are asked for, or the first ones.
-fn asked_events(
-    alloc: Global,
+// Which of the candidates matter most.
+fn aim_of(trace: &Trace, span: Span, subject: Subject, crash: Option<&Crash>) -> Aim {
+    match subject {
+        Subject::Failure(number) => match crash {
+            Some(crash) => Aim::UpTo(number.max(crash.failure.lost.store)),
+            None => Aim::UpTo(number),
+        },
+        Subject::Lost(group) => Aim::From(group.first),
+        Subject::Late(store) => Aim::From(store),
+        Subject::Dropped(event) => Aim::Around(event.event),
+        Subject::Overwritten(pair) => Aim::Around(pair.later),
+        Subject::Unwritten(number) => Aim::Around(number),
+        Subject::Events => match span {
+            Span::Around(number) => Aim::Around(number),
+            Span::Between { first, last } => Aim::Between { first, last },
+            Span::First | Span::Failure(_) => {
+                let last = trace.len() as u64;
+                Aim::Between { first: 1, last }
+            }
+        },
+    }
+}
+
+// Adds the events without which the story can't be told.
+fn push_needed(
+    needed: &mut Numbers,
     trace: &Trace,
     span: Span,
-    kept: &[u64],
-) -> Result<Story, OutOfMemory> {
-    let all = related(alloc, trace, kept)?;
-    let mut needed = Vec::new(alloc);
-    let (aim, first, last) = match span {
-        Span::Around(number) => {
-            if trace.get(number).is_some() {
-                needed.push(number)?;
+    subject: Subject,
+    crash: Option<&Crash>,
+) {
+    if let Some(crash) = crash {
+        push_crash(needed, crash);
+    }
+    match subject {
+        Subject::Failure(_) => {}
+        Subject::Lost(group) => needed.push_once(group.last),
+        Subject::Dropped(event) => {
+            needed.push(event.event);
+            if let Reason::Repeated { by } | Reason::Overtaken { by } = event.reason {
+                needed.push(by);
             }
-            (Aim::Around(number), 1, 0)
         }
-        Span::Between { first, last } => (Aim::Between { first, last }, first, last),
-        Span::First | Span::Failure(_) => {
-            let last = trace.len() as u64;
-            (Aim::Between { first: 1, last }, 1, 0)
+        Subject::Overwritten(pair) => {
+            needed.push(pair.earlier);
+            needed.push(pair.later);
         }
-    };
-    let numbers = window(alloc, aim, all.as_slice(), needed.as_slice())?;
-    let cut = cut_of(all.as_slice(), numbers.as_slice(), first, last);
-    Ok(Story { numbers, cut })
+        Subject::Late(store) => {
+            needed.push(store);
+            push_fences(needed, trace, store);
+        }
+        Subject::Unwritten(number) => needed.push(number),
+        Subject::Events => if let Span::Around(number) = span {
+            if trace.get(number).is_some() {
+                needed.push(number);
+            }
+        },
+    }
+}
+
+// The events that the story may tell of: those that matter to the lines of the subject, or to the kept ones.
+fn candidates_of(
+    alloc: Global,
+    trace: &Trace,
+    kept: &[u64],
+    subject: Subject,
+    crash: Option<&Crash>,
+    needed: &mut Numbers,
+) -> Result<Vec<u64>, OutOfMemory> {
+    match (subject, crash) {
+        (Subject::Failure(number), Some(crash)) => failure_events(
+            alloc, trace, kept, number, crash, needed,
+        ),
+        (Subject::Lost(group), _) => related(alloc, trace, &[group.line]),
+        (Subject::Dropped(event), _) => events_near(alloc, trace, kept, event.event),
+        (Subject::Overwritten(pair), _) => events_near(alloc, trace, kept, pair.earlier),
+        (Subject::Late(store), _) => events_near(alloc, trace, kept, store),
+        _ => related(alloc, trace, kept),
+    }
 }
 
 // The events that matter to the lines of the failed assertion; where they are too many for a picture, those that matter to the first and
@@ -113,31 +146,25 @@ fn failure_events(
     kept: &[u64],
     number: u64,
     crash: &Crash,
+    needed: &mut Numbers,
 ) -> Result<Vec<u64>, OutOfMemory> {
-    let mut needed = needed_of(alloc, crash)?;
     let Some(event) = trace.get(number) else {
-        return Ok(needed);
+        return Ok(Vec::new(alloc));
     };
     let lines = lines_of_assertion(alloc, trace.format(), event.op, kept)?;
     let all = related(alloc, trace, lines.as_slice())?;
-    let aim = Aim::UpTo(number.max(crash.failure.lost.store));
     if count_before(all.as_slice(), number) < MOST_COLUMNS {
-        return window(alloc, aim, all.as_slice(), needed.as_slice());
+        return Ok(all);
     }
-    push_near(&mut needed, trace, all.as_slice(), number)?;
-    needed.sort_unstable();
-    let few = lines_in_focus(alloc, trace, crash)?;
-    let candidates = related(alloc, trace, few.as_slice())?;
-    window(alloc, aim, candidates.as_slice(), needed.as_slice())
+    push_near(needed, trace, all.as_slice(), number);
+    let mut few = Numbers::new(alloc);
+    push_lines_in_focus(&mut few, trace, crash);
+    let few = few.rising()?;
+    related(alloc, trace, few.as_slice())
 }
 
 // Adds the last flushes and the last fence of these events that come before the event.
-fn push_near(
-    needed: &mut Vec<u64>,
-    trace: &Trace,
-    events: &[u64],
-    number: u64,
-) -> Result<(), OutOfMemory> {
+fn push_near(needed: &mut Numbers, trace: &Trace, events: &[u64], number: u64) {
     let mut flushes = MOST_NEAR;
     let mut has_fence = false;
     let end = count_before(events, number);
@@ -148,44 +175,30 @@ fn push_near(
         let op = event.op;
         if is_fence(&op) && !has_fence {
             has_fence = true;
-            push_once(needed, *near)?;
+            needed.push_once(*near);
         }
         if is_flush(&op) && flushes > 0 {
             flushes -= 1;
-            push_once(needed, *near)?;
+            needed.push_once(*near);
         }
     }
-    Ok(())
 }
 
-// The events around a dropped one: that matter to its line, if it has one, or to the kept lines.
-fn dropped_events(
+// The events that matter to the line of this one; where it has none, to the kept lines, or around the fence that it is.
+fn events_near(
     alloc: Global,
     trace: &Trace,
     kept: &[u64],
     number: u64,
-    reason: Reason,
 ) -> Result<Vec<u64>, OutOfMemory> {
-    let mut needed = vec![in alloc; number]?;
-    match reason {
-        Reason::Repeated { by } | Reason::Overtaken { by } => needed.push(by)?,
-        Reason::Safe | Reason::Unfenced | Reason::Empty | Reason::Useless => {}
-    }
-    needed.sort_unstable();
     let Some(event) = trace.get(number) else {
-        return Ok(needed);
+        return Ok(Vec::new(alloc));
     };
-    let all = match line_of_op(trace.format(), event.op) {
-        Some(line) => related(alloc, trace, &[line])?,
-        None if kept.is_empty() => fence_events(alloc, trace, event.thread, number)?,
-        None => related(alloc, trace, kept)?,
-    };
-    window(
-        alloc,
-        Aim::Around(number),
-        all.as_slice(),
-        needed.as_slice(),
-    )
+    match line_of_op(trace.format(), event.op) {
+        Some(line) => related(alloc, trace, &[line]),
+        None if kept.is_empty() => fence_events(alloc, trace, event.thread, number),
+        None => related(alloc, trace, kept),
+    }
 }
 
 // The events that tell of a fence without effect: those that matter to the lines that its thread flushed since its last fence; where it
@@ -196,135 +209,104 @@ fn fence_events(
     thread: u8,
     number: u64,
 ) -> Result<Vec<u64>, OutOfMemory> {
-    let mut own = Vec::new(alloc);
-    let mut lines = Vec::new(alloc);
-    for (index, event) in trace.events().iter().enumerate() {
-        if event.thread == thread {
-            let at = (index as u64).saturating_add(1);
-            own.push(at)?;
-            let op = event.op;
-            if at < number && is_fence(&op) {
-                lines = Vec::new(alloc);
-            }
-            if at < number && waits_for_fence(&op) && lines.len() < MOST_ROWS {
-                push_line_of(&mut lines, trace, at)?;
-            }
-        }
-    }
+    let lines = flushed_lines(alloc, trace, thread, number)?;
     if !lines.is_empty() {
         return related(alloc, trace, lines.as_slice());
     }
-    let first = count_before(own.as_slice(), number).saturating_sub(NEAR_FENCE);
-    let mut near = Vec::with_capacity(alloc, 2 * NEAR_FENCE)?;
-    for at in own.iter().skip(first).take(2 * NEAR_FENCE) {
-        near.push(*at)?;
+    let mut own = Numbers::new(alloc);
+    for (index, event) in trace.events().iter().enumerate() {
+        if event.thread == thread {
+            own.push((index as u64).saturating_add(1));
+        }
     }
-    Ok(near)
+    let first = count_before(own.as_slice(), number).saturating_sub(NEAR_FENCE);
+    let mut near = Numbers::new(alloc);
+    near.share(&own);
+    for at in own.as_slice().iter().skip(first).take(2 * NEAR_FENCE) {
+        near.push(*at);
+    }
+    near.rising()
 }
 
-// The events around a store that is written over.
-fn overwritten_events(
+// The first lines that the thread flushed since its last fence before this one.
+fn flushed_lines(
     alloc: Global,
     trace: &Trace,
-    pair: Overwriting,
+    thread: u8,
+    number: u64,
 ) -> Result<Vec<u64>, OutOfMemory> {
-    let mut needed = vec![in alloc; pair.earlier, pair.later]?;
-    needed.sort_unstable();
-    let mut lines = Vec::new(alloc);
-    push_line_of(&mut lines, trace, pair.earlier)?;
-    let all = related(alloc, trace, lines.as_slice())?;
-    window(
-        alloc,
-        Aim::Around(pair.later),
-        all.as_slice(),
-        needed.as_slice(),
-    )
-}
-
-// The events from a store on that is saved late: that matter to its line, with the fences of its thread that leave it unsafe.
-fn late_events(alloc: Global, trace: &Trace, number: u64) -> Result<Vec<u64>, OutOfMemory> {
-    let mut needed = vec![in alloc; number]?;
-    let mut lines = Vec::new(alloc);
-    push_line_of(&mut lines, trace, number)?;
-    push_fences(&mut needed, trace, number)?;
-    let all = related(alloc, trace, lines.as_slice())?;
-    window(alloc, Aim::From(number), all.as_slice(), needed.as_slice())
+    let mut lines = Numbers::new(alloc);
+    let before = number.saturating_sub(1) as usize;
+    for event in trace.events().iter().take(before) {
+        let op = event.op;
+        if event.thread == thread && is_fence(&op) {
+            lines = Numbers::new(alloc);
+        }
+        if event.thread == thread && waits_for_fence(&op) && lines.as_slice().len() < MOST_ROWS {
+            push_line(&mut lines, trace, &op);
+        }
+    }
+    lines.rising()
 }
 
 // Adds the first fences of the store's thread after it.
-fn push_fences(needed: &mut Vec<u64>, trace: &Trace, store: u64) -> Result<(), OutOfMemory> {
+fn push_fences(needed: &mut Numbers, trace: &Trace, store: u64) {
     let Some(first) = trace.get(store) else {
-        return Ok(());
+        return;
     };
     let mut left = MOST_NEAR;
     for (index, event) in trace.events().iter().enumerate().skip(store as usize) {
         let op = event.op;
         if is_fence(&op) && event.thread == first.thread && left > 0 {
             left -= 1;
-            needed.push((index as u64).saturating_add(1))?;
+            needed.push((index as u64).saturating_add(1));
         }
     }
-    Ok(())
 }
 
-// The events that the crash's story needs, rising and each once.
-fn needed_of(alloc: Global, crash: &Crash) -> Result<Vec<u64>, OutOfMemory> {
-    let mut numbers = vec![in alloc; crash.failure.lost.store]?;
+// Adds the events that the crash's story needs, each once.
+fn push_crash(needed: &mut Numbers, crash: &Crash) {
+    needed.push_once(crash.failure.lost.store);
     if let Some(assertion) = crash.assertion {
-        push_once(&mut numbers, assertion.number)?;
+        needed.push_once(assertion.number);
     }
     if let Some(kept) = crash.failure.kept {
-        push_once(&mut numbers, kept.store)?;
+        needed.push_once(kept.store);
     }
     if let Some(Cause::Unfenced { flush, other, .. }) = crash.cause {
-        push_once(&mut numbers, flush)?;
+        needed.push_once(flush);
         if let Some(fence) = other {
-            push_once(&mut numbers, fence)?;
+            needed.push_once(fence);
         }
     }
-    for store in crash.lost.iter().take(MOST_LOST) {
-        push_once(&mut numbers, *store)?;
-    }
-    for store in crash.lost.iter().rev().take(MOST_LOST) {
-        push_once(&mut numbers, *store)?;
-    }
-    numbers.sort_unstable();
-    Ok(numbers)
-}
-
-/// The lines that the story of the crash needs, those first that matter most, each once: of the store that it loses and of the one that
-/// it keeps, then the first and the last of the asserted ranges, then those of the other lost stores.
-pub fn lines_in_focus(
-    alloc: Global,
-    trace: &Trace,
-    crash: &Crash,
-) -> Result<Vec<u64>, OutOfMemory> {
-    let mut lines = Vec::new(alloc);
-    push_line_of(&mut lines, trace, crash.failure.lost.store)?;
-    if let Some(kept) = crash.failure.kept {
-        push_line_of(&mut lines, trace, kept.store)?;
-    }
-    if let Some(assertion) = crash.assertion {
-        if let Some(event) = trace.get(assertion.number) {
-            push_ends(&mut lines, trace.format(), event.op)?;
+    let later = crash.lost.len().saturating_sub(MOST_LOST);
+    for (index, store) in crash.lost.iter().enumerate() {
+        if index < MOST_LOST || later <= index {
+            needed.push_once(*store);
         }
     }
-    for store in crash.lost.iter().take(MOST_LOST) {
-        push_line_of(&mut lines, trace, *store)?;
-    }
-    for store in crash.lost.iter().rev().take(MOST_LOST) {
-        push_line_of(&mut lines, trace, *store)?;
-    }
-    Ok(lines)
 }
 
-// Adds the line of the store with this number, unless it is there.
-fn push_line_of(lines: &mut Vec<u64>, trace: &Trace, number: u64) -> Result<(), OutOfMemory> {
-    match trace.get(number) {
-        Some(event) => match line_of_op(trace.format(), event.op) {
-            Some(line) => push_once(lines, line),
-            None => Ok(()),
-        },
-        None => Ok(()),
+/// Adds the lines that the story of the crash needs, each once: of the events that it needs, and the first and the last of the asserted
+/// ranges.
+pub fn push_lines_in_focus(lines: &mut Numbers, trace: &Trace, crash: &Crash) {
+    let mut events = Numbers::new(lines.alloc());
+    push_crash(&mut events, crash);
+    lines.share(&events);
+    for number in events.as_slice() {
+        if let Some(event) = trace.get(*number) {
+            let op = event.op;
+            push_line(lines, trace, &op);
+            if crash.is_of(*number) {
+                push_ends(lines, trace.format(), &op);
+            }
+        }
+    }
+}
+
+// Adds the line of the op, if it stores to one or flushes one.
+fn push_line(lines: &mut Numbers, trace: &Trace, op: &Op) {
+    if let Some(line) = line_of_op(trace.format(), *op) {
+        lines.push_once(line);
     }
 }

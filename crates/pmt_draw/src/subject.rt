@@ -1,11 +1,10 @@
 //! What a picture is about.
 use crate::known::Known;
 use crate::related::touches_any;
-use crate::spans::{line_of_op, lines_of_assertion};
+use crate::spans::concerns;
 use crate::view::Span;
 use pmt_explain::{Dropped, LostGroup, Overwriting};
-use pmt_model::{OutOfMemory, Trace};
-use std::alloc::Global;
+use pmt_model::Trace;
 
 /// What a picture is about.
 #[derive(Clone, Copy)]
@@ -29,95 +28,73 @@ pub enum Subject {
 /// What the picture of this span is about. Of the trace's findings it is the first that speaks of the kept lines, in the order in which
 /// they are told: failures, stores that are never persisted, what is dropped, what is written over, what is saved late, what was never
 /// stored. All lines are kept, if none is named.
-pub fn subject_of(
-    alloc: Global,
-    known: Known<'_>,
-    span: Span,
-    kept: &[u64],
-) -> Result<Subject, OutOfMemory> {
+pub fn subject_of(known: Known<'_>, span: Span, kept: &[u64]) -> Subject {
     match span {
-        Span::First => first_subject(alloc, known, kept),
-        Span::Failure(number) => Ok(Subject::Failure(number)),
-        Span::Around(_) | Span::Between { .. } => Ok(Subject::Events),
+        Span::First => first_subject(known, kept),
+        Span::Failure(number) => Subject::Failure(number),
+        Span::Around(_) | Span::Between { .. } => Subject::Events,
     }
 }
 
 // The first of the findings that speaks of the kept lines.
-fn first_subject(alloc: Global, known: Known<'_>, kept: &[u64]) -> Result<Subject, OutOfMemory> {
+fn first_subject(known: Known<'_>, kept: &[u64]) -> Subject {
     for number in known.failing {
-        if speaks_of(alloc, known.trace, *number, kept)? {
-            return Ok(Subject::Failure(*number));
+        if is_kept_event(known.trace, *number, kept) {
+            return Subject::Failure(*number);
         }
     }
     for group in known.lost {
         if is_kept(kept, group.line) {
-            return Ok(Subject::Lost(*group));
+            return Subject::Lost(*group);
         }
     }
     for number in known.useless {
         if is_kept_event(known.trace, *number, kept) {
             if let Some(reason) = known.reason(*number) {
                 let event = *number;
-                return Ok(Subject::Dropped(Dropped { event, reason }));
+                return Subject::Dropped(Dropped { event, reason });
             }
         }
     }
     for group in known.overwritten {
         if is_kept(kept, group.line) {
-            return Ok(Subject::Overwritten(group.first));
+            return Subject::Overwritten(group.first);
         }
     }
-    last_subject(alloc, known, kept)
+    last_subject(known, kept)
 }
 
 // The first of what is saved late or was never stored that speaks of the kept lines.
-fn last_subject(alloc: Global, known: Known<'_>, kept: &[u64]) -> Result<Subject, OutOfMemory> {
+fn last_subject(known: Known<'_>, kept: &[u64]) -> Subject {
     for number in known.late {
         if is_kept_event(known.trace, *number, kept) {
-            return Ok(Subject::Late(*number));
+            return Subject::Late(*number);
         }
     }
     for number in known.unwritten {
-        if speaks_of(alloc, known.trace, *number, kept)? {
-            return Ok(Subject::Unwritten(*number));
+        if is_kept_event(known.trace, *number, kept) {
+            return Subject::Unwritten(*number);
         }
     }
-    Ok(Subject::Events)
+    Subject::Events
 }
 
-// Whether the line is kept.
+// Whether the line is kept, all being kept where none is named.
 fn is_kept(kept: &[u64], line: u64) -> bool {
     kept.is_empty() || kept.contains(&line)
 }
 
-// Whether the event stores to one of the kept lines or flushes one, all being kept where none is named.
+// Whether the event speaks of one of the kept lines, all being kept where none is named.
 fn is_kept_event(trace: &Trace, number: u64, kept: &[u64]) -> bool {
-    if kept.is_empty() {
-        return true;
-    }
     let Some(event) = trace.get(number) else {
         return false;
     };
-    match line_of_op(trace.format(), event.op) {
-        Some(line) => kept.contains(&line),
-        None => false,
-    }
-}
-
-// Whether the assertion reaches into one of the kept lines, all being kept where none is named.
-fn speaks_of(alloc: Global, trace: &Trace, number: u64, kept: &[u64]) -> Result<bool, OutOfMemory> {
-    if kept.is_empty() {
-        return Ok(true);
-    }
-    let Some(event) = trace.get(number) else {
-        return Ok(false);
-    };
-    let lines = lines_of_assertion(alloc, trace.format(), event.op, kept)?;
-    Ok(!lines.is_empty())
+    let op = event.op;
+    kept.is_empty() || concerns(trace.format(), &op, kept)
 }
 
 /// Why nothing is drawn of what is asked for.
-#[derive(Clone, Copy, Debug, PartialEq, Eq)]
+#[derive(Clone, Copy)]
 pub enum Refusal {
     /// The trace ends before the event with this number.
     PastEnd(u64),
@@ -139,7 +116,7 @@ pub fn refusal_of(known: Known<'_>, span: Span, kept: &[u64]) -> Option<Refusal>
     if number > known.trace.len() as u64 {
         return Some(Refusal::PastEnd(number));
     }
-    if span == Span::Failure(number) {
+    if let Span::Failure(_) = span {
         match known.pass(number) {
             None => return Some(Refusal::NoAssertion(number)),
             Some(true) => return Some(Refusal::Passes(number)),

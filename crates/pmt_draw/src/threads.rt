@@ -1,9 +1,10 @@
 //! The rows of the threads, and how long each flush waits for a fence of its thread.
 use crate::layout::{LEFT, THREAD};
 use crate::page::Page;
-use crate::pen::Pen;
 use crate::picture::Column;
+use crate::shapes::push_shape;
 use crate::waiting::waits_for_fence;
+use pmt_pen::Pen;
 
 /// Adds the rows of the threads, without the marks of their events.
 pub fn push_threads(pen: &mut Pen, page: Page<'_>) {
@@ -37,7 +38,7 @@ fn push_name(pen: &mut Pen, page: Page<'_>, top: u64) {
 // since there it would not say whose it is.
 fn push_wait(pen: &mut Pen, page: Page<'_>, column: &Column) {
     let thread = column.event.thread;
-    if !waits_for_fence(&column.event.op) || !page.band.threads.as_slice().contains(&thread) {
+    if !waits_for_fence(&column.event.op) || !page.band.has_thread(thread) {
         return;
     }
     let y = page.band.thread_middle(thread, page.threads);
@@ -47,7 +48,8 @@ fn push_wait(pen: &mut Pen, page: Page<'_>, column: &Column) {
         None => ("wait never", page.band.right),
     };
     if from < to {
-        pen.shape(
+        push_shape(
+            pen,
             "line",
             class,
             "x1='#' y1='#' x2='#' y2='#'/>\n",

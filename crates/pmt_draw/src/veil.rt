@@ -1,12 +1,12 @@
 //! The crashes: a line through the band, with the stores that are lost and the one that is kept.
-use crate::band::{Side, lane_top};
+use crate::band::lane_top;
 use crate::bars::Bar;
 use crate::crash::Crash;
 use crate::layout::BAR;
 use crate::page::Page;
-use crate::pen::Pen;
-use crate::spans::line_of_op;
+use crate::shapes::push_shape;
 use crate::words::{push_assertion, push_cause, push_shown};
+use pmt_pen::Pen;
 
 /// The height of a crash's name.
 pub const NAME_LINE: u64 = 16;
@@ -17,58 +17,35 @@ pub fn push_crashes(pen: &mut Pen, page: Page<'_>) {
     let mut y = page.crashes;
     for side in &page.band.sides {
         if let Some(crash) = page.picture.crashes.get(side.crash) {
-            push_crash(pen, page, crash, *side, y);
+            push_group(pen, crash);
+            push_line(pen, page, crash, side.x, y);
+            push_marks(pen, page, crash, Some(side.x));
+            pen.put("</g>\n");
         }
         y = y.saturating_add(NAME_LINE);
     }
+    let (first, end) = (page.band.start.crash, page.band.next.crash);
     for (index, crash) in page.picture.crashes.iter().enumerate() {
-        if !page.band.sides.iter().any(|side| side.crash == index) {
-            push_losses(pen, page, crash);
+        if index < first || end <= index {
+            push_marks(pen, page, crash, None);
         }
     }
 }
 
-// Marks the stores of the band that a crash of another band loses.
-fn push_losses(pen: &mut Pen, page: Page<'_>, crash: &Crash) {
+// Marks what the crash loses of the band's bars and, if its line stands in the band, there, where it crosses them.
+fn push_marks(pen: &mut Pen, page: Page<'_>, crash: &Crash, x: Option<u64>) {
     let mut top = page.rows;
     for row in &page.picture.rows {
         for bar in &row.bars {
             if page.band.has_bar(bar) {
-                let lane = lane_top(top, bar.lane);
-                for store in &crash.lost {
-                    if has_store(page, bar, row.line, *store) {
-                        push_lost_store(pen, page, *store, lane);
-                    }
-                }
+                push_bar_marks(pen, page, crash, bar, lane_top(top, bar.lane), x);
             }
         }
-        top = top.saturating_add(page.row_height(row));
+        top = top.saturating_add(page.band.row_height(page.picture, row));
     }
 }
 
-// Adds a crash, whose name stands at this height.
-fn push_crash(pen: &mut Pen, page: Page<'_>, crash: &Crash, side: Side, y: u64) {
-    push_group(pen, crash);
-    push_title(pen, crash);
-    push_line(pen, page, crash, side.x, y);
-    let mut top = page.rows;
-    for row in &page.picture.rows {
-        for bar in &row.bars {
-            if page.band.has_bar(bar) {
-                let told = Told {
-                    line: row.line,
-                    top: lane_top(top, bar.lane),
-                    x: side.x,
-                };
-                push_bar_marks(pen, page, crash, bar, told);
-            }
-        }
-        top = top.saturating_add(page.row_height(row));
-    }
-    pen.put("</g>\n");
-}
-
-// Opens the crash's group, which names the assertion, the place and the stores.
+// Opens the crash's group, which names the assertion, the place and the stores, with what is told of the crash.
 fn push_group(pen: &mut Pen, crash: &Crash) {
     let failure = crash.failure;
     pen.put("<g class='crash-line'");
@@ -82,12 +59,7 @@ fn push_group(pen: &mut Pen, crash: &Crash) {
     if let Some(kept) = failure.kept {
         pen.fill(" data-kept='#'", &[kept.store]);
     }
-    pen.put(">");
-}
-
-// Adds what is told of the crash.
-fn push_title(pen: &mut Pen, crash: &Crash) {
-    pen.put("<title>");
+    pen.put("><title>");
     push_assertion(pen, crash);
     pen.put(". ");
     push_shown(pen, crash);
@@ -109,43 +81,49 @@ fn push_line(pen: &mut Pen, page: Page<'_>, crash: &Crash, x: u64, y: u64) {
 // Where a bar stands that a crash tells of.
 #[derive(Clone, Copy)]
 struct Told {
-    // The number of its line.
-    line: u64,
     // The top of its lane.
     top: u64,
     // Where the crash's line stands.
     x: u64,
 }
 
-// Marks the bar's stores that the crash loses or keeps, where its line crosses the bar.
-fn push_bar_marks(pen: &mut Pen, page: Page<'_>, crash: &Crash, bar: &Bar, told: Told) {
+// Marks the bar's stores that the crash loses, and where its line crosses the bar, what it loses or keeps.
+fn push_bar_marks(
+    pen: &mut Pen,
+    page: Page<'_>,
+    crash: &Crash,
+    bar: &Bar,
+    top: u64,
+    x: Option<u64>,
+) {
     let mut lost: u64 = 0;
     for store in &crash.lost {
-        if has_store(page, bar, told.line, *store) {
+        if has_store(page, bar, *store) {
             lost = lost.saturating_add(1);
-            push_lost_store(pen, page, *store, told.top);
+            push_lost_store(pen, page, *store, top);
         }
     }
+    let Some(x) = x else {
+        return;
+    };
+    let told = Told { top, x };
     if lost > 0 {
         let is_later = crash.failure.place < bar.store;
         push_frame(pen, page, crash, bar, told, "lost");
         push_tag(pen, told, "lost", if is_later { "later" } else { "lost" });
     }
     if let Some(kept) = crash.failure.kept {
-        if has_store(page, bar, told.line, kept.store) {
+        if has_store(page, bar, kept.store) {
             push_frame(pen, page, crash, bar, told, "kept");
             push_tag(pen, told, "kept", "kept");
         }
     }
 }
 
-// Whether the store with this number is drawn in the bar of the line.
-fn has_store(page: Page<'_>, bar: &Bar, line: u64, store: u64) -> bool {
+// Whether the store with this number is drawn in the bar.
+fn has_store(page: Page<'_>, bar: &Bar, store: u64) -> bool {
     match page.picture.column(store) {
-        Some(column) => {
-            let at = line_of_op(page.picture.format, column.event.op);
-            bar.drawn > 0 && bar.has(store) && at == Some(line)
-        }
+        Some(column) => bar.has(page.picture.format, column),
         None => false,
     }
 }
@@ -167,7 +145,8 @@ fn push_lost_store(pen: &mut Pen, page: Page<'_>, store: u64, lane: u64) {
 fn push_frame(pen: &mut Pen, page: Page<'_>, crash: &Crash, bar: &Bar, told: Told, class: &str) {
     let from = page.band.middle(bar.store).min(told.x);
     if page.picture.frames(crash) && from < told.x {
-        pen.shape(
+        push_shape(
+            pen,
             "rect",
             class,
             "x='#' y='#' width='#' height='#'/>",

@@ -7,7 +7,7 @@ pub const MOST_COLUMNS: usize = 120;
 pub const MOST_ROWS: usize = 30;
 
 /// Which events are asked for. Events go by their numbers, from 1.
-#[derive(Clone, Copy, Debug, PartialEq, Eq)]
+#[derive(Clone, Copy)]
 pub enum Span {
     /// What is told of the trace first.
     First,
@@ -20,7 +20,7 @@ pub enum Span {
 }
 
 /// What of a trace is asked for.
-#[derive(Debug, Drop)]
+#[derive(Drop)]
 pub struct View {
     /// Which events.
     pub span: Span,

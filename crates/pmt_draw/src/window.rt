@@ -1,5 +1,5 @@
 //! Which events are drawn.
-use crate::numbered::count_before;
+use crate::numbered::{Numbers, count_before};
 use crate::view::MOST_COLUMNS;
 use pmt_model::OutOfMemory;
 use std::alloc::Global;
@@ -29,20 +29,19 @@ pub fn window(
     needed: &[u64],
 ) -> Result<Vec<u64>, OutOfMemory> {
     let room = MOST_COLUMNS.saturating_sub(needed.len());
-    let mut numbers = Vec::with_capacity(alloc, MOST_COLUMNS)?;
+    let mut numbers = Numbers::new(alloc);
     for number in needed.iter().take(MOST_COLUMNS) {
-        numbers.push(*number)?;
+        numbers.push(*number);
     }
     let (from, to) = bounds(aim, candidates, room);
     let mut left = room;
     for number in candidates.iter().skip(from).take(to.saturating_sub(from)) {
         if left > 0 && !needed.contains(number) {
-            numbers.push(*number)?;
+            numbers.push(*number);
             left -= 1;
         }
     }
-    numbers.sort_unstable();
-    Ok(numbers)
+    numbers.rising()
 }
 
 // Which of the candidates are drawn while there is room: the index of the first, and the one past the last.

@@ -1,9 +1,9 @@
 //! The words of the picture.
 use crate::crash::{Assertion, Crash};
 use crate::labels::{Label, label_of};
-use crate::pen::Pen;
 use crate::picture::Column;
 use pmt_model::{Event, Op};
+use pmt_pen::Pen;
 use pmt_reasons::{Cause, Reason};
 use pmt_text::write_event;
 
@@ -91,19 +91,14 @@ pub fn push_cause(pen: &mut Pen, crash: &Crash) {
                 "Flush # by thread # covers store #, but thread # makes no fence between that flush and the crash",
                 &[flush, thread, lost, thread],
             );
-            push_other_fence(pen, other);
+            match other {
+                None => pen.put("."),
+                Some(fence) => pen.fill(
+                    ": fence # is another thread's, and does not wait for the flush.",
+                    &[fence],
+                ),
+            }
         }
-    }
-}
-
-// Adds the fence of another thread that did not help, if there is one, and ends the sentence.
-fn push_other_fence(pen: &mut Pen, other: Option<u64>) {
-    match other {
-        None => pen.put("."),
-        Some(fence) => pen.fill(
-            ": fence # is another thread's, and does not wait for the flush.",
-            &[fence],
-        ),
     }
 }
 
