@@ -1,7 +1,6 @@
 //! A test of the book.
 use pmt_book::Book;
 use pmt_model::{Event, Op};
-use std::alloc::Global;
 use std::process::Abort;
 use std::test::Fail;
 
@@ -12,11 +11,9 @@ fn add(book: &mut Book, op: Op) -> Result<(), Fail> {
 }
 
 // A store that is flushed, and not fenced.
-fn flushed(alloc: Global, store: Op, flush: Op) -> Result<Book, Fail> {
-    let mut book = Book::new(alloc);
-    add(&mut book, store)?;
-    add(&mut book, flush)?;
-    Ok(book)
+fn add_flushed(book: &mut Book) -> Result<(), Fail> {
+    add(book, Op::store(0x1000, &[1])?)?;
+    add(book, Op::clwb(0x1000)?)
 }
 
 // The front of line 64, and the number of events.
@@ -24,13 +21,30 @@ fn has_front(rt: &impl Abort, book: &Book, front: u64, events: usize) {
     assert_eq!(rt; (book.front(64), book.len()), (front, events));
 }
 
+// A fence, which raises the front.
+fn fence(rt: &impl Abort, book: &mut Book) -> Result<(), Fail> {
+    add(book, Op::Sfence)?;
+    has_front(rt, book, 1, 3);
+    Ok(())
+}
+
+fn fence_copy(rt: &impl Abort, book: &Book) -> Result<(), Fail> {
+    match book.copy() {
+        Ok(mut copy) => fence(rt, &mut copy),
+        Err(_) => Err("no memory".into()),
+    }
+}
+
 // A fence raises the front of the copy alone.
+fn fence_raises_copy(rt: &impl Abort, book: &mut Book) -> Result<(), Fail> {
+    add_flushed(book)?;
+    fence_copy(rt, book)?;
+    has_front(rt, book, 0, 2);
+    Ok(())
+}
+
 #[test]
 fn copied(rt: HostRuntime) -> Result<(), Fail> {
-    let book = flushed(rt.alloc(), Op::store(0x1000, &[1])?, Op::clwb(0x1000)?)?;
-    let mut copy = book.copy()?;
-    add(&mut copy, Op::Sfence)?;
-    has_front(&rt, &copy, 1, 3);
-    has_front(&rt, &book, 0, 2);
-    Ok(())
+    let mut book = Book::new(rt.alloc());
+    fence_raises_copy(&rt, &mut book)
 }

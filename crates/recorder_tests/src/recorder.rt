@@ -61,6 +61,23 @@ fn append<L: Roll, R: Wait + Abort>(
     assert_eq!(rt; session.append(rt, tape, op), Ok(number));
 }
 
+// The last append, and what a snapshot shows.
+fn look<L: Roll, R: Wait + Abort>(
+    rt: &R,
+    session: &Session<L>,
+    tape: &Tape<L>,
+    last: Op,
+) -> Result<(), Fail> {
+    assert_eq!(rt; tape.get(1), Some((2, last)));
+    match session.snapshot(rt, tape) {
+        Ok(snapshot) => {
+            shows_128(rt, snapshot.book());
+            Ok(())
+        }
+        Err(_) => Err("no snapshot".into()),
+    }
+}
+
 // Appends a store and a clflush of its line, and looks.
 fn append_two<L: Roll, R: Wait + Abort>(
     rt: &R,
@@ -69,10 +86,7 @@ fn append_two<L: Roll, R: Wait + Abort>(
 ) -> Result<(), Fail> {
     append(rt, session, tape, store()?, 1);
     append(rt, session, tape, clflush()?, 2);
-    let last = Some((2, clflush()?));
-    assert_eq!(rt; tape.get(1), last);
-    shows_128(rt, session.snapshot(rt, tape)?.book());
-    Ok(())
+    look(rt, session, tape, clflush()?)
 }
 
 fn store() -> Result<Op, OpError> {
@@ -81,6 +95,28 @@ fn store() -> Result<Op, OpError> {
 
 fn clflush() -> Result<Op, OpError> {
     Op::clflush(0x1040)
+}
+
+// One of the tapes appends a store and a clflush of its line.
+fn append_by_one<L: Roll, R: Wait + Abort>(
+    rt: &R,
+    session: &Session<L>,
+    tapes: &mut Vec<Tape<L>>,
+) -> Result<(), Fail> {
+    let mut tape = take_tape(tapes)?;
+    append_two(rt, session, &mut tape)?;
+    put_tape(tapes, tape)
+}
+
+// The trace of the session in which one of the tapes appends.
+fn recorded<L: Roll, R: Wait + Abort>(
+    rt: &R,
+    session: Session<L>,
+    tapes: Vec<Tape<L>>,
+) -> Result<Trace, Fail> {
+    let mut tapes = tapes;
+    append_by_one(rt, &session, &mut tapes)?;
+    sealed(session, tapes)
 }
 
 // One tape, which appends a store and a clflush of its line.
@@ -95,11 +131,10 @@ fn record_one<L: Roll, R: Wait + Abort>(
     requires tapes { 1 ≡ L.tapes }
     requires format { format ≡ L.format }
 {
-    let (session, mut tapes) = Session::<L>::start_with(alloc, blank, format, 1)?;
-    let mut tape = take_tape(&mut tapes)?;
-    append_two(rt, &session, &mut tape)?;
-    put_tape(&mut tapes, tape)?;
-    sealed(session, tapes)
+    match Session::<L>::start_with(alloc, blank, format, 1) {
+        Ok((session, tapes)) => recorded(rt, session, tapes),
+        Err(_) => Err("no session".into()),
+    }
 }
 
 #[test]
@@ -118,8 +153,21 @@ fn refuses<L: Roll, R: Wait + Abort>(rt: &R, session: &Session<L>, tape: &mut Ta
     assert_eq!(rt; tape.len(), 0);
 }
 
-// One tape of a session of version 1, which appends what came with version 2.
+// One of the tapes appends what came with version 2.
 fn append_strangers<L: Roll, R: Wait + Abort>(
+    rt: &R,
+    session: &Session<L>,
+    tapes: &mut Vec<Tape<L>>,
+    clflush: Op,
+) -> Result<(), Fail> {
+    let mut tape = take_tape(tapes)?;
+    refuses(rt, session, &mut tape, clflush);
+    refuses(rt, session, &mut tape, Op::Mfence);
+    Ok(())
+}
+
+// A session of version 1 with one tape.
+fn record_strangers<L: Roll, R: Wait + Abort>(
     rt: &R,
     alloc: Global,
     blank: Blank,
@@ -130,15 +178,14 @@ fn append_strangers<L: Roll, R: Wait + Abort>(
     requires tapes { 1 ≡ L.tapes }
     requires format { first_version ≡ L.format }
 {
-    let (session, mut tapes) = Session::<L>::start(alloc, blank, 1)?;
-    let mut tape = take_tape(&mut tapes)?;
-    refuses(rt, &session, &mut tape, clflush);
-    refuses(rt, &session, &mut tape, Op::Mfence);
-    Ok(())
+    match Session::<L>::start(alloc, blank, 1) {
+        Ok((session, mut tapes)) => append_strangers(rt, &session, &mut tapes, clflush),
+        Err(_) => Err("no session".into()),
+    }
 }
 
 #[test]
 fn not_in_format(rt: HostRuntime) -> Result<(), Fail> {
     let clflush = Op::clflush(0x1000)?;
-    append_strangers::<Brand, HostRuntime>(&rt, rt.alloc(), Blank::new(256), clflush)
+    record_strangers::<Brand, HostRuntime>(&rt, rt.alloc(), Blank::new(256), clflush)
 }
