@@ -70,11 +70,18 @@ pub fn push_events(alloc: Global) -> Tally {
     for number in 1..=EVENTS {
         tally.note(push_again(&mut book, number));
     }
-    for number in 1..=EVENTS {
-        tally.expect(book.get(number) == event_of(number));
-    }
-    tally.expect((book.len() as u64, totals(&book)) == (EVENTS, (1, 21)));
+    tally.expect(has_all(&book));
     tally
+}
+
+// Whether the book has all events, and its totals are theirs.
+fn has_all(book: &Book) -> bool {
+    for number in 1..=EVENTS {
+        if book.get(number) != event_of(number) {
+            return false;
+        }
+    }
+    (book.len() as u64, totals(book)) == (EVENTS, (1, 21))
 }
 
 // What a thread appends at its turn.
@@ -93,15 +100,31 @@ fn append_again<L: Roll, R: Wait>(
     let len = tape.len();
     match session.append(rt, tape, *op) {
         Ok(number) => (Attempt::First, number),
-        Err(AppendError::OutOfMemory) => {
-            if tape.len() != len || session.snapshot(rt, tape).is_err() {
-                return (Attempt::Wrong, 0);
-            }
-            match session.append(rt, tape, *op) {
-                Ok(number) => (Attempt::Second, number),
-                Err(_) => (Attempt::Wrong, 0),
-            }
+        Err(AppendError::OutOfMemory) if is_as_before(rt, session, tape, len) => {
+            append_once_more(rt, session, tape, op)
         }
+        Err(_) => (Attempt::Wrong, 0),
+    }
+}
+
+// Whether the tape has as many appends as before, and the session can still be looked at.
+fn is_as_before<L: Roll, R: Wait>(
+    rt: &R,
+    session: &Session<L>,
+    tape: &Tape<L>,
+    len: usize,
+) -> bool {
+    tape.len() == len && session.snapshot(rt, tape).is_ok()
+}
+
+fn append_once_more<L: Roll, R: Wait>(
+    rt: &R,
+    session: &Session<L>,
+    tape: &mut Tape<L>,
+    op: &Op,
+) -> (Attempt, u64) {
+    match session.append(rt, tape, *op) {
+        Ok(number) => (Attempt::Second, number),
         Err(_) => (Attempt::Wrong, 0),
     }
 }
@@ -133,57 +156,89 @@ fn last_of(events: &[Event], thread: u8) -> u64 {
     last
 }
 
-// What a thread has done: its tape, the numbers of its appends, and its last snapshot.
+// What a thread has appended: the numbers of its events, and its last snapshot.
 #[derive(Drop)]
-struct Part<L: Roll> {
-    tally: Tally,
-    tape: Tape<L>,
+struct Appended {
     numbers: [u64; APPENDS],
     snapshot: Option<Snapshot>,
 }
 
-// A thread's appends. A snapshot after one of them has it as the thread's last event.
+// What a thread has done, and its tape.
+#[derive(Drop)]
+struct Part<L: Roll> {
+    tally: Tally,
+    tape: Tape<L>,
+    appended: Appended,
+}
+
+// One append of a thread. A snapshot after it has it as the thread's last event.
+fn append_one<L: Roll, R: Wait>(
+    rt: &R,
+    session: &Session<L>,
+    tape: &mut Tape<L>,
+    turn: usize,
+    tally: &mut Tally,
+    appended: &mut Appended,
+) {
+    let Some(op) = op_of(tape.thread(), turn) else {
+        tally.note(Attempt::Wrong);
+        return;
+    };
+    let (attempt, number) = append_again(rt, session, tape, &op);
+    tally.note(attempt);
+    if turn < APPENDS {
+        appended.numbers[turn] = number;
+    }
+    if turn % 8 == 0 {
+        look(rt, session, tape, number, tally, appended);
+    }
+}
+
+// A snapshot after the append with this number.
+fn look<L: Roll, R: Wait>(
+    rt: &R,
+    session: &Session<L>,
+    tape: &Tape<L>,
+    number: u64,
+    tally: &mut Tally,
+    appended: &mut Appended,
+) {
+    let (attempt, snapshot) = snapshot_again(rt, session, tape);
+    tally.note(attempt);
+    if let Some(seen) = &snapshot {
+        tally.expect(last_of(seen.book().events(), tape.thread()) == number);
+    }
+    appended.snapshot = snapshot;
+}
+
+// A thread's appends.
 fn work<L: Roll, R: Wait>(rt: &R, session: &Session<L>, tape: Tape<L>) -> Part<L> {
     let mut tape = tape;
-    let thread = tape.thread();
     let mut tally = Tally::new();
-    let mut numbers = [0; APPENDS];
-    let mut last = None;
+    let mut appended = Appended {
+        numbers: [0; APPENDS],
+        snapshot: None,
+    };
     for turn in 0..APPENDS {
-        let Some(op) = op_of(thread, turn) else {
-            tally.note(Attempt::Wrong);
-            break;
-        };
-        let (attempt, number) = append_again(rt, session, &mut tape, &op);
-        tally.note(attempt);
-        numbers[turn] = number;
-        if turn % 8 == 0 {
-            let (attempt, snapshot) = snapshot_again(rt, session, &tape);
-            tally.note(attempt);
-            if let Some(seen) = &snapshot {
-                tally.expect(last_of(seen.book().events(), thread) == number);
-            }
-            last = snapshot;
-        }
+        append_one(rt, session, &mut tape, turn, &mut tally, &mut appended);
     }
-    tally.expect(notes(&tape, &numbers));
+    tally.expect(notes(&tape, &appended.numbers));
     Part {
         tally,
         tape,
-        numbers,
-        snapshot: last,
+        appended,
     }
 }
 
 // Whether the trace has the appends of a thread under their numbers, and begins with its snapshot.
-fn has(trace: &Trace, thread: u8, numbers: &[u64; APPENDS], snapshot: &Option<Snapshot>) -> bool {
+fn has(trace: &Trace, thread: u8, appended: &Appended) -> bool {
     for turn in 0..APPENDS {
         let wanted = op_of(thread, turn).map(|op| Event { thread, op });
-        if trace.get(numbers[turn]) != wanted {
+        if trace.get(appended.numbers[turn]) != wanted {
             return false;
         }
     }
-    match snapshot {
+    match &appended.snapshot {
         Some(seen) => {
             let events = seen.book().events();
             trace.events().get(..events.len()) == Some(events)
@@ -203,7 +258,81 @@ fn notes<L: Roll>(tape: &Tape<L>, numbers: &[u64; APPENDS]) -> bool {
     tape.len() == APPENDS
 }
 
-// Two threads append in the session that L names, which is sealed then; nothing, where its start was refused memory.
+// Both threads append, each by one of the tapes.
+fn work_both<L: Roll + Send + Sync, R: Threads + Wait + Sync>(
+    rt: &R,
+    session: &Session<L>,
+    first: Tape<L>,
+    second: Tape<L>,
+) -> (Part<L>, Part<L>) {
+    thread::join(
+        rt,
+        move || work(rt, session, first),
+        move || work(rt, session, second),
+    )
+}
+
+// Puts the thread's tape to the others, and gives what it has appended.
+fn put<L: Roll>(tally: &mut Tally, tapes: &mut Vec<Tape<L>>, part: Part<L>) -> Appended {
+    let Part {
+        tally: seen,
+        tape,
+        appended,
+    } = part;
+    tally.add(&seen);
+    tally.expect(tapes.push(tape).is_ok());
+    appended
+}
+
+// Both threads append by the tapes, and hand them back; nothing, where there are no two.
+fn run<L: Roll + Send + Sync, R: Threads + Wait + Sync>(
+    rt: &R,
+    session: &Session<L>,
+    tally: &mut Tally,
+    tapes: &mut Vec<Tape<L>>,
+) -> Option<(Appended, Appended)> {
+    let second = tapes.pop()?;
+    let first = tapes.pop()?;
+    let (first, second) = work_both(rt, session, first, second);
+    Some((put(tally, tapes, first), put(tally, tapes, second)))
+}
+
+// Whether the trace has what both threads have appended, and no more.
+fn has_both(trace: &Trace, appended: &Option<(Appended, Appended)>) -> bool {
+    match appended {
+        Some((first, second)) => {
+            trace.len() == 2 * APPENDS && has(trace, 0, first) && has(trace, 1, second)
+        }
+        None => false,
+    }
+}
+
+// Whether the session is sealed, and its trace has what both threads have appended.
+fn is_sealed<L: Roll>(
+    session: Session<L>,
+    tapes: Vec<Tape<L>>,
+    appended: &Option<(Appended, Appended)>,
+) -> bool {
+    match session.seal(tapes) {
+        Ok(trace) => has_both(&trace, appended),
+        Err(_) => false,
+    }
+}
+
+// Two threads append in the session, which is sealed then.
+fn recorded<L: Roll + Send + Sync, R: Threads + Wait + Sync>(
+    rt: &R,
+    session: Session<L>,
+    tapes: Vec<Tape<L>>,
+) -> Tally {
+    let mut tally = Tally::new();
+    let mut tapes = tapes;
+    let appended = run(rt, &session, &mut tally, &mut tapes);
+    tally.expect(is_sealed(session, tapes, &appended));
+    tally
+}
+
+// What was seen in the session that L names; nothing, where its start was refused memory.
 fn record<L: Roll + Send + Sync, R: Threads + Wait + Sync>(
     rt: &R,
     alloc: Global,
@@ -214,45 +343,10 @@ fn record<L: Roll + Send + Sync, R: Threads + Wait + Sync>(
     requires tapes { 2 ≡ L.tapes }
     requires format { first_version ≡ L.format }
 {
-    let Ok((session, mut tapes)) = Session::<L>::start(alloc, blank, 2) else {
-        return None;
-    };
-    let mut tally = Tally::new();
-    let (Some(second), Some(first)) = (tapes.pop(), tapes.pop()) else {
-        tally.note(Attempt::Wrong);
-        return Some(tally);
-    };
-    let shared = &session;
-    let (one, two) = thread::join(
-        rt,
-        move || work(rt, shared, first),
-        move || work(rt, shared, second),
-    );
-    let Part {
-        tally: seen,
-        tape,
-        numbers: first_numbers,
-        snapshot: first_snapshot,
-    } = one;
-    tally.add(&seen);
-    tally.expect(tapes.push(tape).is_ok());
-    let Part {
-        tally: seen,
-        tape,
-        numbers: second_numbers,
-        snapshot: second_snapshot,
-    } = two;
-    tally.add(&seen);
-    tally.expect(tapes.push(tape).is_ok());
-    match session.seal(tapes) {
-        Ok(trace) => {
-            tally.expect(trace.len() == 2 * APPENDS);
-            tally.expect(has(&trace, 0, &first_numbers, &first_snapshot));
-            tally.expect(has(&trace, 1, &second_numbers, &second_snapshot));
-        }
-        Err(_) => tally.note(Attempt::Wrong),
+    match Session::<L>::start(alloc, blank, 2) {
+        Ok((session, tapes)) => Some(recorded(rt, session, tapes)),
+        Err(_) => None,
     }
-    Some(tally)
 }
 
 /// Two threads record in a session.
