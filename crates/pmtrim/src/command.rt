@@ -1,9 +1,10 @@
 //! The words of the program, by clap.
+use crate::arguments::{Made, flag, trace_file, with};
 use crate::draw_words::draw_command;
 use crate::explain_command::explain_command;
 use crate::image_words::image_command;
 use clap::{Arg, ArgAction, Command};
-use std::alloc::{AllocError, Global};
+use std::alloc::Global;
 
 /// The version of the program.
 pub const VERSION: &str = "1.0.0";
@@ -17,25 +18,20 @@ const UNUSED: &str =
     "Accepted as check has it, and changes nothing: trim is one pass in one thread";
 
 /// The words of the program and of its commands.
-pub fn commands<'a>(alloc: Global) -> Result<Command<'a>, AllocError> {
-    let judging = with_command(
-        with_command(program(alloc)?, check(alloc))?,
-        explain_command(alloc),
-    )?;
-    let writing = with_command(with_command(judging, trim(alloc))?, fronts(alloc))?;
-    let drawing = with_command(with_command(writing, record(alloc))?, draw_command(alloc))?;
+pub fn commands<'a>(alloc: Global) -> Made<'a> {
+    let judging = with_command(program(alloc), check(alloc));
+    let explaining = with_command(judging, explain_command(alloc));
+    let trimming = with_command(with_command(explaining, trim(alloc)), fronts(alloc));
+    let drawing = with_command(with_command(trimming, record(alloc)), draw_command(alloc));
     with_command(drawing, image_command(alloc))
 }
 
 // The command with one of its own.
-fn with_command<'a>(
-    command: Command<'a>,
-    made: Result<Command<'a>, AllocError>,
-) -> Result<Command<'a>, AllocError> {
-    command.subcommand(made?)
+fn with_command<'a>(command: Made<'a>, made: Made<'a>) -> Made<'a> {
+    command?.subcommand(made?)
 }
 
-fn program<'a>(alloc: Global) -> Result<Command<'a>, AllocError> {
+fn program<'a>(alloc: Global) -> Made<'a> {
     let command = Command::new(alloc, "pmtrim")
         .version(VERSION)
         .no_binary_name(true)
@@ -54,53 +50,45 @@ fn program<'a>(alloc: Global) -> Result<Command<'a>, AllocError> {
     )
 }
 
-fn check<'a>(alloc: Global) -> Result<Command<'a>, AllocError> {
-    Command::new(alloc, "check")
+fn check<'a>(alloc: Global) -> Made<'a> {
+    let command = Command::new(alloc, "check")
         .override_usage("pmtrim check [--workers N] [FILE]")
         .about("Judges the assertions of a trace, and reports findings.")
         .after_help(
             "Writes the number of events and lines, an entry for each finding and each assertion, and how many events trim keeps.{n}Statuses: 0 done; 1 an assertion fails or a store is never persisted; 2 wrong words; 3 trace refused; 4 file fault; 5 out of memory{n}Example: pmtrim check --workers 4 run.trace",
-        )
-        .arg(workers(alloc, BESIDE))?
-        .arg(file(alloc))
+        );
+    with(with(Ok(command), workers(alloc, BESIDE)), trace_file(alloc))
 }
 
-fn trim<'a>(alloc: Global) -> Result<Command<'a>, AllocError> {
-    Command::new(alloc, "trim")
+fn trim<'a>(alloc: Global) -> Made<'a> {
+    let command = Command::new(alloc, "trim")
         .override_usage("pmtrim trim [--workers N] [--stream] [FILE]")
         .about("Writes the trace without the flushes and fences that no crash can show.")
         .after_help(
             "Statuses: 0 done; 2 wrong words; 3 trace refused; 4 file fault; 5 out of memory{n}Example: pmtrim trim run.trace > trimmed.trace",
-        )
-        .arg(workers(alloc, UNUSED))?
-        .arg(stream(alloc))?
-        .arg(file(alloc))
+        );
+    let stream = flag(alloc, "stream", "Write the trace as it is read");
+    let working = with(Ok(command), workers(alloc, UNUSED));
+    with(with(working, stream), trace_file(alloc))
 }
 
-fn stream<'a>(alloc: Global) -> Arg<'a> {
-    Arg::new(alloc, "stream")
-        .long("stream")
-        .action(ArgAction::SetTrue)
-        .help("Write the trace as it is read")
-}
-
-fn fronts<'a>(alloc: Global) -> Result<Command<'a>, AllocError> {
-    let place = Arg::new(alloc, "PLACE")
-        .required(true)
-        .help("After how many events, a decimal number");
-    Command::new(alloc, "fronts")
+fn fronts<'a>(alloc: Global) -> Made<'a> {
+    let command = Command::new(alloc, "fronts")
         .override_usage("pmtrim fronts FILE PLACE")
         .about(
             "Writes, for each line of the trace at a place, how many of its stores are persisted for sure, and how many there are.",
         )
         .after_help(
             "Statuses: 0 done; 2 wrong words, or the place lies past the end; 3 trace refused; 4 file fault; 5 out of memory{n}Example: pmtrim fronts run.trace 12",
-        )
-        .arg(Arg::new(alloc, "FILE").required(true).help("The trace"))?
-        .arg(place)
+        );
+    let file = Arg::new(alloc, "FILE").required(true).help("The trace");
+    let place = Arg::new(alloc, "PLACE")
+        .required(true)
+        .help("After how many events, a decimal number");
+    with(with(Ok(command), file), place)
 }
 
-fn record<'a>(alloc: Global) -> Result<Command<'a>, AllocError> {
+fn record<'a>(alloc: Global) -> Made<'a> {
     let scripts = Arg::new(alloc, "SCRIPT")
         .required(true)
         .action(ArgAction::Append)
@@ -122,8 +110,4 @@ fn workers<'a>(alloc: Global, help: &'a str) -> Arg<'a> {
         .value_parser(WORKERS)
         .default_value("1")
         .help(help)
-}
-
-fn file<'a>(alloc: Global) -> Arg<'a> {
-    Arg::new(alloc, "FILE").help("The trace; standard input, if none is given")
 }

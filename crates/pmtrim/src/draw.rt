@@ -27,22 +27,37 @@ pub fn draw<T, O, I, W>(
     rt: &T,
     drawing: &Drawing<'_>,
     files: &O,
-    input: I,
+    input: &mut I,
     out: &mut W,
 ) -> Result<u8, Fault>
 where
     T: AllocGlobal + Threads + Wait + Sync,
     O: Opener,
-    I: Read + Drop,
+    I: Read,
     W: Write,
     ensures { IfOk result (λ status. status ≡ 0) }
 {
-    let alloc = rt.alloc();
-    let labels = labels_of(alloc, files, drawing.labels)?;
-    let drawn = drawn_of(rt, drawing, &labels, files, input)?;
-    let text = svg_of(alloc, &drawn, &labels)?;
+    let labels = labels_of(rt.alloc(), files, drawing.labels)?;
+    let text = svg_asked(rt, drawing, &labels, files, input)?;
     write_whole(out, text.as_bytes())?;
     Ok(0)
+}
+
+// The text of the picture that is asked for.
+fn svg_asked<T, O, I>(
+    rt: &T,
+    drawing: &Drawing<'_>,
+    labels: &Labels,
+    files: &O,
+    input: &mut I,
+) -> Result<String, Fault>
+where
+    T: AllocGlobal + Threads + Wait + Sync,
+    O: Opener,
+    I: Read,
+{
+    let drawn = drawn_of(rt, drawing, labels, files, input)?;
+    Ok(svg_of(rt.alloc(), &drawn, labels)?)
 }
 
 // What is drawn of the trace of the file or of `input`.
@@ -51,24 +66,57 @@ fn drawn_of<T, O, I>(
     drawing: &Drawing<'_>,
     labels: &Labels,
     files: &O,
-    input: I,
+    input: &mut I,
 ) -> Result<Picture, Fault>
 where
     T: AllocGlobal + Threads + Wait + Sync,
     O: Opener,
-    I: Read + Drop,
+    I: Read,
+{
+    let bytes = bytes_of(rt.alloc(), drawing.file, files, input)?;
+    let name = drawing.file.unwrap_or(STANDARD_INPUT);
+    drawn_text(rt, name, bytes.as_slice(), labels, &drawing.view)
+}
+
+// What is drawn of the trace with this name and text.
+fn drawn_text<T>(
+    rt: &T,
+    name: &str,
+    bytes: &[u8],
+    labels: &Labels,
+    view: &View,
+) -> Result<Picture, Fault>
+where
+    T: AllocGlobal + Threads + Wait + Sync,
 {
     let alloc = rt.alloc();
-    let bytes = bytes_of(alloc, drawing.file, files, input)?;
-    let name = drawing.file.unwrap_or(STANDARD_INPUT);
-    let analysis = analysis_of(rt, name, bytes.as_slice())?;
+    let (_reader, found) = analysed(rt, alloc, 1, Counted::new(Cursor::new(bytes)));
+    match found {
+        Ok(analysis) => drawn_analysis(alloc, analysis, labels, view),
+        Err(RunError::Text(fault)) => {
+            Err(source_fault(alloc, name, bytes, SourceError::Text(fault))?)
+        }
+        Err(RunError::TooMany) => Err(source_fault(alloc, name, bytes, SourceError::TooMany)?),
+        Err(error) => Err(Fault::Run(error)),
+    }
+}
+
+// What is drawn of the trace with this analysis.
+fn drawn_analysis(
+    alloc: Global,
+    analysis: Analysis,
+    labels: &Labels,
+    view: &View,
+) -> Result<Picture, Fault> {
     let options = Options {
         ignored: Vec::new(alloc),
         limit: 0,
-        choice: needed_by(drawing.view.span),
+        choice: needed_by(view.span),
     };
-    let explanation = explanation_of(alloc, analysis, labels, &options)?;
-    picture(alloc, &explanation, &drawing.view)
+    match explanation_of(alloc, analysis, labels, &options) {
+        Ok(explanation) => picture(alloc, &explanation, view),
+        Err(_) => Err(Fault::OutOfMemory),
+    }
 }
 
 // The findings that a picture of the span needs: to draw what is told first all of them, and else those of the signs.
@@ -83,23 +131,6 @@ fn needed_by(span: Span) -> Choice {
         from: None,
         to: None,
         label: None,
-    }
-}
-
-// The analysis of the trace with this text and name.
-fn analysis_of<T>(rt: &T, name: &str, bytes: &[u8]) -> Result<Analysis, Fault>
-where
-    T: AllocGlobal + Threads + Wait + Sync,
-{
-    let alloc = rt.alloc();
-    let (_reader, found) = analysed(rt, alloc, 1, Counted::new(Cursor::new(bytes)));
-    match found {
-        Ok(analysis) => Ok(analysis),
-        Err(RunError::Text(fault)) => {
-            Err(source_fault(alloc, name, bytes, SourceError::Text(fault))?)
-        }
-        Err(RunError::TooMany) => Err(source_fault(alloc, name, bytes, SourceError::TooMany)?),
-        Err(error) => Err(Fault::Run(error)),
     }
 }
 
@@ -120,39 +151,79 @@ pub fn first_picture(
     Ok(svg_of(alloc, &drawn, labels)?)
 }
 
+// The events and groups of an explanation that a picture marks, by kind.
+#[derive(Drop)]
+struct Marked {
+    failing: Vec<u64>,
+    useless: Vec<u64>,
+    late: Vec<u64>,
+    unwritten: Vec<u64>,
+    overwritten: Vec<OverwrittenGroup>,
+    lost: Vec<LostGroup>,
+}
+
+impl Marked {
+    // No events.
+    fn new(alloc: Global) -> Self {
+        Marked {
+            failing: Vec::new(alloc),
+            useless: Vec::new(alloc),
+            late: Vec::new(alloc),
+            unwritten: Vec::new(alloc),
+            overwritten: Vec::new(alloc),
+            lost: Vec::new(alloc),
+        }
+    }
+
+    // Adds those of the explanation.
+    fn add(&mut self, alloc: Global, explanation: &Explanation) -> Result<(), OutOfMemory> {
+        add_members(&mut self.failing, explanation.causes.as_slice())?;
+        add_members(&mut self.useless, explanation.dropped_groups.as_slice())?;
+        add_members(&mut self.late, explanation.late.as_slice())?;
+        add_events(&mut self.unwritten, explanation.unwritten.as_slice())?;
+        add_overwritten(&mut self.overwritten, explanation.overwritten.as_slice())?;
+        add_lost(alloc, &mut self.lost, explanation)
+    }
+
+    // What is known of the trace.
+    fn known<'a>(&'a self, explanation: &'a Explanation) -> Known<'a> {
+        let analysis = &explanation.analysis;
+        Known {
+            trace: analysis.trace(),
+            lines: analysis.lines() as u64,
+            verdicts: analysis.verdicts(),
+            failing: self.failing.as_slice(),
+            never: explanation.stores.as_slice(),
+            lost: self.lost.as_slice(),
+            dropped: explanation.dropped.as_slice(),
+            useless: self.useless.as_slice(),
+            overwritten: self.overwritten.as_slice(),
+            late: self.late.as_slice(),
+            unwritten: self.unwritten.as_slice(),
+        }
+    }
+}
+
 // The picture of what is explained, of which the view speaks.
 fn picture(alloc: Global, explanation: &Explanation, view: &View) -> Result<Picture, Fault> {
-    let analysis = &explanation.analysis;
-    let failing = members_of(alloc, explanation.causes.as_slice())?;
-    let useless = members_of(alloc, explanation.dropped_groups.as_slice())?;
-    let late = members_of(alloc, explanation.late.as_slice())?;
-    let overwritten = told_overwritten(alloc, explanation.overwritten.as_slice())?;
-    let unwritten = events_of(alloc, explanation.unwritten.as_slice())?;
-    let lost = told_lost(alloc, explanation)?;
-    let known = Known {
-        trace: analysis.trace(),
-        lines: analysis.lines() as u64,
-        verdicts: analysis.verdicts(),
-        failing: failing.as_slice(),
-        never: explanation.stores.as_slice(),
-        lost: lost.as_slice(),
-        dropped: explanation.dropped.as_slice(),
-        useless: useless.as_slice(),
-        overwritten: overwritten.as_slice(),
-        late: late.as_slice(),
-        unwritten: unwritten.as_slice(),
-    };
+    let mut marked = Marked::new(alloc);
+    marked.add(alloc, explanation)?;
+    let known = marked.known(explanation);
     match refusal_of(known, view.span, view.kept.as_slice()) {
-        Some(refusal) => Err(refused(alloc, refusal, analysis.trace().len())?),
+        Some(refusal) => Err(refused(alloc, refusal, known.trace.len())?),
         None => Ok(picture_of(alloc, known, view)?),
     }
 }
 
 // What is never persisted, by line, in the order of its causes.
-fn told_lost(alloc: Global, explanation: &Explanation) -> Result<Vec<LostGroup>, OutOfMemory> {
+fn add_lost(
+    alloc: Global,
+    told: &mut Vec<LostGroup>,
+    explanation: &Explanation,
+) -> Result<(), OutOfMemory> {
     let lost = explanation.lost.as_slice();
-    let numbers = members_of(alloc, explanation.lost_causes.as_slice())?;
-    let mut told = Vec::new(alloc);
+    let mut numbers = Vec::new(alloc);
+    add_members(&mut numbers, explanation.lost_causes.as_slice())?;
     for number in numbers.as_slice() {
         if let Ok(place) = lost.binary_search_by_key(number, |group| group.first) {
             if let Some(group) = lost.get(place) {
@@ -160,28 +231,24 @@ fn told_lost(alloc: Global, explanation: &Explanation) -> Result<Vec<LostGroup>,
             }
         }
     }
-    Ok(told)
+    Ok(())
 }
 
 // The members of these groups, in their order.
-fn members_of<K>(alloc: Global, groups: &[Group<K>]) -> Result<Vec<u64>, OutOfMemory> {
-    let mut members = Vec::new(alloc);
+fn add_members<K>(members: &mut Vec<u64>, groups: &[Group<K>]) -> Result<(), OutOfMemory> {
     for group in groups {
-        for number in group.members.as_slice() {
-            members.push(*number)?;
-        }
+        members.extend_from_slice(group.members.as_slice())?;
     }
-    Ok(members)
+    Ok(())
 }
 
 // These groups, those first with most pairs that write other bytes, and then those with most pairs.
-fn told_overwritten(
-    alloc: Global,
+fn add_overwritten(
+    told: &mut Vec<OverwrittenGroup>,
     groups: &[OverwrittenGroup],
-) -> Result<Vec<OverwrittenGroup>, OutOfMemory> {
-    let mut told = Vec::from_slice(alloc, groups)?;
-    told.sort_by_key(|group| rank_of(group))?;
-    Ok(told)
+) -> Result<(), OutOfMemory> {
+    told.extend_from_slice(groups)?;
+    told.sort_by_key(|group| rank_of(group))
 }
 
 // The least of the group that stands first.
@@ -194,12 +261,11 @@ fn rank_of(group: &OverwrittenGroup) -> (u64, u64) {
 }
 
 // The events of these assertions.
-fn events_of(alloc: Global, found: &[Unwritten]) -> Result<Vec<u64>, OutOfMemory> {
-    let mut events = Vec::with_capacity(alloc, found.len())?;
+fn add_events(events: &mut Vec<u64>, found: &[Unwritten]) -> Result<(), OutOfMemory> {
     for assertion in found {
         events.push(assertion.event)?;
     }
-    Ok(events)
+    Ok(())
 }
 
 // The fault of words that are not of the trace with so many events.

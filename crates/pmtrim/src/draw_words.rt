@@ -1,6 +1,7 @@
 //! The words of `draw`.
+use crate::arguments::{Made, trace_file, value, values, with};
 use crate::fault::Fault;
-use clap::{Arg, ArgAction, ArgMatches, Command};
+use clap::{ArgMatches, Command};
 use pmt_draw::{Span, View};
 use pmt_text::number::{read_address, read_number};
 use std::alloc::{AllocError, Global};
@@ -17,7 +18,7 @@ pub struct Drawing<'a> {
 }
 
 /// The words of `draw`.
-pub fn draw_command<'a>(alloc: Global) -> Result<Command<'a>, AllocError> {
+pub fn draw_command<'a>(alloc: Global) -> Made<'a> {
     let command = Command::new(alloc, "draw")
         .override_usage(
             "pmtrim draw [--failure N | --around I | --from I --to J] [--line A].. [--labels FILE] [FILE]",
@@ -26,59 +27,48 @@ pub fn draw_command<'a>(alloc: Global) -> Result<Command<'a>, AllocError> {
         .after_help(
             "Without --failure, --around and --from it draws what explain tells first: an assertion that fails, with what led to it; else stores that are never persisted; else what has no effect, is written over, saved late or never stored; else the first events. At most 120 events and 30 lines are drawn; the picture says what is left out.{n}Statuses: 0 done; 2 wrong words, or they are not of this trace; 3 trace or labels refused; 4 file fault; 5 out of memory{n}Example: pmtrim draw run.trace > run.svg",
         );
-    let placed = with_places(alloc, command)?;
-    with_names(alloc, placed)
+    with_names(alloc, with_places(alloc, Ok(command)))
 }
 
 // Which events.
-fn with_places<'a>(alloc: Global, command: Command<'a>) -> Result<Command<'a>, AllocError> {
-    command
-        .arg(value(
-            alloc,
-            "failure",
-            "N",
-            "Draw the assertion of event N, which fails",
-        ))?
-        .arg(value(alloc, "around", "I", "Draw the events around event I"))?
-        .arg(value(
-            alloc,
-            "from",
-            "I",
-            "Draw the events from event I on; wants --to",
-        ))?
-        .arg(value(
-            alloc,
-            "to",
-            "J",
-            "Draw the events up to event J; wants --from",
-        ))
+fn with_places<'a>(alloc: Global, command: Made<'a>) -> Made<'a> {
+    let failure = value(
+        alloc,
+        "failure",
+        "N",
+        "Draw the assertion of event N, which fails",
+    );
+    let around = value(alloc, "around", "I", "Draw the events around event I");
+    let from = value(
+        alloc,
+        "from",
+        "I",
+        "Draw the events from event I on; wants --to",
+    );
+    let to = value(
+        alloc,
+        "to",
+        "J",
+        "Draw the events up to event J; wants --from",
+    );
+    with(with(with(with(command, failure), around), from), to)
 }
 
 // Which lines, and which files.
-fn with_names<'a>(alloc: Global, command: Command<'a>) -> Result<Command<'a>, AllocError> {
-    let line = value(
+fn with_names<'a>(alloc: Global, command: Made<'a>) -> Made<'a> {
+    let line = values(
         alloc,
         "line",
         "A",
         "Draw the line of address A (hexadecimal), and what matters to it; may be repeated",
-    )
-    .action(ArgAction::Append);
-    command
-        .arg(line)?
-        .arg(value(
-            alloc,
-            "labels",
-            "FILE",
-            "Names of events: lines 'EVENT TEXT'",
-        ))?
-        .arg(Arg::new(alloc, "FILE").help("The trace; standard input, if none is given"))
-}
-
-fn value<'a>(alloc: Global, name: &'a str, shown: &'a str, help: &'a str) -> Arg<'a> {
-    Arg::new(alloc, name)
-        .long(name)
-        .value_name(shown)
-        .help(help)
+    );
+    let labels = value(
+        alloc,
+        "labels",
+        "FILE",
+        "Names of events: lines 'EVENT TEXT'",
+    );
+    with(with(with(command, line), labels), trace_file(alloc))
 }
 
 /// What these words ask for.

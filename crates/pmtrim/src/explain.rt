@@ -35,19 +35,31 @@ pub const STANDARD_INPUT: &str = "standard input";
 /// folder of the source files, that of the write: the first of them. Each names the file and says why.
 pub fn run_explain<T, O, I, W>(
     rt: &T,
-    mut words: ExplainWords<'_>,
+    words: &mut ExplainWords<'_>,
     files: &O,
-    input: I,
+    input: &mut I,
     out: &mut W,
 ) -> Result<u8, Fault>
 where
     T: AllocGlobal,
     O: Opener,
-    I: Read + Drop,
+    I: Read,
     W: Write,
     ensures { IfOk result (λ status. status ≤ 1) }
 {
     let alloc = rt.alloc();
+    read_ignored(alloc, files, words)?;
+    let labels = labels_of(alloc, files, words.labels)?;
+    let bytes = bytes_of(alloc, words.file, files, input)?;
+    explain_bytes(alloc, files, words, &labels, bytes.as_slice(), out)
+}
+
+// Adds the ranges of the files that name bytes which may be lost.
+fn read_ignored<O: Opener>(
+    alloc: Global,
+    files: &O,
+    words: &mut ExplainWords<'_>,
+) -> Result<(), Fault> {
     for index in 0..words.ignore_files.len() {
         let name = match words.ignore_files.get(index) {
             Some(name) => *name,
@@ -56,12 +68,53 @@ where
         let bytes = read_file(alloc, files, name)?;
         read_ranges(alloc, name, bytes.as_slice(), &mut words.options.ignored)?;
     }
-    let labels = labels_of(alloc, files, words.labels)?;
-    let bytes = bytes_of(alloc, words.file, files, input)?;
-    let explanation = explained(alloc, &words, bytes.as_slice(), &labels)?;
-    judge_failure(alloc, &explanation, words.failure)?;
-    let status = if has_failed(&explanation) { 1 } else { 0 };
-    let answer = answer_of(alloc, files, explanation, &labels, words, bytes)?;
+    Ok(())
+}
+
+// Explains the trace with this text. The status is 1 where an assertion fails, or a store is never persisted that is not ignored.
+fn explain_bytes<O: Opener, W: Write>(
+    alloc: Global,
+    files: &O,
+    words: &ExplainWords<'_>,
+    labels: &Labels,
+    bytes: &[u8],
+    out: &mut W,
+) -> Result<u8, Fault>
+    ensures { IfOk result (λ status. status ≤ 1) }
+{
+    match explained(alloc, words, labels, bytes) {
+        Ok(mut explanation) => tell(alloc, files, words, labels, bytes, &mut explanation, out),
+        Err(TakeError::Source(fault)) => Err(source_fault(alloc, name_of(words), bytes, fault)?),
+        Err(TakeError::OutOfMemory) => Err(Fault::OutOfMemory),
+    }
+}
+
+// The explanation of the trace with this text.
+fn explained(
+    alloc: Global,
+    words: &ExplainWords<'_>,
+    labels: &Labels,
+    bytes: &[u8],
+) -> Result<Explanation, TakeError> {
+    let mut source = TextSource::new(alloc, Counted::new(Cursor::new(bytes)));
+    explain(alloc, &mut source, labels, &words.options)
+}
+
+// Writes what is asked for of the explained trace with this text.
+fn tell<O: Opener, W: Write>(
+    alloc: Global,
+    files: &O,
+    words: &ExplainWords<'_>,
+    labels: &Labels,
+    bytes: &[u8],
+    explanation: &mut Explanation,
+    out: &mut W,
+) -> Result<u8, Fault>
+    ensures { IfOk result (λ status. status ≤ 1) }
+{
+    judge_failure(alloc, explanation, words.failure)?;
+    let status = if has_failed(explanation) { 1 } else { 0 };
+    let answer = answer_of(alloc, files, explanation, labels, words, bytes)?;
     write_out(alloc, answer.as_slice(), out)?;
     Ok(status)
 }
@@ -93,11 +146,11 @@ pub fn name_of<'a>(words: &ExplainWords<'a>) -> &'a str {
 ///
 /// # Errors
 /// The fault of the file or of the read, which names it; `OutOfMemory`.
-pub fn bytes_of<O: Opener, I: Read + Drop>(
+pub fn bytes_of<O: Opener, I: Read>(
     alloc: Global,
     file: Option<&str>,
     files: &O,
-    input: I,
+    input: &mut I,
 ) -> Result<Vec<u8>, Fault> {
     match file {
         Some(name) => read_file(alloc, files, name),
@@ -125,21 +178,6 @@ fn read_file<O: Opener>(alloc: Global, files: &O, name: &str) -> Result<Vec<u8>,
         Ok(reader) => read_whole(alloc, name, reader),
         Err(OpenError::System(error)) => Err(system_fault(alloc, "cannot open", name, error)?),
         Err(OpenError::OutOfMemory) => Err(Fault::OutOfMemory),
-    }
-}
-
-// The explanation of the trace with this text.
-fn explained(
-    alloc: Global,
-    words: &ExplainWords<'_>,
-    bytes: &[u8],
-    labels: &Labels,
-) -> Result<Explanation, Fault> {
-    let mut source = TextSource::new(alloc, Counted::new(Cursor::new(bytes)));
-    match explain(alloc, &mut source, labels, &words.options) {
-        Ok(explanation) => Ok(explanation),
-        Err(TakeError::Source(fault)) => { Err(source_fault(alloc, name_of(words), bytes, fault)?) }
-        Err(TakeError::OutOfMemory) => Err(Fault::OutOfMemory),
     }
 }
 
@@ -188,19 +226,19 @@ fn write_out<W: Write>(alloc: Global, answer: &[u8], out: &mut W) -> Result<(), 
     }
 }
 
-// What is asked for of the trace with this text.
+// What is asked for of the explained trace with this text.
 fn answer_of<O: Opener>(
     alloc: Global,
     files: &O,
-    explanation: Explanation,
+    explanation: &mut Explanation,
     labels: &Labels,
-    words: ExplainWords<'_>,
-    bytes: Vec<u8>,
+    words: &ExplainWords<'_>,
+    bytes: &[u8],
 ) -> Result<Vec<u8>, Fault> {
     match words.form {
-        Form::Text => Ok(people_text(alloc, &explanation, labels, &words)?),
-        Form::Json => Ok(json_text(alloc, &explanation, labels, &words.options.choice)?),
-        Form::Page => page_of(alloc, files, explanation, labels, words, bytes.as_slice()),
+        Form::Text => Ok(people_text(alloc, explanation, labels, words)?),
+        Form::Json => Ok(json_text(alloc, explanation, labels, &words.options.choice)?),
+        Form::Page => page_of(alloc, files, explanation, labels, words, bytes),
     }
 }
 

@@ -7,7 +7,7 @@ use crate::explain_words::ExplainWords;
 use crate::fault::Fault;
 use crate::opener::Opener;
 use crate::page_labels::page_labels;
-use crate::page_told::{Told, told_within};
+use crate::page_told::told_within;
 use crate::safe_places::safe_places;
 use crate::sources::sources_of;
 use pmt_explain::Dropped as Reasoned;
@@ -65,43 +65,60 @@ struct Asked<'a> {
     source: Option<&'a str>,
 }
 
-/// The page of the explained trace that has these bytes as its text.
+/// The page of the explained trace that has these bytes as its text. The explanation has what stands on the page then, or more.
 ///
 /// # Errors
-/// The fault of the folder of the source files; `OutOfMemory`.
+/// The fault of the folder of the source files; `OutOfMemory`. What the explanation has then is not said.
 pub fn page_of<O: Opener>(
     alloc: Global,
     files: &O,
-    explanation: Explanation,
+    explanation: &mut Explanation,
     labels: &Labels,
-    words: ExplainWords<'_>,
+    words: &ExplainWords<'_>,
     bytes: &[u8],
 ) -> Result<Vec<u8>, Fault> {
-    let text = people_text(alloc, &explanation, labels, &words)?;
-    let picture = first_picture(alloc, &explanation, labels)?;
+    let text = people_text(alloc, explanation, labels, words)?;
+    let picture = first_picture(alloc, explanation, labels)?;
     let digest = digest_of(bytes);
     let asked = Asked {
         text: whole_lines(text.as_slice()),
         picture: picture.as_str(),
         digest: digest.as_slice(),
         labels,
-        name: name_of(&words),
+        name: name_of(words),
         source: words.source,
     };
-    let told = told_within(alloc, explanation, labels, &words, WIDE.told)?;
+    page_with_room(alloc, files, explanation, words, asked)
+}
+
+// The page with as much as has room.
+fn page_with_room<O: Opener>(
+    alloc: Global,
+    files: &O,
+    explanation: &mut Explanation,
+    words: &ExplainWords<'_>,
+    asked: Asked<'_>,
+) -> Result<Vec<u8>, Fault> {
+    let told = told_within(alloc, explanation, asked.labels, words, WIDE.told)?;
     for room in [WIDE, FINDINGS] {
-        let page = page_within(alloc, files, asked, &told, room)?;
+        let page = page_within(alloc, files, asked, explanation, told.as_slice(), room)?;
         if page.len() <= MOST_PAGE {
             return Ok(page);
         }
     }
-    let Told {
-        explanation,
-        text: _,
-        is_last: _,
-    } = told;
-    let told = told_within(alloc, explanation, labels, &words, NARROW.told)?;
-    page_within(alloc, files, asked, &told, NARROW)
+    narrow_page(alloc, files, explanation, words, asked)
+}
+
+// The page of a trace whose columns leave little room.
+fn narrow_page<O: Opener>(
+    alloc: Global,
+    files: &O,
+    explanation: &mut Explanation,
+    words: &ExplainWords<'_>,
+    asked: Asked<'_>,
+) -> Result<Vec<u8>, Fault> {
+    let told = told_within(alloc, explanation, asked.labels, words, NARROW.told)?;
+    page_within(alloc, files, asked, explanation, told.as_slice(), NARROW)
 }
 
 // The lines of the text that have room.
@@ -120,65 +137,69 @@ fn page_within<O: Opener>(
     alloc: Global,
     files: &O,
     asked: Asked<'_>,
-    told: &Told,
+    explanation: &Explanation,
+    told: &[u8],
     room: Room,
 ) -> Result<Vec<u8>, Fault> {
-    let explanation = &told.explanation;
     let events = explanation.analysis.trace().len() as u64;
     let named = page_labels(alloc, asked.labels, events, room.labels)?;
     let sources = sources(alloc, files, asked.source, named.list.as_slice(), room)?;
-    let longest = about(
-        alloc,
-        explanation,
-        asked,
-        named.left_out,
-        Kept::WithoutRanges,
-    )?;
-    let taken = put_together(
-        alloc,
-        asked,
-        told,
-        named.text.as_slice(),
-        sources.as_slice(),
-        longest.as_slice(),
-        b"",
-    )?
-    .len();
-    let columns = columns(alloc, explanation, MOST_PAGE.saturating_sub(taken))?;
-    let about = about(alloc, explanation, asked, named.left_out, columns.kept)?;
-    Ok(put_together(
-        alloc,
-        asked,
-        told,
-        named.text.as_slice(),
-        sources.as_slice(),
-        about.as_slice(),
-        columns.text.as_slice(),
-    )?)
+    let blocks = Blocks {
+        text: asked.text,
+        picture: asked.picture,
+        about: b"",
+        columns: b"",
+        explained: told,
+        labels: named.text.as_slice(),
+        sources: sources.as_slice(),
+    };
+    Ok(with_columns(alloc, asked, explanation, named.left_out, blocks)?)
 }
 
-// The page with these blocks of data.
-fn put_together(
+// The page of these blocks, with the columns that have room then, and with what it is of.
+fn with_columns(
     alloc: Global,
     asked: Asked<'_>,
-    told: &Told,
-    labels: &[u8],
-    sources: &[u8],
-    about: &[u8],
-    columns: &[u8],
+    explanation: &Explanation,
+    labels_left_out: u64,
+    blocks: Blocks<'_>,
 ) -> Result<Vec<u8>, OutOfMemory> {
+    let taken = size_without_columns(alloc, asked, explanation, labels_left_out, blocks)?;
+    let columns = columns(alloc, explanation, MOST_PAGE.saturating_sub(taken))?;
+    let about = about(alloc, explanation, asked, labels_left_out, columns.kept)?;
     page_text(
         alloc,
         Blocks {
-            text: asked.text,
-            picture: asked.picture,
-            about,
-            columns,
-            explained: told.text.as_slice(),
-            labels,
-            sources,
+            about: about.as_slice(),
+            columns: columns.text.as_slice(),
+            ..blocks
         },
     )
+}
+
+// How many bytes the page of these blocks has without columns, where it says most of what is left out.
+fn size_without_columns(
+    alloc: Global,
+    asked: Asked<'_>,
+    explanation: &Explanation,
+    labels_left_out: u64,
+    blocks: Blocks<'_>,
+) -> Result<usize, OutOfMemory> {
+    let about = about(
+        alloc,
+        explanation,
+        asked,
+        labels_left_out,
+        Kept::WithoutRanges,
+    )?;
+    let page = page_text(
+        alloc,
+        Blocks {
+            about: about.as_slice(),
+            ..blocks
+        },
+    )?;
+    Ok(page.len())
 }
 
 // The columns of the trace, with what has room in so many bytes.

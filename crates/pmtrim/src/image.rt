@@ -36,52 +36,96 @@ pub fn run_image<T, O, I, W>(
     rt: &T,
     words: &ImageWords<'_>,
     files: &O,
-    input: I,
+    input: &mut I,
     out: &mut W,
 ) -> Result<u8, Fault>
 where
     T: AllocGlobal + Threads + Wait + Sync,
     O: Opener,
-    I: Read + Drop,
+    I: Read,
     W: Write,
     ensures { IfOk result (λ status. status ≡ 0) }
 {
-    let alloc = rt.alloc();
-    let base = base_of(alloc, words, files)?;
+    let base = base_of(rt.alloc(), words, files)?;
     match &words.crash {
         AskedCrash::Failure(number) => {
-            let analysis = analysis_of(rt, words.file, files, input)?;
-            let crash = failure_crash(alloc, &analysis, *number)?;
-            write_pool(
-                alloc,
-                files,
-                analysis.trace(),
-                &crash,
-                &base,
-                words.out,
-                out,
-            )?;
+            write_failure(rt, words, files, input, *number, &base, out)?;
         }
         AskedCrash::At { place, all, lines } => {
-            let trace = trace_of(alloc, words.file, files, input)?;
-            let crash = asked_crash(alloc, &trace, *place, *all, lines.as_slice())?;
-            write_pool(alloc, files, &trace, &crash, &base, words.out, out)?;
+            let asked = Asked {
+                place: *place,
+                all: *all,
+                lines: lines.as_slice(),
+            };
+            write_asked(rt.alloc(), words, files, input, asked, &base, out)?;
         }
     }
     Ok(0)
 }
 
+// The crash that is asked for at a place.
+#[derive(Clone, Copy)]
+struct Asked<'a> {
+    place: u64,
+    all: bool,
+    lines: &'a [AddressStores],
+}
+
+// Writes the pool after the crash of the assertion that fails, by their order.
+fn write_failure<T, O, I, W>(
+    rt: &T,
+    words: &ImageWords<'_>,
+    files: &O,
+    input: &mut I,
+    number: u64,
+    base: &Base,
+    out: &mut W,
+) -> Result<(), Fault>
+where
+    T: AllocGlobal + Threads + Wait + Sync,
+    O: Opener,
+    I: Read,
+    W: Write,
+{
+    let analysis = analysis_of(rt, words.file, files, input)?;
+    let crash = failure_crash(rt.alloc(), &analysis, number)?;
+    write_pool(
+        rt.alloc(),
+        words,
+        files,
+        analysis.trace(),
+        &crash,
+        base,
+        out,
+    )
+}
+
+// Writes the pool after the crash that is asked for.
+fn write_asked<O: Opener, I: Read, W: Write>(
+    alloc: Global,
+    words: &ImageWords<'_>,
+    files: &O,
+    input: &mut I,
+    asked: Asked<'_>,
+    base: &Base,
+    out: &mut W,
+) -> Result<(), Fault> {
+    let trace = trace_of(alloc, words.file, files, input)?;
+    let crash = asked_crash(alloc, &trace, asked)?;
+    write_pool(alloc, words, files, &trace, &crash, base, out)
+}
+
 // Writes the pool after the crash to the named file, or to `out` where none is named.
 fn write_pool<O: Opener, W: Write>(
     alloc: Global,
+    words: &ImageWords<'_>,
     files: &O,
     trace: &Trace,
     crash: &Crash,
     base: &Base,
-    name: Option<&str>,
     out: &mut W,
 ) -> Result<(), Fault> {
-    match name {
+    match words.out {
         Some(name) => write_file(alloc, files, trace, crash, base, name),
         None => write_to(alloc, files, trace, crash, base, out),
     }
@@ -105,24 +149,31 @@ fn base_of<O: Opener>(alloc: Global, words: &ImageWords<'_>, files: &O) -> Resul
     })
 }
 
-// The origin that stands beside the trace: an address on a line of its own.
+// The origin that stands beside the trace.
 fn origin_beside<O: Opener>(alloc: Global, files: &O, trace: &str) -> Result<u64, Fault> {
     let name = format!(in alloc; "{trace}.origin")?;
-    let reader = opened(alloc, files, name.as_str())?;
-    let bytes = read_whole(alloc, name.as_str(), reader)?;
+    origin_in(alloc, files, name.as_str())
+}
+
+// The origin in the named file: an address on a line of its own.
+fn origin_in<O: Opener>(alloc: Global, files: &O, name: &str) -> Result<u64, Fault> {
+    let reader = opened(alloc, files, name)?;
+    let bytes = read_whole(alloc, name, reader)?;
     let line = match bytes.as_slice() {
         [line @ .., b'\n'] => line,
         whole => whole,
     };
     match read_origin(line) {
         Some(origin) => Ok(origin),
-        None => {
-            let line = format!(in alloc;
-                "{name}: no address of a pool: it has to be one line, as 0x10000000\n"
-            )?;
-            Err(Fault::Refused(line))
-        }
+        None => Err(no_origin(alloc, name)?),
     }
+}
+
+fn no_origin(alloc: Global, name: &str) -> Result<Fault, Fault> {
+    let line = format!(in alloc;
+        "{name}: no address of a pool: it has to be one line, as 0x10000000\n"
+    )?;
+    Ok(Fault::Refused(line))
 }
 
 // How many bytes the pool's file has.
@@ -167,11 +218,16 @@ fn open_fault(alloc: Global, name: &str, error: OpenError) -> Result<Fault, Faul
 }
 
 // The analysis of the trace of the file or of `input`.
-fn analysis_of<T, O, I>(rt: &T, file: Option<&str>, files: &O, input: I) -> Result<Analysis, Fault>
+fn analysis_of<T, O, I>(
+    rt: &T,
+    file: Option<&str>,
+    files: &O,
+    input: &mut I,
+) -> Result<Analysis, Fault>
 where
     T: AllocGlobal + Threads + Wait + Sync,
     O: Opener,
-    I: Read + Drop,
+    I: Read,
 {
     match file {
         Some(name) => read_trace(rt, opened(rt.alloc(), files, name)?),
@@ -196,11 +252,11 @@ pub fn trace_of<O, I>(
     alloc: Global,
     file: Option<&str>,
     files: &O,
-    input: I,
+    input: &mut I,
 ) -> Result<Trace, Fault>
 where
     O: Opener,
-    I: Read + Drop,
+    I: Read,
 {
     match file {
         Some(name) => taken(alloc, opened(alloc, files, name)?),
@@ -219,15 +275,9 @@ fn taken<R: Read + Drop>(alloc: Global, reader: R) -> Result<Trace, Fault> {
 }
 
 // The crash that is asked for at the place.
-fn asked_crash(
-    alloc: Global,
-    trace: &Trace,
-    place: u64,
-    all: bool,
-    asked: &[AddressStores],
-) -> Result<Crash, Fault> {
-    let counts = by_line(alloc, trace.format(), asked)?;
-    match crash_at(alloc, trace, place, all, counts.as_slice()) {
+fn asked_crash(alloc: Global, trace: &Trace, asked: Asked<'_>) -> Result<Crash, Fault> {
+    let counts = by_line(alloc, trace.format(), asked.lines)?;
+    match crash_at(alloc, trace, asked.place, asked.all, counts.as_slice()) {
         Ok(crash) => Ok(crash),
         Err(fault) => Err(count_fault(alloc, trace.format(), fault)?),
     }

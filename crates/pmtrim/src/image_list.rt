@@ -30,33 +30,56 @@ pub fn run_list<O, I, W>(
     alloc: Global,
     words: &ListWords<'_>,
     files: &O,
-    input: I,
+    input: &mut I,
     out: &mut W,
 ) -> Result<u8, Fault>
 where
     O: Opener,
-    I: Read + Drop,
+    I: Read,
     W: Write,
     ensures { IfOk result (λ status. status ≡ 0) }
 {
     let trace = trace_of(alloc, words.file, files, input)?;
+    list(alloc, &trace, words, out)
+}
+
+// Writes the crashes near each place of the trace.
+fn list<W: Write>(
+    alloc: Global,
+    trace: &Trace,
+    words: &ListWords<'_>,
+    out: &mut W,
+) -> Result<u8, Fault>
+    ensures { IfOk result (λ status. status ≡ 0) }
+{
     let events = trace.len() as u64;
     if words.places.iter().any(|range| range.last > events) {
         return Err(Fault::Run(RunError::PastEnd { events }));
     }
-    let mut walk = Walk::new(alloc, &trace)?;
     let mut lister = Lister {
         out,
         text: Vec::new(alloc),
         line_size: trace.format().line_size(),
     };
-    for place in 0..=events {
-        if is_asked(&trace, words, place) {
-            list_place(alloc, &mut walk, &mut lister, place, words.off)?;
-        }
-    }
+    list_places(alloc, trace, words, &mut lister)?;
     write_rest(&mut lister)?;
     Ok(0)
+}
+
+// Lists the crashes near each place that is asked for.
+fn list_places<W: Write>(
+    alloc: Global,
+    trace: &Trace,
+    words: &ListWords<'_>,
+    lister: &mut Lister<'_, W>,
+) -> Result<(), Fault> {
+    let mut walk = Walk::new(alloc, trace)?;
+    for place in 0..=trace.len() as u64 {
+        if is_asked(trace, words, place) {
+            list_place(alloc, &mut walk, lister, place, words.off)?;
+        }
+    }
+    Ok(())
 }
 
 // Whether the crashes at the place are asked for.

@@ -1,7 +1,8 @@
 //! The words of `image`.
+use crate::arguments::{Made, flag, trace_file, value, values, with};
 use crate::fault::Fault;
 use crate::image_list_words::{ListWords, list_words};
-use clap::{Arg, ArgAction, ArgMatches, Command};
+use clap::{ArgMatches, Command};
 use pmt_model::Addr;
 use pmt_text::number::{read_address, read_number};
 use std::alloc::{AllocError, Global};
@@ -44,7 +45,7 @@ pub struct ImageWords<'a> {
 }
 
 /// The words of `image`.
-pub fn image_command<'a>(alloc: Global) -> Result<Command<'a>, AllocError> {
+pub fn image_command<'a>(alloc: Global) -> Made<'a> {
     let command = Command::new(alloc, "image")
         .override_usage(
             "pmtrim image (--failure N | --at PLACE [--all] [--line A:K]..) [--pool BASE --origin A] [--out FILE] [FILE]\n       pmtrim image --list [--at PLACES] [--off K] [FILE]",
@@ -53,84 +54,74 @@ pub fn image_command<'a>(alloc: Global) -> Result<Command<'a>, AllocError> {
         .after_help(
             "A crash at a place leaves each line the stores that no crash can lose, with --all all its stores, and the line of address A its first K. Without --pool and --origin the pool is FILE.base, and FILE.origin has the address of its first byte.{n}The list has the crashes at each place that leave all lines but K the stores that no crash can lose, and those that leave all but K all their stores: a line each, of the words that image takes. Without --at the places are those after a fence or a clflush, and those after a store, or at the beginning, with no store coming next.{n}Statuses: 0 done; 2 wrong words, or no crash leaves so many stores; 3 trace or pool refused; 4 file fault; 5 out of memory{n}Example: pmtrim image --failure 1 --out crashed.pool run.trace",
         );
-    let listing = with_list(alloc, command)?;
-    let asked = with_crash(alloc, listing)?;
-    with_files(alloc, asked)
+    let listing = with_list(alloc, Ok(command));
+    with_files(alloc, with_crash(alloc, listing))
 }
 
 // Which list.
-fn with_list<'a>(alloc: Global, command: Command<'a>) -> Result<Command<'a>, AllocError> {
-    let list = Arg::new(alloc, "list")
-        .long("list")
-        .action(ArgAction::SetTrue)
-        .help("List the crashes near places, and write no pool");
-    command.arg(list)?.arg(value(
+fn with_list<'a>(alloc: Global, command: Made<'a>) -> Made<'a> {
+    let list = flag(
+        alloc,
+        "list",
+        "List the crashes near places, and write no pool",
+    );
+    let off = value(
         alloc,
         "off",
         "K",
         "With --list: how many lines may be off (1)",
-    ))
+    );
+    with(with(command, list), off)
 }
 
 // Which crash.
-fn with_crash<'a>(alloc: Global, command: Command<'a>) -> Result<Command<'a>, AllocError> {
-    let all = Arg::new(alloc, "all")
-        .long("all")
-        .action(ArgAction::SetTrue)
-        .help("Leave each line all its stores");
-    let line = value(
+fn with_crash<'a>(alloc: Global, command: Made<'a>) -> Made<'a> {
+    let failure = value(
+        alloc,
+        "failure",
+        "N",
+        "The crash that violates the Nth assertion that fails, as explain tells it",
+    );
+    let at = value(
+        alloc,
+        "at",
+        "PLACE",
+        "A crash after PLACE events; with --list places, as 12,40-60",
+    );
+    let all = flag(alloc, "all", "Leave each line all its stores");
+    let line = values(
         alloc,
         "line",
         "A:K",
         "Leave the line of address A its first K stores, as 0x1000:2; may be repeated, and the last one of a line counts",
-    )
-    .action(ArgAction::Append);
-    command
-        .arg(value(
-            alloc,
-            "failure",
-            "N",
-            "The crash that violates the Nth assertion that fails, as explain tells it",
-        ))?
-        .arg(value(
-            alloc,
-            "at",
-            "PLACE",
-            "A crash after PLACE events; with --list places, as 12,40-60",
-        ))?
-        .arg(all)?
-        .arg(line)
+    );
+    with(with(with(with(command, failure), at), all), line)
 }
 
 // Which files.
-fn with_files<'a>(alloc: Global, command: Command<'a>) -> Result<Command<'a>, AllocError> {
-    command
-        .arg(value(
-            alloc,
-            "pool",
-            "BASE",
-            "The pool's file before the trace began; wants --origin",
-        ))?
-        .arg(value(
-            alloc,
-            "origin",
-            "A",
-            "The address of the pool's first byte (hexadecimal); wants --pool",
-        ))?
-        .arg(value(
-            alloc,
-            "out",
-            "FILE",
-            "The file to write; standard output, if none is given",
-        ))?
-        .arg(Arg::new(alloc, "FILE").help("The trace; standard input, if none is given"))
-}
-
-fn value<'a>(alloc: Global, name: &'a str, shown: &'a str, help: &'a str) -> Arg<'a> {
-    Arg::new(alloc, name)
-        .long(name)
-        .value_name(shown)
-        .help(help)
+fn with_files<'a>(alloc: Global, command: Made<'a>) -> Made<'a> {
+    let pool = value(
+        alloc,
+        "pool",
+        "BASE",
+        "The pool's file before the trace began; wants --origin",
+    );
+    let origin = value(
+        alloc,
+        "origin",
+        "A",
+        "The address of the pool's first byte (hexadecimal); wants --pool",
+    );
+    let out = value(
+        alloc,
+        "out",
+        "FILE",
+        "The file to write; standard output, if none is given",
+    );
+    with(
+        with(with(with(command, pool), origin), out),
+        trace_file(alloc),
+    )
 }
 
 /// A list of crashes, or the pool of one.

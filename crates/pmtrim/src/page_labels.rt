@@ -77,15 +77,7 @@ fn labels_within<'a>(
             break;
         }
         let short = cut(text.as_str());
-        let size = size_quoted(short.as_bytes());
-        let is_known = seen.contains(short);
-        if !is_known && size <= room {
-            room -= size;
-            if seen.insert(short).is_err() {
-                return Err(AllocError);
-            }
-        }
-        let has_room = seen.contains(short);
+        let has_room = take_room(&mut seen, &mut room, short)?;
         left_out = left_out.saturating_add(if has_room { 0 } else { 1 });
         list.push(Label {
             event: *event,
@@ -98,6 +90,26 @@ fn labels_within<'a>(
         text,
         left_out,
     })
+}
+
+// Whether the text was seen before, or has room, which it takes then.
+fn take_room<'a>(
+    seen: &mut BTreeSet<&'a str>,
+    room: &mut usize,
+    text: &'a str,
+) -> Result<bool, AllocError> {
+    if seen.contains(text) {
+        return Ok(true);
+    }
+    let size = size_quoted(text.as_bytes());
+    if size > *room {
+        return Ok(false);
+    }
+    *room -= size;
+    match seen.insert(text) {
+        Ok(_) => Ok(true),
+        Err(_) => Err(AllocError),
+    }
 }
 
 /// How many bytes the text has on a page: a `<` is written as six bytes there.

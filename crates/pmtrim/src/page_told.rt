@@ -9,130 +9,90 @@ use pmt_model::OutOfMemory;
 use pmt_page::explained_text;
 use std::alloc::Global;
 
-/// What is told of a trace.
-#[derive(Drop)]
-pub struct Told {
-    /// The explanation of the trace.
-    pub explanation: Explanation,
-    /// What it tells, or what one with fewer entries told, as JSON.
-    pub text: Vec<u8>,
-    /// Whether no other number of entries is to be tried.
-    pub is_last: bool,
-}
-
-/// What is told of the trace in at most so many bytes on the page: of each kind as many entries as the words name, or 1,000; where these
-/// have no room 1,000, 100, 10 or 1 of each, or else the summary alone.
+/// What is told of the trace in at most so many bytes on the page, as JSON: of each kind as many entries as the words name, or 1,000; where
+/// these have no room 1,000, 100, 10 or 1 of each, or else the summary alone. The explanation has those entries then, or more.
 ///
 /// # Errors
-/// Where memory was refused.
+/// Where memory was refused; what the explanation has then is not said.
 pub fn told_within(
     alloc: Global,
-    explanation: Explanation,
+    explanation: &mut Explanation,
     labels: &Labels,
     words: &ExplainWords<'_>,
     most: usize,
-) -> Result<Told, OutOfMemory> {
-    let explanation = with_each_failure(alloc, explanation)?;
-    let text = text_of(alloc, &explanation, labels, words)?;
-    let has_room = size_on_page(text.as_slice()) <= most;
-    let told = Told {
-        explanation,
-        text,
-        is_last: false,
-    };
-    if has_room {
-        let told = with_more(alloc, told, labels, words, 100, most)?;
-        return with_more(alloc, told, labels, words, 1_000, most);
+) -> Result<Vec<u8>, OutOfMemory> {
+    show_each_failure(alloc, explanation)?;
+    let text = text_of(alloc, explanation, labels, words)?;
+    if size_on_page(text.as_slice()) <= most {
+        with_more(alloc, explanation, labels, words, text, most)
+    } else {
+        with_fewer(alloc, explanation, labels, words, text, most)
     }
-    let told = with_fewer(alloc, told, labels, words, 1_000, most)?;
-    let told = with_fewer(alloc, told, labels, words, 100, most)?;
-    let told = with_fewer(alloc, told, labels, words, 10, most)?;
-    let told = with_fewer(alloc, told, labels, words, 1, most)?;
-    with_fewer(alloc, told, labels, words, 0, most)
 }
 
-// The same with so many entries of each kind, if the page is to have as many and they have room.
+// The text with more entries of each kind, if the page is to have as many and they have room.
 fn with_more(
     alloc: Global,
-    told: Told,
+    explanation: &mut Explanation,
     labels: &Labels,
     words: &ExplainWords<'_>,
-    limit: usize,
+    mut text: Vec<u8>,
     most: usize,
-) -> Result<Told, OutOfMemory> {
-    if told.is_last || limit <= told.explanation.limit || words.page_limit < limit {
-        return Ok(told);
+) -> Result<Vec<u8>, OutOfMemory> {
+    for limit in [100, 1_000] {
+        if explanation.limit < limit && limit <= words.page_limit {
+            show(alloc, explanation, limit)?;
+            let longer = text_of(alloc, explanation, labels, words)?;
+            if size_on_page(longer.as_slice()) > most {
+                break;
+            }
+            text = longer;
+        }
     }
-    let Told {
-        explanation,
-        text,
-        is_last: _,
-    } = told;
-    let explanation = with_limit(alloc, explanation, limit)?;
-    let longer = text_of(alloc, &explanation, labels, words)?;
-    let has_room = size_on_page(longer.as_slice()) <= most;
-    Ok(Told {
-        explanation,
-        text: if has_room { longer } else { text },
-        is_last: !has_room,
-    })
+    Ok(text)
 }
 
-// The same with so many entries of each kind, if it has more of them and those have no room.
+// The text, which has no room, with fewer entries of each kind.
 fn with_fewer(
     alloc: Global,
-    told: Told,
+    explanation: &mut Explanation,
     labels: &Labels,
     words: &ExplainWords<'_>,
-    limit: usize,
+    mut text: Vec<u8>,
     most: usize,
-) -> Result<Told, OutOfMemory> {
-    if told.is_last || told.explanation.limit <= limit {
-        return Ok(told);
+) -> Result<Vec<u8>, OutOfMemory> {
+    for limit in [1_000, 100, 10, 1, 0] {
+        if limit < explanation.limit {
+            show(alloc, explanation, limit)?;
+            text = text_of(alloc, explanation, labels, words)?;
+            if size_on_page(text.as_slice()) <= most {
+                break;
+            }
+        }
     }
-    let Told {
-        explanation,
-        text: _,
-        is_last: _,
-    } = told;
-    let explanation = with_limit(alloc, explanation, limit)?;
-    let text = text_of(alloc, &explanation, labels, words)?;
-    let has_room = size_on_page(text.as_slice()) <= most;
-    Ok(Told {
-        explanation,
-        text,
-        is_last: has_room,
-    })
+    Ok(text)
 }
 
-// The explanation with each failed assertion that is asked for, up to its limit, in place of the first one of each cause: on the page
+// Puts each failed assertion that is asked for, up to the explanation's limit, in the place of the first one of each cause: on the page
 // one goes from each to the next.
-fn with_each_failure(
-    alloc: Global,
-    mut explanation: Explanation,
-) -> Result<Explanation, OutOfMemory> {
-    let failures = each_failure(alloc, &explanation)?;
-    explanation.failures = failures;
-    Ok(explanation)
+fn show_each_failure(alloc: Global, explanation: &mut Explanation) -> Result<(), OutOfMemory> {
+    explanation.failures = each_failure(alloc, explanation)?;
+    Ok(())
 }
 
-// The explanation, which has each failed assertion up to its limit, with those up to another limit. All else that it tells is the same
+// Gives the explanation, which has each failed assertion up to its limit, those up to another limit. All else that it tells is the same
 // for every limit.
-fn with_limit(
-    alloc: Global,
-    mut explanation: Explanation,
-    limit: usize,
-) -> Result<Explanation, OutOfMemory> {
+fn show(alloc: Global, explanation: &mut Explanation, limit: usize) -> Result<(), OutOfMemory> {
     let shown = explanation.failures.len();
     explanation.limit = limit;
     if limit < shown {
         explanation.failures.truncate(limit);
-        return Ok(explanation);
+        return Ok(());
     }
     if shown == explanation.asked_failing.len() {
-        return Ok(explanation);
+        return Ok(());
     }
-    with_each_failure(alloc, explanation)
+    show_each_failure(alloc, explanation)
 }
 
 // Each failed assertion that is asked for, up to the limit.

@@ -66,20 +66,30 @@ pub fn refused_line(
     wrong: &Wrong,
 ) -> Result<Fault, AllocError> {
     let what = wrong.what.as_str();
-    let allowed = wrong.allowed;
     let mut text = format!(in alloc; "{name}:{number}: {what}\n")?;
+    push_hints(alloc, &mut text, line, wrong.allowed)?;
+    Ok(Fault::Refused(text))
+}
+
+// Adds the line's text, what is allowed there, and what to do where it ends in CR LF.
+fn push_hints(
+    alloc: Global,
+    text: &mut String,
+    line: &[u8],
+    allowed: &str,
+) -> Result<(), AllocError> {
     if !line.is_empty() {
         let shown = shown(alloc, line)?;
-        let shown = shown.as_str();
-        let quoted = format!(in alloc; "    {shown}\n")?;
-        text.push_str(quoted.as_str())?;
+        text.push_str("    ")?;
+        text.push_str(shown.as_str())?;
+        text.push_str("\n")?;
     }
     text.push_str(allowed)?;
     text.push_str("\n")?;
     if line.last() == Some(&b'\r') {
         text.push_str(CARRIAGE_RETURN)?;
     }
-    Ok(Fault::Refused(text))
+    Ok(())
 }
 
 /// The text of a line or field for people: bytes that are no printable ASCII are escaped, and what is long is cut.

@@ -16,23 +16,15 @@ pub enum Request<'a> {
     /// This text: help, or the version.
     Show(String),
     /// The report of a trace.
-    Check {
-        workers: usize,
-        file: Option<&'a str>,
-    },
+    Check(TraceWords<'a>),
     /// What is wrong in a trace, why, and what to do.
     Explain(ExplainWords<'a>),
     /// The trimmed trace.
-    Trim {
-        workers: usize,
-        stream: bool,
-        file: Option<&'a str>,
-    },
+    Trim(TraceWords<'a>),
+    /// The trimmed trace of this file, or of standard input, written while it is read.
+    Stream(Option<&'a str>),
     /// The fronts of a trace at a place.
-    Fronts {
-        file: &'a str,
-        place: u64,
-    },
+    Fronts(FrontsWords<'a>),
     /// The picture of a trace.
     Draw(Drawing<'a>),
     /// The pool's file as a crash leaves it.
@@ -40,21 +32,38 @@ pub enum Request<'a> {
     /// The crashes near some places.
     ImageList(ListWords<'a>),
     /// The trace that these scripts record.
-    Record {
-        scripts: Vec<&'a str>,
-    },
+    Record(Vec<&'a str>),
+}
+
+/// Which trace is read.
+#[derive(Clone, Copy)]
+pub struct TraceWords<'a> {
+    /// How many threads there may be.
+    pub workers: usize,
+    /// The trace; standard input, if none is given.
+    pub file: Option<&'a str>,
+}
+
+/// Of which trace fronts are told.
+#[derive(Clone, Copy)]
+pub struct FrontsWords<'a> {
+    /// The trace.
+    pub file: &'a str,
+    /// After how many events.
+    pub place: u64,
 }
 
 impl Request<'_> {
     /// Whether standard input is read for it.
     pub fn reads_input(&self) -> bool {
         match self {
-            Request::Check { file, .. } | Request::Trim { file, .. } => file.is_none(),
+            Request::Check(words) | Request::Trim(words) => words.file.is_none(),
+            Request::Stream(file) => file.is_none(),
             Request::Explain(words) => words.file.is_none(),
             Request::Draw(drawing) => drawing.file.is_none(),
             Request::Image(words) => words.file.is_none(),
             Request::ImageList(words) => words.file.is_none(),
-            Request::Show(_) | Request::Fronts { .. } | Request::Record { .. } => false,
+            Request::Show(_) | Request::Fronts(_) | Request::Record(_) => false,
         }
     }
 }
@@ -84,33 +93,32 @@ fn shown<'a>(alloc: Global, error: &Error) -> Result<Request<'a>, Fault> {
 
 fn asked<'a>(alloc: Global, matches: &ArgMatches<'a>) -> Result<Request<'a>, Fault> {
     match matches.subcommand() {
-        Some(("check", given)) => Ok(check(given)),
+        Some(("check", given)) => Ok(Request::Check(trace_words(given))),
         Some(("explain", given)) => Ok(Request::Explain(explain_words(alloc, given)?)),
         Some(("fronts", given)) => fronts(alloc, given),
         Some(("record", given)) => record(alloc, given),
         Some(("image", given)) => image(alloc, given),
         Some(("draw", given)) => Ok(Request::Draw(drawing_of(alloc, given)?)),
         Some((_, given)) => Ok(trim(given)),
-        None => Ok(Request::Trim {
+        None => Ok(Request::Trim(TraceWords {
             workers: 1,
-            stream: false,
             file: None,
-        }),
+        })),
     }
 }
 
-fn check<'a>(given: &ArgMatches<'a>) -> Request<'a> {
-    Request::Check {
+fn trace_words<'a>(given: &ArgMatches<'a>) -> TraceWords<'a> {
+    TraceWords {
         workers: workers_of(given),
         file: given.get_str("FILE"),
     }
 }
 
 fn trim<'a>(given: &ArgMatches<'a>) -> Request<'a> {
-    Request::Trim {
-        workers: workers_of(given),
-        stream: given.get_flag("stream"),
-        file: given.get_str("FILE"),
+    if given.get_flag("stream") {
+        Request::Stream(given.get_str("FILE"))
+    } else {
+        Request::Trim(trace_words(given))
     }
 }
 
@@ -136,7 +144,7 @@ fn fronts<'a>(alloc: Global, given: &ArgMatches<'a>) -> Result<Request<'a>, Faul
     let file = given.get_str("FILE").unwrap_or("");
     let text = given.get_str("PLACE").unwrap_or("");
     match place_of(text) {
-        Some(place) => Ok(Request::Fronts { file, place }),
+        Some(place) => Ok(Request::Fronts(FrontsWords { file, place })),
         None => Err(bad_place(alloc, text)?),
     }
 }
@@ -175,5 +183,5 @@ fn record<'a>(alloc: Global, given: &ArgMatches<'a>) -> Result<Request<'a>, Faul
     }
     let mut scripts = Vec::new(alloc);
     scripts.extend_from_slice(names)?;
-    Ok(Request::Record { scripts })
+    Ok(Request::Record(scripts))
 }

@@ -8,7 +8,7 @@ use crate::image::run_image;
 use crate::image_list::run_list;
 use crate::opener::Opener;
 use crate::record::record;
-use crate::request::{Request, request_of};
+use crate::request::{FrontsWords, Request, TraceWords, request_of};
 use pmt_report::{RunError, run_check, run_error, run_fronts, run_trim};
 use pmt_text::{Counted, TextSource};
 use pmt_trim::{StreamError, trim_stream};
@@ -38,8 +38,9 @@ where
     ensures { result ≤ 6 }
 {
     let alloc = rt.alloc();
+    let mut input = input;
     let done = match request_of(alloc, words) {
-        Ok(request) => answer(rt, request, files, input, out),
+        Ok(mut request) => answer(rt, &mut request, files, &mut input, out),
         Err(fault) => Err(fault),
     };
     match done {
@@ -50,37 +51,29 @@ where
 
 fn answer<T, O, I, W>(
     rt: &T,
-    request: Request<'_>,
+    request: &mut Request<'_>,
     files: &O,
-    input: I,
+    input: &mut I,
     out: &mut W,
 ) -> Result<u8, Fault>
 where
     T: AllocGlobal + Threads + Wait + Sync,
     O: Opener,
-    I: Read + Drop,
+    I: Read,
     W: Write,
     ensures { IfOk result (λ status. status ≤ 1) }
 {
     match request {
         Request::Show(text) => show(out, text.as_str()),
-        Request::Fronts { file, place } => fronts(rt.alloc(), place, files, file, out),
-        Request::Check { workers, file } => check(rt, workers, file, files, input, out),
+        Request::Fronts(words) => fronts(rt.alloc(), *words, files, out),
+        Request::Check(words) => check(rt, *words, files, input, out),
         Request::Explain(words) => run_explain(rt, words, files, input, out),
-        Request::Trim {
-            workers: _,
-            stream: true,
-            file,
-        } => stream(rt.alloc(), file, files, input, out),
-        Request::Trim {
-            workers,
-            stream: false,
-            file,
-        } => trim(rt, workers, file, files, input, out),
-        Request::Draw(drawing) => draw(rt, &drawing, files, input, out),
-        Request::Image(words) => run_image(rt, &words, files, input, out),
-        Request::ImageList(words) => run_list(rt.alloc(), &words, files, input, out),
-        Request::Record { scripts } => record(rt, files, scripts.as_slice(), out),
+        Request::Trim(words) => trim(rt, *words, files, input, out),
+        Request::Stream(file) => stream(rt.alloc(), *file, files, input, out),
+        Request::Draw(drawing) => draw(rt, drawing, files, input, out),
+        Request::Image(words) => run_image(rt, words, files, input, out),
+        Request::ImageList(words) => run_list(rt.alloc(), words, files, input, out),
+        Request::Record(scripts) => record(rt, files, scripts.as_slice(), out),
     }
 }
 
@@ -96,38 +89,36 @@ fn show<W: Write>(out: &mut W, text: &str) -> Result<u8, Fault>
 
 fn fronts<O: Opener, W: Write>(
     alloc: Global,
-    place: u64,
+    words: FrontsWords<'_>,
     files: &O,
-    file: &str,
     out: &mut W,
 ) -> Result<u8, Fault>
     ensures { IfOk result (λ status. status ≤ 1) }
 {
-    let reader = Counted::new(files.open(file)?);
+    let reader = Counted::new(files.open(words.file)?);
     let mut writer = Counted::new(out);
-    let (_reader, done) = run_fronts(alloc, place, reader, &mut writer);
+    let (_reader, done) = run_fronts(alloc, words.place, reader, &mut writer);
     told(done)
 }
 
 // Trims the trace of the file, or that of `input` where none is named.
 fn trim<T, O, I, W>(
     rt: &T,
-    workers: usize,
-    file: Option<&str>,
+    words: TraceWords<'_>,
     files: &O,
-    input: I,
+    input: &mut I,
     out: &mut W,
 ) -> Result<u8, Fault>
 where
     T: AllocGlobal + Threads + Wait + Sync,
     O: Opener,
-    I: Read + Drop,
+    I: Read,
     W: Write,
     ensures { IfOk result (λ status. status ≤ 1) }
 {
-    match file {
-        Some(name) => trim_reader(rt, workers, files.open(name)?, out),
-        None => trim_reader(rt, workers, input, out),
+    match words.file {
+        Some(name) => trim_reader(rt, words.workers, files.open(name)?, out),
+        None => trim_reader(rt, words.workers, input, out),
     }
 }
 
@@ -148,12 +139,12 @@ fn stream<O, I, W>(
     alloc: Global,
     file: Option<&str>,
     files: &O,
-    input: I,
+    input: &mut I,
     out: &mut W,
 ) -> Result<u8, Fault>
 where
     O: Opener,
-    I: Read + Drop,
+    I: Read,
     W: Write,
     ensures { IfOk result (λ status. status ≤ 1) }
 {
@@ -190,22 +181,21 @@ fn stream_fault(error: StreamError) -> RunError {
 // Checks the trace of the file, or that of `input` where none is named.
 fn check<T, O, I, W>(
     rt: &T,
-    workers: usize,
-    file: Option<&str>,
+    words: TraceWords<'_>,
     files: &O,
-    input: I,
+    input: &mut I,
     out: &mut W,
 ) -> Result<u8, Fault>
 where
     T: AllocGlobal + Threads + Wait + Sync,
     O: Opener,
-    I: Read + Drop,
+    I: Read,
     W: Write,
     ensures { IfOk result (λ status. status ≤ 1) }
 {
-    match file {
-        Some(name) => check_reader(rt, workers, files.open(name)?, out),
-        None => check_reader(rt, workers, input, out),
+    match words.file {
+        Some(name) => check_reader(rt, words.workers, files.open(name)?, out),
+        None => check_reader(rt, words.workers, input, out),
     }
 }
 

@@ -64,38 +64,80 @@ pub fn sources_of<O: Opener>(
     given: &str,
     labels: &[Label<'_>],
 ) -> Result<Vec<u8>, Fault> {
-    let real = match files.real_name(alloc, given) {
-        Ok(real) => real,
-        Err(OpenError::System(error)) => return Err(system_fault(
-            alloc,
-            "cannot open",
-            given,
-            error,
-        )?),
-        Err(OpenError::OutOfMemory) => return Err(Fault::OutOfMemory),
-    };
-    let folder = Folder {
-        given: given.trim_end_matches('/'),
-        real: real.as_str().trim_end_matches('/'),
-    };
-    let mut lines = Lines::new(alloc, MOST_SHOWN);
-    let wanted = wanted_of(alloc, labels, &mut lines.is_all)?;
-    let mut reasons: Vec<String> = Vec::new(alloc);
-    for (place, one) in wanted.iter().enumerate() {
-        let size = size_quoted(one.name.as_bytes()).saturating_add(PART_SIZE);
-        if place == MOST_FILES || !lines.take_room(size) {
-            lines.is_all = false;
-            break;
+    match files.real_name(alloc, given) {
+        Ok(real) => {
+            let folder = Folder {
+                given: given.trim_end_matches('/'),
+                real: real.as_str().trim_end_matches('/'),
+            };
+            sources_below(alloc, files, &folder, labels)
         }
-        match read_below(alloc, files, &folder, one.name)? {
-            Reading::Bytes(bytes) => {
-                lines.take_file(alloc, place as u64, one.lines.as_slice(), bytes.as_slice())?;
-                push(&mut reasons, String::new(alloc))?;
+        Err(OpenError::System(error)) => Err(system_fault(alloc, "cannot open", given, error)?),
+        Err(OpenError::OutOfMemory) => Err(Fault::OutOfMemory),
+    }
+}
+
+// The block of the lines round each place that a label names, in files below the folder.
+fn sources_below<O: Opener>(
+    alloc: Global,
+    files: &O,
+    folder: &Folder<'_>,
+    labels: &[Label<'_>],
+) -> Result<Vec<u8>, Fault> {
+    let mut shown = Shown {
+        lines: Lines::new(alloc, MOST_SHOWN),
+        reasons: Vec::new(alloc),
+    };
+    let wanted = wanted_of(alloc, labels, &mut shown.lines.is_all)?;
+    shown.take_files(alloc, files, folder, wanted.as_slice())?;
+    Ok(block_of(alloc, wanted.as_slice(), &shown)?)
+}
+
+// The lines that are shown, and of each file that was looked for why it is not read.
+#[derive(Drop)]
+struct Shown {
+    lines: Lines,
+    reasons: Vec<String>,
+}
+
+impl Shown {
+    // Takes the lines of the files, as many as have room.
+    fn take_files<O: Opener>(
+        &mut self,
+        alloc: Global,
+        files: &O,
+        folder: &Folder<'_>,
+        wanted: &[Wanted<'_>],
+    ) -> Result<(), Fault> {
+        for (place, one) in wanted.iter().enumerate() {
+            let size = size_quoted(one.name.as_bytes()).saturating_add(PART_SIZE);
+            if place == MOST_FILES || !self.lines.take_room(size) {
+                self.lines.is_all = false;
+                break;
             }
-            Reading::Refused(why) => push(&mut reasons, why)?,
+            let reading = read_below(alloc, files, folder, one.name)?;
+            self.take(alloc, place as u64, one, reading)?;
+        }
+        Ok(())
+    }
+
+    // Takes the lines of the file that stands at this place.
+    fn take(
+        &mut self,
+        alloc: Global,
+        place: u64,
+        one: &Wanted<'_>,
+        reading: Reading,
+    ) -> Result<(), AllocError> {
+        match reading {
+            Reading::Bytes(bytes) => {
+                self.lines
+                    .take_file(alloc, place, one.lines.as_slice(), bytes.as_slice())?;
+                push(&mut self.reasons, String::new(alloc))
+            }
+            Reading::Refused(why) => push(&mut self.reasons, why),
         }
     }
-    Ok(block_of(alloc, wanted.as_slice(), reasons.as_slice(), &lines)?)
 }
 
 fn push(list: &mut Vec<String>, text: String) -> Result<(), AllocError> {
@@ -106,12 +148,23 @@ fn push(list: &mut Vec<String>, text: String) -> Result<(), AllocError> {
 }
 
 // The block of as many of the files as there are reasons, and of the lines.
-fn block_of(
+fn block_of(alloc: Global, wanted: &[Wanted<'_>], shown: &Shown) -> Result<Vec<u8>, AllocError> {
+    let named = named_files(alloc, wanted, shown.reasons.as_slice())?;
+    let parts = parts_of(alloc, &shown.lines)?;
+    sources_text(
+        alloc,
+        named.as_slice(),
+        parts.as_slice(),
+        shown.lines.is_all,
+    )
+}
+
+// As many of the files as there are reasons.
+fn named_files<'a>(
     alloc: Global,
-    wanted: &[Wanted<'_>],
-    reasons: &[String],
-    lines: &Lines,
-) -> Result<Vec<u8>, AllocError> {
+    wanted: &'a [Wanted<'a>],
+    reasons: &'a [String],
+) -> Result<Vec<SourceFile<'a>>, AllocError> {
     let mut named = Vec::with_capacity(alloc, reasons.len())?;
     for (one, why) in wanted.iter().zip(reasons.iter()) {
         named.push(SourceFile {
@@ -119,6 +172,11 @@ fn block_of(
             why: why.as_str(),
         })?;
     }
+    Ok(named)
+}
+
+// The lines, as the page has them.
+fn parts_of(alloc: Global, lines: &Lines) -> Result<Vec<SourcePart<'_>>, AllocError> {
     let mut parts = Vec::with_capacity(alloc, lines.parts.len())?;
     for part in lines.parts.iter() {
         parts.push(SourcePart {
@@ -127,7 +185,7 @@ fn block_of(
             lines: part.lines.as_str(),
         })?;
     }
-    sources_text(alloc, named.as_slice(), parts.as_slice(), lines.is_all)
+    Ok(parts)
 }
 
 // The files and lines that the labels name, by the names of the files.
@@ -136,6 +194,27 @@ fn wanted_of<'a>(
     labels: &[Label<'a>],
     is_all: &mut bool,
 ) -> Result<Vec<Wanted<'a>>, AllocError> {
+    let places = places_of(alloc, labels, is_all)?;
+    let mut wanted: Vec<Wanted<'a>> = Vec::new(alloc);
+    for (name, line) in places.iter() {
+        match wanted.last_mut() {
+            Some(last) if last.name == *name => last.lines.push(*line)?,
+            _ => {
+                let mut lines = Vec::new(alloc);
+                lines.push(*line)?;
+                wanted.push(Wanted { name: *name, lines })?;
+            }
+        }
+    }
+    Ok(wanted)
+}
+
+// The places that the labels name.
+fn places_of<'a>(
+    alloc: Global,
+    labels: &[Label<'a>],
+    is_all: &mut bool,
+) -> Result<BTreeSet<(&'a str, u64)>, AllocError> {
     let mut places: BTreeSet<(&'a str, u64)> = BTreeSet::new(alloc);
     for label in labels {
         for word in label.text.split(' ') {
@@ -150,18 +229,7 @@ fn wanted_of<'a>(
             }
         }
     }
-    let mut wanted: Vec<Wanted<'a>> = Vec::new(alloc);
-    for (name, line) in places.iter() {
-        match wanted.last_mut() {
-            Some(last) if last.name == *name => last.lines.push(*line)?,
-            _ => {
-                let mut lines = Vec::new(alloc);
-                lines.push(*line)?;
-                wanted.push(Wanted { name: *name, lines })?;
-            }
-        }
-    }
-    Ok(wanted)
+    Ok(places)
 }
 
 // The file and the line that the word of a label names, as `list.c:57`.
@@ -193,13 +261,18 @@ fn read_below<O: Opener>(
     if below(top, real.as_str()).is_none() {
         return refused(alloc, OUTSIDE);
     }
-    match files.size(real.as_str()) {
+    read_real(alloc, files, real.as_str())
+}
+
+// What is read of the file with this real name.
+fn read_real<O: Opener>(alloc: Global, files: &O, real: &str) -> Result<Reading, Fault> {
+    match files.size(real) {
         Ok(Some(size)) if size <= MOST_READ => {}
         Ok(Some(_)) => return refused(alloc, TOO_LARGE),
         Ok(None) => return refused(alloc, NO_FILE),
         Err(error) => return unreadable(alloc, error),
     }
-    match files.open(real.as_str()) {
+    match files.open(real) {
         Ok(reader) => read_text(alloc, reader),
         Err(error) => unreadable(alloc, error),
     }
