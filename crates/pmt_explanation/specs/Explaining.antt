@@ -15,6 +15,8 @@ use Rattle.pmt_analysis.specs.Analysing.{Analysed}
 use Rattle.pmt_explanation.specs.declared.explaining.Explanation.{Explanation}
 use Rattle.pmt_explanation.specs.declared.failures.ShownFailure.{ShownFailure}
 use Rattle.pmt_explanation.specs.declared.explaining.Options.{Options}
+use Rattle.pmt_explanation.specs.declared.explaining.Parts.{Parts}
+use Rattle.pmt_explanation.specs.Finding.{AreFound}
 use Rattle.pmt_explanation.specs.declared.choosing.Kind.TheVariants as kinds
 use Rattle.pmt_explanation.specs.declared.labels.Labels.{Labels}
 use Rattle.pmt_explanation.specs.Asking.{asked_dropped, asked_numbers, asked_pairs, asked_unwritten, is_asked_for}
@@ -47,6 +49,18 @@ pub record IsExplanation (a : Analysed) (labels : Labels) (o : Options) (x : Exp
   pub unwritten : x.unwritten.items ≡ asked_unwritten a.trace labels o.choice (unwritten_of a.trace)
   pub ignored_stores : x.ignored_never_persisted ≡ count_by (λ (f : Finding). is_some (lost_store f)) a.findings - length x.stores.items
   pub ignored_pairs : x.ignored_overwritten ≡ count_by (λ (f : Finding). is_some (overwriting f)) a.findings - length (told_pairs a.trace o.ignored.items a.findings)
+
+-- What is found in an analysed trace, with these labels, where this is asked.
+pub record AreParts (a : Analysed) (labels : Labels) (o : Options) (p : Parts) : Type 0 where
+  pub label_numbers : AreLabelNumbers labels (length a.trace.events) p.label_numbers.items
+  pub found : AreFound a.trace a.verdicts labels p.label_numbers.items o p.found
+  pub stores : p.lost.stores.items ≡ told_stores a.trace o.ignored.items a.findings
+  pub lost : AreLostGroups a.trace (asked_numbers a.trace labels o.choice kinds.NeverPersisted p.lost.stores.items) p.lost.groups.items
+  pub lost_causes : AreGrouped (filter_map (lost_item a.trace p.label_numbers.items) p.lost.groups.items) p.lost.causes.items
+  pub overwritten : AreOverwrittenGroups a.trace (asked_pairs a.trace labels o.choice (told_pairs a.trace o.ignored.items a.findings)) p.lost.overwritten.items
+  pub unwritten : p.unwritten.items ≡ asked_unwritten a.trace labels o.choice (unwritten_of a.trace)
+  pub ignored_stores : p.lost.ignored_stores ≡ count_by (λ (f : Finding). is_some (lost_store f)) a.findings - length p.lost.stores.items
+  pub ignored_pairs : p.lost.ignored_pairs ≡ count_by (λ (f : Finding). is_some (overwriting f)) a.findings - length (told_pairs a.trace o.ignored.items a.findings)
 
 -- An assertion fails, or a store that is not ignored is never persisted.
 abbrev pub has_failed : Explanation → Bool

@@ -1,16 +1,18 @@
 //! The explanation of a trace.
 ghost use Rattle.std.specs.Prelude.{◌≡◌, IfOk};
 ghost use Rattle.pmt_explanation.specs.Asking.{asked_unwritten};
-ghost use Rattle.pmt_explanation.specs.Explaining.{IsExplanation, has_failed as fails};
+ghost use Rattle.pmt_explanation.specs.Explaining.{AreParts, IsExplanation, has_failed as fails};
+ghost use Rattle.pmt_explanation.specs.declared.explaining.Options.{Options};
+ghost use Rattle.pmt_explanation.specs.declared.labels.Labels.{Labels};
 ghost use Rattle.pmt_explanation.specs.Unwriting.{unwritten_of};
 
 use crate::asking::asked_unwrittens;
 use crate::choosing::Choice;
 use crate::failures::ShownFailure;
-use crate::found::found_of;
+use crate::found::{Found, found_of};
 use crate::ignoring::ByteRange;
 use crate::labels::Labels;
-use crate::losses::losses_of;
+use crate::losses::{Losses, losses_of};
 use crate::numbering::label_numbers;
 use crate::unwritten::{Unwritten, unwritten_assertions};
 use pmt_analysis::Analysis;
@@ -77,6 +79,15 @@ pub struct Explanation {
     pub unwritten: Vec<Unwritten>,
 }
 
+// What is found in a trace.
+#[derive(Drop)]
+struct Parts {
+    label_numbers: Vec<Option<u64>>,
+    found: Found,
+    lost: Losses,
+    unwritten: Vec<Unwritten>,
+}
+
 /// The explanation of the trace that was analysed.
 ///
 /// # Errors
@@ -91,14 +102,47 @@ pub fn explanation_of(
     ensures analysis { IfOk result (λ x. x.analysis ≡ analysis) }
     ensures limit { IfOk result (λ x. x.limit ≡ options.now.limit) }
 {
+    let parts = parts_of(alloc, &analysis, labels, options)?;
+    Ok(explained(analysis, options.limit, parts))
+}
+
+// What is found in the trace that was analysed.
+fn parts_of(
+    alloc: Global,
+    analysis: &Analysis,
+    labels: &Labels,
+    options: &Options,
+) -> Result<Parts, OutOfMemory>
+    ensures { IfOk result (AreParts analysis.now labels.now options.now) }
+{
     let label_numbers = label_numbers(alloc, labels, analysis.trace().len())?;
     let numbers = label_numbers.as_slice();
-    let found = found_of(alloc, &analysis, labels, numbers, options)?;
-    let lost = losses_of(alloc, &analysis, labels, numbers, options)?;
+    let found = found_of(alloc, analysis, labels, numbers, options)?;
+    let lost = losses_of(alloc, analysis, labels, numbers, options)?;
     let unwritten = unwritten_asked(alloc, analysis.trace(), labels, &options.choice)?;
-    Ok(Explanation {
+    Ok(Parts {
+        label_numbers,
+        found,
+        lost,
+        unwritten,
+    })
+}
+
+// The explanation with these parts.
+fn explained(analysis: Analysis, limit: usize, parts: Parts) -> Explanation
+    ensures explained { (labels : Labels) (o : Options) → AreParts analysis labels o parts → limit ≡ o.limit → IsExplanation analysis labels o result }
+    ensures analysis { result.analysis ≡ analysis }
+    ensures limit { result.limit ≡ limit }
+{
+    let Parts {
+        label_numbers,
+        found,
+        lost,
+        unwritten,
+    } = parts;
+    Explanation {
         analysis,
-        limit: options.limit,
+        limit,
         failing: found.failed.failing,
         asked_failing: found.failed.asked,
         label_numbers,
@@ -118,7 +162,7 @@ pub fn explanation_of(
         overwritten: lost.overwritten,
         ignored_overwritten: lost.ignored_pairs,
         unwritten,
-    })
+    }
 }
 
 // The assertions on bytes that no store has written, where they are asked for.
