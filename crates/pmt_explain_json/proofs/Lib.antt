@@ -1,3 +1,4 @@
+pub mod Making
 pub mod NoFloats
 pub mod Pushing
 pub mod WordLemmas

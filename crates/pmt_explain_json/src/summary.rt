@@ -24,39 +24,39 @@ pub(crate) fn summary_value(
 ) -> Result<Value, OutOfMemory>
     ensures { IfOk result (λ v. view v ≡ summary_data summary.now limit choice.now (view more)) }
 {
-    let asked = asked_value(alloc, choice)?;
-    let kind = Value::try_from_str(alloc, "summary")?;
+    let asked = asked_value(alloc, choice);
+    let kind = Value::try_from_str(alloc, "summary");
     let of_fences = per_cent(summary.fences_dropped, summary.fences);
     let of_flushes = per_cent(summary.flushes_dropped, summary.flushes);
     let fields = vec![in alloc;
         ("asked", asked),
-        ("assertions", Value::from(summary.assertions)),
-        ("cache_lines", Value::from(summary.cache_lines)),
-        ("events", Value::from(summary.events)),
-        ("failing", Value::from(summary.failing)),
-        ("fences", Value::from(summary.fences)),
-        ("fences_dropped", Value::from(summary.fences_dropped)),
-        ("fences_dropped_percent", Value::from(of_fences)),
-        ("flushes", Value::from(summary.flushes)),
-        ("flushes_dropped", Value::from(summary.flushes_dropped)),
-        ("flushes_dropped_percent", Value::from(of_flushes)),
+        ("assertions", Ok(Value::from(summary.assertions))),
+        ("cache_lines", Ok(Value::from(summary.cache_lines))),
+        ("events", Ok(Value::from(summary.events))),
+        ("failing", Ok(Value::from(summary.failing))),
+        ("fences", Ok(Value::from(summary.fences))),
+        ("fences_dropped", Ok(Value::from(summary.fences_dropped))),
+        ("fences_dropped_percent", Ok(Value::from(of_fences))),
+        ("flushes", Ok(Value::from(summary.flushes))),
+        ("flushes_dropped", Ok(Value::from(summary.flushes_dropped))),
+        ("flushes_dropped_percent", Ok(Value::from(of_flushes))),
         (
             "ignored_never_persisted",
-            Value::from(summary.ignored_never_persisted)
+            Ok(Value::from(summary.ignored_never_persisted))
         ),
         (
             "ignored_overwritten",
-            Value::from(summary.ignored_overwritten)
+            Ok(Value::from(summary.ignored_overwritten))
         ),
         ("kind", kind),
-        ("limit", Value::from(limit)),
-        ("more", more),
-        ("never_persisted", Value::from(summary.never_persisted)),
-        ("schema", Value::from(2u64)),
-        ("stores", Value::from(summary.stores)),
-        ("threads", Value::from(summary.threads)),
+        ("limit", Ok(Value::from(limit))),
+        ("more", Ok(more)),
+        ("never_persisted", Ok(Value::from(summary.never_persisted))),
+        ("schema", Ok(Value::from(2u64))),
+        ("stores", Ok(Value::from(summary.stores))),
+        ("threads", Ok(Value::from(summary.threads))),
     ]?;
-    object_value(alloc, fields)
+    object_made(alloc, fields)
 }
 
 // How many entries of each kind are not shown.

@@ -1,0 +1,19 @@
+use Rattle.std.proofs.Common.{◌≡◌, ℕ, List, [], ◌∷◌, length, map, IfOk, subst, sym, ap, ◌∙◌}
+use Rattle.serde_json.specs.View.{view}
+use Rattle.pmt_explain_json.specs.Groups.{cause_group_data}
+use Rattle.pmt_explain_json.specs.Parts.{array_of, count_data}
+use Rattle.pmt_explain_json.proofs.Making.{◌also◌, object-made}
+use Rattle.pmt_explain_json.proofs.causes.cause_group_value.Goals as goal
+
+pub returns : goal.returns
+returns c =
+    let g = c.args.group.now in
+    let count = c.from.ensures ∙ ap count_data (c.len.ensures ∙ sym c.as_slice.ensures.len ∙ ap length c.as_slice.ensures.value) in
+    let events = subst (λ (ns : List ℕ). IfOk c.numbers_value-events.result (λ v. view v ≡ array_of (map count_data ns))) c.as_slice.ensures.value c.numbers_value-events.ensures in
+    object-made c.object_made.result _ _
+    (_ ∷ count_data (length g.members.items) ∷ array_of (map count_data g.members.items) ∷ _ ∷ _ ∷ _ ∷ _ ∷ _ ∷ [])
+    (cause_group_data c.args.labels.now g)
+    c.object_made.ensures c.in_ok-fields.ensures.items
+    (c.assertion_value-assertion.ensures also count also events also c.try_from_str-kind.ensures also c.origin_label_value-label.ensures
+    also c.part_value-part.ensures also c.origin_thread_value-thread.ensures also c.why_value-why.ensures also _)
+    (λ d e. e)

@@ -1,0 +1,7 @@
+use Rattle.pmt_explain_json.specs.Parts.{count_data}
+use Rattle.pmt_explain_json.proofs.Pushing.{value-pushed}
+use Rattle.pmt_explain_json.proofs.causes.numbers_value.Goals as goal
+
+pub loop-number-preserved : goal.loop-number-preserved
+loop-number-preserved c =
+    value-pushed count_data c.args.numbers.now c.loop-number.number-index _ _ _ _ c.loop-number-test.true c.loop-number.invariant c.from.ensures c.in_ok-push.ensures.items

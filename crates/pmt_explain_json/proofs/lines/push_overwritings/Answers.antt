@@ -1,0 +1,7 @@
+use Rattle.pmt_explain_json.specs.Entries.{overwritten_line}
+use Rattle.pmt_explain_json.proofs.Pushing.{lines-pushed}
+use Rattle.pmt_explain_json.proofs.lines.push_overwritings.Goals as goal
+
+pub loop-group-preserved : goal.loop-group-preserved
+loop-group-preserved c =
+    lines-pushed (overwritten_line c.args.trace.now c.args.labels.now) c.args.groups.now c.loop-group.group-index _ _ _ _ c.loop-group-test.true c.loop-group.invariant c.in_ok-push_overwritten.ensures
