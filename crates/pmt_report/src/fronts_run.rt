@@ -1,11 +1,13 @@
 //! The run that writes the fronts of a trace at a place.
-ghost use Rattle.std.specs.Prelude.{◌≡◌, ◌+◌, ◌-◌, ◌^◌, ◌<◌, IfOk, IfErr};
+ghost use Rattle.std.specs.Prelude.{◌≡◌, ◌+◌, ◌-◌, ◌^◌, ◌<◌, Option, IfOk, IfErr};
+ghost use Rattle.pmt_text.specs.Coming.{Coming};
 ghost use Rattle.pmt_text.specs.declared.source.SourceState.{SourceState};
 ghost use Rattle.pmt_text.specs.Counting.{failure_count, inner_device};
+ghost use Rattle.pmt_report.specs.FrontsOf.{TakesLines};
 ghost use Rattle.pmt_report.specs.Runs.{CountsRuns, IsComputed, IsFrontsAt, IsFrontsFault, Runs, coming_from_reader, run_read_faults, write_faults};
 
 use crate::fault::{RunError, run_error};
-use crate::first_lines::first_lines;
+use crate::first_lines::{TraceLines, first_lines};
 use crate::fronts::fronts_of_lines;
 use crate::output::write_answer;
 use crate::taking::skip_events;
@@ -47,11 +49,25 @@ fn fronts_of<S: EventSource>(alloc: Global, place: u64, source: &mut S) -> Resul
     ensures err { IfErr result (IsFrontsFault place (S.coming source.old)) }
     ensures failures { CountsRuns (S.failures source.old) result (S.failures source.new) }
 {
-    let lines = match first_lines(alloc, source, place) {
-        Ok(lines) => lines,
-        Err(TakeError::Source(fault)) => return Err(run_error(fault)),
-        Err(TakeError::OutOfMemory) => return Err(RunError::OutOfMemory),
-    };
+    match first_lines(alloc, source, place) {
+        Ok(lines) => fronts_past_first(alloc, place, source, &lines),
+        Err(TakeError::Source(fault)) => Err(run_error(fault)),
+        Err(TakeError::OutOfMemory) => Err(RunError::OutOfMemory),
+    }
+}
+
+// The fronts at the place, where the source gave its first events, whose lines these are.
+fn fronts_past_first<S: EventSource>(
+    alloc: Global,
+    place: u64,
+    source: &mut S,
+    lines: &TraceLines,
+) -> Result<Vec<u8>, RunError>
+    requires { (first : Option Coming) × TakesLines place first (S.coming source.old) SourceState.Open (S.state source.old) lines.now }
+    ensures ok { (first : Option Coming) → TakesLines place first (S.coming source.old) SourceState.Open (S.state source.old) lines.now → IfOk result (λ text. IsComputed (IsFrontsAt place) first text.items) }
+    ensures err { (first : Option Coming) → TakesLines place first (S.coming source.old) SourceState.Open (S.state source.old) lines.now → IfErr result (IsFrontsFault place first) }
+    ensures failures { CountsRuns (S.failures source.old) result (S.failures source.new) }
+{
     let events = lines.events;
     if events < place {
         return Err(RunError::PastEnd { events });
@@ -60,7 +76,7 @@ fn fronts_of<S: EventSource>(alloc: Global, place: u64, source: &mut S) -> Resul
         Ok(()) => {}
         Err(error) => return Err(run_error(error)),
     }
-    match fronts_of_lines(alloc, &lines) {
+    match fronts_of_lines(alloc, lines) {
         Ok(text) => Ok(text),
         Err(_) => Err(RunError::OutOfMemory),
     }
