@@ -1,8 +1,8 @@
 -- The fronts of a trace from the lines of its first events.
-use Rattle.std.proofs.Common.{◌≡◌, ℕ, ◌+◌, ◌*◌, ◌^◌, ◌<◌, ◌≤◌, inl, inr, List, ◌∷◌, ◌++◌, length, map, reverse, Option, Some, None, refl, sym, ap, ◌∙◌, subst, arith, length-append}
+use Rattle.std.proofs.Common.{◌≡◌, ℕ, suc, ◌+◌, ◌*◌, ◌^◌, ◌<◌, ◌≤◌, inl, inr, List, ◌∷◌, ◌++◌, length, drop, drop-cons, get_or, append_assoc, append-nil, map, reverse, Option, Some, None, refl, sym, ap, ◌∙◌, subst, arith, length-append}
 use Rattle.std.specs.Prelude.{All}
 use Rattle.std.specs.List.{flat_map}
-use Rattle.std.proofs.lemmas.List.{take-append-le}
+use Rattle.std.proofs.lemmas.List.{drop_all, take-append-le}
 use Rattle.pmt_model.specs.declared.event.Event.{Event}
 use Rattle.pmt_model.specs.Values.{Layout}
 use Rattle.pmt_model.specs.Machine.{Act, count}
@@ -99,3 +99,25 @@ pub fronts-open : (place : ℕ) (old new : Option Coming) (before after : Source
 fronts-open place old new Ended after lines first enough is = cc
 fronts-open place old new (Failed fault) after lines first enough is = cc
 fronts-open place old new Open after lines first enough is = elim first.first.few [ inl fewer ↦ absurd (let h = fewer.0 in omega (arith, h, enough, first.known.counted)) | inr full ↦ full.1 ]
+
+-- ---- Entries one after another
+
+-- one entry more
+pub entries-more : (f : ℕ → List ℕ) (all : List ℕ) (place : ℕ) (old new whole : List ℕ) → place < length all → new ≡ old ++ f (get_or all place 0) → old ++ flat_map f (drop place all) ≡ whole → new ++ flat_map f (drop (place + 1) all) ≡ whole
+entries-more f all place old new whole within more so_far =
+    let l = get_or all place 0 in
+    let left = drop (place + 1) all in
+    let next : suc place ≡ place + 1 = omega arith in
+    let cut : drop place all ≡ l ∷ left = drop-cons all place 0 within ∙ ap (λ (k : ℕ). l ∷ drop k all) next in
+    ap (λ (s : List ℕ). s ++ flat_map f left) more
+    ∙ append_assoc old (f l) (flat_map f left)
+    ∙ ap (λ (xs : List ℕ). old ++ flat_map f xs) (sym cut)
+    ∙ so_far
+
+-- all entries
+pub entries-all : (f : ℕ → List ℕ) (all lines : List ℕ) (place : ℕ) (text old : List ℕ) → length all ≤ place → all ≡ lines → text ++ flat_map f (drop place all) ≡ old ++ flat_map f all → text ≡ old ++ flat_map f lines
+entries-all f all lines place text old past same so_far =
+    sym (append-nil text)
+    ∙ ap (λ (xs : List ℕ). text ++ flat_map f xs) (sym (drop_all place all past))
+    ∙ so_far
+    ∙ ap (λ (xs : List ℕ). old ++ flat_map f xs) same

@@ -1,5 +1,5 @@
 -- Runs: what was taken from the source, and the answer that was written.
-use Rattle.std.proofs.Common.{◌≡◌, ℕ, Bool, List, length, Option, Result, Ok, Err, refl, sym, ap, ◌∙◌, subst}
+use Rattle.std.proofs.Common.{◌≡◌, ℕ, Bool, true, false, List, length, Option, Result, Ok, Err, refl, sym, ap, ◌∙◌, subst}
 use Rattle.std.specs.Prelude.{◌||◌, IfOk}
 use Rattle.std.specs.Io.KnownBytes.{Appends}
 use Rattle.std.specs.List.{list_any}
@@ -8,10 +8,13 @@ use Rattle.pmt_text.specs.Coming.{Coming, ComesWhole}
 use Rattle.pmt_trim.specs.Marking.{marked_from}
 use Rattle.pmt_trim.specs.Streaming.{IsTextOfTrimmed}
 use Rattle.pmt_trim.specs.WholeTexts.{IsTextOfWhole}
+use Rattle.pmt_text.specs.declared.kind.SourceError.{SourceError}
+use Rattle.pmt_text.specs.declared.kind.SourceError.TheVariants as sources
+use Rattle.pmt_report.specs.Faults.{run_fault}
 use Rattle.pmt_report.specs.Reports.{report}
 use Rattle.pmt_report.specs.declared.fault.RunError.{RunError}
 use Rattle.pmt_report.specs.declared.fault.RunError.TheVariants.{BadWorkers, Text, TooMany, Read, PastEnd, OutOfMemory, Write}
-use Rattle.pmt_report.specs.Runs.{IsAnalysisFault, IsComputed, WritesText, Runs}
+use Rattle.pmt_report.specs.Runs.{IsAnalysisFault, IsComputed, WritesText, Runs, run_read_faults, tells_workers, write_faults}
 use Rattle.pmt_analysis.specs.Analysing.{Analysed, IsAnalysed}
 use Rattle.pmt_report.specs.declared.checked.CheckedTrace.{CheckedTrace}
 use Rattle.pmt_report.specs.Checking.{IsFoundIn}
@@ -28,6 +31,46 @@ runs-written IsAnswer IsFault coming old new text (Err TooMany) computed writes 
 runs-written IsAnswer IsFault coming old new text (Err Read) computed writes = absurd writes
 runs-written IsAnswer IsFault coming old new text (Err (PastEnd events)) computed writes = absurd writes
 runs-written IsAnswer IsFault coming old new text (Err OutOfMemory) computed writes = absurd writes
+
+-- a write never tells that the number of workers is bad
+pub written-untold : (old new : Option (List ℕ)) (text : List ℕ) (result : Result (Unit {0}) RunError) → WritesText old new text result → tells_workers result ≡ false
+written-untold old new text (Ok u) writes = refl
+written-untold old new text (Err (Write written)) writes = refl
+written-untold old new text (Err BadWorkers) writes = absurd writes
+written-untold old new text (Err (Text f)) writes = refl
+written-untold old new text (Err TooMany) writes = refl
+written-untold old new text (Err Read) writes = refl
+written-untold old new text (Err (PastEnd events)) writes = refl
+written-untold old new text (Err OutOfMemory) writes = refl
+
+-- nor that a read failed
+pub written-unread : (old new : Option (List ℕ)) (text : List ℕ) (result : Result (Unit {0}) RunError) → WritesText old new text result → run_read_faults result ≡ 0
+written-unread old new text (Ok u) writes = refl
+written-unread old new text (Err (Write written)) writes = refl
+written-unread old new text (Err BadWorkers) writes = refl
+written-unread old new text (Err (Text f)) writes = refl
+written-unread old new text (Err TooMany) writes = refl
+written-unread old new text (Err Read) writes = absurd writes
+written-unread old new text (Err (PastEnd events)) writes = refl
+written-unread old new text (Err OutOfMemory) writes = refl
+
+-- nor does a fault of the source
+pub fault-untold : (e : SourceError) → tells_workers {A = Unit {0}} (Err (run_fault e)) ≡ false
+fault-untold (sources.Text f) = refl
+fault-untold sources.TooMany = refl
+fault-untold sources.Read = refl
+fault-untold sources.OutOfMemory = refl
+fault-untold sources.Failed = refl
+
+pub fault-unwritten : (e : SourceError) → write_faults {A = Unit {0}} (Err (run_fault e)) ≡ 0
+fault-unwritten (sources.Text f) = refl
+fault-unwritten sources.TooMany = refl
+fault-unwritten sources.Read = refl
+fault-unwritten sources.OutOfMemory = refl
+fault-unwritten sources.Failed = refl
+
+pub never-told : {X : Type 0} (told : Bool) → told ≡ false → told ≡ true → X
+never-told told denied said = cc
 
 -- the text of the trimmed trace of all that comes was computed
 pub text-computed : (told coming : Option Coming) (text bytes : List ℕ) → told ≡ coming → bytes ≡ text → IsTextOfWhole told text → IsComputed IsTextOfTrimmed coming bytes

@@ -1,9 +1,9 @@
-use Rattle.std.proofs.Common.{◌≡◌, ◌∷◌, sym, subst, ap, ◌∙◌, rules}
+use Rattle.std.proofs.Common.{◌≡◌, ◌∷◌, sym, subst, ap, ◌∙◌, arith, rules}
 use Rattle.pmt_model.specs.Machine.{Act, Stores, Flushes, Clflushes}
 use Rattle.pmt_model.specs.Values.{line_of}
 use Rattle.pmt_model.specs.Traces.{act, act_of, lines_of, with_line}
 use Rattle.pmt_live.specs.Live.{IsLive}
-use Rattle.pmt_live.proofs.LiveLemmas.{place-in}
+use Rattle.pmt_live.proofs.LiveLemmas.{has-place, place-in}
 use Rattle.pmt_report.proofs.first_lines.tell.Goals as goal
 
 pub returns-in_ok-place-in-Store : goal.returns-in_ok-place-in-Store
@@ -31,3 +31,26 @@ returns-in_ok-flush-in-Clwb c = λ h number before.
     let known = c.in_ok-place-in-Clwb.ensures.live (lines_of h) h before in
     subst (λ (a : Act). IsLive (a ∷ h) c.flush.new.self) (sym same)
     (c.in_ok-flush-in-Clwb.ensures.live (with_line l (lines_of h)) h l number (place-in _ h l c.in_ok-place-in-Clwb.place _ c.in_ok-place-in-Clwb.ensures.here known) known)
+
+pub store-requires-clause-room : goal.store-requires-clause-room
+store-requires-clause-room c =
+    let h = c.requires.0 in
+    (with_line c.line_of.result (lines_of h), h, omega (arith, c.requires.1, c.requires.2), c.in_ok-place-in-Store.ensures.live (lines_of h) h c.requires.3)
+
+pub store-requires-clause-place : goal.store-requires-clause-place
+store-requires-clause-place c =
+    let h = c.requires.0 in
+    has-place _ h c.line_of.result c.in_ok-place-in-Store.place _ c.in_ok-place-in-Store.ensures.here (c.in_ok-place-in-Store.ensures.live (lines_of h) h c.requires.3)
+
+pub flush-requires-clause-place : goal.flush-requires-clause-place
+flush-requires-clause-place c =
+    let h = c.requires.0 in
+    has-place _ h c.line_of-in-Clwb.result c.in_ok-place-in-Clwb.place _ c.in_ok-place-in-Clwb.ensures.here (c.in_ok-place-in-Clwb.ensures.live (lines_of h) h c.requires.3)
+
+pub clflush-requires : goal.clflush-requires
+clflush-requires c =
+    let h = c.requires.0 in
+    has-place _ h c.line_of-in-Clflush.result c.in_ok-place-in-Clflush.place _ c.in_ok-place-in-Clflush.ensures.here (c.in_ok-place-in-Clflush.ensures.live (lines_of h) h c.requires.3)
+
+pub fence-requires : goal.fence-requires
+fence-requires c = (lines_of c.requires.0, c.requires.0, c.requires.3)
