@@ -20,23 +20,13 @@ use Rattle.pmt_lines.specs.declared.taking.TakeError.TheVariants as refusals
 use Rattle.pmt_lines.specs.Sourcing.{IsFaultOf, TellsEnd, TellsFault, TellsNothing, TellsRefusal, TellsTaken, told_by}
 use Rattle.pmt_lines.specs.Blocks.{Shown, TakesBlock}
 use Rattle.pmt_lines.proofs.SourceRunLemmas.{SoFar, SameReads}
+use Rattle.pmt_report.specs.Blockwise.{IsTakenSoFar, IsTakenWhole}
 
 -- ---- Block after block
 
 -- what a source told that told no fault
 abbrev pub untold_fault : Result (Unit {0}) SourceError
 untold_fault = Ok tt
-
--- all events were taken
-pub record IsTakenWhole (first now : Shown) (T : Recording) : Type 0 where
-  pub comes : ComesWhole first.coming T
-  pub told : TellsEnd first.state now.state
-  pub same_reads : SameReads first.failures now.failures
-
--- T is the trace of the events that were taken; more says whether more may come
-pub record IsTakenSoFar (first now : Shown) (T : Recording) (more : Bool) : Type 0 where
-  pub on : more ≡ true → SoFar first now T
-  pub over : more ≡ false → IsTakenWhole first now T
 
 counted-same : {A : Type 0} (old new : Option ℕ) (x : A) → CountsReads old (Ok x) new → SameReads old new
 counted-same None new x counts = tt
@@ -209,3 +199,18 @@ fewer-left most mid now B some block = go (length B.events == most) refl
 -- want of memory is no fault of the source
 pub unfaulted : {A : Type 0} (coming : Option Coming) (r : Result A TakeError) → r ≡ Err refusals.OutOfMemory → IfErr (told_by r) (λ f. IfSome coming (λ c. IsFaultOf c f))
 unfaulted {A = A} coming r refused = subst (λ q. IfErr (told_by {A = A} q) (λ f. IfSome coming (λ c. IsFaultOf c f))) (sym refused) tt
+
+-- ---- A refusal, whatever was to be answered
+
+module _ (A B : Type 0) where
+  pub fault-kept : (coming : Option Coming) (e : TakeError) → IfErr (told_by {A = A} (Err e)) (λ f. IfSome coming (λ c. IsFaultOf c f)) → IfErr (told_by {A = B} (Err e)) (λ f. IfSome coming (λ c. IsFaultOf c f))
+  fault-kept coming (refusals.Source f) fault = fault
+  fault-kept coming refusals.OutOfMemory fault = fault
+
+  pub told-kept : (old new : SourceState) (e : TakeError) → TellsTaken {A = A} old (Err e) new → TellsTaken {A = B} old (Err e) new
+  told-kept old new (refusals.Source f) told = told
+  told-kept old new refusals.OutOfMemory told = told
+
+  pub counts-kept : (old new : Option ℕ) (e : TakeError) → CountsReads old (told_by {A = A} (Err e)) new → CountsReads old (told_by {A = B} (Err e)) new
+  counts-kept old new (refusals.Source f) counts = counts
+  counts-kept old new refusals.OutOfMemory counts = counts

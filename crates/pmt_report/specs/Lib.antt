@@ -5,6 +5,7 @@ pub mod Listing
 pub mod Reports
 pub mod Taking
 pub mod Checks
+pub mod Blockwise
 pub mod Checking
 pub mod Runs
 pub mod FrontsOf

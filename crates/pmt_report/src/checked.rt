@@ -1,14 +1,16 @@
 //! What a check finds in the events of a source. They are taken block by block, and no block is kept.
 ghost use Rattle.std.specs.Prelude.{◌≡◌, ◌==◌, ◌+◌, ◌-◌, ◌^◌, ◌<◌, true, not, length, IfOk, IfErr, IfSome, OnOk};
 ghost use Rattle.pmt_laws.specs.Passing.{with_events};
+ghost use Rattle.pmt_model.specs.Pushing.{empty};
 ghost use Rattle.pmt_model.specs.Traces.{Recording, IsTrace};
 ghost use Rattle.pmt_text.specs.Coming.{ComesWhole};
 ghost use Rattle.pmt_text.specs.Counting.{failure_count, inner_device};
 ghost use Rattle.pmt_text.specs.Sources.{CountsReads};
-ghost use Rattle.pmt_lines.specs.Blocks.{TakesBlock, shown_by};
+ghost use Rattle.pmt_lines.specs.Blocks.{Shown, TakesBlock, shown_by};
 ghost use Rattle.pmt_lines.specs.Sourcing.{IsFaultOf, TellsRefusal, TellsTaken, told_by};
 ghost use Rattle.pmt_sweep.specs.Growing.{HasSwept};
 ghost use Rattle.pmt_workers.specs.Halving.{is_worker_count};
+ghost use Rattle.pmt_report.specs.Blockwise.{IsTakenSoFar};
 ghost use Rattle.pmt_report.specs.Checking.{HasTaken, IsCheckOf, IsFoundIn};
 ghost use Rattle.pmt_report.specs.Runs.{IsAnalysisFault, coming_from_reader, run_read_faults, tells_workers};
 
@@ -99,12 +101,41 @@ fn taken_whole<T: Threads + Sync, S: EventSource>(
     ensures told { TellsTaken (S.state source.old) result (S.state source.new) }
     ensures failures { CountsReads (S.failures source.old) (told_by result) (S.failures source.new) }
 {
-    let mut block = take_block(alloc, source, BLOCK)?;
+    let block = take_block(alloc, source, BLOCK)?;
     let mut sweeper = Sweeper::new(alloc, block.format())?;
-    let mut events = block.len() as u64;
-    let mut more = is_full(&block);
+    match take_others(rt, alloc, block, &mut sweeper, source, two) {
+        Ok(events) => Ok(Taken { events, sweeper }),
+        Err(error) => {
+            let_go(sweeper);
+            Err(error)
+        }
+    }
+}
+
+// Drops the sweeper.
+fn let_go(_sweeper: Sweeper) {}
+
+// Sweeps the first block and all that come after it, and counts their events. Whatever showed the first block before, they are all of it.
+fn take_others<T: Threads + Sync, S: EventSource>(
+    rt: &T,
+    alloc: Global,
+    first: Trace,
+    sweeper: &mut Sweeper,
+    source: &mut S,
+    two: bool,
+) -> Result<u64, TakeError>
+    requires fresh { HasSwept (empty first.format) sweeper.old }
+    requires first { let shown = shown_by S.coming S.state S.known_format S.failures S.room in (before : Shown) × IsTakenSoFar before (shown source.old) first (length first.events == BLOCK) }
+    ensures taken { let shown = shown_by S.coming S.state S.known_format S.failures S.room in (before : Shown) → IsTakenSoFar before (shown source.old) first (length first.events == BLOCK) → IfOk result (λ n. (T : Recording) × HasSwept T sweeper.new × (n ≡ length T.events) × ComesWhole before.coming T) }
+    ensures fault { let shown = shown_by S.coming S.state S.known_format S.failures S.room in (before : Shown) → IsTakenSoFar before (shown source.old) first (length first.events == BLOCK) → IfErr (told_by result) (λ e. IfSome before.coming (λ c. IsFaultOf c e)) }
+    ensures told { let shown = shown_by S.coming S.state S.known_format S.failures S.room in (before : Shown) → IsTakenSoFar before (shown source.old) first (length first.events == BLOCK) → TellsTaken before.state result (S.state source.new) }
+    ensures failures { let shown = shown_by S.coming S.state S.known_format S.failures S.room in (before : Shown) → IsTakenSoFar before (shown source.old) first (length first.events == BLOCK) → CountsReads before.failures (told_by result) (S.failures source.new) }
+{
+    let mut events = first.len() as u64;
+    let mut more = is_full(&first);
+    let mut block = first;
     'take: while more {
-        let (swept, next) = sweep_and_take(rt, alloc, &block, &mut sweeper, source, two);
+        let (swept, next) = sweep_and_take(rt, alloc, &block, sweeper, source, two);
         let next = next?;
         swept?;
         events += next.len() as u64;
@@ -112,7 +143,7 @@ fn taken_whole<T: Threads + Sync, S: EventSource>(
         block = next;
     }
     sweeper.take(alloc, block.events())?;
-    Ok(Taken { events, sweeper })
+    Ok(events)
 }
 
 // Whether the block has as many events as were asked for, so that more may come.

@@ -1,168 +1,76 @@
-use Rattle.std.proofs.Common.{rules, ◌≡◌, Ok, Err, sym, subst, arith}
-use Rattle.std.proofs.lemmas.List.{length-append}
+use Rattle.std.proofs.Common.{ℕ, subst}
 use Rattle.pmt_model.specs.Values.{Layout}
 use Rattle.pmt_model.specs.Pushing.{empty}
-use Rattle.pmt_model.specs.Traces.{Recording}
-use Rattle.pmt_laws.specs.Passing.{with_events}
-use Rattle.pmt_lines.specs.declared.taking.TakeError.TheVariants.{OutOfMemory}
-use Rattle.pmt_lines.specs.Blocks.{TakesBlock, shown_by}
+use Rattle.pmt_lines.specs.Blocks.{shown_by}
 use Rattle.pmt_sweep.specs.Growing.{HasSwept}
 use Rattle.pmt_report.specs.declared.checked.TheConstants.{BLOCK}
-use Rattle.pmt_report.proofs.BlockLemmas.{IsTakenSoFar, first-block, next-block, next-trace, untold, uncounted, unfaulted, refused-fault, refused-told, refused-counted}
+use Rattle.pmt_report.specs.declared.checked.Taken.{Taken}
+use Rattle.pmt_report.proofs.BlockLemmas.{first-block, fault-kept, told-kept, counts-kept}
 use Rattle.pmt_report.proofs.checked.taken_whole.Goals as goal
 
-pub take-init : goal.take-init
-take-init g c =
+pub take_others-requires-clause-fresh : goal.take_others-requires-clause-fresh
+take_others-requires-clause-fresh g c = λ bounds lives. subst (λ (f : Layout). HasSwept (empty f) c.in_ok-sweeper.sweeper) c.format.ensures.value c.in_ok-sweeper.ensures
+
+pub take_others-requires-clause-first : goal.take_others-requires-clause-first
+take_others-requires-clause-first g c =
     let source = g.S.EventSource in
     let shown = shown_by source.coming source.state source.known_format source.failures source.room in
     let old = shown c.args.source.now in
-    let new = shown c.take_block.new.source in
-    let block = c.in_ok-block.block in
-    let said = c.in_ok-block.ensures in (
-      empty block.format,
-      subst (λ (f : Layout). HasSwept (empty f) c.in_ok-sweeper.sweeper) c.format.ensures.value c.in_ok-sweeper.ensures,
-      c.format.ensures.is_trace,
-      subst (IsTakenSoFar old new block) (sym c.is_full-more.ensures) (first-block _ old new block (g.met.S.EventSource.few c.args.source.now) said.block said.failures),
-      omega (arith, c.len-events.ensures.value),
-    )
+    let said = c.in_ok-block.ensures in
+    let known = first-block BLOCK old (shown c.take_block.new.source) c.in_ok-block.block (g.met.S.EventSource.few c.args.source.now) said.block said.failures in
+    λ bounds lives. (old, known)
 
-pub sweep_and_take-swept-requires-after_bounds : goal.sweep_and_take-swept-requires-after_bounds
-sweep_and_take-swept-requires-after_bounds g c = λ bounds lives. (c.take.invariant.0, c.take.invariant.1, c.take.invariant.2)
-
-pub take-requires : goal.take-requires
-take-requires g c =
-    let T = c.take.invariant.0 in
-    (T, c.take.invariant.1, rw c.events.ensures.value c.take.invariant.2)
-
-pub returns-in_err-next-clause-fault : goal.returns-in_err-next-clause-fault
-returns-in_err-next-clause-fault g c =
+pub returns-in-Ok-clause-taken : goal.returns-in-Ok-clause-taken
+returns-in-Ok-clause-taken g c =
     let source = g.S.EventSource in
     let shown = shown_by source.coming source.state source.known_format source.failures source.room in
     let old = shown c.args.source.now in
-    let mid = shown c.take.source in
-    let now = shown c.sweep_and_take-swept.new.source in
-    let so_far = c.take.invariant.3.on c.take-test.true in
-    let said = c.sweep_and_take-swept.ensures in
-    let e = c.in_err-next.field-0.0 in
-    let is : c.sweep_and_take-swept.result.1 ≡ Err e = c.in_err-next.was in
-    let refused : c.from_residual-in_err-next.result ≡ Err e = search (rules, c.from_residual-in_err-next.ensures) in
-    refused-fault Recording _ old mid now (with_events c.take.invariant.0 c.take.block.events) e c.from_residual-in_err-next.result refused so_far (rw is at said.fault)
+    let said = c.in_ok-block.ensures in
+    let known = first-block BLOCK old (shown c.take_block.new.source) c.in_ok-block.block (g.met.S.EventSource.few c.args.source.now) said.block said.failures in
+    let whole = c.in-Ok.ensures.taken old known in
+    (whole.0, record { swept = whole.1; counted = whole.2 }, whole.3)
 
-pub returns-in_err-next-clause-told : goal.returns-in_err-next-clause-told
-returns-in_err-next-clause-told g c =
+pub returns-in-Ok-clause-told : goal.returns-in-Ok-clause-told
+returns-in-Ok-clause-told g c =
     let source = g.S.EventSource in
     let shown = shown_by source.coming source.state source.known_format source.failures source.room in
     let old = shown c.args.source.now in
-    let mid = shown c.take.source in
-    let now = shown c.sweep_and_take-swept.new.source in
-    let so_far = c.take.invariant.3.on c.take-test.true in
-    let said = c.sweep_and_take-swept.ensures in
-    let e = c.in_err-next.field-0.0 in
-    let is : c.sweep_and_take-swept.result.1 ≡ Err e = c.in_err-next.was in
-    let refused : c.from_residual-in_err-next.result ≡ Err e = search (rules, c.from_residual-in_err-next.ensures) in
-    refused-told Recording _ old mid now (with_events c.take.invariant.0 c.take.block.events) e c.from_residual-in_err-next.result refused so_far (rw is at said.told)
+    let said = c.in_ok-block.ensures in
+    let known = first-block BLOCK old (shown c.take_block.new.source) c.in_ok-block.block (g.met.S.EventSource.few c.args.source.now) said.block said.failures in
+    c.in-Ok.ensures.told old known
 
-pub returns-in_err-next-clause-failures : goal.returns-in_err-next-clause-failures
-returns-in_err-next-clause-failures g c =
+pub returns-in-Ok-clause-failures : goal.returns-in-Ok-clause-failures
+returns-in-Ok-clause-failures g c =
     let source = g.S.EventSource in
     let shown = shown_by source.coming source.state source.known_format source.failures source.room in
     let old = shown c.args.source.now in
-    let mid = shown c.take.source in
-    let now = shown c.sweep_and_take-swept.new.source in
-    let so_far = c.take.invariant.3.on c.take-test.true in
-    let said = c.sweep_and_take-swept.ensures in
-    let e = c.in_err-next.field-0.0 in
-    let is : c.sweep_and_take-swept.result.1 ≡ Err e = c.in_err-next.was in
-    let refused : c.from_residual-in_err-next.result ≡ Err e = search (rules, c.from_residual-in_err-next.ensures) in
-    refused-counted Recording _ old mid now (with_events c.take.invariant.0 c.take.block.events) e c.from_residual-in_err-next.result refused so_far (rw is at said.failures)
+    let said = c.in_ok-block.ensures in
+    let known = first-block BLOCK old (shown c.take_block.new.source) c.in_ok-block.block (g.met.S.EventSource.few c.args.source.now) said.block said.failures in
+    c.in-Ok.ensures.failures old known
 
-pub returns-in_err-swept-clause-told : goal.returns-in_err-swept-clause-told
-returns-in_err-swept-clause-told g c =
+pub returns-in-Err-clause-fault : goal.returns-in-Err-clause-fault
+returns-in-Err-clause-fault g c =
     let source = g.S.EventSource in
     let shown = shown_by source.coming source.state source.known_format source.failures source.room in
     let old = shown c.args.source.now in
-    let mid = shown c.take.source in
-    let now = shown c.sweep_and_take-swept.new.source in
-    let so_far = c.take.invariant.3.on c.take-test.true in
-    let said = c.sweep_and_take-swept.ensures in
-    let block = c.in_ok-next.next in
-    let is : c.sweep_and_take-swept.result.1 ≡ Ok block = c.in_ok-next.was in
-    let next = next-block _ old mid now (with_events c.take.invariant.0 c.take.block.events) block so_far (rw is at said.block) (rw is at said.failures) in
-    let refused : c.from_residual-in_err-swept.result ≡ Err OutOfMemory = search (rules, c.from_residual-in_err-swept.ensures) in
-    untold old now (with_events (with_events c.take.invariant.0 c.take.block.events) block.events) _ c.from_residual-in_err-swept.result refused next
+    let said = c.in_ok-block.ensures in
+    let known = first-block BLOCK old (shown c.take_block.new.source) c.in_ok-block.block (g.met.S.EventSource.few c.args.source.now) said.block said.failures in
+    fault-kept ℕ Taken old.coming c.in-Err.error (c.in-Err.ensures.fault old known)
 
-pub returns-in_err-swept-clause-failures : goal.returns-in_err-swept-clause-failures
-returns-in_err-swept-clause-failures g c =
+pub returns-in-Err-clause-told : goal.returns-in-Err-clause-told
+returns-in-Err-clause-told g c =
     let source = g.S.EventSource in
     let shown = shown_by source.coming source.state source.known_format source.failures source.room in
     let old = shown c.args.source.now in
-    let mid = shown c.take.source in
-    let now = shown c.sweep_and_take-swept.new.source in
-    let so_far = c.take.invariant.3.on c.take-test.true in
-    let said = c.sweep_and_take-swept.ensures in
-    let block = c.in_ok-next.next in
-    let is : c.sweep_and_take-swept.result.1 ≡ Ok block = c.in_ok-next.was in
-    let next = next-block _ old mid now (with_events c.take.invariant.0 c.take.block.events) block so_far (rw is at said.block) (rw is at said.failures) in
-    let refused : c.from_residual-in_err-swept.result ≡ Err OutOfMemory = search (rules, c.from_residual-in_err-swept.ensures) in
-    uncounted old now (with_events (with_events c.take.invariant.0 c.take.block.events) block.events) _ c.from_residual-in_err-swept.result refused next
+    let said = c.in_ok-block.ensures in
+    let known = first-block BLOCK old (shown c.take_block.new.source) c.in_ok-block.block (g.met.S.EventSource.few c.args.source.now) said.block said.failures in
+    told-kept ℕ Taken old.state _ c.in-Err.error (c.in-Err.ensures.told old known)
 
-pub returns-in_err-swept-clause-fault : goal.returns-in_err-swept-clause-fault
-returns-in_err-swept-clause-fault g c =
-    let refused : c.from_residual-in_err-swept.result ≡ Err OutOfMemory = search (rules, c.from_residual-in_err-swept.ensures) in
-    unfaulted (g.S.EventSource.coming c.args.source.now) c.from_residual-in_err-swept.result refused
-
-pub returns-in_err-take-clause-fault : goal.returns-in_err-take-clause-fault
-returns-in_err-take-clause-fault g c =
-    let refused : c.from_residual-in_err-take.result ≡ Err OutOfMemory = search (rules, c.from_residual-in_err-take.ensures) in
-    unfaulted (g.S.EventSource.coming c.args.source.now) c.from_residual-in_err-take.result refused
-
-pub returns-in_err-take-clause-told : goal.returns-in_err-take-clause-told
-returns-in_err-take-clause-told g c =
+pub returns-in-Err-clause-failures : goal.returns-in-Err-clause-failures
+returns-in-Err-clause-failures g c =
     let source = g.S.EventSource in
     let shown = shown_by source.coming source.state source.known_format source.failures source.room in
     let old = shown c.args.source.now in
-    let refused : c.from_residual-in_err-take.result ≡ Err OutOfMemory = search (rules, c.from_residual-in_err-take.ensures) in
-    untold old (shown c.take.source) (with_events c.take.invariant.0 c.take.block.events) c.take.more c.from_residual-in_err-take.result refused c.take.invariant.3
-
-pub returns-in_err-take-clause-failures : goal.returns-in_err-take-clause-failures
-returns-in_err-take-clause-failures g c =
-    let source = g.S.EventSource in
-    let shown = shown_by source.coming source.state source.known_format source.failures source.room in
-    let old = shown c.args.source.now in
-    let refused : c.from_residual-in_err-take.result ≡ Err OutOfMemory = search (rules, c.from_residual-in_err-take.ensures) in
-    uncounted old (shown c.take.source) (with_events c.take.invariant.0 c.take.block.events) c.take.more c.from_residual-in_err-take.result refused c.take.invariant.3
-
-pub take-preserved : goal.take-preserved
-take-preserved g c =
-    let source = g.S.EventSource in
-    let shown = shown_by source.coming source.state source.known_format source.failures source.room in
-    let old = shown c.args.source.now in
-    let mid = shown c.take.source in
-    let now = shown c.sweep_and_take-swept.new.source in
-    let T = with_events c.take.invariant.0 c.take.block.events in
-    let so_far = c.take.invariant.3.on c.take-test.true in
-    let said = c.sweep_and_take-swept.ensures in
-    let next = c.in_ok-next.next in
-    let is : c.sweep_and_take-swept.result.1 ≡ Ok next = c.in_ok-next.was in
-    let block : TakesBlock BLOCK mid now next = rw is at said.block in
-    let taken = next-block _ old mid now T next so_far block (rw is at said.failures) in
-    let done : c.sweep_and_take-swept.result.0 ≡ Ok c.in_ok-swept.field-0 = c.in_ok-swept.was in (
-      T,
-      rw done at (said.swept c.take.invariant.0 c.take.invariant.1 c.take.invariant.2),
-      next-trace BLOCK old mid now T next so_far block c.take.invariant.2 c.len.ensures.is_trace,
-      rw c.is_full-more-in-take.ensures taken,
-      omega (arith, c.take.invariant.4, c.len.ensures.value, length-append c.take.invariant.0.events c.take.block.events),
-    )
-
-pub returns-clause-taken : goal.returns-clause-taken
-returns-clause-taken g c =
-    let T = c.take.invariant.0 in
-    let all = c.take.invariant.3.over c.take-test.false in
-    let U = with_events T c.take.block.events in (
-      U,
-      record {
-        swept = subst (λ es. HasSwept (with_events T es) c.take-2.new.self) c.events.ensures.value (c.in_ok-take.ensures T c.take.invariant.1 (rw c.events.ensures.value c.take.invariant.2));
-        counted = omega (arith, c.take.invariant.4, length-append T.events c.take.block.events);
-      },
-      all.comes,
-    )
+    let said = c.in_ok-block.ensures in
+    let known = first-block BLOCK old (shown c.take_block.new.source) c.in_ok-block.block (g.met.S.EventSource.few c.args.source.now) said.block said.failures in
+    counts-kept ℕ Taken old.failures _ c.in-Err.error (c.in-Err.ensures.failures old known)
