@@ -7,7 +7,7 @@ ghost use Rattle.pmt_report.specs.FrontsOf.{TakesLines};
 ghost use Rattle.pmt_report.specs.Runs.{CountsRuns, IsComputed, IsFrontsAt, IsFrontsFault, Runs, coming_from_reader, run_read_faults, write_faults};
 
 use crate::fault::{RunError, run_error};
-use crate::first_lines::{TraceLines, first_lines};
+use crate::first_lines::{TraceLines, first_lines, let_go};
 use crate::fronts::fronts_of_lines;
 use crate::output::write_answer;
 use crate::taking::skip_events;
@@ -50,7 +50,11 @@ fn fronts_of<S: EventSource>(alloc: Global, place: u64, source: &mut S) -> Resul
     ensures failures { CountsRuns (S.failures source.old) result (S.failures source.new) }
 {
     match first_lines(alloc, source, place) {
-        Ok(lines) => fronts_past_first(alloc, place, source, &lines),
+        Ok(lines) => {
+            let answer = fronts_past_first(alloc, place, source, &lines);
+            let_go(lines);
+            answer
+        }
         Err(TakeError::Source(fault)) => Err(run_error(fault)),
         Err(TakeError::OutOfMemory) => Err(RunError::OutOfMemory),
     }
