@@ -20,6 +20,19 @@ bring_up-requires-clause-chain c = (
   c.requires.1.tables,
 )
 
+pub overflow_sub-low : goal.overflow_sub-low
+overflow_sub-low c =
+    let first = next-start c.requires.0 c.args.format c.args.before.now c.args.notes.now c.args.tables.now c.args.line c.args.last c.args.bytes.low c.args.bytes.high c.start_of-start.result c.requires.1 c.start_of-start.ensures in
+    omega (arith, first, stored-after c.requires.0 (suc (length c.args.before.now)) c.args.line c.args.bytes.low c.args.bytes.high c.requires.1.linked.trace c.requires.1.next)
+
+pub overflow_sub-high : goal.overflow_sub-high
+overflow_sub-high c =
+    let T = c.requires.0 in
+    let n = suc (length c.args.before.now) in
+    let first = next-start T c.args.format c.args.before.now c.args.notes.now c.args.tables.now c.args.line c.args.last c.args.bytes.low c.args.bytes.high c.start_of-start.result c.requires.1 c.start_of-start.ensures in
+    let after = stored-after T n c.args.line c.args.bytes.low c.args.bytes.high c.requires.1.linked.trace c.requires.1.next in
+    omega (arith, first, after, stored-some T n c.args.line c.args.bytes.low c.args.bytes.high c.requires.1.linked.trace c.requires.1.next)
+
 pub returns-clause-found : goal.returns-clause-found
 returns-clause-found c T h =
     let n = length c.args.before.now in

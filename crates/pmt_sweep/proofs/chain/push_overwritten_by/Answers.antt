@@ -39,6 +39,17 @@ returns-then-newest-eq0-clause-found c T h =
     adds-nothing T c.args.line (length c.args.before.now) h.next.what c.args.last.flush c.args.bytes.low c.args.bytes.high h.linked.trace h.next.is_store h.flush h.next.from h.next.to
     c.in-Some.newest c.args.found.now.items (c.in-Some.ensures T c.args.line from) c.if-newest-eq0.true
 
+pub returns-then-newest-eq0-clause-tables : goal.returns-then-newest-eq0-clause-tables
+returns-then-newest-eq0-clause-tables c T h = h.tables
+
+pub overflow_sub-count : goal.overflow_sub-count
+overflow_sub-count c =
+    omega (arith, stored-some c.requires.0 (suc (length c.args.before.now)) c.args.line c.args.bytes.low c.args.bytes.high c.requires.1.linked.trace c.requires.1.next)
+
+pub slice_bounds-numbers-end : goal.slice_bounds-numbers-end
+slice_bounds-numbers-end c =
+    omega (arith, c.in-Some-last_to_each.ensures.size, stored-few c.requires.0 (suc (length c.args.before.now)) c.args.line c.args.bytes.low c.args.bytes.high c.requires.1.linked.trace c.requires.1.next)
+
 pub returns-clause-found : goal.returns-clause-found
 returns-clause-found c T h =
     let n = length c.args.before.now in
@@ -52,3 +63,6 @@ returns-clause-found c T h =
     adds-overwritten T c.args.line n h.next.what c.args.last.flush low high h.linked.trace h.next.is_store h.flush h.next.from h.next.to
     (n + 1) numbers (take (high - low) numbers) c.args.found.now.items c.push_overwritten.new.found.items (omega (arith, some)) (omega arith)
     (omega (arith, few, c.in-Some-last_to_each.ensures.size)) refl (c.in-Some-last_to_each.ensures.each T c.args.line newest) c.in_ok-push_overwritten.ensures
+
+pub returns-clause-tables : goal.returns-clause-tables
+returns-clause-tables c T h = h.tables

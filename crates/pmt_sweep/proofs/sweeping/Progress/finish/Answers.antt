@@ -1,4 +1,6 @@
-use Rattle.std.proofs.Common.{subst}
+use Rattle.std.proofs.Common.{length, refl, ap, subst, ◌∙◌}
+use Rattle.std.proofs.lemmas.List.{length-map}
+use Rattle.pmt_model.specs.Traces.{history, lines_of}
 use Rattle.pmt_sweep.specs.Ending.{IsAtEnd}
 use Rattle.pmt_sweep.specs.Flags.{AreFlagsTo}
 use Rattle.pmt_sweep.specs.Known.{AreKnownTo}
@@ -11,6 +13,12 @@ use Rattle.pmt_sweep.proofs.sweeping.Progress.finish.Goals as goal
 pub never_persisted-requires : goal.never_persisted-requires
 never_persisted-requires c =
     (c.requires.0, rw (c.as_slice.ensures.value, c.as_slice-2.ensures.value) (at-end c.requires.0 c.args.self c.requires.1 c.requires.2))
+
+pub returns-clause-lines : goal.returns-clause-lines
+returns-clause-lines c T so_far all = c.len-count.ensures ∙ ap length so_far.lines.pasts ∙ length-map (lines_of (history T _)) _ ∙ ap (λ n. length (lines_of (history T n))) all
+
+pub returns-clause-verdicts : goal.returns-clause-verdicts
+returns-clause-verdicts c = refl
 
 pub returns-clause-findings : goal.returns-clause-findings
 returns-clause-findings c T so_far all =

@@ -11,7 +11,7 @@ use Rattle.pmt_sweep.specs.Pasts.{last_line_store}
 use Rattle.pmt_sweep.specs.Flags.{AreFlagsTo}
 use Rattle.pmt_sweep.proofs.FlagLemmas.{flags-stays}
 use Rattle.pmt_sweep.proofs.PastLemmas.{place-within}
-use Rattle.pmt_sweep.proofs.StoringLemmas.{line-start, stored-after}
+use Rattle.pmt_sweep.proofs.StoringLemmas.{few-bytes, line-start, stored-after, stored-few, stored-inside, stored-line_small, stored-some}
 use Rattle.pmt_sweep.proofs.SweepLemmas.{next, store-told, place-told, placed-next, storing}
 use Rattle.pmt_sweep.proofs.sweeping.Progress.take_store.Goals as goal
 
@@ -39,6 +39,36 @@ store-requires c =
     let n = taken c.args.self.now in
     let counted : length (history T n) ≡ n = length-history T n so_far.linked.within in
     (history T n, c.args.line, omega (arith, counted, c.requires.room), c.in_ok-place.ensures.known (history T n) so_far.lines)
+
+pub start_of-requires : goal.start_of-requires
+start_of-requires c =
+    let T = c.requires.so_far.0 in
+    stored-line_small T (suc (taken c.args.self.now)) c.args.line c.args.bytes.low c.args.bytes.high c.requires.so_far.1.linked.trace c.requires.so_far.2
+
+pub note_of-note-requires-clause-from : goal.note_of-note-requires-clause-from
+note_of-note-requires-clause-from c =
+    let T = c.requires.so_far.0 in
+    let so_far = c.requires.so_far.1 in
+    let start : c.start_of.result ≡ c.args.line * T.format.line_size = line-start T c.args.self.now.format c.args.line c.start_of.result so_far.format c.start_of.ensures in
+    omega (arith, start, stored-after T (suc (taken c.args.self.now)) c.args.line c.args.bytes.low c.args.bytes.high so_far.linked.trace c.requires.so_far.2)
+
+pub note_of-note-requires-clause-near : goal.note_of-note-requires-clause-near
+note_of-note-requires-clause-near c =
+    let T = c.requires.so_far.0 in
+    let so_far = c.requires.so_far.1 in
+    let n = suc (taken c.args.self.now) in
+    let start : c.start_of.result ≡ c.args.line * T.format.line_size = line-start T c.args.self.now.format c.args.line c.start_of.result so_far.format c.start_of.ensures in
+    let inside = stored-inside T n c.args.line c.args.bytes.low c.args.bytes.high so_far.linked.trace c.requires.so_far.2 in
+    let some = stored-some T n c.args.line c.args.bytes.low c.args.bytes.high so_far.linked.trace c.requires.so_far.2 in
+    omega (arith, start, inside, some, few-bytes T so_far.linked.trace)
+
+pub note_of-note-requires-clause-some : goal.note_of-note-requires-clause-some
+note_of-note-requires-clause-some c =
+    stored-some c.requires.so_far.0 (suc (taken c.args.self.now)) c.args.line c.args.bytes.low c.args.bytes.high c.requires.so_far.1.linked.trace c.requires.so_far.2
+
+pub note_of-note-requires-clause-few : goal.note_of-note-requires-clause-few
+note_of-note-requires-clause-few c =
+    stored-few c.requires.so_far.0 (suc (taken c.args.self.now)) c.args.line c.args.bytes.low c.args.bytes.high c.requires.so_far.1.linked.trace c.requires.so_far.2
 
 pub returns-clause-place : goal.returns-clause-place
 returns-clause-place c T so_far stores =
