@@ -101,3 +101,14 @@ pub take-requires-clause-line : goal.take-requires-clause-line
 take-requires-clause-line g c =
     let lent = rw c.in-Ok-Some.field-0-is at c.in-Ok-Some.ensures.lent in
     lent-is c.in-Ok-Some.event _ _ lent c.last_line.ensures
+
+pub take-requires-clause-room : goal.take-requires-clause-room
+take-requires-clause-room g c =
+    let f = c.take.invariant in
+    let fewer = rw c.in-Ok-Some.field-0-is at c.in-Ok-Some.ensures.room in
+    let roomy = f.source.roomy in
+    let all = f.stream.stream.pass.all in
+    omega (arith, roomy, all, fewer)
+
+pub take-requires-clause-stream : goal.take-requires-clause-stream
+take-requires-clause-stream g c = let f = c.take.invariant in (f.trace, f.text, f.stream.stream)

@@ -1,4 +1,4 @@
-use Rattle.std.proofs.Common.{◌≡◌, [], Err, rules}
+use Rattle.std.proofs.Common.{◌≡◌, [], Err, rules, arith}
 use Rattle.pmt_model.specs.Pushing.{empty, with_event}
 use Rattle.pmt_lines.specs.declared.taking.TakeError.TheVariants.{OutOfMemory, Source}
 use Rattle.pmt_lines.specs.Blocks.{shown_by}
@@ -63,3 +63,9 @@ pub returns-in_err-event-clause-failures : goal.returns-in_err-event-clause-fail
 returns-in_err-event-clause-failures g c =
     let refused : c.from_residual-in_err-event.result ≡ Err (Source c.in_err-event.field-0.0) = search rules in
     counts-fault _ _ _ c.in_err-event.field-0.0 _ c.loop-stream.invariant.1.same_reads c.in_err-event.ensures.failures refused
+
+pub take_more-requires-clause-room : goal.take_more-requires-clause-room
+take_more-requires-clause-room g c =
+    let of = c.loop-stream.invariant in
+    let fewer = rw c.in-Some.is at c.in_ok-event.ensures.room in
+    omega (arith, of.1.roomy, of.2.pass.all, fewer)
