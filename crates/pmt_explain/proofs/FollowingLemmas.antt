@@ -5,10 +5,10 @@ use Rattle.indexmap.specs.IndexMap.{get}
 use Rattle.std.proofs.lemmas.Option.{slice_get-get_or, get_or_from_slice_get, slice_get_within}
 use Rattle.std.proofs.lemmas.Bool.{cases_lt, cases_eq, eq-eqb, ne_eqb}
 use Rattle.std.proofs.lemmas.List.{length-set, get_or-replicate, length-replicate}
-use Rattle.pmt_model.specs.Machine.{Act, Flushes, Clflushes, Fences}
+use Rattle.pmt_model.specs.Machine.{Act, Stores, Flushes, Clflushes, Fences, Asserts}
 use Rattle.pmt_model.specs.Findings.{IsFlushOf, ByFlush, ByClflush, IsFlushedAfter}
 use Rattle.pmt_model.specs.declared.event.Event.{Event}
-use Rattle.pmt_model.specs.Values.{Layout}
+use Rattle.pmt_model.specs.Values.{Layout, Written}
 use Rattle.pmt_model.specs.Traces.{Recording, IsAct, act_of}
 use Rattle.pmt_laws.proofs.Histories.{act-unique, act-within}
 use Rattle.pmt_explain.specs.declared.following.Ahead.{Ahead}
@@ -197,6 +197,14 @@ ahead-other T n a x is no_flush no_clflush no_fence old = record {
   completed = λ l. completed-over T l n (past_of T) _ x is (λ t. no_flush t l) (no_clflush l) (old.completed l);
   flushed = λ l f. old.flushed l (flushed-over T l n x is (λ t. no_flush t l) (no_clflush l) f);
 }
+
+-- after a store
+pub ahead-store : (T : Recording) (n : ℕ) (a : Ahead) (l : ℕ) (w : Written) → IsAct T (suc n) (Stores l w) → IsAhead T (suc n) a → IsAhead T n a
+ahead-store T n a l w is = ahead-other T n a (Stores l w) is (λ t k e. cc) (λ k e. cc) (λ t e. cc)
+
+-- after an assertion
+pub ahead-assert : (T : Recording) (n : ℕ) (a : Ahead) → IsAct T (suc n) Asserts → IsAhead T (suc n) a → IsAhead T n a
+ahead-assert T n a is = ahead-other T n a Asserts is (λ t k e. cc) (λ k e. cc) (λ t e. cc)
 
 -- over a fence
 pub ahead-fence : (T : Recording) (n t number : ℕ) (map : NextFlushes) (a b : Ahead) → t < 256 → IsAct T (suc n) (Fences t) → number ≡ suc n → IsAhead T (suc n) a →

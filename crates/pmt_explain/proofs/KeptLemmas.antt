@@ -3,10 +3,10 @@ use Rattle.std.proofs.Common.{◌≡◌, ℕ, zero, suc, ◌+◌, ◌-◌, ◌<�
 use Rattle.std.specs.Prelude.{◌&&◌, if◌then◌else◌, unwrap_or, nat_le, nat_lt, slice_get}
 use Rattle.std.proofs.Math.ListN.{replicate}
 use Rattle.std.proofs.lemmas.List.{get_or-replicate, length-replicate, take_all, drop_all}
-use Rattle.std.proofs.lemmas.Option.{same_Some}
+use Rattle.std.proofs.lemmas.Option.{same_Some, slice_get_within}
 use Rattle.std.proofs.lemmas.Bool.{false≢true, cases_lt, leb-true, le-leb, lt-leb, lt-ltb, le-ltb}
 use Rattle.pmt_model.specs.declared.event.Event.{Event}
-use Rattle.pmt_model.specs.Values.{Layout, Written}
+use Rattle.pmt_model.specs.Values.{Layout, Span, Written}
 use Rattle.pmt_model.specs.Machine.{Act, Stores, Flushes, Clflushes, Fences, Asserts, writes, image_of}
 use Rattle.pmt_model.specs.Traces.{Recording, IsAct, act, act_of, history, count_at}
 use Rattle.pmt_laws.proofs.Histories.{act-unique, act-within, history-act, history-suc, history-step, length-history, count-mono}
@@ -15,9 +15,9 @@ use Rattle.pmt_reasons.proofs.CauseLemmas.{rank-store, rank-above}
 use Rattle.pmt_explain.specs.declared.crash.Crash.{Crash}
 use Rattle.pmt_explain.specs.declared.bytes.StoredByte.{StoredByte}
 use Rattle.pmt_explain.specs.declared.bytes.CrashByte.{CrashByte}
-use Rattle.pmt_explain.specs.Crashes.{IsPersistedStore, IsLastPersisted, value_of, IsCrashByte}
+use Rattle.pmt_explain.specs.Crashes.{IsPersistedStore, IsLastPersisted, value_of, IsCrashByte, AreCrashBytes}
 use Rattle.pmt_explain.specs.Keepers.{persisted_to, IsCrashAt}
-use Rattle.pmt_explain.specs.Kept.{keeps, last_kept, AreLastKept, IsWrittenBy}
+use Rattle.pmt_explain.specs.Kept.{keeps, last_kept, AreLastKept, IsReadOf, AreReadOf, IsWrittenBy}
 
 -- before any event
 pub kept-none : (T : Recording) (c : Crash) (first : ℕ) (last : List ℕ) (n : ℕ) → last ≡ replicate n 0 → AreLastKept T c first 0 last
@@ -229,10 +229,7 @@ crash-byte T n full c b store x crash is byte none some =
         let written : IsWrittenBy store tells.what b x.last = some tells.line tells.what (subst (λ s. IsAct T s (Stores tells.line tells.what)) (sym e) tells.is_store) tells.writes_byte in
         holds-some T n full c b i x.last crash tells (subst (λ s. IsWrittenBy s tells.what b x.last) e written)
 
--- what is known of the bytes so far
-abbrev pub AreSoFar : Recording → ℕ → Option ℕ → ℕ → List CrashByte → Type 0
-AreSoFar T n full first bytes = (k : ℕ) (x : CrashByte) → slice_get bytes k ≡ Some x → IsCrashByte T n full (first + k) x
-
+-- one more element
 get-pushed : (xs : List CrashByte) (x y : CrashByte) (k : ℕ) → slice_get (xs ++ x ∷ []) k ≡ Some y → (slice_get xs k ≡ Some y) ⊎ ((k ≡ length xs) × (x ≡ y))
 get-pushed [] x y zero e = inr (refl, same_Some x y e)
 get-pushed [] x y (suc k) e = absurd (cc)
@@ -240,13 +237,13 @@ get-pushed (z ∷ xs) x y zero e = inl e
 get-pushed (z ∷ xs) x y (suc k) e = elim (get-pushed xs x y k e) [ inl old ↦ inl old | inr new ↦ inr (omega (arith, new.0), new.1) ]
 
 -- one more byte
-pub bytes-pushed : (T : Recording) (n : ℕ) (full : Option ℕ) (first index : ℕ) (xs ys : List CrashByte) (x : CrashByte) → ys ≡ xs ++ x ∷ [] → length xs ≡ index → IsCrashByte T n full (first + index) x →
-    AreSoFar T n full first xs → AreSoFar T n full first ys
-bytes-pushed T n full first index xs ys x is size new old k y e = elim (get-pushed xs x y k (ap (λ zs. slice_get zs k) (sym is) ∙ e)) [
+pub bytes-pushed : (Tells : ℕ → CrashByte → Type 0) (index : ℕ) (xs ys : List CrashByte) (x : CrashByte) → ys ≡ xs ++ x ∷ [] → length xs ≡ index → Tells index x →
+    ((k : ℕ) (y : CrashByte) → slice_get xs k ≡ Some y → Tells k y) → (k : ℕ) (y : CrashByte) → slice_get ys k ≡ Some y → Tells k y
+bytes-pushed Tells index xs ys x is size new old k y e = elim (get-pushed xs x y k (ap (λ zs. slice_get zs k) (sym is) ∙ e)) [
   | inl there ↦ old k y there
   | inr last ↦
-      let at : first + index ≡ first + k = omega (arith, last.0, size) in
-      subst (λ b. IsCrashByte T n full b y) at (subst (IsCrashByte T n full (first + index)) last.1 new)
+      let at : index ≡ k = omega (arith, last.0, size) in
+      subst (λ j. Tells j y) at (subst (Tells index) last.1 new)
 ]
 
 pub length-pushed : (xs ys : List CrashByte) (x : CrashByte) → ys ≡ xs ++ x ∷ [] → length ys ≡ suc (length xs)
@@ -255,3 +252,14 @@ length-pushed xs ys x e = ap (λ zs. length zs) e ∙ go xs
     go : (zs : List CrashByte) → length (zs ++ x ∷ []) ≡ suc (length zs)
     go [] = refl
     go (z ∷ zs) = ap suc (go zs)
+
+-- what is read of the last persisted stores
+pub crash-bytes : (T : Recording) (n : ℕ) (full : Option ℕ) (c : Crash) (A : Span) (first : ℕ) (stores : List ℕ) (bytes : List CrashByte) → IsCrashAt T n full c → first ≡ A.addr → length stores ≡ A.len →
+    AreLastKept T c A.addr c.place stores → AreReadOf T first stores bytes → AreCrashBytes T n full A bytes
+crash-bytes T n full c A first stores bytes crash start long kept read = record {
+  size = read.size ∙ long;
+  each = λ k x e.
+      let within : k < length stores = omega (arith, slice_get_within bytes k x e, read.size) in
+      let r : IsReadOf T (get_or stores k 0) (A.addr + k) x = subst (λ b. IsReadOf T (get_or stores k 0) (b + k) x) start (read.each k x e) in
+      crash-byte T n full c (A.addr + k) (get_or stores k 0) x crash (kept k within) r.byte r.none r.some;
+}

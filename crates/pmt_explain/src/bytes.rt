@@ -5,7 +5,7 @@ ghost use Rattle.pmt_model.specs.Machine.{Stores, writes};
 ghost use Rattle.pmt_model.specs.Traces.{IsAct, act_of};
 ghost use Rattle.pmt_model.specs.Values.{Written};
 ghost use Rattle.pmt_explain.specs.Crashes.{full_line, AreCrashBytes};
-ghost use Rattle.pmt_explain.specs.Kept.{keeps, AreLastKept, IsWrittenBy};
+ghost use Rattle.pmt_explain.specs.Kept.{keeps, AreLastKept, AreReadOf, IsWrittenBy};
 
 use crate::crash::Crash;
 use crate::last_stores::note_store;
@@ -50,9 +50,21 @@ pub fn crash_bytes(
     let crash = Crash::of(alloc, trace, failure)?;
     let last = last_persisted(alloc, trace, &crash, range)?;
     let _len = range.len();
-    let first = range.addr().get();
-    let mut bytes = Vec::with_capacity(alloc, last.len())?;
-    for (index, store) in last.iter().enumerate() {
+    bytes_of(alloc, trace, last.as_slice(), range.addr().get())
+}
+
+// The bytes from `first` on as the stores with these numbers wrote them.
+fn bytes_of(
+    alloc: Global,
+    trace: &Trace,
+    stores: &[u64],
+    first: u64,
+) -> Result<Vec<CrashByte>, OutOfMemory>
+    requires { first + length stores.now ≤ 2 ^ 48 }
+    ensures { IfOk result (λ bytes. AreReadOf trace.now first stores.now bytes.items) }
+{
+    let mut bytes = Vec::with_capacity(alloc, stores.len())?;
+    for (index, store) in stores.iter().enumerate() {
         bytes.push(crash_byte(trace, *store, first + index as u64))?;
     }
     Ok(bytes)

@@ -58,19 +58,53 @@ pub(crate) fn all_coming(alloc: Global, trace: &Trace) -> Result<Coming, OutOfMe
     ensures stored { IfOk result (λ coming. AreStored trace.now coming.following.items) }
     ensures safe { IfOk result (λ coming. AreSafePlaces trace.now coming.safe.items) }
 {
+    let past = trace.len() as u64 + 1;
+    let mut following = vec![in alloc; none(past); trace.len()]?;
+    let mut safe = vec![in alloc; past; trace.len()]?;
+    look_ahead(alloc, trace, &mut following, &mut safe)?;
+    Ok(Coming { following, safe })
+}
+
+// Notes what comes after all events.
+fn look_ahead(
+    alloc: Global,
+    trace: &Trace,
+    following: &mut Vec<Following>,
+    safe: &mut Vec<u64>,
+) -> Result<(), OutOfMemory>
+    requires following { length following.old.items ≡ length trace.now.events }
+    requires safe { length safe.old.items ≡ length trace.now.events }
+    ensures following { OnOk result (AreFollowing trace.now following.new.items) }
+    ensures stored { OnOk result (AreStored trace.now following.new.items) }
+    ensures safe { OnOk result (AreSafePlaces trace.now safe.new.items) }
+{
+    let mut ahead = Ahead::new(alloc, trace.len() as u64 + 1)?;
+    note_all(&mut ahead, trace, following, safe)
+}
+
+// The same, one look at each, from what comes after the trace.
+fn note_all(
+    ahead: &mut Ahead,
+    trace: &Trace,
+    following: &mut Vec<Following>,
+    safe: &mut Vec<u64>,
+) -> Result<(), OutOfMemory>
+    requires ahead { IsAhead trace.now (length trace.now.events) ahead.old }
+    requires following { length following.old.items ≡ length trace.now.events }
+    requires safe { length safe.old.items ≡ length trace.now.events }
+    ensures following { OnOk result (AreFollowing trace.now following.new.items) }
+    ensures stored { OnOk result (AreStored trace.now following.new.items) }
+    ensures safe { OnOk result (AreSafePlaces trace.now safe.new.items) }
+{
     let format = trace.format();
     let events = trace.events();
-    let past = events.len() as u64 + 1;
-    let mut ahead = Ahead::new(alloc, past)?;
-    let mut following = vec![in alloc; none(past); events.len()]?;
-    let mut safe = vec![in alloc; past; events.len()]?;
     for index in (0..events.len()).rev() {
         let event = events[index];
         let after = ahead.go_back(format, event.thread, event.op, index as u64 + 1)?;
         safe[index] = after.completed;
         following[index] = after;
     }
-    Ok(Coming { following, safe })
+    Ok(())
 }
 
 // Nothing comes.

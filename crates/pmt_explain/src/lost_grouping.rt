@@ -1,6 +1,6 @@
 //! Stores that are never persisted, in groups.
 
-ghost use Rattle.std.specs.Prelude.{◌≡◌, ◌+◌, ◌^◌, ◌<◌, ◌≤◌, ℕ, None, Some, length, unwrap_or, nat_eq, All, IfOk, OnOk, MatchOption};
+ghost use Rattle.std.specs.Prelude.{◌≡◌, ◌+◌, ◌^◌, ◌<◌, ◌≤◌, ℕ, None, Some, length, unwrap_or, nat_eq, All, [], IfOk, OnOk, MatchOption};
 ghost use Rattle.indexmap.specs.IndexMap.{get};
 ghost use Rattle.pmt_explain.specs.AtEnd.{TellCauses};
 ghost use Rattle.pmt_explain.specs.CauseOf.{IsCauseOf};
@@ -49,13 +49,47 @@ pub fn lost_groups(
     let start = start_of(trace, stores);
     let causes = causes_for(alloc, trace, start, stores)?;
     let mut groups = Vec::new(alloc);
+    add_by(alloc, trace, start, causes.as_slice(), stores, &mut groups)?;
+    Ok(groups)
+}
+
+// Makes the groups by these causes, where there are none yet.
+fn add_by(
+    alloc: Global,
+    trace: &Trace,
+    start: usize,
+    causes: &[Option<Cause>],
+    stores: &[u64],
+    groups: &mut Vec<LostGroup>,
+) -> Result<(), OutOfMemory>
+    requires causes { TellCauses trace.now start causes.now }
+    requires groups { groups.old.items ≡ [] }
+    ensures { OnOk result (AreLostGroups trace.now stores.now groups.new.items) }
+{
     let mut places = Places::new(alloc);
+    add_all(trace, start, causes, stores, groups, &mut places)
+}
+
+// The same, one store after the other; the places are those of no groups.
+fn add_all(
+    trace: &Trace,
+    start: usize,
+    causes: &[Option<Cause>],
+    stores: &[u64],
+    groups: &mut Vec<LostGroup>,
+    places: &mut Places,
+) -> Result<(), OutOfMemory>
+    requires causes { TellCauses trace.now start causes.now }
+    requires groups { groups.old.items ≡ [] }
+    requires places { (k : Key) → place_in places.old k ≡ None }
+    ensures { OnOk result (AreLostGroups trace.now stores.now groups.new.items) }
+{
     for store in stores {
-        if let Some(group) = group_of(trace, start, causes.as_slice(), *store) {
-            add_group(&mut groups, &mut places, group)?;
+        if let Some(group) = group_of(trace, start, causes, *store) {
+            add_group(groups, places, group)?;
         }
     }
-    Ok(groups)
+    Ok(())
 }
 
 // How many events come before the first of these stores.

@@ -1,6 +1,7 @@
 //! From which place on each store is safe.
 
-ghost use Rattle.std.specs.Prelude.{◌≡◌, IfOk};
+ghost use Rattle.std.specs.Prelude.{◌≡◌, length, IfOk, OnOk};
+ghost use Rattle.pmt_explain.specs.Following.{IsAhead};
 ghost use Rattle.pmt_explain.specs.Saving.{AreSafePlaces};
 
 use crate::following::Ahead;
@@ -60,15 +61,33 @@ impl<'a> SafePlaces<'a> {
 pub fn safe_places(alloc: Global, trace: &Trace) -> Result<Vec<u64>, OutOfMemory>
     ensures { IfOk result (λ places. AreSafePlaces trace.now places.items) }
 {
+    let past = trace.len() as u64 + 1;
+    let mut places = vec![in alloc; past; trace.len()]?;
+    look_ahead(alloc, trace, &mut places)?;
+    Ok(places)
+}
+
+// Notes the places.
+fn look_ahead(alloc: Global, trace: &Trace, places: &mut Vec<u64>) -> Result<(), OutOfMemory>
+    requires { length places.old.items ≡ length trace.now.events }
+    ensures { OnOk result (AreSafePlaces trace.now places.new.items) }
+{
+    let mut ahead = Ahead::new(alloc, trace.len() as u64 + 1)?;
+    note_places(&mut ahead, trace, places)
+}
+
+// The same, one look at each event, from what comes after the trace.
+fn note_places(ahead: &mut Ahead, trace: &Trace, places: &mut Vec<u64>) -> Result<(), OutOfMemory>
+    requires ahead { IsAhead trace.now (length trace.now.events) ahead.old }
+    requires places { length places.old.items ≡ length trace.now.events }
+    ensures { OnOk result (AreSafePlaces trace.now places.new.items) }
+{
     let format = trace.format();
     let events = trace.events();
-    let past = events.len() as u64 + 1;
-    let mut ahead = Ahead::new(alloc, past)?;
-    let mut places = vec![in alloc; past; events.len()]?;
     for index in (0..events.len()).rev() {
         let event = events[index];
         let after = ahead.go_back(format, event.thread, event.op, index as u64 + 1)?;
         places[index] = after.completed;
     }
-    Ok(places)
+    Ok(())
 }

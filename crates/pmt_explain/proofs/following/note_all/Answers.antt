@@ -4,20 +4,19 @@ use Rattle.std.proofs.lemmas.Option.{slice_get_within}
 use Rattle.pmt_explain.specs.Following.{IsAhead, TellsFollowing}
 use Rattle.pmt_explain.specs.Saving.{TellsSafe, TellsStored}
 use Rattle.pmt_explain.proofs.FollowingLemmas.{event-at, told-set}
-use Rattle.pmt_explain.proofs.following.all_coming.Goals as goal
+use Rattle.pmt_explain.proofs.following.note_all.Goals as goal
 
 pub loop-index-init : goal.loop-index-init
 loop-index-init c =
     let T = c.args.trace.now in
-    let size : length c.in_ok-following.following.items ≡ length T.events = omega (arith, c.in_ok-following.ensures.len, ap (λ xs. length xs) c.events-events.ensures.value) in
-    let places : length c.in_ok-safe.safe.items ≡ length T.events = omega (arith, c.in_ok-safe.ensures.len, ap (λ xs. length xs) c.events-events.ensures.value) in
+    let long : length c.events-events.result.now ≡ length T.events = ap (λ xs. length xs) c.events-events.ensures.value in
     record {
-      size = size;
-      places = places;
-      ahead = subst (λ xs. IsAhead T (length xs) c.in_ok-ahead.ahead) (sym c.events-events.ensures.value) (c.in_ok-ahead.ensures T (omega (arith, ap (λ xs. length xs) c.events-events.ensures.value)));
-      each = λ n f from is. absurd (omega (arith, slice_get_within c.in_ok-following.following.items n f is, size, ap (λ xs. length xs) c.events-events.ensures.value));
-      stored = λ n f from is. absurd (omega (arith, slice_get_within c.in_ok-following.following.items n f is, size, ap (λ xs. length xs) c.events-events.ensures.value));
-      safe = λ n p from is. absurd (omega (arith, slice_get_within c.in_ok-safe.safe.items n p is, places, ap (λ xs. length xs) c.events-events.ensures.value));
+      size = c.requires.following;
+      places = c.requires.safe;
+      ahead = subst (λ n. IsAhead T n c.args.ahead.now) (sym long) c.requires.ahead;
+      each = λ n f from is. absurd (omega (arith, slice_get_within c.args.following.now.items n f is, c.requires.following, long));
+      stored = λ n f from is. absurd (omega (arith, slice_get_within c.args.following.now.items n f is, c.requires.following, long));
+      safe = λ n p from is. absurd (omega (arith, slice_get_within c.args.safe.now.items n p is, c.requires.safe, long));
     }
 
 pub loop-index-preserved : goal.loop-index-preserved

@@ -1,7 +1,7 @@
 use Rattle.std.proofs.Common.{take}
 use Rattle.pmt_explain.specs.LostGroups.{place_in}
 use Rattle.pmt_explain.proofs.LostGroupLemmas.{IsLostGathered}
-use Rattle.pmt_explain.proofs.lost_grouping.lost_groups.Given as goal
+use Rattle.pmt_explain.proofs.lost_grouping.add_all.Given as goal
 
 abbrev pub invariant-loop-store : goal.invariant-loop-store
 invariant-loop-store l = IsLostGathered l.trace (take l.store-index l.stores) l.groups.items (place_in l.places)

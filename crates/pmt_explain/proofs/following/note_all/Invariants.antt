@@ -3,7 +3,7 @@ use Rattle.std.specs.Prelude.{slice_get, Some}
 use Rattle.pmt_explain.specs.declared.following.Following.{Following}
 use Rattle.pmt_explain.specs.Following.{TellsFollowing, IsAhead}
 use Rattle.pmt_explain.specs.Saving.{TellsSafe, TellsStored}
-use Rattle.pmt_explain.proofs.following.all_coming.Given as goal
+use Rattle.pmt_explain.proofs.following.note_all.Given as goal
 
 abbrev pub invariant-loop-index : goal.invariant-loop-index
 invariant-loop-index l = record {

@@ -4,16 +4,16 @@ use Rattle.std.proofs.lemmas.Option.{slice_get_within}
 use Rattle.pmt_explain.specs.Following.{IsAhead}
 use Rattle.pmt_explain.specs.Saving.{TellsSafe, TellsStored}
 use Rattle.pmt_explain.proofs.FollowingLemmas.{event-at, told-set}
-use Rattle.pmt_explain.proofs.saving.safe_places.Goals as goal
+use Rattle.pmt_explain.proofs.saving.note_places.Goals as goal
 
 pub loop-index-init : goal.loop-index-init
 loop-index-init c =
     let T = c.args.trace.now in
-    let size : length c.in_ok-places.places.items ≡ length T.events = omega (arith, c.in_ok-places.ensures.len, ap (λ xs. length xs) c.events-events.ensures.value) in
+    let long : length c.events-events.result.now ≡ length T.events = ap (λ xs. length xs) c.events-events.ensures.value in
     record {
-      size = size;
-      ahead = subst (λ xs. IsAhead T (length xs) c.in_ok-ahead.ahead) (sym c.events-events.ensures.value) (c.in_ok-ahead.ensures T (omega (arith, ap (λ xs. length xs) c.events-events.ensures.value)));
-      each = λ n p from is. absurd (omega (arith, slice_get_within c.in_ok-places.places.items n p is, size, ap (λ xs. length xs) c.events-events.ensures.value));
+      size = c.requires.places;
+      ahead = subst (λ n. IsAhead T n c.args.ahead.now) (sym long) c.requires.ahead;
+      each = λ n p from is. absurd (omega (arith, slice_get_within c.args.places.now.items n p is, c.requires.places, long));
     }
 
 pub loop-index-preserved : goal.loop-index-preserved
