@@ -1,5 +1,5 @@
 -- Tapes that are their parts of a book make it an interleaving.
-use Rattle.std.proofs.Common.{◌≡◌, ℕ, zero, suc, ◌<◌, ◌⊎◌, inl, inr, List, [], ◌∷◌, ◌++◌, length, Some, slice_get, take, drop, refl, sym, ap, subst, subst₂, ◌∙◌, arith}
+use Rattle.std.proofs.Common.{◌≡◌, ℕ, zero, suc, ◌+◌, ◌<◌, ◌≤◌, ◌⊎◌, inl, inr, List, [], ◌∷◌, ◌++◌, length, Some, slice_get, take, drop, refl, sym, ap, subst, subst₂, ◌∙◌, arith}
 use Rattle.std.specs.List.{AllByRecursion}
 use Rattle.std.proofs.lemmas.List.{length-append, take_at}
 use Rattle.pmt_model.specs.declared.event.Event.{Event}
@@ -90,3 +90,13 @@ torn_at n strips after T es t within each a e total torn lowest = (
   λ is_part. torn (ap (part t) e ∙ is_part ∙ ap (entries_of t) (sym a)),
   λ u h. ap (part u) (sym e) ∙ lowest u h ∙ ap (entries_of u) a,
 )
+
+-- nor are they one of each number when they come back and were not
+pub not_each : (n m : ℕ) (strips before : List Strip) → m ≡ n → before ≡ strips → (IsOneOfEach m before → ⊥) → IsOneOfEach n strips → ⊥
+not_each n m strips before e b bad each = bad (subst₂ IsOneOfEach (sym e) (sym b) each)
+
+-- the parts of the ledger are no fewer than the tapes
+pub few_tapes : (parts n : ℕ) (strips after : List Strip) → after ≡ strips → length strips ≡ n → parts + n ≡ 256 → length after ≤ 256
+few_tapes parts n strips after a count left =
+    let len : length after ≡ n = ap length a ∙ count in
+    omega (arith, len, left)

@@ -1,9 +1,10 @@
-use Rattle.std.proofs.Common.{◌≡◌, length, refl, sym, ◌∙◌, ap, subst}
+use Rattle.std.proofs.Common.{◌≡◌, length, take, drop, ◌++◌, refl, sym, ◌∙◌, ap, subst}
+use Rattle.std.proofs.lemmas.Bool.{false≢true}
 use Rattle.pmt_model.specs.Traces.{Recording}
 use Rattle.pmt_recorder.specs.Strips.{IsOneOfEach, total_length}
 use Rattle.pmt_recorder.specs.Sealing.{IsSealed, SealFails}
 use Rattle.pmt_recorder.specs.declared.fault.SealKind.TheVariants.{Torn}
-use Rattle.pmt_recorder.proofs.SealLemmas.{sealed, torn_at, each_after, parts_after, written_back}
+use Rattle.pmt_recorder.proofs.SealLemmas.{sealed, torn_at, each_after, not_each, few_tapes, parts_after, written_back}
 use Rattle.pmt_recorder.proofs.session.Session.seal.Goals as goal
 
 pub returns-in-None-clause-ok : goal.returns-in-None-clause-ok
@@ -47,3 +48,31 @@ lowest_torn-requires-clause-each g c =
     let given : IsOneOfEach n strips =
     each_after n c.args.self.tapes strips c.as_slice.result.now c.args.self.count c.as_slice.ensures.value (c.if-not-is_one_of_each.ensures.0 refl) in
     subst (λ tapes. IsOneOfEach (length tapes) tapes) (sym back) (subst (λ m. IsOneOfEach m strips) (sym given.count) given)
+
+pub returns-in-Some-clause-tapes : goal.returns-in-Some-clause-tapes
+returns-in-Some-clause-tapes g c =
+    let strips = c.args.tapes.items in
+    written_back strips c.audit.new.tapes (take c.args.tapes.len (c.audit.new.tapes ++ drop (length c.audit.new.tapes) strips)) c.args.tapes.len refl
+    (c.audit.ensures.tapes ∙ c.as_mut_slice.ensures.value) (ap length (sym c.as_mut_slice.ensures.value) ∙ c.as_mut_slice.ensures.len)
+
+pub returns-in-Some-clause-format : goal.returns-in-Some-clause-format
+returns-in-Some-clause-format g c = ap (λ (R : Recording). R.format) c.into_book-in-Some.ensures ∙ c.events.ensures.format
+
+pub returns-then-not-is_one_of_each-clause-err : goal.returns-then-not-is_one_of_each-clause-err
+returns-then-not-is_one_of_each-clause-err g c =
+    not_each g.L.Roll.tapes c.args.self.tapes c.args.tapes.items c.as_slice.result.now c.args.self.count c.as_slice.ensures.value (λ each. false≢true (c.if-not-is_one_of_each.ensures.1 each))
+
+pub returns-then-not-is_one_of_each-clause-tapes : goal.returns-then-not-is_one_of_each-clause-tapes
+returns-then-not-is_one_of_each-clause-tapes g c = refl
+
+pub lowest_torn-requires-clause-few : goal.lowest_torn-requires-clause-few
+lowest_torn-requires-clause-few g c =
+    let strips = c.args.tapes.items in
+    few_tapes c.into_inner-rest.result.share.parts g.L.Roll.tapes strips c.as_slice-2.result.now
+    (written_back strips c.audit.new.tapes c.as_slice-2.result.now c.args.tapes.len c.as_slice-2.ensures.value
+    (c.audit.ensures.tapes ∙ c.as_mut_slice.ensures.value) (ap length (sym c.as_mut_slice.ensures.value) ∙ c.as_mut_slice.ensures.len))
+    (ap length (sym c.as_slice.ensures.value) ∙ (c.if-not-is_one_of_each.ensures.0 refl).count ∙ c.args.self.count) c.into_inner-rest.result.left
+
+pub audit-requires : goal.audit-requires
+audit-requires g c =
+    ap length (c.as_mut_slice.ensures.value ∙ sym c.as_slice.ensures.value) ∙ (c.if-not-is_one_of_each.ensures.0 refl).count ∙ c.args.self.count
