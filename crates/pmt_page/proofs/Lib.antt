@@ -1,3 +1,4 @@
 pub mod EscapeLemmas
 pub mod LabelLemmas
 pub mod NumberLemmas
+pub mod Pushing
