@@ -17,6 +17,7 @@ pub mod SpelledReading
 pub mod FourReading
 pub mod FrontReading
 pub mod WholeLemmas
+pub mod AfterLemmas
 pub mod AheadLemmas
 pub mod ListLemmas
 pub mod PieceLemmas
