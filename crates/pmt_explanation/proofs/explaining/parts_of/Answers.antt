@@ -1,15 +1,24 @@
-use Rattle.std.proofs.Common.{rules}
+use Rattle.std.proofs.Common.{rules, subst, ap, ◌∙◌}
+use Rattle.std.specs.List.{filter_map}
+use Rattle.pmt_causes.specs.Groups.{AreGrouped}
+use Rattle.pmt_causes.specs.LostCauses.{lost_item}
+use Rattle.pmt_explanation.specs.Asking.{asked_unwritten}
+use Rattle.pmt_explanation.specs.Finding.{AreFound}
+use Rattle.pmt_explanation.specs.Unwriting.{unwritten_of}
 use Rattle.pmt_explanation.proofs.explaining.parts_of.Goals as goal
 
 pub returns : goal.returns
-returns c = record {
-  label_numbers = search rules;
-  found = search rules;
-  stores = search rules;
-  lost = search rules;
-  lost_causes = search rules;
-  overwritten = search rules;
-  unwritten = search rules;
-  ignored_stores = search rules;
-  ignored_pairs = search rules;
-}
+returns c =
+    let a = c.args.analysis.now in
+    let lost = c.in_ok-lost.lost in
+    record {
+      label_numbers = search rules;
+      found = subst (λ ns. AreFound a.trace a.verdicts c.args.labels.now ns c.args.options.now c.in_ok-found.found) c.as_slice-numbers.ensures.value c.in_ok-found.ensures;
+      stores = c.in_ok-lost.ensures.stores;
+      lost = c.in_ok-lost.ensures.groups;
+      lost_causes = subst (λ ns. AreGrouped (filter_map (lost_item a.trace ns) lost.groups.items) lost.causes.items) c.as_slice-numbers.ensures.value c.in_ok-lost.ensures.causes;
+      overwritten = c.in_ok-lost.ensures.overwritten;
+      unwritten = c.in_ok-unwritten.ensures ∙ ap (λ T. asked_unwritten T c.args.labels.now c.args.options.now.choice (unwritten_of T)) c.trace-2.ensures.value;
+      ignored_stores = c.in_ok-lost.ensures.ignored_stores;
+      ignored_pairs = c.in_ok-lost.ensures.ignored_pairs;
+    }
