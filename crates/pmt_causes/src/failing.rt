@@ -51,17 +51,35 @@ fn failure_items(
 {
     let flushes = next_flushes(alloc, trace)?;
     let mut writers = LastWriters::new(alloc);
+    keyed_items(
+        alloc,
+        trace,
+        labels,
+        safe,
+        flushes.as_slice(),
+        &mut writers,
+        numbers,
+    )
+}
+
+// Those of these events that are assertions and fail, each with its key.
+fn keyed_items(
+    alloc: Global,
+    trace: &Trace,
+    labels: &[Option<u64>],
+    safe: &[u64],
+    flushes: &[u64],
+    writers: &mut LastWriters,
+    numbers: &[u64],
+) -> Result<Vec<Keyed<FailureKey>>, OutOfMemory>
+    requires safe { AreSafePlaces trace.now safe.now }
+    requires flushes { AreNextFlushes trace.now flushes.now }
+    requires writers { AreAllWriters trace.now writers.old }
+    ensures { IfOk result (λ items. AreKeyed trace.now labels.now numbers.now items.items) }
+{
     let mut items = Vec::new(alloc);
     for number in numbers {
-        let key = key_at(
-            alloc,
-            trace,
-            labels,
-            safe,
-            flushes.as_slice(),
-            &mut writers,
-            *number,
-        )?;
+        let key = key_at(alloc, trace, labels, safe, flushes, writers, *number)?;
         push_keyed(&mut items, *number, key)?;
     }
     Ok(items)

@@ -1,7 +1,7 @@
 use Rattle.std.proofs.Common.{take}
 use Rattle.pmt_causes.specs.FailureKeys.{AreKeyed}
 use Rattle.pmt_causes.specs.Writers.{AreAllWriters}
-use Rattle.pmt_causes.proofs.failing.failure_items.Given as goal
+use Rattle.pmt_causes.proofs.failing.keyed_items.Given as goal
 
 abbrev pub invariant-loop-number : goal.invariant-loop-number
 invariant-loop-number l = record {
