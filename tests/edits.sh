@@ -1,0 +1,39 @@
+#!/usr/bin/env bash
+# Whether the prover refuses each must-fail edit in the function that it turns: of the crates that are named, or of all, so many crates
+# side by side as LANES says. First it tries itself on two tiny crates. Last line: 'N passed, M failed'.
+set -u
+cd "$(dirname "$0")/.." || exit 1
+. tests/lib/cases.sh
+
+# edit CRATE NAME OLD NEW: an edit of a line of a tiny crate
+edit() { printf 'file: src/lib.rt\nold:     %s\nnew:     %s\n' "$3" "$4" > "$folder/crates/$1/must-fail/$2.edit"; }
+
+# says NAME LINE: what was said has this line
+says() {
+  if grep -qE -- "$2" "$folder/told"; then
+    passed=$((passed + 1))
+  else
+    failed=$((failed + 1))
+    echo "$1: no line is '$2' of $(cat "$folder/told")"
+  fi
+}
+
+mkdir -p "$folder"/crates/{low,high}/{src,must-fail}
+printf 'low:\nhigh:\n' > "$folder/crates.txt"
+tee "$folder"/crates/{low,high}/src/lib.rt < tests/lib/first_call/low.rt.txt > /dev/null
+edit low none_more 'count + 1' 'count'
+edit low the_same 'count + 1' '1 + count'
+edit high not_there 'count + 3' 'count + 4'
+python3 tests/lib/edits.py --top "$folder" > "$folder/told" 2>&1
+says 'a wrong body is refused' '^low: none_more: refused: src/lib\.rt:[0-9]+: it is not proved that what the function ensures holds'
+says 'a body that means the same is not' '^low: the_same: NOT REFUSED$'
+says 'an edit that is not made refuses nothing' '^high: not_there: BAD EDIT: '
+says 'what is not refused fails' '^1 passed, 2 failed$'
+
+python3 tests/lib/edits.py --lanes "${LANES:-1}" "$@" | tee "$folder/told"
+counts=$(tail -n 1 "$folder/told")
+passed=$((passed + ${counts%% *}))
+counts=${counts#*, }
+failed=$((failed + ${counts%% *}))
+echo "$passed passed, $failed failed"
+[ "$failed" -eq 0 ] && [ "$passed" -gt 0 ]

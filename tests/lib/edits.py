@@ -1,0 +1,223 @@
+#!/usr/bin/env python3
+"""Tries the edits crates/NAME/must-fail/*.edit: edits.py [--top FOLDER] [--lanes N] [CRATE ..], all of the project if no crate is named.
+
+An edit turns the meaning of a function. It is refused where the prover says of a line of that function that a goal is not proved, or of
+a line of its proof that it proves no goal. A proof that only names what is gone says nothing of the contract. A function is proved by its
+own body and the contracts of those that it calls, so the edits of a crate are tried in one check; those that turn one function in
+several, and an edit of no function, as of a constant, alone. The crates below are taken as they were built last.
+The last line is 'N passed, M failed'.
+"""
+import argparse
+import pathlib
+import re
+import shutil
+import subprocess
+import sys
+import tempfile
+from concurrent.futures import ThreadPoolExecutor
+from typing import NamedTuple
+
+from claims import TOP, items_of
+
+# What a check reads of a crate.
+PARTS = ("src", "specs", "proofs")
+# What the prover says of a goal that is not proved, and of a proof that does not prove its goal.
+GOAL = re.compile(r"^note: (?:\./)?(src/\S+?):(\d+):\d+: (it is not proved that .*?) \(`", re.M)
+PROOF = re.compile(r"^(?:\./)?(proofs/\S+?):(\d+):\d+: error: (?!.*(?:has no field|is not in scope|has no `|was not admitted))(.{,100})", re.M)
+# Its last line: how many functions it was asked for, and how many of them are proved.
+ENDED = re.compile(r"^only=\d+ proved=\d+$", re.M)
+
+
+class Function(NamedTuple):
+    """A function of a crate: its file, the path by which the prover names it, and its lines."""
+
+    file: str
+    path: str
+    first: int
+    last: int
+
+    def has(self, file, line):
+        """Whether this line of this file is one of its lines, or of its proof."""
+        proof = f"proofs/{self.path.replace('::', '/')}/"
+        return file.startswith(proof) or file == self.file and self.first <= line <= self.last
+
+
+class Change(NamedTuple):
+    """A text that takes the place of another in a file."""
+
+    file: str
+    first: int
+    last: int
+    new: str
+
+
+class Edit(NamedTuple):
+    """An edit: its name, what it changes, and the functions that it touches."""
+
+    name: str
+    changes: list[Change]
+    functions: frozenset[Function]
+
+    def paths(self):
+        """What a check of it looks at: its functions, or the modules of its files."""
+        return {function.path for function in self.functions} or {module_of(change.file) for change in self.changes}
+
+
+class Goal(NamedTuple):
+    """A goal that is not proved, by its place in the sources or in a proof."""
+
+    file: str
+    line: int
+    what: str
+
+    def is_of(self, edit):
+        """Whether it is a goal of a function that the edit touches, or of any where it touches none."""
+        return not edit.functions or any(function.has(self.file, self.line) for function in edit.functions)
+
+    def told(self):
+        return f"{self.file}:{self.line}: {self.what}"
+
+
+class Fault(Exception):
+    """Why nothing can be said of an edit."""
+
+
+def module_of(file):
+    """The module that a file is, as the prover names it."""
+    return "::".join(part for part in pathlib.PurePath(file).with_suffix("").parts[1:] if part != "lib")
+
+
+def functions_of(crate):
+    """The functions of a crate. Attributes are lines of theirs."""
+    for path in sorted((crate / "src").rglob("*.rt")):
+        file, lines = str(path.relative_to(crate)), path.read_text().splitlines()
+        for item in items_of(crate.name, path):
+            if item.kind == "fn":
+                first = item.first
+                while first and lines[first - 1].lstrip().startswith("#["):
+                    first -= 1
+                block = item.owner + (item.trait if item.trait != item.owner else "")
+                yield Function(file, "::".join(filter(None, (module_of(file), block, item.name))), first + 1, item.last + 1)
+
+
+def read_edit(crate, path, functions):
+    """An edit, from its file: a line 'file: F', and then pairs of lines 'old: TEXT' and 'new: TEXT'."""
+    file, old, changes, touched = "", "", [], set()
+    for line in path.read_text().splitlines():
+        key, _, value = line.partition(":")
+        value = value.removeprefix(" ")
+        if key == "file":
+            file = value.strip()
+        elif key == "old":
+            old = value
+        elif key == "new":
+            text = (crate / file).read_text()
+            if not old or text.count(old) != 1:
+                raise Fault(f"{path.stem}: BAD EDIT: {file} has '{old}' {text.count(old)} times, and not once")
+            first = text.index(old)
+            changes.append(Change(file, first, first + len(old), value))
+            touched |= {function for function in functions if function.has(file, text.count("\n", 0, first) + 1)}
+    if not changes:
+        raise Fault(f"{path.stem}: BAD EDIT: it changes nothing")
+    return Edit(path.stem, changes, frozenset(touched))
+
+
+def rounds_of(edits):
+    """The edits in rounds: in none do two touch one function, and one that touches none is alone."""
+    rounds = []
+    for edit in edits:
+        fits = (beside for beside in rounds if edit.functions and all(it.functions and not it.functions & edit.functions for it in beside))
+        if (beside := next(fits, None)) is not None:
+            beside.append(edit)
+        else:
+            rounds.append([edit])
+    return rounds
+
+
+def write_edited(crate, copy, edits):
+    """Makes the copy what the crate is with these edits."""
+    for part in PARTS:
+        shutil.rmtree(copy / part, ignore_errors=True)
+        if (crate / part).is_dir():
+            shutil.copytree(crate / part, copy / part)
+    for change in sorted((change for edit in edits for change in edit.changes), key=lambda it: -it.first):
+        text = (copy / change.file).read_text()
+        (copy / change.file).write_text(text[: change.first] + change.new + text[change.last :])
+
+
+def prover(crate):
+    """The command that checks a crate over the kit's libraries and those of the project, as they were built."""
+    top = crate.parents[1]
+    kit = pathlib.Path(subprocess.run(["rt", "doc"], capture_output=True, text=True, check=True).stdout.strip()).parent
+    lines = (top / "crates.txt").read_text().splitlines()
+    needs = {found[1]: found[2].split() for line in lines if (found := re.match(r"(\w+)[^:]*:(.*)", line))}
+    below, front = set(), {crate.name}
+    while front:
+        front = {name for one in front for name in needs[one] if name in needs} - below
+        below |= front
+    folders = {name: top / "crates" / name / "out/rlib" for name in sorted(below)}
+    for name, folder in folders.items():
+        if not (folder / f"{name}.rlib").is_dir():
+            raise Fault(f"{name} is not built: ./test builds all crates, and rt check in {crate.name} those below it")
+    words = ["--antt-project", kit / "rattle/logic/antt-project.json", "--logic-built", kit / "logic_built"]
+    words += [word for folder in (kit / "rlibs", *folders.values()) for word in ("-L", f"dependency={folder}")]
+    for name in ("std", *needs[crate.name]):
+        words += ["--extern", f"{name}={folders.get(name, kit / 'rlibs') / name}.rlib"]
+    return [kit / "bin/rattle", "check", "--crate-name", crate.name, "src/lib.rt", *words, "--jobs", "1", "--incremental", "kept"]
+
+
+def check(command, copy, paths):
+    """Checks these functions of a copy, and returns the goals that are not proved."""
+    words = [*command, *(word for path in sorted(paths) for word in ("--only", path))]
+    ran = subprocess.run(words, cwd=copy, stdin=subprocess.DEVNULL, stdout=subprocess.PIPE, stderr=subprocess.STDOUT, text=True, errors="replace")
+    if ran.returncode not in (0, 1) or not ENDED.search(ran.stdout):
+        raise Fault(f"the check ended with status {ran.returncode} and no verdict:\n{ran.stdout[-2000:]}")
+    told = (*GOAL.findall(ran.stdout), *PROOF.findall(ran.stdout))
+    return [Goal(file, int(line), what) for file, line, what in told]
+
+
+def try_edits(crate, copy):
+    """Tries the edits of a crate on a copy: what refuses each, and what is wrong."""
+    functions, command = list(functions_of(crate)), prover(crate)
+    edits = [read_edit(crate, path, functions) for path in sorted((crate / "must-fail").glob("*.edit"))]
+    told, wrong = [], []
+    for beside in rounds_of(edits):
+        write_edited(crate, copy, beside)
+        goals = check(command, copy, {path for edit in beside for path in edit.paths()})
+        wrong += [f"{goal.told()}, where no edit is" for goal in goals if not any(goal.is_of(edit) for edit in beside)]
+        for edit in beside:
+            refusal = next((goal for goal in goals if goal.is_of(edit)), None)
+            (told if refusal else wrong).append(f"{edit.name}: {'refused: ' + refusal.told() if refusal else 'NOT REFUSED'}")
+    return told, wrong
+
+
+def try_crate(crate):
+    """Tries the edits of a crate. A fault ends it."""
+    with tempfile.TemporaryDirectory() as room:
+        try:
+            return try_edits(crate, pathlib.Path(room))
+        except (Fault, OSError, subprocess.CalledProcessError) as fault:
+            return [], [str(fault)]
+
+
+def main():
+    parser = argparse.ArgumentParser()
+    parser.add_argument("--top", type=pathlib.Path, default=TOP)
+    parser.add_argument("--lanes", type=int, default=1)
+    parser.add_argument("crates", nargs="*")
+    asked = parser.parse_args()
+    crates = sorted(it.parent for it in asked.top.glob("crates/*/must-fail") if not asked.crates or it.parent.name in asked.crates)
+    # the largest first, so that none is left at the end
+    crates.sort(key=lambda it: -sum(path.stat().st_size for path in it.rglob("*.rt")))
+    passed = failed = 0
+    with ThreadPoolExecutor(asked.lanes) as lanes:
+        for crate, (told, wrong) in zip(crates, lanes.map(try_crate, crates)):
+            print(*(f"{crate.name}: {line}" for line in (*told, *wrong)), sep="\n", flush=True)
+            passed += len(told)
+            failed += len(wrong)
+    print(f"{passed} passed, {failed} failed")
+    return int(failed > 0 or passed == 0)
+
+
+if __name__ == "__main__":
+    sys.exit(main())
