@@ -206,7 +206,9 @@ def main():
     parser.add_argument("--lanes", type=int, default=1)
     parser.add_argument("crates", nargs="*")
     asked = parser.parse_args()
-    crates = sorted(it.parent for it in asked.top.glob("crates/*/must-fail") if not asked.crates or it.parent.name in asked.crates)
+    crates = [it.parent for it in asked.top.glob("crates/*/must-fail") if not asked.crates or it.parent.name in asked.crates]
+    if unknown := set(asked.crates) - {crate.name for crate in crates}:
+        parser.error(f"no edits: {', '.join(sorted(unknown))}")
     # the largest first, so that none is left at the end
     crates.sort(key=lambda it: -sum(path.stat().st_size for path in it.rglob("*.rt")))
     passed = failed = 0
