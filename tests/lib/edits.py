@@ -117,8 +117,11 @@ def read_edit(crate, path, functions):
             first = text.index(old)
             changes.append(Change(file, first, first + len(old), value))
             touched |= {function for function in functions if function.has(file, text.count("\n", 0, first) + 1)}
-    if not changes:
-        raise Fault(f"{path.stem}: BAD EDIT: it changes nothing")
+            old = ""
+        elif line:
+            raise Fault(f"{path.stem}: BAD EDIT: a line begins with none of 'file: ', 'old: ', 'new: ': {line}")
+    if old or not changes:
+        raise Fault(f"{path.stem}: BAD EDIT: an 'old: ' has no 'new: ', or there is none")
     return Edit(path.stem, changes, frozenset(touched))
 
 
@@ -178,8 +181,10 @@ def check(command, copy, paths):
 
 def try_edits(crate, copy):
     """Tries the edits of a crate on a copy: what refuses each, and what is wrong."""
-    functions, command = list(functions_of(crate)), prover(crate)
-    edits = [read_edit(crate, path, functions) for path in sorted((crate / "must-fail").glob("*.edit"))]
+    functions, command, paths = list(functions_of(crate)), prover(crate), sorted((crate / "must-fail").iterdir())
+    if strays := [path.name for path in paths if path.suffix != ".edit"]:
+        raise Fault(f"must-fail/ has files whose names do not end in .edit: {', '.join(strays)}")
+    edits = [read_edit(crate, path, functions) for path in paths]
     told, wrong = [], []
     for beside in rounds_of(edits):
         write_edited(crate, copy, beside)
