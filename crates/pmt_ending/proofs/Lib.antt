@@ -1,0 +1,3 @@
+mod MarkingLemmas
+mod MarkedLemmas
+mod LostLemmas

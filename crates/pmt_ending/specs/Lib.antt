@@ -1,0 +1,4 @@
+pub mod Late
+pub mod SafePlaces
+pub mod Entries
+pub mod Marking

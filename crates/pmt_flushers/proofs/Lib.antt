@@ -1,0 +1,2 @@
+pub mod ThreadLemmas
+pub mod FlushedLemmas

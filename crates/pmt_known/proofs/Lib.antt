@@ -1,0 +1,7 @@
+pub mod WordsLemmas
+pub mod ReadingLemmas
+mod FlushedLemmas
+mod KnownLemmas
+mod ClflushLemmas
+mod FenceLemmas
+mod KeepingLemmas

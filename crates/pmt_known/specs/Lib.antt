@@ -1,0 +1,9 @@
+pub mod LineWords
+pub mod Since
+pub mod Parts
+pub mod Known
+pub mod Flushing
+pub mod Keeping
+pub mod Flags
+pub mod Ends
+pub mod Reading

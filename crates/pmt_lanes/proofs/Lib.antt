@@ -1,0 +1,4 @@
+pub mod LaneLemmas
+pub mod RunLemmas
+pub mod DigitLemmas
+pub mod DecimalLemmas

@@ -1,0 +1,5 @@
+pub mod StoreLemmas
+pub mod SafetyLemmas
+pub mod RedundantLemmas
+pub mod KeptLemmas
+pub mod VerdictLemmas

@@ -1,0 +1,129 @@
+-- Flushes and clflushes that are redundant, fences without flush, and stores that are never persisted.
+use Rattle.std.proofs.Common.{◌≡◌, ℕ, suc, ◌-◌, ◌<◌, ◌≤◌, ◌⊎◌, inl, inr, Bool, true, false, ◌==◌, ◌&&◌, List, [], ◌∷◌, length, max, unwrap_or, Some, None, refl, ap, eq-eqb, arith}
+use Rattle.std.specs.Prelude.{if◌then◌else◌, ◌||◌, not, ◌↔◌}
+use Rattle.std.proofs.lemmas.Bool.{cases_lt, cases_eq, ne_eqb}
+use Rattle.pmt_model.specs.Machine.{Act, Stores, Flushes, Clflushes, Fences, Asserts, count}
+use Rattle.pmt_model.specs.Traces.{Recording, history, count_at}
+use Rattle.pmt_model.specs.Fronts.{front, front_at, mark, open_mark}
+use Rattle.pmt_model.specs.Findings.{IsRedundantFlush, IsRedundantClflush}
+use Rattle.pmt_laws.proofs.Histories.{history-act, front-grows, mark-le-count}
+use Rattle.pmt_laws.proofs.NeverLemmas.{never_persisted_by_fronts}
+use Rattle.pmt_laws.proofs.RedundantLemmas.{redundant_flush_by_fronts, redundant_clflush_by_fronts}
+use Rattle.pmt_safety.specs.Safety.{last_line_store_at, safe_store_at, has_flushed}
+use Rattle.pmt_safety.specs.Closed.{NeverPersistedByStores, RedundantFlushByStores, RedundantClflushByStores}
+use Rattle.pmt_safety.proofs.StoreLemmas.{count-last, count-safe, last-is_store, line_store-by, safe-le_last}
+use Rattle.pmt_safety.proofs.SafetyLemmas.{front-below}
+
+pub never_persisted_by_stores : NeverPersistedByStores
+never_persisted_by_stores T l j w is =
+    let by_fronts = never_persisted_by_fronts T l j w is in
+    let below = front-below T l (length T.events) j w is in (
+      λ never. below.0 (by_fronts.0 never),
+      λ later. by_fronts.1 (below.1 later),
+    )
+
+-- the front counts all stores exactly where the last one is safe
+pub all-safe : (T : Recording) (l n : ℕ) → (count_at T l n ≤ front_at T l n) ↔ (safe_store_at T l n ≡ last_line_store_at T l n)
+all-safe T l n = (
+  λ all. omega (arith, safe-le_last T l n, line_store-by T l n (last_line_store_at T l n) (safe_store_at T l n) (last-is_store T l n) (omega (arith, all, count-last T l n, count-safe T l n))),
+  λ same. let e : count_at T l (safe_store_at T l n) ≡ count_at T l (last_line_store_at T l n) = ap (count_at T l) same in omega (arith, e, count-last T l n, count-safe T l n),
+)
+
+-- a thread that has flushed the line since its last store marks all of them
+flushed-marks : (t l : ℕ) (h : List Act) → has_flushed t l h ≡ true → count l h ≤ mark t l h
+flushed-marks t l [] had = omega arith
+flushed-marks t l (Stores k w ∷ h) had = go (k == l) (flushed-marks t l h) had
+  where
+    go : (b : Bool) → (has_flushed t l h ≡ true → count l h ≤ mark t l h) → (not b && has_flushed t l h) ≡ true → (if b then suc (count l h) else count l h) ≤ mark t l h
+    go true before had = absurd (let never : false ≡ true = had in cc)
+    go false before had = before had
+flushed-marks t l (Flushes u k ∷ h) had = go ((u == t) && (k == l)) (flushed-marks t l h) had
+  where
+    go : (b : Bool) → (has_flushed t l h ≡ true → count l h ≤ mark t l h) → (b || has_flushed t l h) ≡ true → count l h ≤ (if b then count l h else mark t l h)
+    go true before had = omega arith
+    go false before had = before had
+flushed-marks t l (Clflushes k ∷ h) had = flushed-marks t l h had
+flushed-marks t l (Fences u ∷ h) had = flushed-marks t l h had
+flushed-marks t l (Asserts ∷ h) had = flushed-marks t l h had
+
+-- and one that marks all of them, where there is one, has flushed it since
+marks-flushed : (t l : ℕ) (h : List Act) → 0 < count l h → count l h ≤ mark t l h → has_flushed t l h ≡ true
+marks-flushed t l [] some all = absurd (omega arith)
+marks-flushed t l (Stores k w ∷ h) some all = go (k == l) (marks-flushed t l h) some all
+  where
+    go : (b : Bool) → (0 < count l h → count l h ≤ mark t l h → has_flushed t l h ≡ true) → 0 < (if b then suc (count l h) else count l h) → (if b then suc (count l h) else count l h) ≤ mark t l h →
+        (not b && has_flushed t l h) ≡ true
+    go true before some all = absurd (omega (arith, all, mark-le-count t l h))
+    go false before some all = before some all
+marks-flushed t l (Flushes u k ∷ h) some all = go ((u == t) && (k == l)) (marks-flushed t l h) some all
+  where
+    go : (b : Bool) → (0 < count l h → count l h ≤ mark t l h → has_flushed t l h ≡ true) → 0 < count l h → count l h ≤ (if b then count l h else mark t l h) → (b || has_flushed t l h) ≡ true
+    go true before some all = refl
+    go false before some all = before some all
+marks-flushed t l (Clflushes k ∷ h) some all = marks-flushed t l h some all
+marks-flushed t l (Fences u ∷ h) some all = marks-flushed t l h some all
+marks-flushed t l (Asserts ∷ h) some all = marks-flushed t l h some all
+
+-- an open mark is the thread's, and one that is no more open is in the front
+open-marked : (t l : ℕ) (h : List Act) → (unwrap_or (open_mark t l h) 0 ≤ mark t l h) × (mark t l h ≤ max (front l h) (unwrap_or (open_mark t l h) 0))
+open-marked t l [] = (omega arith, omega arith)
+open-marked t l (Stores k w ∷ h) = open-marked t l h
+open-marked t l (Flushes u k ∷ h) = go ((u == t) && (k == l)) (open-marked t l h)
+  where
+    go : (b : Bool) → (unwrap_or (open_mark t l h) 0 ≤ mark t l h) × (mark t l h ≤ max (front l h) (unwrap_or (open_mark t l h) 0)) →
+        (unwrap_or (if b then Some (count l h) else open_mark t l h) 0 ≤ (if b then count l h else mark t l h)) × ((if b then count l h else mark t l h) ≤ max (front l h) (unwrap_or (if b then Some (count l h) else open_mark t l h) 0))
+    go true before = (omega arith, omega arith)
+    go false before = before
+open-marked t l (Clflushes k ∷ h) = let before = open-marked t l h in (before.0, omega (arith, before.1, front-grows l (Clflushes k) h))
+open-marked t l (Fences u ∷ h) = go (cases_eq u t) (open-marked t l h)
+  where
+    go : (u ≡ t) ⊎ (u ≡ t → ⊥) → (unwrap_or (open_mark t l h) 0 ≤ mark t l h) × (mark t l h ≤ max (front l h) (unwrap_or (open_mark t l h) 0)) →
+        (unwrap_or (if u == t then None else open_mark t l h) 0 ≤ mark t l h) × (mark t l h ≤ max (max (front l h) (mark u l h)) (unwrap_or (if u == t then None else open_mark t l h) 0))
+    go (inl same) before = let e = eq-eqb u t same in let own = ap (λ v. mark v l h) same in rw e (omega arith, omega (arith, own))
+    go (inr other) before = let e = ne_eqb u t other in rw e (before.0, omega (arith, before.1))
+open-marked t l (Asserts ∷ h) = open-marked t l h
+
+-- the front or the open mark counts all stores exactly where the front does, or the thread has flushed the line since the last one
+covered : (t l : ℕ) (h : List Act) → (count l h ≤ max (front l h) (unwrap_or (open_mark t l h) 0)) ↔ ((count l h ≤ front l h) ⊎ (has_flushed t l h ≡ true))
+covered t l h = (there, back)
+  where
+    there : count l h ≤ max (front l h) (unwrap_or (open_mark t l h) 0) → (count l h ≤ front l h) ⊎ (has_flushed t l h ≡ true)
+    there all = elim (cases_lt (front l h) (count l h)) [
+      | inl below ↦ inr (marks-flushed t l h (omega (arith, below)) (omega (arith, all, below, (open-marked t l h).0)))
+      | inr safe ↦ inl safe
+    ]
+
+    back : (count l h ≤ front l h) ⊎ (has_flushed t l h ≡ true) → count l h ≤ max (front l h) (unwrap_or (open_mark t l h) 0)
+    back (inl safe) = omega (arith, safe)
+    back (inr had) = omega (arith, flushed-marks t l h had, (open-marked t l h).1)
+
+pub redundant_flush_by_stores : RedundantFlushByStores
+redundant_flush_by_stores T t l n is = (there, back)
+  where
+    before : suc n - 1 ≡ n
+    before = omega arith
+
+    same : count_at T l (suc n) ≡ count_at T l n
+    same = ap (count l) (history-act T n (Flushes t l) is)
+
+    law : IsRedundantFlush T t l (suc n) ↔ (count_at T l (suc n) ≤ max (front_at T l n) (unwrap_or (open_mark t l (history T n)) 0))
+    law = rw before at (redundant_flush_by_fronts T t l (suc n) is)
+
+    there : IsRedundantFlush T t l (suc n) → (safe_store_at T l n ≡ last_line_store_at T l n) ⊎ (has_flushed t l (history T n) ≡ true)
+    there it = elim ((covered t l (history T n)).0 (omega (arith, law.0 it, same))) [ inl safe ↦ inl ((all-safe T l n).0 safe) | inr had ↦ inr had ]
+
+    back : (safe_store_at T l n ≡ last_line_store_at T l n) ⊎ (has_flushed t l (history T n) ≡ true) → IsRedundantFlush T t l (suc n)
+    back (inl safe) = law.1 (omega (arith, same, (covered t l (history T n)).1 (inl ((all-safe T l n).1 safe))))
+    back (inr had) = law.1 (omega (arith, same, (covered t l (history T n)).1 (inr had)))
+
+pub redundant_clflush_by_stores : RedundantClflushByStores
+redundant_clflush_by_stores T l n is = (λ it. (all-safe T l n).0 (omega (arith, law.0 it, same)), λ safe. law.1 (omega (arith, same, (all-safe T l n).1 safe)))
+  where
+    before : suc n - 1 ≡ n
+    before = omega arith
+
+    same : count_at T l (suc n) ≡ count_at T l n
+    same = ap (count l) (history-act T n (Clflushes l) is)
+
+    law : IsRedundantClflush T l (suc n) ↔ (count_at T l (suc n) ≤ front_at T l n)
+    law = rw before at (redundant_clflush_by_fronts T l (suc n) is)
