@@ -7,11 +7,7 @@ cd "$(dirname "$0")/.." || exit 1
 . tests/lib/program.sh
 # shellcheck source=tests/lib/shared.sh
 . tests/lib/shared.sh
-if ! [ -e /usr/include/valgrind/pub_tool_basics.h ] || ! command -v valgrind > /dev/null; then
-  alone install_packages valgrind
-fi
-if ! alone make -s -C recorders/valgrind; then
-  echo "pmtrim-record is not built; it needs: apt-get install gcc make valgrind"
+if ! build_recorder; then
   echo "0 passed, 1 failed"
   exit 1
 fi

@@ -15,7 +15,11 @@ import sys
 import tempfile
 import time
 
-from examples import Counts
+from counts import Counts
+from valgrind_processes import Processes
+from valgrind_runs import events_of, rebuilt, run, stores_of, text_of
+from valgrind_threads import Threads
+from valgrind_windows import Windows
 
 TOP = pathlib.Path(__file__).resolve().parents[2]
 HERE = TOP / "tests/lib/valgrind"
@@ -28,6 +32,7 @@ SAVED = "store 0 {:#x} {}\nclwb 0 {:#x}\nsfence 0\n"
 FLUSHES = """\
 clwb 80, clflushopt c0, clflush 100, clwb 140, clwb 180, clflushopt 1c0, clflush 200, clwb 240, clwb 280, clwb 2c0, clwb 300,
 clflushopt 340, clflush 380, clwb 3c0, clwb 400, clwb 440, clwb 480, clflush 4c0, clwb 500, clwb 540, sfence, mfence, clwb 580,
+clwb 600,
 clflushopt 5c0, mfence"""
 LOCKED_FLUSHES = FLUSHES.replace("clwb 580,", "clwb 580, mfence,")
 
@@ -111,37 +116,6 @@ LABELS = [
 ]
 
 
-def run(words, **options):
-    """The status, standard output and standard error."""
-    options.setdefault("timeout", 300)
-    done = subprocess.run([str(word) for word in words], stdin=subprocess.DEVNULL, capture_output=True, **options)
-    return done.returncode, done.stdout.decode(errors="replace"), done.stderr.decode(errors="replace")
-
-
-def text_of(path):
-    return path.read_text() if path.exists() else ""
-
-
-def events_of(path):
-    """The events of a trace, each with its fields."""
-    return [line.split(" ") for line in text_of(path).splitlines()[1:]]
-
-
-def stores_of(path):
-    """The address and the bytes of each store."""
-    return [(int(fields[2], 16), bytes.fromhex(fields[3])) for fields in events_of(path) if fields[0] == "store"]
-
-
-def rebuilt(path, memory, start=0):
-    """The bytes of a file with the stores of a trace written in order, those from the address `start` on."""
-    memory = bytearray(memory)
-    for address, data in stores_of(path):
-        at = address - start
-        if 0 <= at < len(memory):
-            memory[at : at + len(data)] = data
-    return bytes(memory)
-
-
 def saved(words):
     """What ends.c does to save words."""
     return "pmtrace 2 64\n" + "".join(saved_value(word, word + 1) for word in words)
@@ -156,6 +130,8 @@ class Tests:
 
     def __init__(self, program, folder):
         self.program = program
+        self.recorder = RECORD
+        self.run = run
         self.folder = folder
         self.counts = Counts()
         self.expect = self.counts.expect
@@ -179,6 +155,12 @@ class Tests:
         status, report, faults = run([self.program, "check", trace])
         self.expect(f"{trace.name} is accepted", status in (0, 1), faults + told)
         return status, report
+
+    def is_cut(self, name, trace, wanted):
+        """What stands beside the trace: after which event it was cut and why; None where it was not."""
+        beside = trace.with_name(f"{trace.name}.cut")
+        found = beside.read_text() if beside.exists() else None
+        self.expect(f"{name}: what the trace says of its end", found == wanted, found)
 
     def is_text(self, name, trace, wanted):
         self.expect(name, text_of(trace) == "pmtrace 2 64\n" + wanted, f"\n{text_of(trace)}")
@@ -279,12 +261,13 @@ class Tests:
         self.is_text("claims", trace, FORMATTED + CLAIMED + FINISHED)
         self.expect("claims outside the pool", "claims on memory that is in no pool: 1" in faults, faults)
         trace, _, _, faults = self.record("window", [program, "window", pool])
-        self.is_text("a window by claims", trace, CLAIMED)
+        self.is_text("a window by claims", trace, FORMATTED + CLAIMED)
         told = "events before the window: 1; events after the window: 1" in faults
         self.expect("a window by claims: told", told, faults)
         trace, _, _, faults = self.record("functions", [program, pool], "--start-after", "formatted", "--stop-at", "finish")
-        self.is_text("a window by functions", trace, CLAIMED)
+        self.is_text("a window by functions", trace, FORMATTED + CLAIMED)
         self.expect("a window by functions: told", told, faults)
+        self.is_cut("a window that was closed", trace, f"{(FORMATTED + CLAIMED).count(chr(10))} the window was closed here, and events came after it\n")
         words = ["--persist", "save", "--persist=save_by_length:2,1", "--persist", "save_or_leave:1,2"]
         trace, _, _, faults = self.record("persist", [program, pool], *words)
         self.is_text("--persist", trace, WATCHED)
@@ -299,20 +282,23 @@ class Tests:
         self.expect("without --pmdk", (told, ignore.exists()) == ("0 0 0\n", False), told)
         trace, _, told, faults = self.record("pmdk", [program, pool], "--pmdk")
         self.expect("--pmdk answers", told == "1 2 1\n", told)
-        self.expect("--pmdk", text_of(ignore) == "0x40:24\n0x100:8\n", text_of(ignore))
+        self.expect("--pmdk", text_of(ignore) == "0x40:24\n0x100:8\n0x400:8\n", text_of(ignore))
+        self.expect("--pmdk: what was freed", "1 range of that kind was freed or used again, and is not ignored\n" in faults, faults)
         self.expect("--pmdk: the next command", f"--ignore-file {ignore} {trace}\n" in faults, faults)
         words = [f"--ignore {line}" for line in text_of(ignore).splitlines()]
         status, told, _ = run([self.program, "explain", *" ".join(words).split(), trace])
         self.expect("what is ignored", status == 1 and "never persisted" in told, told[:300])
         lost = re.search(r"lose: (\d+) of (\d+)", told)
-        self.expect("what is not ignored", lost is not None and lost.groups() == ("1", "4"), told[:300])
+        self.expect("what is not ignored", lost is not None and lost.groups() == ("2", "6"), told[:300])
 
     # Ends
 
     def ends(self):
         program, pool = self.build("ends"), self.folder / "ends.pool"
         for case, wanted in (("saves", 3), ("exit", 4), ("abort", -signal.SIGABRT), ("segfault", -signal.SIGSEGV), ("avx512", -signal.SIGILL)):
+            (self.folder / f"{case}.trace.cut").write_text("5 the disk was full\n")
             trace, status, _, faults = self.record(case, [program, case, pool])
+            self.is_cut(case, trace, None)
             self.expect(case, (text_of(trace), status) == (saved([0]), wanted), f"{status} {faults}")
             next_words = f"next: pmtrim explain --labels {trace}.labels {trace}"
             self.expect(f"{case}: the next command", f"pmtrim-record: 3 events of 1 thread in {trace}; {next_words}\n" in faults, faults)
@@ -366,19 +352,23 @@ class Tests:
     def limits(self, program, pool):
         trace, status, _, faults = self.record("threads", [program, "threads", pool])
         numbers = [int(fields[1]) for fields in events_of(trace)]
-        self.expect("the 257th thread", status == 0 and numbers == [number // 3 for number in range(768)], numbers[-5:])
-        told = f"{trace}: the trace ends after event 768: a trace has at most 256 threads, and here is the 257th\n" in faults
-        self.expect("the 257th thread: told", told and "events after the end of the trace: 132" in faults, faults)
+        wanted = [0, *(number // 2 for number in range(512))]
+        self.expect("the 257th thread", status == 0 and numbers == wanted, numbers[-5:])
+        told = f"{trace}: the trace ends after event 513: a trace has at most 256 threads at one time, and here is the 257th\n" in faults
+        self.expect("the 257th thread: told", told and "events after the end of the trace: 88" in faults, faults)
+        self.is_cut("the 257th thread", trace, "513 a trace has at most 256 threads at one time, and here is the 257th\n")
         trace, status, _, faults = self.record("events", [program, "events", pool], "--labels", "no")
         self.expect("a million events", status == 0 and text_of(trace).count("\n") == 1000001, text_of(trace).count("\n"))
         told = f"{trace}: the trace ends after event 1000000: a trace has at most 1000000 events\n" in faults
         self.expect("a million events: told", told and "events after the end of the trace: 24003" in faults, faults)
+        self.is_cut("a million events", trace, "1000000 a trace has at most 1000000 events\n")
         limit = lambda: resource.setrlimit(resource.RLIMIT_FSIZE, (100000, 100000))
         trace, status, _, faults = self.record("disk", [program, "events", pool], preexec_fn=limit, restore_signals=False)
         ended = re.search(r"the trace ends after event (\d+): File too large", faults)
         whole = "pmtrace 2 64\nstore 0 0x0 0100000000000000\nclwb 0 0x0\nsfence 0\n"
         right = ended and int(ended[1]) == text_of(trace).count("\n") - 1 and text_of(trace).startswith(whole)
         self.expect("a full disk", right and len(text_of(trace)) > 99000, faults)
+        self.is_cut("a full disk", trace, f"{ended and ended[1]} File too large\n")
         for place, reason in (("/dev/full", "No space left on device"), (self.folder / "none/trace", "No such file or directory")):
             _, _, faults = run([RECORD, "--trace", place, "--labels", "no", program, "saves", pool])
             self.expect(f"a trace at {place}", reason in faults, faults)
@@ -440,14 +430,17 @@ class Tests:
             self.expect(f"words {words[:1]}", status == 2 and wanted in told, f"{status} {told}")
         status, _, told = run([RECORD, "--persist", "save:0,1", program, "saves", pool], cwd=self.folder)
         self.expect("--persist of no argument", status == 2 and "numbers of arguments from 1 to 6" in told, told)
+        status, _, told = run([RECORD, "--pool=", program])
+        self.expect("--pool of no name", status == 2 and "--pool takes a name" in told, told)
         told = run([RECORD, "--help"])[1]
         self.expect("help", "--locked-fences" in told and "Intel SDM" in told, told)
         _, _, told = run([RECORD, "--trace", self.folder / "none.trace", "--pool", self.folder / "other", program, "saves", pool])
         self.expect("no pool", "no file was mapped that counts as a pool: see --pool" in told, told)
+        self.is_cut("no pool", self.folder / "none.trace", "0 no file was mapped that counts as a pool: see --pool\n")
 
     def yes_or_no(self):
         shown = re.findall(r"^  (--[a-z-]+)(\[=yes\|no\]| yes\|no)", run([RECORD, "--help"])[1], re.M)
-        self.expect("options that take yes or no", len(shown) == 6, shown)
+        self.expect("options that take yes or no", len(shown) == 7, shown)
         for name, word in shown:
             bare = word.startswith("[")
             for words, wanted, fault in (
@@ -485,6 +478,9 @@ def main():
         parts = [tests.stores, tests.flushes, tests.mappings, tests.system, tests.claims, tests.pmdk, tests.ends, tests.labels]
         for part in (*parts, tests.examples, tests.words, tests.yes_or_no):
             part()
+        Threads(tests, events_of).run()
+        Windows(tests, events_of).run()
+        Processes(tests, events_of).run()
         installed(tests)
         page(tests)
     print(f"{tests.counts.passed} passed, {tests.counts.failed} failed")

@@ -1,22 +1,21 @@
 #include "bases.h"
+#include "common.h"
 #include "options.h"
 #include "output.h"
-#include "pools.h"
 
 enum { PIECE = 1 << 16, PATH_BYTES = 4200 };
 
-typedef enum { NO_BASE, KEPT, LOST } State;
+ULong lost_bases, unrestored_stores;
 
-ULong lost_bases;
-
-static State states[MOST_POOLS];
-static ULong lengths[MOST_POOLS];
+static BaseState *state_of(Int number) {
+    return &common->bases.of_pools[number].state;
+}
 
 static void name(HChar *path, const HChar *kind, Int number) {
     if (number == 0)
-        VG_(snprintf)(path, PATH_BYTES, "%s.%s", trace_path(), kind);
+        VG_(snprintf)(path, PATH_BYTES, "%s.%s", trace_place(), kind);
     else
-        VG_(snprintf)(path, PATH_BYTES, "%s.%s%d", trace_path(), kind, number + 1);
+        VG_(snprintf)(path, PATH_BYTES, "%s.%s%d", trace_place(), kind, number + 1);
 }
 
 static Bool remove_of(Int number) {
@@ -32,7 +31,7 @@ void begin_bases(void) {
     while (remove_of(number))
         number++;
     for (number = 0; number < MOST_POOLS; number++)
-        states[number] = NO_BASE;
+        *state_of(number) = NO_BASE;
     lost_bases = 0;
     keep_bases();
 }
@@ -42,7 +41,7 @@ static void lose(Int number, const HChar *why) {
     name(path, "base", number);
     VG_(printf)("pmtrim-record: %s: %s; there is no base of %s\n", path, why, pool_name(pool_numbered(number)));
     remove_of(number);
-    states[number] = LOST;
+    *state_of(number) = LOST;
     lost_bases++;
 }
 
@@ -115,7 +114,7 @@ static Bool write_origin(const Pool *pool, const HChar **why) {
 }
 
 /* Makes the base as long as the pool's file is: whole at first, and later by zeros, since what is written there is in the trace. */
-static void write_base(const Pool *pool, State state) {
+static void write_base(const Pool *pool, BaseState state) {
     const HChar *why = "";
     Int number = pool_number(pool);
     ULong length = pool_bytes(pool);
@@ -129,8 +128,8 @@ static void write_base(const Pool *pool, State state) {
         lose(number, why);
         return;
     }
-    states[number] = KEPT;
-    lengths[number] = length;
+    *state_of(number) = KEPT;
+    common->bases.of_pools[number].length = length;
 }
 
 void keep_bases(void) {
@@ -139,6 +138,33 @@ void keep_bases(void) {
     if (!options.base || recording != RECORDING)
         return;
     for (number = 0; (pool = pool_numbered(number)) != NULL; number++)
-        if (states[number] == NO_BASE || (states[number] == KEPT && pool_bytes(pool) > lengths[number]))
-            write_base(pool, states[number]);
+        if (*state_of(number) == NO_BASE || (*state_of(number) == KEPT && pool_bytes(pool) > common->bases.of_pools[number].length))
+            write_base(pool, *state_of(number));
+}
+
+static Int restored_number = -1, restored_descriptor = -1;
+
+void end_of_restoring(void) {
+    if (restored_descriptor >= 0)
+        VG_(close)(restored_descriptor);
+    restored_number = restored_descriptor = -1;
+}
+
+void restore_in_bases(ULong address, const UChar *old, SizeT length) {
+    Int number = (Int)(address / POOL_SPAN);
+    const HChar *why = "";
+    if (!options.base || *state_of(number) != KEPT)
+        return;
+    if (old == NULL) {
+        unrestored_stores++;
+        return;
+    }
+    if (number != restored_number) {
+        end_of_restoring();
+        restored_number = number;
+        restored_descriptor = open_beside("base", number, 0, &why);
+    }
+    VG_(lseek)(restored_descriptor, (Off64T)(address % POOL_SPAN), VKI_SEEK_SET);
+    if (restored_descriptor < 0 || !write_all(restored_descriptor, old, length, &why))
+        lose(number, why);
 }

@@ -1,10 +1,11 @@
 #include "calls.h"
-#include "bases.h"
 #include "events.h"
 #include "labels.h"
 #include "options.h"
 #include "output.h"
 #include "pools.h"
+#include "turns.h"
+#include "windows.h"
 
 enum { MOST_ACTIVE = 256 };
 
@@ -14,7 +15,7 @@ typedef enum { STARTS, STOPS, PERSISTS } Purpose;
 typedef struct {
     Purpose purpose;
     const PersistFunction *persist; /* of PERSISTS */
-    const HChar *name;
+    WantedName name;
     Bool called;
 } Named;
 
@@ -22,6 +23,7 @@ typedef struct {
 typedef struct {
     const Named *function;
     Addr stack;
+    Addr back; /* where it is to return to: an exception goes elsewhere */
     Addr start;
     SizeT length;
     const HChar *label;
@@ -43,7 +45,7 @@ static UWord active;
 
 static void add_named(Purpose purpose, const HChar *name, const PersistFunction *persist) {
     if (name != NULL)
-        named[named_count++] = (Named){purpose, persist, name, False};
+        named[named_count++] = (Named){purpose, persist, {.wanted = name}, False};
 }
 
 void begin_calls(void) {
@@ -55,12 +57,11 @@ void begin_calls(void) {
     threads = VG_(calloc)("calls.threads", VG_N_THREADS, sizeof *threads);
 }
 
-const HChar *uncalled_function(void) {
-    Int at;
-    for (at = 0; at < named_count; at++)
-        if (!named[at].called)
-            return named[at].name;
-    return NULL;
+const WantedName *wanted_function(Int number, Bool *called) {
+    if (number >= named_count)
+        return NULL;
+    *called = named[number].called;
+    return &named[number].name;
 }
 
 static ThreadCalls *calls_of_running(void) {
@@ -88,7 +89,7 @@ static UWord argument(const VexGuestAMD64State *registers, Int number) {
 static void push_call(const Named *function, const VexGuestAMD64State *registers) {
     ThreadCalls *calls = calls_of_running();
     Addr stack = registers->guest_RSP;
-    Active entered = {.function = function, .stack = stack};
+    Active entered = {.function = function, .stack = stack, .back = *(const Addr *)stack};
     Int at;
     /* a call has a frame of its own; a jump to the first instruction may be a tail call, or a loop in the function itself */
     forget_left(calls, calls->called == stack ? stack + 1 : stack);
@@ -114,19 +115,15 @@ static void on_entry(VexGuestAMD64State *registers, UWord number) {
     function->called = True;
     if (function->purpose != STOPS)
         push_call(function, registers);
-    else if (recording == RECORDING) {
-        settle_events();
-        recording = AFTER_WINDOW;
-    }
+    else
+        close_window();
 }
 
 static void returned(const Active *call) {
-    if (call->function->purpose == STARTS && recording == BEFORE_WINDOW) {
-        forget_events();
-        recording = RECORDING;
-        keep_bases();
-    } else if (call->function->purpose == PERSISTS && call->length > 0)
-        note_is_persist(VG_(get_running_tid)(), call->start, call->length, call->label);
+    if (call->function->purpose == STARTS)
+        open_window(VG_(get_running_tid)());
+    else if (call->function->purpose == PERSISTS && call->length > 0)
+        note_is_persist(VG_(get_running_tid)(), claimed_memory(call->start, call->length), call->label);
 }
 
 static void on_call(Addr stack) {
@@ -134,14 +131,29 @@ static void on_call(Addr stack) {
 }
 
 /* The stack pointer is that after the return, one word above where it was at the call's entry. */
-static void on_return(Addr stack) {
+static void on_return(Addr stack, Addr back) {
     ThreadCalls *calls = calls_of_running();
     forget_left(calls, stack - sizeof(Addr));
     while (calls->count > 0 && calls->calls[calls->count - 1].stack == stack - sizeof(Addr)) {
-        calls->count--;
+        const Active *call = &calls->calls[--calls->count];
         active--;
-        returned(&calls->calls[calls->count]);
+        if (call->back == back)
+            returned(call);
+        else
+            call_counts.unreturned++;
     }
+}
+
+/* A lock that is given up by a plain store, which no locked instruction tells. In glibc pthread_spin_init and pthread_spin_unlock are one
+ * piece of code, so either name may stand there. */
+static void on_plain_unlock(Addr instruction) {
+    give_way();
+}
+
+void add_plain_unlock(Writer *writer) {
+    const HChar *name;
+    if (VG_(get_fnname_if_entry)(VG_(current_DiEpoch)(), writer->instruction, &name) && VG_(strstr)(name, "pthread_spin_") != NULL)
+        call(writer, "on_plain_unlock", on_plain_unlock, NULL, constant(writer->instruction), NULL, NULL, NULL);
 }
 
 void add_entry(Writer *writer) {
@@ -150,7 +162,7 @@ void add_entry(Writer *writer) {
     if (named_count == 0 || !VG_(get_fnname_if_entry)(VG_(current_DiEpoch)(), writer->instruction, &name))
         return;
     for (at = 0; at < named_count; at++)
-        if (VG_(strcmp)(name, named[at].name) == 0)
+        if (is_meant(&named[at].name, name))
             call_with_registers(writer, "on_entry", on_entry, offsetof(VexGuestAMD64State, guest_IP_AT_SYSCALL),
                                 constant((ULong)at), NULL);
 }
@@ -166,5 +178,5 @@ void add_call_or_return(Writer *writer) {
     }
     count = computed(writer, Ity_I64, IRExpr_Load(Iend_LE, Ity_I64, constant((ULong)&active)));
     any = computed(writer, Ity_I1, IRExpr_Binop(Iop_CmpNE64, count, constant(0)));
-    call(writer, "on_return", on_return, any, stack, NULL, NULL, NULL);
+    call(writer, "on_return", on_return, any, stack, writer->code->next, NULL, NULL);
 }

@@ -3,8 +3,12 @@
 #define CALLS_H
 
 #include "code.h"
+#include "names.h"
 
 void begin_calls(void);
+
+/* At the beginning of a block of code: where that is a function that gives up a lock, its thread may give way. */
+void add_plain_unlock(Writer *writer);
 
 /* Where a named function begins, and where a block of code ends in a call or a return, the code says so. */
 void add_entry(Writer *writer);
@@ -17,7 +21,7 @@ typedef struct {
 
 extern CallCounts call_counts;
 
-/* The first function that was named and never called; NULL if there is none. */
-const HChar *uncalled_function(void);
+/* Each function that was named, by its number, and whether it was called; NULL behind the last one. */
+const WantedName *wanted_function(Int number, Bool *called);
 
 #endif

@@ -1,14 +1,21 @@
 #include "children.h"
 #include "bases.h"
+#include "calls.h"
 #include "events.h"
 #include "options.h"
 #include "output.h"
+#include "pools.h"
+#include "processes.h"
 #include "summary.h"
+#include "syscalls.h"
 #include "threads.h"
+#include "windows.h"
 
 ULong unrecorded_children;
 
-static const HChar *absolute(const HChar *path) {
+static Bool told_of_execution;
+
+const HChar *absolute(const HChar *path) {
     const HChar *folder = VG_(get_startup_wd)();
     HChar *whole;
     if (path[0] == '/' || folder == NULL)
@@ -18,14 +25,14 @@ static const HChar *absolute(const HChar *path) {
     return whole;
 }
 
-/* The programs that this one becomes or begins learn that they are children, by a word of their command lines. */
+/* The programs that this one becomes or begins learn that they are children, by words of their command lines. */
 static void tell_descendants(const HChar *path) {
-    static Bool told;
     HChar *word = VG_(malloc)("children.word", VG_(strlen)(path) + sizeof "--parent-trace=");
+    HChar *first = VG_(malloc)("children.word", 32);
     VG_(sprintf)(word, "--parent-trace=%s", path);
-    if (!told)
-        VG_(addToXA)(VG_(args_for_valgrind), &word);
-    told = True;
+    VG_(sprintf)(first, "--first-process=%d", VG_(getpid)());
+    VG_(addToXA)(VG_(args_for_valgrind), &word);
+    VG_(addToXA)(VG_(args_for_valgrind), &first);
 }
 
 /* FILE.PID; where that is there already, since the same process was another program before, FILE.PID.2 and so on. */
@@ -41,16 +48,39 @@ static const HChar *path_for_child(const HChar *path) {
 
 const HChar *path_for_process(void) {
     if (options.parent_trace != NULL)
-        return path_for_child(options.parent_trace);
+        return options.one_trace ? options.parent_trace : path_for_child(options.parent_trace);
     tell_descendants(absolute(options.trace));
     return options.trace;
 }
 
-void before_execution(void) {
+/* A shell tries a program in each folder of PATH, and most of them are not there. */
+static Bool can_execute(const HChar *path) {
+    enum { MAY_EXECUTE = 1 };
+    if (path == NULL)
+        return True;
+    return VG_(am_is_valid_for_client)((Addr)path, 1, VKI_PROT_READ) &&
+           !sr_isError(VG_(do_syscall)(__NR_access, (RegWord)path, MAY_EXECUTE, 0, 0, 0, 0, 0, 0));
+}
+
+void execution_failed(void) {
+    take_process_turn();
+    if (told_of_execution)
+        VG_(printf)("pmtrim-record: it did not become another one; %s goes on\n", trace_path());
+    told_of_execution = False;
+}
+
+void before_execution(const HChar *path) {
+    if (options.one_trace) {
+        before_becoming_another();
+        return;
+    }
+    if (!can_execute(path))
+        return;
     if (recording == OFF) {
         print_unrecorded();
         return;
     }
+    told_of_execution = True;
     if (options.children)
         VG_(printf)("pmtrim-record: %s ends here: the program becomes another one\n", trace_path());
     else
@@ -59,18 +89,36 @@ void before_execution(void) {
 }
 
 void in_parent(ThreadId thread) {
+    child_was_begun();
     if (!options.children)
         unrecorded_children++;
 }
 
+/* The child writes to the trace of its parent. */
+static void go_on_as_child(ThreadId thread) {
+    forget_events();
+    only_thread(thread);
+    event_counts = (EventCounts){0};
+    notes = (Notes){0};
+    call_counts = (CallCounts){0};
+    pool_counts = (PoolCounts){0};
+    system_counts = (SystemCounts){0};
+    become_child();
+}
+
 void in_child(ThreadId thread) {
+    if (options.one_trace) {
+        go_on_as_child(thread);
+        return;
+    }
     forget_events();
     leave_trace();
     only_thread(thread);
     unrecorded_children = 0;
     if (!options.children)
         return;
-    recording = options.start_after != NULL ? BEFORE_WINDOW : RECORDING;
+    recording = RECORDING;
+    begin_windows();
     notes = (Notes){0};
     open_trace(path_for_child(absolute(options.parent_trace != NULL ? options.parent_trace : options.trace)));
     begin_bases();

@@ -10,8 +10,12 @@ extern ULong unrecorded_children;
 /* The trace that this process writes: FILE, or of a child FILE and its number behind it. */
 const HChar *path_for_process(void);
 
-/* Told before the program asks to become another one. */
-void before_execution(void);
+/* A path from the root on, of one that is meant from the folder in which the program began. */
+const HChar *absolute(const HChar *path);
+
+/* Told before the program asks to become another one, of which the path is known or NULL, and where the system refuses that. */
+void before_execution(const HChar *path);
+void execution_failed(void);
 
 /* Told after a fork, in the parent and in the child. */
 void in_parent(ThreadId thread);

@@ -27,6 +27,10 @@
 /* safe_fd: a descriptor like this one, out of the program's reach; this one is closed. */
 extern const HChar *VG_(strerror)(UWord error);
 extern Int VG_(safe_fd)(Int descriptor);
+extern Int VG_(fd_soft_limit), VG_(fd_hard_limit);
+extern Int VG_(getrlimit)(Int resource, struct vki_rlimit *limit);
+extern Int VG_(setrlimit)(Int resource, const struct vki_rlimit *limit);
+extern SysRes VG_(mk_SysRes_Success)(UWord result);
 extern SysRes VG_(pread)(Int descriptor, void *buffer, Int count, OffT offset);
 extern Int VG_(fcntl)(Int descriptor, Int command, Addr argument);
 extern SysRes VG_(do_syscall)(UWord number, RegWord, RegWord, RegWord, RegWord, RegWord, RegWord, RegWord, RegWord);

@@ -5,7 +5,7 @@ enum { LONGEST = 15 };
 
 /* The prefixes before an opcode. */
 typedef struct {
-    Bool operand_size, repeat, repeat_not, lock, thread_segment, other;
+    Bool operand_size, address_size, repeat, repeat_not, lock, thread_segment, other;
     UChar rex;
     UInt length;
 } Prefixes;
@@ -24,7 +24,9 @@ static Prefixes read_prefixes(const UChar *bytes, UInt length) {
             found.lock = True;
         else if (byte == 0x64)
             found.thread_segment = True;
-        else if (byte == 0x65 || byte == 0x67)
+        else if (byte == 0x67)
+            found.address_size = True;
+        else if (byte == 0x65)
             found.other = True;
         else if (byte != 0x2e && byte != 0x36 && byte != 0x3e && byte != 0x26)
             break;
@@ -70,6 +72,7 @@ Bool decode_flush(Addr place, Flush *flush) {
     *flush = (Flush){.kind = extension == 6 ? CLWB : prefixes.operand_size ? CLFLUSHOPT : CLFLUSH};
     flush->length = (Int)(prefixes.length + 2 + read_operand(opcode + 2, prefixes.rex, flush));
     flush->thread_segment = prefixes.thread_segment;
+    flush->half_address = prefixes.address_size;
     if (modrm >> 6 == 0 && (modrm & 7) == 5)
         flush->displacement += (Long)place + flush->length;
     return True;

@@ -12,6 +12,7 @@ typedef struct {
     Int base, index;     /* numbers of registers, -1 for none */
     Int shift;
     Long displacement;   /* with the next instruction's address, where the address is relative to that */
+    Bool half_address;   /* its low 32 bits alone count, before the segment is added */
     Bool thread_segment; /* of fs */
 } Flush;
 

@@ -1,10 +1,15 @@
 #include "events.h"
+#include "bases.h"
 #include "dirty.h"
 #include "labels.h"
+#include "old.h"
 #include "options.h"
 #include "output.h"
+#include "pending.h"
 #include "pools.h"
 #include "threads.h"
+#include "turns.h"
+#include "windows.h"
 
 enum { WORD_BYTES = 8, MOST_CLAIMED = 4096 };
 
@@ -14,40 +19,58 @@ Notes notes;
  * non-temporal stores. */
 static struct {
     enum { NOTHING, STEPS, FLUSH } kind;
-    Int thread;
+    ThreadId thread;
     Addr instruction;
     const HChar *label;
     ULong address;
     SizeT length;
-    UChar bytes[WORD_BYTES];
+    UChar bytes[WORD_BYTES], old[WORD_BYTES];
+    Bool has_old;
 } waiting;
 
-static Int running(void) {
+static ThreadId running(void) {
     ThreadId thread = VG_(get_running_tid)();
-    return thread_number(thread == VG_INVALID_THREADID ? 1 : thread);
+    return thread == VG_INVALID_THREADID ? 1 : thread;
 }
 
-static void write_store(Int thread, ULong address, const UChar *bytes, SizeT length, const HChar *label) {
-    if (begin_event("store", thread)) {
-        put_address(address);
-        put_bytes(bytes, length);
+static void write_store(FollowedStore store, const HChar *label) {
+    store.written = begin_event("store", store.thread);
+    if (store.written) {
+        put_address(store.address);
+        put_bytes(store.bytes, store.length);
         end_event(label);
     }
+    follow_store(&store);
+    mark_stored(store.address, store.length);
+    event_passed(store.thread);
+    give_way_at_line(store.address / LINE_BYTES, store.thread);
 }
 
-static void write_line_flush(const HChar *word, Int thread, ULong address, const HChar *label) {
-    if (begin_event(word, thread)) {
-        put_address(address & ~(ULong)(LINE_BYTES - 1));
+static void write_line_flush(FlushKind kind, ThreadId thread, ULong address, Addr instruction, const HChar *label) {
+    static const HChar *const words[] = {"clwb", "clflushopt", "clflush"};
+    ULong line = address & ~(ULong)(LINE_BYTES - 1);
+    Bool written = begin_event(words[kind], thread);
+    if (written) {
+        put_address(line);
         end_event(label);
     }
+    if (kind == CLFLUSH)
+        follow_full_flush(line);
+    else
+        follow_flush(thread, line, instruction, written);
+    event_passed(thread);
 }
 
 void settle_events(void) {
-    if (waiting.kind == STEPS)
-        write_store(waiting.thread, waiting.address, waiting.bytes, waiting.length, waiting.label);
-    else if (waiting.kind == FLUSH)
-        write_line_flush("clflushopt", waiting.thread, waiting.address, waiting.label);
+    Int kind = waiting.kind;
     waiting.kind = NOTHING;
+    if (kind == STEPS)
+        write_store((FollowedStore){.thread = waiting.thread, .address = waiting.address, .bytes = waiting.bytes,
+                                    .old = waiting.has_old ? waiting.old : NULL, .length = waiting.length,
+                                    .instruction = waiting.instruction},
+                    waiting.label);
+    else if (kind == FLUSH)
+        write_line_flush(CLFLUSHOPT, waiting.thread, waiting.address, waiting.instruction, waiting.label);
 }
 
 void forget_events(void) {
@@ -68,8 +91,10 @@ static Bool next_piece(Addr *start, SizeT *length, ULong *address, SizeT *piece)
     SizeT room;
     while (*length > 0) {
         if (find_in_pools(*start, address, &room)) {
-            *piece = to_end_of_word(*address, *length < room ? *length : room);
-            return True;
+            *piece = within_file(*address, to_end_of_word(*address, *length < room ? *length : room));
+            if (*piece > 0)
+                return True;
+            notes.behind_end++;
         }
         SizeT skipped = to_end_of_word(*start, *length);
         *start += skipped;
@@ -78,16 +103,34 @@ static Bool next_piece(Addr *start, SizeT *length, ULong *address, SizeT *piece)
     return False;
 }
 
+/* What stands in memory already, and is noted behind the event that is written now. */
+static Addr rest_start;
+static SizeT rest_length;
+
+void restore_rest_in_bases(void) {
+    Addr start = rest_start;
+    SizeT length = rest_length, piece;
+    ULong address;
+    for (; next_piece(&start, &length, &address, &piece); start += piece, length -= piece)
+        restore_in_bases(address, find_old(start, piece), piece);
+}
+
 void note_store(Addr start, SizeT length, Addr instruction) {
     ULong address;
     SizeT piece;
     const HChar *label = NULL;
     for (; next_piece(&start, &length, &address, &piece); start += piece, length -= piece) {
+        rest_start = start;
+        rest_length = length;
         settle_events();
+        rest_start += piece;
+        rest_length -= piece;
         if (label == NULL)
             label = label_of_running(instruction);
         mark_dirty(address);
-        write_store(running(), address, (const UChar *)start, piece, label);
+        write_store((FollowedStore){.thread = running(), .address = address, .bytes = (const UChar *)start,
+                                    .old = find_old(start, piece), .length = piece, .instruction = instruction},
+                    label);
     }
 }
 
@@ -99,13 +142,21 @@ static Bool joins(ULong address, SizeT length, Addr instruction) {
            (address == waiting.address + waiting.length || address + length == waiting.address);
 }
 
-static void join(ULong address, const UChar *bytes, SizeT length) {
-    if (address < waiting.address) {
-        VG_(memmove)(waiting.bytes + length, waiting.bytes, waiting.length);
-        VG_(memcpy)(waiting.bytes, bytes, length);
+static void put_beside(UChar *joined, const UChar *bytes, SizeT length, Bool below) {
+    if (below)
+        VG_(memmove)(joined + length, joined, waiting.length);
+    VG_(memcpy)(below ? joined : joined + waiting.length, bytes, length);
+}
+
+static void join(ULong address, Addr start, SizeT length) {
+    Bool below = address < waiting.address;
+    const UChar *old = find_old(start, length);
+    put_beside(waiting.bytes, (const UChar *)start, length, below);
+    if (old != NULL)
+        put_beside(waiting.old, old, length, below);
+    waiting.has_old = waiting.has_old && old != NULL;
+    if (below)
         waiting.address = address;
-    } else
-        VG_(memcpy)(waiting.bytes + waiting.length, bytes, length);
     waiting.length += length;
 }
 
@@ -114,10 +165,13 @@ void note_step(Addr start, SizeT length, Addr instruction) {
     SizeT piece;
     for (; next_piece(&start, &length, &address, &piece); start += piece, length -= piece) {
         if (joins(address, piece, instruction)) {
-            join(address, (const UChar *)start, piece);
+            join(address, start, piece);
             continue;
         }
+        rest_start = start;
+        rest_length = length;
         settle_events();
+        rest_length = 0;
         mark_dirty(address);
         waiting.label = label_of_running(instruction);
         waiting.kind = STEPS;
@@ -126,6 +180,9 @@ void note_step(Addr start, SizeT length, Addr instruction) {
         waiting.address = address;
         waiting.length = piece;
         VG_(memcpy)(waiting.bytes, (const UChar *)start, piece);
+        waiting.has_old = find_old(start, piece) != NULL;
+        if (waiting.has_old)
+            VG_(memcpy)(waiting.old, find_old(start, piece), piece);
     }
 }
 
@@ -133,7 +190,7 @@ void note_streamed(Addr start, SizeT length, Addr instruction) {
     ULong address;
     SizeT piece;
     for (; next_piece(&start, &length, &address, &piece); start += piece, length -= piece) {
-        Int thread = running();
+        ThreadId thread = running();
         if (waiting.kind == FLUSH && waiting.thread == thread && waiting.address / LINE_BYTES == address / LINE_BYTES)
             forget_events();
         note_store(start, piece, instruction);
@@ -143,20 +200,19 @@ void note_streamed(Addr start, SizeT length, Addr instruction) {
         waiting.instruction = instruction;
         waiting.label = label_of_running(instruction);
         waiting.address = address;
-        set_open_flush(VG_(get_running_tid)(), OPEN_FLUSH);
+        set_open_flush(thread, OPEN_FLUSH);
     }
 }
 
 void note_flush(FlushKind kind, Addr place, Addr instruction) {
-    static const HChar *const words[] = {"clwb", "clflushopt", "clflush"};
     ULong address;
     SizeT room;
     if (find_in_pools(place, &address, &room)) {
         settle_events();
-        write_line_flush(words[kind], running(), address, label_of_running(instruction));
+        write_line_flush(kind, running(), address, instruction, label_of_running(instruction));
         if (kind != CLFLUSH)
             set_open_flush(VG_(get_running_tid)(), OPEN_FLUSH);
-    } else if (had_pools() && recording == RECORDING) {
+    } else if (had_mappings() && recording == RECORDING) {
         if (notes.other_flushes++ == 0)
             notes.first_other_flush = label_of_running(instruction);
     }
@@ -164,14 +220,16 @@ void note_flush(FlushKind kind, Addr place, Addr instruction) {
 
 static void write_fence(const HChar *word, ThreadId thread, const HChar *label) {
     settle_events();
-    if (begin_event(word, thread_number(thread)))
+    if (begin_event(word, thread))
         end_event(label);
+    follow_fence(thread);
     set_open_flush(thread, NO_FLUSH);
+    event_passed(thread);
     write_events();
 }
 
 void note_fence(Bool full, Addr instruction) {
-    if (had_pools())
+    if (had_mappings())
         write_fence(full ? "mfence" : "sfence", VG_(get_running_tid)(), label_of_running(instruction));
 }
 
@@ -197,7 +255,9 @@ void note_bytes(ThreadId thread, ULong address, const UChar *bytes, SizeT length
     while (length > 0) {
         SizeT piece = to_end_of_word(address, length);
         mark_dirty(address);
-        write_store(thread_number(thread), address, bytes, piece, label);
+        write_store((FollowedStore){.thread = thread, .address = address, .bytes = bytes, .length = piece,
+                                    .instruction = VG_(get_IP)(thread)},
+                    label);
         address += piece;
         bytes += piece;
         length -= piece;
@@ -209,54 +269,79 @@ void note_synchronized(ThreadId thread, ULong from, ULong end) {
     ULong line;
     settle_events();
     for (line = take_dirty(from, end); line < end; line = take_dirty(line, end)) {
-        write_line_flush("clwb", thread_number(thread), line, label_of(thread));
+        write_line_flush(CLWB, thread, line, VG_(get_IP)(thread), label_of(thread));
         any = True;
     }
     if (any)
         write_fence("sfence", thread, label_of(thread));
 }
 
-/* The part of a claimed range that is one range of an assertion, from its start on. */
-static Bool next_claimed(Addr *start, SizeT *length, ULong *address, SizeT *piece) {
-    SizeT room;
-    if (*length == 0)
+Claimed claimed_memory(Addr start, SizeT length) {
+    return (Claimed){False, start, length};
+}
+
+Claimed claimed_file(Int descriptor, ULong offset, SizeT length) {
+    const Pool *pool = pool_of(descriptor);
+    Bool found = pool != NULL && offset < POOL_SPAN && length <= POOL_SPAN - offset;
+    if (!found && length > 0)
+        notes.claims_outside++;
+    return (Claimed){True, found ? pool_address(pool, offset) : 0, found ? length : 0};
+}
+
+/* The part of a claimed range that is one range of an assertion, from its start on, which is taken off it. */
+static Bool next_claimed(Claimed *range, ULong *address, SizeT *piece) {
+    SizeT room = range->length;
+    if (range->length == 0)
         return False;
-    if (!find_in_pools(*start, address, &room)) {
+    if (range->in_file)
+        *address = range->start;
+    else if (!find_in_pools(range->start, address, &room)) {
         notes.claims_outside++;
         return False;
     }
-    *piece = *length < room ? *length : room;
+    *piece = range->length < room ? range->length : room;
     if (*piece > MOST_CLAIMED)
         *piece = MOST_CLAIMED;
+    range->start += *piece;
+    range->length -= *piece;
     return True;
 }
 
-void note_is_persist(ThreadId thread, Addr start, SizeT length, const HChar *label) {
+void note_is_persist(ThreadId thread, Claimed range, const HChar *label) {
     ULong address;
     SizeT piece;
     settle_events();
-    for (; next_claimed(&start, &length, &address, &piece); start += piece, length -= piece)
-        if (begin_event("isPersist", thread_number(thread))) {
+    while (next_claimed(&range, &address, &piece)) {
+        if (begin_event("isPersist", thread)) {
             put_address(address);
             put_number(piece);
             end_event(label);
         }
+        event_passed(thread);
+    }
 }
 
-void note_is_ordered_before(ThreadId thread, Addr first, SizeT first_length, Addr second, SizeT second_length, const HChar *label) {
+/* An order can't be judged where the later range was stored to outside of the window: when the first became safe is not known. */
+static void write_ordered(ThreadId thread, ULong one, SizeT piece, ULong two, SizeT other, const HChar *label) {
+    if (recording == RECORDING && was_stored_outside(two, other))
+        notes.set_aside++;
+    else if (begin_event("isOrderedBefore", thread)) {
+        put_address(one);
+        put_number(piece);
+        put_address(two);
+        put_number(other);
+        end_event(label);
+    }
+    event_passed(thread);
+}
+
+void note_is_ordered_before(ThreadId thread, Claimed first, Claimed second, const HChar *label) {
     ULong one, two;
     SizeT piece, other;
     settle_events();
-    for (; next_claimed(&first, &first_length, &one, &piece); first += piece, first_length -= piece) {
-        Addr at = second;
-        SizeT rest = second_length;
-        for (; next_claimed(&at, &rest, &two, &other); at += other, rest -= other)
-            if (begin_event("isOrderedBefore", thread_number(thread))) {
-                put_address(one);
-                put_number(piece);
-                put_address(two);
-                put_number(other);
-                end_event(label);
-            }
+    while (next_claimed(&first, &one, &piece)) {
+        Claimed rest = second;
+        while (next_claimed(&rest, &two, &other))
+            write_ordered(thread, one, piece, two, other, label);
     }
 }

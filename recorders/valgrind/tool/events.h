@@ -12,6 +12,8 @@ typedef struct {
     ULong other_flushes;               /* of memory that is in no pool */
     const HChar *first_other_flush;    /* its label */
     ULong claims_outside, kernel_unknown;
+    ULong set_aside; /* claims of order that a window can't judge */
+    ULong behind_end; /* stores to a file's last page, behind its end */
 } Notes;
 
 extern Notes notes;
@@ -31,9 +33,22 @@ void note_locked(Addr instruction);
 void note_bytes(ThreadId thread, ULong address, const UChar *bytes, SizeT length);
 void note_synchronized(ThreadId thread, ULong from, ULong end);
 
+/* A range that is claimed: of memory, or of a pool's file. */
+typedef struct {
+    Bool in_file;
+    ULong start; /* in memory; or in the trace, where its file is a pool */
+    SizeT length;
+} Claimed;
+
+Claimed claimed_memory(Addr start, SizeT length);
+Claimed claimed_file(Int descriptor, ULong offset, SizeT length);
+
 /* Claims, with their label. */
-void note_is_persist(ThreadId thread, Addr start, SizeT length, const HChar *label);
-void note_is_ordered_before(ThreadId thread, Addr first, SizeT first_length, Addr second, SizeT second_length, const HChar *label);
+void note_is_persist(ThreadId thread, Claimed range, const HChar *label);
+void note_is_ordered_before(ThreadId thread, Claimed first, Claimed second, const HChar *label);
+
+/* Puts back in bases what stood before stores that are not noted yet, though they are in memory. */
+void restore_rest_in_bases(void);
 
 /* Writes what is still being put together. */
 void settle_events(void);

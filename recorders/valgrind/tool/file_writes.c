@@ -1,13 +1,14 @@
 #include "file_writes.h"
+#include "bases.h"
+#include "emptied.h"
 #include "events.h"
 #include "pools.h"
 #include "syscalls.h"
 
-enum { PIECE = 4096, PUNCHES = 2, COLLAPSES = 8, ZEROES = 16, INSERTS = 32 };
-enum { WRITE_THROUGH = 0x1000 /* O_DSYNC, a part of O_SYNC */, THROUGH_FLAGS = 2 | 4 /* RWF_DSYNC, RWF_SYNC */ };
-
-/* The words that a call is going to empty, by their places in the file: they were not zero before it. */
-static XArray *emptied;
+enum { PIECE = 4096, PATH_BYTES = 4200, PUNCHES = 2, COLLAPSES = 8, ZEROES = 16, INSERTS = 32 };
+enum { WRITE_THROUGH = 0x1000 /* O_DSYNC, a part of O_SYNC */ };
+/* The flags of pwritev2. */
+enum { THROUGH = 2 | 4 /* RWF_DSYNC, RWF_SYNC */, APPENDS = 16 /* RWF_APPEND */, NEVER_APPENDS = 32 /* RWF_NOAPPEND */ };
 
 void note_system_store(ThreadId thread, Addr start, SizeT length) {
     ULong address;
@@ -43,115 +44,115 @@ static ULong begun_at(Int descriptor, ULong length) {
     return (ULong)VG_(lseek)(descriptor, 0, VKI_SEEK_CUR) - length;
 }
 
-static void written(ThreadId thread, Int descriptor, ULong offset, ULong length, Bool through) {
+static void written(ThreadId thread, Int descriptor, ULong offset, ULong length, UWord write_flags) {
     const Pool *pool = pool_of(descriptor);
     if (pool == NULL || length == 0)
         return;
     Int flags = VG_(fcntl)(descriptor, VKI_F_GETFL, 0);
-    if (flags & VKI_O_APPEND)
+    if ((write_flags & APPENDS) || ((flags & VKI_O_APPEND) && !(write_flags & NEVER_APPENDS)))
         offset = pool_bytes(pool) - length;
     note_file(thread, pool, offset, length);
-    if (through || (flags & WRITE_THROUGH))
+    if ((write_flags & THROUGH) || (flags & WRITE_THROUGH))
         note_synchronized(thread, pool_address(pool, offset), pool_address(pool, offset + length));
 }
 
 /* The place behind a range that a call has copied to: its own pointer, or the descriptor's position. */
 static void copied(ThreadId thread, Int descriptor, const UWord *place, ULong length) {
     ULong offset = place != NULL ? (ULong)*place - length : begun_at(descriptor, length);
-    written(thread, descriptor, offset, length, False);
+    written(thread, descriptor, offset, length, 0);
 }
 
-/* Finds the words of [from, end) that are not zero. */
-static void find_emptied(const Pool *pool, ULong from, ULong end) {
-    UChar bytes[PIECE];
-    SizeT at;
-    if (emptied == NULL)
-        emptied = VG_(newXA)(VG_(malloc), "file_writes.emptied", VG_(free), sizeof(ULong));
-    while (from < end) {
-        SizeT piece = end - from < PIECE ? (SizeT)(end - from) : PIECE, got = read_pool(pool, from, bytes, piece);
-        for (at = 0; at < got; at++)
-            if (bytes[at] != 0) {
-                ULong place = from + at;
-                VG_(addToXA)(emptied, &place);
-            }
-        if (got < piece)
-            break;
-        from += piece;
-    }
+/* The file that a call names by a descriptor of a folder and a path. */
+static Pool *pool_named(Int folder, const HChar *path) {
+    HChar whole[PATH_BYTES];
+    if (!VG_(am_is_valid_for_client)((Addr)path, 1, VKI_PROT_READ))
+        return NULL;
+    if (path[0] == '/' || folder == VKI_AT_FDCWD)
+        return pool_at(path);
+    VG_(snprintf)(whole, sizeof whole, "/proc/self/fd/%d/%s", folder, path);
+    return pool_at(whole);
 }
 
-static void forget_emptied(void) {
-    if (emptied != NULL)
-        VG_(dropTailXA)(emptied, VG_(sizeXA)(emptied));
+/* Of a call that opens a file: its flags. */
+static UWord opening_flags(UInt call, const UWord *arguments) {
+    return call == __NR_open ? arguments[1] : call == __NR_openat ? arguments[2] : VKI_O_CREAT | VKI_O_TRUNC | VKI_O_WRONLY;
 }
 
-/* The bytes that were emptied, word by word. */
-static void note_emptied(ThreadId thread, const Pool *pool) {
-    static const UChar zeroes[8];
-    Word at = 0, count = emptied == NULL ? 0 : VG_(sizeXA)(emptied);
-    while (at < count) {
-        ULong first = *(ULong *)VG_(indexXA)(emptied, at);
-        SizeT length = 1;
-        while (at + (Word)length < count && *(ULong *)VG_(indexXA)(emptied, at + (Word)length) == first + length &&
-               (first + length) % 8 != 0)
-            length++;
-        note_bytes(thread, pool_address(pool, first), zeroes, length);
-        notes.by_system++;
-        at += (Word)length;
-    }
-    forget_emptied();
+/* Of a call that may cut the file: finds what it is going to empty. */
+static void before_cutting(ThreadId thread, UInt call, const UWord *arguments) {
+    const Pool *pool = NULL;
+    ULong from = 0;
+    if (call == __NR_ftruncate || call == __NR_truncate) {
+        pool = call == __NR_ftruncate ? pool_of((Int)arguments[0]) : pool_named(VKI_AT_FDCWD, (const HChar *)arguments[0]);
+        from = arguments[1];
+    } else if (opening_flags(call, arguments) & VKI_O_TRUNC)
+        pool = call == __NR_openat ? pool_named((Int)arguments[0], (const HChar *)arguments[1])
+                                   : pool_named(VKI_AT_FDCWD, (const HChar *)arguments[0]);
+    if (pool != NULL)
+        find_emptied(thread, pool, from, pool_bytes(pool));
+}
+
+/* Whether a call writes to the file of its first argument, or of its third. */
+static Bool writes_to(UInt call, const UWord *arguments, Int *descriptor) {
+    *descriptor = (Int)arguments[call == __NR_copy_file_range || call == __NR_splice ? 2 : 0];
+    return call == __NR_write || call == __NR_writev || call == __NR_pwrite64 || call == __NR_pwritev || call == __NR_pwritev2 ||
+           call == __NR_sendfile || call == __NR_copy_file_range || call == __NR_splice || call == __NR_ftruncate ||
+           call == __NR_fallocate;
 }
 
 void before_file_call(ThreadId thread, UInt call, const UWord *arguments) {
-    const Pool *pool;
-    if (call != __NR_ftruncate && call != __NR_fallocate)
+    Int descriptor;
+    if (!had_pools() && !options.written)
         return;
-    forget_emptied();
-    pool = pool_of((Int)arguments[0]);
-    if (pool == NULL)
-        return;
-    if (call == __NR_ftruncate)
-        find_emptied(pool, arguments[1], pool_bytes(pool));
-    else if (arguments[1] & (PUNCHES | ZEROES))
-        find_emptied(pool, arguments[2], arguments[2] + arguments[3]);
+    if (writes_to(call, arguments, &descriptor) && opened(descriptor))
+        keep_bases();
+    switch (call) {
+    case __NR_ftruncate:
+    case __NR_truncate:
+    case __NR_open:
+    case __NR_openat:
+    case __NR_creat:
+        before_cutting(thread, call, arguments);
+        break;
+    case __NR_fallocate:
+        if ((arguments[1] & (PUNCHES | ZEROES)) && pool_of(descriptor) != NULL)
+            find_emptied(thread, pool_of(descriptor), arguments[2], arguments[2] + arguments[3]);
+        break;
+    default:
+        break;
+    }
 }
 
+/* Told where a call opened a file, cut it, made it longer or moved bytes in it. */
 static void after_shaping(ThreadId thread, UInt call, const UWord *arguments, ULong result) {
-    const Pool *pool;
-    if (call == __NR_ftruncate || call == __NR_fallocate) {
-        pool = pool_of((Int)arguments[0]);
-        if (pool != NULL)
-            note_emptied(thread, pool);
-        if (pool != NULL && call == __NR_fallocate && (arguments[1] & (COLLAPSES | INSERTS)))
-            system_counts.cut_files++;
-    } else if (call == __NR_open || call == __NR_openat || call == __NR_creat) {
-        UWord flags = call == __NR_open ? arguments[1] : call == __NR_openat ? arguments[2] : VKI_O_TRUNC;
-        if ((flags & VKI_O_TRUNC) && pool_of((Int)result) != NULL)
-            system_counts.cut_files++;
-    } else if (call == __NR_truncate && had_pools())
-        system_counts.unseen_writes++;
-}
-
-static Bool is_through(UInt call, const UWord *arguments) {
-    return call == __NR_pwritev2 && (arguments[5] & THROUGH_FLAGS) != 0;
+    Bool opens = call == __NR_open || call == __NR_openat || call == __NR_creat, by_name = call == __NR_truncate;
+    Int descriptor = opens ? (Int)result : (Int)arguments[0];
+    if (opens && opened(descriptor))
+        keep_bases();
+    Pool *pool = by_name ? pool_named(VKI_AT_FDCWD, (const HChar *)arguments[0]) : pool_of(descriptor);
+    if (pool != NULL)
+        pool_may_be_cut(pool);
+    note_emptied(thread);
+    if (call == __NR_fallocate && (arguments[1] & (COLLAPSES | INSERTS)) && pool != NULL)
+        system_counts.cut_files++;
 }
 
 void after_file_call(ThreadId thread, UInt call, const UWord *arguments, ULong result) {
     Int descriptor = (Int)arguments[0];
-    if (!had_pools())
+    if (!had_pools() && !options.written)
         return;
     switch (call) {
     case __NR_write:
     case __NR_writev:
-        written(thread, descriptor, begun_at(descriptor, result), result, False);
+        written(thread, descriptor, begun_at(descriptor, result), result, 0);
         break;
     case __NR_pwrite64:
     case __NR_pwritev:
-        written(thread, descriptor, arguments[3], result, False);
+        written(thread, descriptor, arguments[3], result, 0);
         break;
     case __NR_pwritev2: {
         Bool at_position = arguments[3] == (UWord)-1;
-        written(thread, descriptor, at_position ? begun_at(descriptor, result) : arguments[3], result, is_through(call, arguments));
+        written(thread, descriptor, at_position ? begun_at(descriptor, result) : arguments[3], result, arguments[5]);
         break;
     }
     case __NR_sendfile:
@@ -161,8 +162,15 @@ void after_file_call(ThreadId thread, UInt call, const UWord *arguments, ULong r
     case __NR_splice:
         copied(thread, (Int)arguments[2], (const UWord *)arguments[3], result);
         break;
-    default:
+    case __NR_open:
+    case __NR_openat:
+    case __NR_creat:
+    case __NR_ftruncate:
+    case __NR_truncate:
+    case __NR_fallocate:
         after_shaping(thread, call, arguments, result);
+        break;
+    default:
         break;
     }
 }

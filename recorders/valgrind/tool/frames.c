@@ -31,9 +31,8 @@ static void copy(HChar *to, const HChar *from, SizeT room, SizeT length) {
     to[length] = '\0';
 }
 
-/* The length of a function's name without its parameters: up to a parenthesis that is not part of `(anonymous namespace)` or
- * `operator()`. */
-static SizeT name_length(const HChar *name, SizeT length) {
+/* A parenthesis begins the parameters unless it is part of `(anonymous namespace)` or `operator()`. */
+SizeT name_length(const HChar *name, SizeT length) {
     SizeT at;
     for (at = 1; at < length; at++) {
         Bool is_operator = at >= 8 && VG_(strncmp)(name + at - 8, "operator", 8) == 0;

@@ -24,4 +24,7 @@ Bool is_in_object(Addr address);
 /* Whether an address is in the C library or the loader, whose lines are there where their debug symbols are installed. */
 Bool is_in_c_library(Addr address);
 
+/* The length of a function's name without its parameters. */
+SizeT name_length(const HChar *name, SizeT length);
+
 #endif

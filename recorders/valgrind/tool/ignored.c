@@ -7,6 +7,8 @@ typedef struct {
     ULong start, length;
 } Span;
 
+ULong ended_ignoring;
+
 static XArray *registered; /* of memory: what the program calls persistent */
 static XArray *ignored;    /* of the trace, not in order */
 
@@ -34,34 +36,49 @@ static void ignore(Addr start, SizeT length) {
     }
 }
 
-/* Takes a range out of what is registered; how many bytes of it were. */
-static SizeT unregister(Addr start, SizeT length) {
-    XArray *list = spans(&registered);
-    Addr end = start + length;
+/* Takes a range out of a list; how many bytes of it were there. */
+static SizeT take_out(XArray **of, ULong start, ULong length) {
+    XArray *list = spans(of);
+    ULong end = start + length;
     SizeT taken = 0;
     Word at;
     for (at = VG_(sizeXA)(list) - 1; at >= 0; at--) {
         Span old = *(Span *)VG_(indexXA)(list, at);
-        Addr old_end = old.start + old.length, from = old.start > start ? old.start : start, to = old_end < end ? old_end : end;
+        ULong old_end = old.start + old.length, from = old.start > start ? old.start : start, to = old_end < end ? old_end : end;
         if (from >= to)
             continue;
         taken += to - from;
         VG_(removeIndexXA)(list, at);
         if (old.start < start)
-            add_span(&registered, old.start, start - old.start);
+            add_span(of, old.start, start - old.start);
         if (end < old_end)
-            add_span(&registered, end, old_end - end);
+            add_span(of, end, old_end - end);
     }
     return taken;
 }
 
+/* Memory that was ignored is freed, or used again: what comes there now is not to be hidden. */
+static void end_ignoring(Addr start, SizeT length) {
+    ULong address;
+    SizeT room, piece;
+    for (; length > 0; start += piece, length -= piece) {
+        piece = 1;
+        if (find_in_pools(start, &address, &room)) {
+            piece = room < length ? room : length;
+            ended_ignoring += take_out(&ignored, address, piece) > 0;
+        }
+    }
+}
+
 void persistent(Addr start, SizeT length) {
-    unregister(start, length);
+    take_out(&registered, start, length);
     add_span(&registered, start, length);
+    if (!covers_mapping(start, length))
+        end_ignoring(start, length);
 }
 
 void not_persistent(Addr start, SizeT length) {
-    unregister(start, length);
+    take_out(&registered, start, length);
     if (!covers_mapping(start, length))
         ignore(start, length);
 }

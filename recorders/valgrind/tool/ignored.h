@@ -5,11 +5,14 @@
 
 #include "core.h"
 
-/* The program says this of memory. What it says of all of a mapping is that the mapping ends. */
+/* The program says this of memory. What it says of all of a mapping is that the mapping begins or ends. A range that is persistent
+ * again, as that of a lock that was freed, is ignored no more. */
 void not_persistent(Addr start, SizeT length);
 void persistent(Addr start, SizeT length);
 void declared_clean(Addr start, SizeT length);
 
+/* How many ranges were ignored for a time. */
+extern ULong ended_ignoring;
 
 /* As pmemcheck answers: 0 where nothing of a range is persistent memory, 1 where all of it is, 2 where a part is. */
 Int how_persistent(Addr start, SizeT length);

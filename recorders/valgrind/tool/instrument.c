@@ -4,6 +4,8 @@
 #include "decode.h"
 #include "events.h"
 #include "labels.h"
+#include "old.h"
+#include "options.h"
 #include "turns.h"
 
 enum { CLFLUSHOPT_AND_CLWB = 1 << 23 | 1 << 24 };
@@ -46,16 +48,17 @@ static void on_unread_mask(Addr start, SizeT length, Addr instruction) {
 
 static void on_locked(Addr instruction) {
     note_locked(instruction);
+    give_way();
 }
 
-static void on_flush(VexGuestAMD64State *registers, Addr place, UWord kind) {
+static void on_flush(Addr place, UWord kind) {
     note_flush((FlushKind)(kind & 3), place, (Addr)(kind >> 2));
-    give_way(registers);
+    give_way();
 }
 
-static void on_fence(VexGuestAMD64State *registers, UWord full, Addr instruction) {
+static void on_fence(UWord full, Addr instruction) {
     note_fence(full != 0, instruction);
-    give_way(registers);
+    give_way();
 }
 
 /* Valgrind 3.19 says of its processor that it has no clflushopt and no clwb, and libraries would do without. */
@@ -69,6 +72,10 @@ static void on_unknown(Addr instruction) {
     unknown_instruction = instruction;
     VG_(snprintf)(unknown_text, sizeof unknown_text, "%s that Valgrind does not know (bytes %02x %02x %02x %02x %02x %02x) at %s",
                   name_unknown(instruction), bytes[0], bytes[1], bytes[2], bytes[3], bytes[4], bytes[5], place_of(instruction));
+}
+
+static void on_before_store(Addr start, SizeT length) {
+    keep_old(start, length);
 }
 
 /* Stores. */
@@ -155,8 +162,7 @@ static void add_helper_store(Writer *writer, const IRDirty *helper) {
 static void add_fence(Writer *writer) {
     FenceKind kind = decode_fence(writer->instruction, writer->length);
     if (kind != NO_FENCE)
-        call_with_registers(writer, "on_fence", on_fence, offsetof(VexGuestAMD64State, guest_IP_AT_SYSCALL),
-                            constant(kind == MFENCE), constant(writer->instruction));
+        call(writer, "on_fence", on_fence, NULL, constant(kind == MFENCE), constant(writer->instruction), NULL, NULL);
 }
 
 /* CPUID, with what it was asked before. */
@@ -191,11 +197,34 @@ static void add_after(Writer *writer, const IRSB *code, IRStmt *statement) {
     }
 }
 
+static void add_before_store(Writer *writer, IRExpr *address, UInt length) {
+    call(writer, "on_before_store", on_before_store, may_be_in_pools(writer, address), address, constant(length), NULL, NULL);
+}
+
+static void add_before(Writer *writer, const IRSB *code, IRStmt *statement) {
+    if (statement->tag == Ist_Store)
+        add_before_store(writer, statement->Ist.Store.addr, (UInt)sizeofIRType(typeOfIRExpr(code->tyenv, statement->Ist.Store.data)));
+    else if (statement->tag == Ist_StoreG) {
+        const IRStoreG *store = statement->Ist.StoreG.details;
+        add_before_store(writer, store->addr, (UInt)sizeofIRType(typeOfIRExpr(code->tyenv, store->data)));
+    } else if (statement->tag == Ist_CAS) {
+        const IRCAS *swap = statement->Ist.CAS.details;
+        add_before_store(writer, swap->addr, (UInt)sizeofIRType(typeOfIRExpr(code->tyenv, swap->dataLo)) * (swap->dataHi != NULL ? 2 : 1));
+    } else if (statement->tag == Ist_Dirty) {
+        const IRDirty *helper = statement->Ist.Dirty.details;
+        if (helper->mFx == Ifx_Write || helper->mFx == Ifx_Modify)
+            add_before_store(writer, helper->mAddr, (UInt)helper->mSize);
+    }
+}
+
 static void add_statement(Writer *writer, const IRSB *code, IRStmt *statement) {
+    Bool first = writer->instruction == 0;
     if (statement->tag == Ist_IMark) {
         writer->instruction = statement->Ist.IMark.addr;
         writer->length = statement->Ist.IMark.len;
     }
+    if (options.base && writer->instruction != 0)
+        add_before(writer, code, statement);
     if (statement->tag == Ist_CAS)
         call(writer, "on_locked", on_locked, NULL, constant(writer->instruction), NULL, NULL, NULL);
     if (statement->tag == Ist_Dirty && VG_(strstr)(statement->Ist.Dirty.details->cee->name, "CPUID") != NULL)
@@ -204,6 +233,8 @@ static void add_statement(Writer *writer, const IRSB *code, IRStmt *statement) {
         addStmtToIRSB(writer->code, statement);
     if (writer->instruction != 0)
         add_after(writer, code, statement);
+    if (statement->tag == Ist_IMark && first)
+        add_plain_unlock(writer);
     if (statement->tag == Ist_IMark)
         add_entry(writer);
 }
@@ -222,14 +253,31 @@ static void add_flush(Writer *writer, const Flush *flush) {
         IRExpr *scaled = computed(writer, Ity_I64, IRExpr_Binop(Iop_Shl64, index, IRExpr_Const(IRConst_U8((UChar)flush->shift))));
         address = sum(writer, address, scaled);
     }
+    if (flush->half_address)
+        address = computed(writer, Ity_I64, IRExpr_Binop(Iop_And64, address, constant(0xffffffff)));
     if (flush->thread_segment) {
         IRExpr *segment = IRExpr_Get(offsetof(VexGuestAMD64State, guest_FS_CONST), Ity_I64);
         address = sum(writer, address, computed(writer, Ity_I64, segment));
     }
-    call_with_registers(writer, "on_flush", on_flush, offsetof(VexGuestAMD64State, guest_IP_AT_SYSCALL), address,
-                        constant(writer->instruction << 2 | (ULong)flush->kind));
+    call(writer, "on_flush", on_flush, NULL, address, constant(writer->instruction << 2 | (ULong)flush->kind), NULL, NULL);
     writer->code->jumpkind = Ijk_Boring;
     writer->code->next = constant(writer->instruction + (Addr)flush->length);
+}
+
+static Bool may_make_event(const IRSB *code) {
+    Int at;
+    for (at = 0; at < code->stmts_used; at++)
+        if (code->stmts[at] != NULL && (code->stmts[at]->tag == Ist_Store || code->stmts[at]->tag == Ist_CAS ||
+                                        code->stmts[at]->tag == Ist_MBE || code->stmts[at]->tag == Ist_StoreG))
+            return True;
+    return code->jumpkind == Ijk_NoDecode;
+}
+
+/* Where the thread is to give way the code begins again, by a jump backwards. */
+static void add_way_out(Writer *writer, Addr begin) {
+    IRExpr *flag = computed(writer, Ity_I64, IRExpr_Load(Iend_LE, Ity_I64, constant((ULong)&gives_way)));
+    IRExpr *set = computed(writer, Ity_I1, IRExpr_Binop(Iop_CmpNE64, flag, constant(0)));
+    addStmtToIRSB(writer->code, IRStmt_Exit(set, Ijk_Boring, IRConst_U64(begin), writer->layout->offset_IP));
 }
 
 IRSB *instrument(VgCallbackClosure *closure, IRSB *code, const VexGuestLayout *layout, const VexGuestExtents *extents,
@@ -237,9 +285,15 @@ IRSB *instrument(VgCallbackClosure *closure, IRSB *code, const VexGuestLayout *l
     Writer writer = {.code = deepCopyIRSBExceptStmts(code), .layout = layout};
     Flush flush;
     Int at;
-    for (at = 0; at < code->stmts_used; at++)
+    Bool looks = turns_are_drawn() && may_make_event(code);
+    for (at = 0; at < code->stmts_used; at++) {
+        if (looks && code->stmts[at] != NULL && code->stmts[at]->tag == Ist_IMark) {
+            add_way_out(&writer, code->stmts[at]->Ist.IMark.addr);
+            looks = False;
+        }
         if (code->stmts[at] != NULL && code->stmts[at]->tag != Ist_NoOp)
             add_statement(&writer, code, code->stmts[at]);
+    }
     if ((code->jumpkind == Ijk_NoDecode || code->jumpkind == Ijk_InvalICache) && writer.instruction != 0) {
         if (decode_flush(writer.instruction, &flush))
             add_flush(&writer, &flush);

@@ -134,6 +134,14 @@ const HChar *label_of_caller(ThreadId thread) {
     return count > 1 ? label_of_addresses(addresses + 1, count - 1) : label_of_addresses(addresses, count);
 }
 
+const HChar *label_of_past(Addr instruction) {
+    static HChar text[LABEL_BYTES + 32];
+    if (!options.labels)
+        return NULL;
+    VG_(snprintf)(text, sizeof text, "%s (before the window)", label_of_addresses(&instruction, 1));
+    return text;
+}
+
 const HChar *place_of(Addr instruction) {
     Frame frames[MOST_INLINED];
     static HChar place[PLACE_BYTES];

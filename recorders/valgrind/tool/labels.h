@@ -11,6 +11,9 @@ const HChar *label_at(ThreadId thread, Addr instruction);
 /* At the first instruction of a function: the label of its call. */
 const HChar *label_of_caller(ThreadId thread);
 
+/* The label of what was done before the window by an instruction, without callers. */
+const HChar *label_of_past(Addr instruction);
+
 /* The place alone of an instruction. */
 const HChar *place_of(Addr instruction);
 

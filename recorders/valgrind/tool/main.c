@@ -3,33 +3,49 @@
 #include "calls.h"
 #include "children.h"
 #include "core.h"
+#include "descriptors.h"
 #include "events.h"
 #include "instrument.h"
 #include "options.h"
 #include "output.h"
+#include "processes.h"
 #include "requests.h"
 #include "summary.h"
 #include "syscalls.h"
 #include "threads.h"
 #include "turns.h"
+#include "windows.h"
 
 static void no_debug_options(void) {
 }
 
 static void begin(void) {
+    Bool has_trace;
+    check_options();
+    reserve_descriptors();
     begin_threads();
     begin_calls();
-    if (options.start_after != NULL)
-        recording = BEFORE_WINDOW;
-    open_trace(path_for_process());
-    begin_bases();
+    begin_windows();
+    has_trace = begin_processes();
+    if (!has_trace)
+        leave_trace();
+    else if (options.one_trace && options.parent_trace != NULL)
+        open_common_trace(path_for_process());
+    else {
+        open_trace(path_for_process());
+        begin_bases();
+    }
+    give_up_process_turn();
 }
 
 static void finish(Int status) {
-    if (recording != OFF)
+    if (recording == OFF)
+        print_unrecorded();
+    else if (!options.one_trace || end_process())
         print_summary();
     else
-        print_unrecorded();
+        print_summary_of_process();
+    give_up_process_turn();
 }
 
 static void before_options(void) {
@@ -45,7 +61,6 @@ static void before_options(void) {
     VG_(needs_syscall_wrapper)(before_call, after_call);
     VG_(track_post_mem_write)(written_by_system);
     VG_(track_pre_thread_ll_create)(thread_created);
-    VG_(track_pre_thread_first_insn)(thread_begins);
     VG_(track_pre_thread_ll_exit)(thread_ends);
     VG_(track_start_client_code)(turn_starts);
     VG_(atfork)(NULL, in_parent, in_child);

@@ -7,10 +7,11 @@ void refuse(const HChar *what, const HChar *name) {
     VG_(exit)(2);
 }
 
-static void add_prefix(const HChar *prefix) {
-    if (options.prefix_count == MOST_PREFIXES)
-        refuse("more than 64 prefixes of pools; the last one is ", prefix);
-    options.prefixes[options.prefix_count++] = prefix;
+static void add_name(const HChar *text, NameKind kind, Bool written) {
+    if (options.name_count == MOST_NAMES)
+        refuse("more than 64 names of pools; the last one is ", text);
+    options.names[options.name_count++] = (PoolName){text, kind, written};
+    options.written = options.written || written;
 }
 
 static Int argument_number(const HChar **text) {
@@ -42,24 +43,44 @@ static void add_persist(const HChar *text) {
 Bool take_option(const HChar *word) {
     const HChar *text;
     if VG_STR_CLO (word, "--pool", text)
-        add_prefix(text);
+        add_name(text, PREFIX_OR_FILE, False);
+    else if VG_STR_CLO (word, "--pool-file", text)
+        add_name(text, VERY_FILE, False);
+    else if VG_STR_CLO (word, "--pool-prefix", text)
+        add_name(text, PREFIX, False);
+    else if VG_STR_CLO (word, "--file", text)
+        add_name(text, VERY_FILE, True);
+    else if VG_STR_CLO (word, "--file-prefix", text)
+        add_name(text, PREFIX, True);
     else if VG_STR_CLO (word, "--persist", text)
         add_persist(text);
     else if VG_STR_CLO (word, "--trace", options.trace) {
     } else if VG_STR_CLO (word, "--parent-trace", options.parent_trace) {
     } else if VG_STR_CLO (word, "--start-after", options.start_after) {
     } else if VG_STR_CLO (word, "--stop-at", options.stop_at) {
+    } else if VG_BINT_CLO (word, "--first-event", options.first_event, 1, 2000000000) {
+    } else if VG_BINT_CLO (word, "--last-event", options.last_event, 1, 2000000000) {
     } else if VG_BOOL_CLO (word, "--labels", options.labels) {
     } else if VG_BOOL_CLO (word, "--base", options.base) {
     } else if VG_BINT_CLO (word, "--callers", options.callers, 0, MOST_CALLERS) {
     } else if VG_BOOL_CLO (word, "--locked-fences", options.locked_fences) {
     } else if VG_BOOL_CLO (word, "--pmdk", options.pmdk) {
     } else if VG_BOOL_CLO (word, "--record-children", options.children) {
+    } else if VG_BOOL_CLO (word, "--one-trace", options.one_trace) {
+    } else if VG_BINT_CLO (word, "--first-process", options.first_process, 0, 2147483647) {
     } else if VG_BINT_CLO (word, "--switch-every", options.switch_every, 0, 1000000) {
     } else if VG_BINT_CLO (word, "--seed", options.seed, 0, 1000000) {
     } else
         return False;
     return True;
+}
+
+void check_options(void) {
+    Bool window = options.start_after != NULL || options.stop_at != NULL || options.first_event > 0 || options.last_event > 0;
+    if (options.one_trace && window)
+        refuse("--one-trace has no windows: record all, or each process by itself", "");
+    if (options.one_trace && options.pmdk)
+        refuse("--one-trace and --pmdk don't go together: PMDK lets one process at a time open a pool", "");
 }
 
 void print_options(void) {

@@ -4,7 +4,17 @@
 
 #include "core.h"
 
-enum { MOST_PREFIXES = 64, MOST_FUNCTIONS = 64, MOST_CALLERS = 12 };
+enum { MOST_NAMES = 64, MOST_FUNCTIONS = 64, MOST_CALLERS = 12 };
+
+/* A name by which files are pools: a file's own, or how names begin. PREFIX_OR_FILE is a prefix too, of which the last lines say what
+ * it took, since a file's own name may have been meant. */
+typedef enum { VERY_FILE, PREFIX, PREFIX_OR_FILE } NameKind;
+
+typedef struct {
+    const HChar *text;
+    NameKind kind;
+    Bool written; /* the file is a pool from its opening on, and need not be mapped */
+} PoolName;
 
 /* A function whose returns claim that a range is saved: the numbers of its arguments that are address and length, from 1. */
 typedef struct {
@@ -13,8 +23,9 @@ typedef struct {
 } PersistFunction;
 
 typedef struct {
-    const HChar *prefixes[MOST_PREFIXES]; /* of the names of pools; none: each file that is mapped shared and may be written */
-    Int prefix_count;
+    PoolName names[MOST_NAMES]; /* none: each file that is mapped shared and may be written is a pool */
+    Int name_count;
+    Bool written; /* some name is of files that need not be mapped */
     const HChar *trace;
     const HChar *parent_trace; /* set by the recorder of a parent, for a child that it has begun */
     Bool labels;
@@ -23,9 +34,12 @@ typedef struct {
     Bool locked_fences;
     Bool pmdk;
     Bool children;
+    Bool one_trace;    /* all processes write one trace */
+    Int first_process; /* set with parent_trace: the number of the process in which the program began */
     Int switch_every; /* a thread gives way after one in so many fences and flushes; 0: never */
     Int seed;
     const HChar *start_after, *stop_at;
+    Int first_event, last_event; /* the window, by numbers of events of the whole run; 0: none */
     PersistFunction persists[MOST_FUNCTIONS];
     Int persist_count;
 } Options;
@@ -33,6 +47,9 @@ typedef struct {
 extern Options options;
 
 Bool take_option(const HChar *word);
+
+/* Refuses options that don't go together. */
+void check_options(void);
 void print_options(void);
 
 /* Ends the run before the program begins, with a line on standard error. */

@@ -1,30 +1,36 @@
 #include "output.h"
+#include "children.h"
+#include "common.h"
+#include "cut.h"
 #include "options.h"
+#include "threads.h"
 
 /* pmtrim reads no more of a labels file. */
-enum { BUFFER_BYTES = 1 << 16, LONGEST_LINE = 1024, MOST_LABEL_BYTES = 67108864 };
-
-/* A file that is written in whole lines. */
-typedef struct {
-    Int descriptor;
-    HChar text[BUFFER_BYTES];
-    Int length;
-    ULong written;
-} LineFile;
+enum { LONGEST_LINE = 1024, MOST_LABEL_BYTES = 67108864 };
 
 Recording recording = RECORDING;
 EventCounts event_counts;
 
-static LineFile trace_file = {.descriptor = -1}, label_file = {.descriptor = -1};
-static const HChar *path_of_trace;
+static Int descriptors[FILE_COUNT] = {-1, -1};
+static const HChar *path_of_trace, *place_of_trace;
 static const HChar HEAD[] = "pmtrace 2 64\n";
 
-static void put(LineFile *file, const HChar *text) {
-    while (*text != '\0')
-        file->text[file->length++] = *text++;
+static HChar *end_of(WrittenFile file) {
+    return common->trace.text[file] + common->trace.now.waiting[file];
 }
 
-static void put_digits(LineFile *file, ULong value, UInt base) {
+static void set_end(WrittenFile file, const HChar *end) {
+    common->trace.now.waiting[file] = (Int)(end - common->trace.text[file]);
+}
+
+static void put(WrittenFile file, const HChar *text) {
+    HChar *end = end_of(file);
+    while (*text != '\0')
+        *end++ = *text++;
+    set_end(file, end);
+}
+
+static HChar *spell(HChar *end, ULong value, UInt base) {
     HChar digits[20];
     Int count = 0;
     do {
@@ -32,11 +38,33 @@ static void put_digits(LineFile *file, ULong value, UInt base) {
         value /= base;
     } while (value > 0);
     while (count > 0)
-        file->text[file->length++] = digits[--count];
+        *end++ = digits[--count];
+    return end;
 }
 
-static Int create(const HChar *path) {
-    SysRes opened = VG_(open)(path, VKI_O_CREAT | VKI_O_TRUNC | VKI_O_WRONLY, 0666);
+/* For the processes that go on after this one. */
+static void keep_progress(void) {
+    TraceText *trace = &common->trace;
+    UInt next = 1 - trace->counts;
+    if (!options.one_trace)
+        return;
+    trace->kept[next] = trace->now;
+    __atomic_store_n(&trace->counts, next, __ATOMIC_RELEASE);
+}
+
+void catch_up(void) {
+    TraceText *trace = &common->trace;
+    trace->now = trace->kept[trace->counts];
+    if (trace->ended && recording == RECORDING)
+        recording = ENDED;
+}
+
+ULong event_count(void) {
+    return common->trace.now.events;
+}
+
+static Int open_file(const HChar *path, Int flags) {
+    SysRes opened = VG_(open)(path, flags | VKI_O_WRONLY, 0666);
     if (sr_isError(opened)) {
         VG_(printf)("pmtrim-record: %s can't be written: %s\n", path, VG_(strerror)(sr_Err(opened)));
         VG_(exit)(2);
@@ -50,125 +78,165 @@ static const HChar *label_path(void) {
     return path;
 }
 
-void open_trace(const HChar *path) {
+static void open_files(const HChar *path, Int flags) {
     path_of_trace = path;
-    trace_file.descriptor = create(path);
+    place_of_trace = absolute(path);
+    descriptors[TRACE_FILE] = open_file(path, flags);
     if (options.labels)
-        label_file.descriptor = create(label_path());
-    put(&trace_file, HEAD);
+        descriptors[LABEL_FILE] = open_file(label_path(), flags);
+}
+
+void open_trace(const HChar *path) {
+    open_files(path, VKI_O_CREAT | VKI_O_TRUNC);
+    begin_cut(place_of_trace);
+    put(TRACE_FILE, HEAD);
+    keep_progress();
+}
+
+void open_common_trace(const HChar *path) {
+    open_files(path, 0);
+    name_cut(place_of_trace);
 }
 
 const HChar *trace_path(void) {
     return path_of_trace;
 }
 
-static void cut(Int descriptor, ULong length) {
-    if (descriptor >= 0) {
-        VG_(do_syscall)(__NR_ftruncate, (RegWord)descriptor, (RegWord)length, 0, 0, 0, 0, 0, 0);
-        VG_(lseek)(descriptor, (Off64T)length, VKI_SEEK_SET);
+const HChar *trace_place(void) {
+    return place_of_trace;
+}
+
+static void cut(WrittenFile file, ULong length) {
+    if (descriptors[file] >= 0) {
+        VG_(do_syscall)(__NR_ftruncate, (RegWord)descriptors[file], (RegWord)length, 0, 0, 0, 0, 0, 0);
+        VG_(lseek)(descriptors[file], (Off64T)length, VKI_SEEK_SET);
     }
 }
 
 void restart_trace(void) {
-    event_counts.before += event_counts.events + event_counts.missing;
-    event_counts.events = event_counts.missing = 0;
-    trace_file.length = label_file.length = 0;
-    trace_file.written = label_file.written = 0;
-    cut(trace_file.descriptor, 0);
-    cut(label_file.descriptor, 0);
-    put(&trace_file, HEAD);
+    event_counts.before += event_count() + event_counts.missing;
+    event_counts.missing = 0;
+    common->trace.now = (Progress){0};
+    common->trace.ended = False;
+    cut(TRACE_FILE, 0);
+    cut(LABEL_FILE, 0);
+    put(TRACE_FILE, HEAD);
+    keep_progress();
     recording = RECORDING;
 }
 
 void end_trace(const HChar *why) {
     if (recording == RECORDING || recording == BEFORE_WINDOW) {
         recording = ENDED;
-        VG_(printf)("pmtrim-record: %s: the trace ends after event %llu: %s\n", path_of_trace, event_counts.events, why);
+        common->trace.ended = True;
+        VG_(printf)("pmtrim-record: %s: the trace ends after event %llu: %s\n", path_of_trace, event_count(), why);
+        write_cut(event_count(), why);
     }
 }
 
-/* How many bytes of the text were written; fewer than it has where a write fails, with why. */
-static Int write_text(LineFile *file, const HChar **why) {
-    Int done = 0;
-    while (done < file->length) {
-        Int count = VG_(write)(file->descriptor, file->text + done, file->length - done);
-        if (count <= 0) {
-            *why = count < 0 ? VG_(strerror)((UWord)(-count)) : "nothing is written";
-            break;
-        }
-        done += count;
+/* Writes what waits: how many bytes were written, and why it were not all, or NULL. */
+static const HChar *write_text(WrittenFile file, Int *done) {
+    const HChar *text = common->trace.text[file];
+    Int length = common->trace.now.waiting[file];
+    if (options.one_trace)
+        VG_(lseek)(descriptors[file], (Off64T)common->trace.now.written[file], VKI_SEEK_SET);
+    for (*done = 0; *done < length;) {
+        Int count = VG_(write)(descriptors[file], text + *done, length - *done);
+        if (count <= 0)
+            return count < 0 ? VG_(strerror)((UWord)(-count)) : "nothing is written";
+        *done += count;
     }
-    return done;
+    return NULL;
+}
+
+static void is_written(WrittenFile file) {
+    Progress *now = &common->trace.now;
+    now->written[file] += (ULong)now->waiting[file];
+    now->waiting[file] = 0;
+    keep_progress();
 }
 
 /* Cuts the trace behind its last whole line that was written: the events after it are missing. */
 static void give_up(Int done, const HChar *why) {
+    const HChar *text = common->trace.text[TRACE_FILE];
     Int lost = 0, kept = done, at;
-    while (kept > 0 && trace_file.text[kept - 1] != '\n')
+    while (kept > 0 && text[kept - 1] != '\n')
         kept--;
-    for (at = kept; at < trace_file.length; at++)
-        lost += trace_file.text[at] == '\n';
-    cut(trace_file.descriptor, trace_file.written + (ULong)kept);
-    event_counts.events -= (ULong)lost;
+    for (at = kept; at < common->trace.now.waiting[TRACE_FILE]; at++)
+        lost += text[at] == '\n';
+    cut(TRACE_FILE, common->trace.now.written[TRACE_FILE] + (ULong)kept);
+    common->trace.now.events -= (ULong)lost;
     event_counts.missing += (ULong)lost;
     end_trace(why);
 }
 
 static void end_labels(const HChar *why) {
-    VG_(printf)("pmtrim-record: %s.labels ends before event %llu: %s\n", path_of_trace, event_counts.events, why);
-    label_file.descriptor = -1;
+    VG_(printf)("pmtrim-record: %s.labels ends before event %llu: %s\n", path_of_trace, event_count(), why);
+    common->trace.labels_ended = True;
+}
+
+static Bool has_labels(void) {
+    return descriptors[LABEL_FILE] >= 0 && !common->trace.labels_ended;
 }
 
 static void write_labels(void) {
-    const HChar *why = NULL;
-    if (label_file.length > 0 && write_text(&label_file, &why) < label_file.length) {
-        cut(label_file.descriptor, label_file.written);
+    const HChar *why;
+    Int done;
+    if (common->trace.now.waiting[LABEL_FILE] == 0)
+        return;
+    why = write_text(LABEL_FILE, &done);
+    if (why != NULL) {
+        cut(LABEL_FILE, common->trace.now.written[LABEL_FILE]);
         end_labels(why);
     }
-    label_file.written += (ULong)label_file.length;
-    label_file.length = 0;
+    is_written(LABEL_FILE);
 }
 
 static void put_label(const HChar *label) {
-    if (label_file.written + (ULong)label_file.length + LONGEST_LINE > MOST_LABEL_BYTES) {
+    if (common->trace.now.written[LABEL_FILE] + (ULong)common->trace.now.waiting[LABEL_FILE] + LONGEST_LINE > MOST_LABEL_BYTES) {
         write_labels();
         end_labels("pmtrim reads at most 67108864 bytes of labels (--callers 0 makes them shorter)");
         return;
     }
-    put_digits(&label_file, event_counts.events, 10);
-    put(&label_file, " ");
-    put(&label_file, label);
-    put(&label_file, "\n");
+    set_end(LABEL_FILE, spell(end_of(LABEL_FILE), event_count(), 10));
+    put(LABEL_FILE, " ");
+    put(LABEL_FILE, label);
+    put(LABEL_FILE, "\n");
 }
 
 void write_events(void) {
-    const HChar *why = NULL;
-    if (trace_file.length > 0 && trace_file.descriptor >= 0) {
-        Int done = write_text(&trace_file, &why);
-        if (done < trace_file.length)
+    if (common->trace.now.waiting[TRACE_FILE] > 0 && descriptors[TRACE_FILE] >= 0) {
+        Int done;
+        const HChar *why = write_text(TRACE_FILE, &done);
+        if (why != NULL)
             give_up(done, why);
-        trace_file.written += (ULong)trace_file.length;
-        trace_file.length = 0;
+        is_written(TRACE_FILE);
     }
 }
 
 void write_trace(void) {
     write_events();
-    if (label_file.descriptor >= 0)
+    if (has_labels())
         write_labels();
 }
 
 void leave_trace(void) {
     recording = OFF;
-    trace_file.length = label_file.length = 0;
-    trace_file.written = label_file.written = 0;
-    trace_file.descriptor = label_file.descriptor = -1;
+    common->trace.now = (Progress){0};
+    common->trace.ended = common->trace.labels_ended = False;
+    descriptors[TRACE_FILE] = descriptors[LABEL_FILE] = -1;
     event_counts = (EventCounts){0};
 }
 
+/* Ends the trace after the events that wait, as far as these can be written. */
+static void end_full(const HChar *why) {
+    write_events();
+    end_trace(why);
+}
+
 static Bool has_room(void) {
-    if (event_counts.events == MOST_EVENTS)
-        end_trace("a trace has at most 1000000 events");
+    if (event_count() == MOST_EVENTS)
+        end_full("a trace has at most 1000000 events");
     return recording == RECORDING;
 }
 
@@ -181,42 +249,57 @@ static void count_missing(void) {
         event_counts.missing++;
 }
 
-Bool begin_event(const HChar *word, Int thread) {
-    if (thread >= MOST_THREADS)
-        end_trace("a trace has at most 256 threads, and here is the 257th");
+Bool begin_event_by(const HChar *word, Int number) {
+    if (number < 0)
+        end_full("a trace has at most 256 threads at one time, and here is the 257th");
     if (recording != RECORDING || !has_room()) {
         count_missing();
         return False;
     }
-    event_counts.events++;
-    put(&trace_file, word);
-    put_number((ULong)thread);
+    common->trace.now.events++;
+    put(TRACE_FILE, word);
+    put_number((ULong)number);
     return True;
 }
 
+Bool begin_event(const HChar *word, ThreadId thread) {
+    if (recording != RECORDING) {
+        count_missing();
+        return False;
+    }
+    Int number = thread_number(thread);
+    if (number >= 0)
+        note_acting(number);
+    return begin_event_by(word, number);
+}
+
 void put_number(ULong number) {
-    put(&trace_file, " ");
-    put_digits(&trace_file, number, 10);
+    put(TRACE_FILE, " ");
+    set_end(TRACE_FILE, spell(end_of(TRACE_FILE), number, 10));
 }
 
 void put_address(ULong address) {
-    put(&trace_file, " 0x");
-    put_digits(&trace_file, address, 16);
+    put(TRACE_FILE, " 0x");
+    set_end(TRACE_FILE, spell(end_of(TRACE_FILE), address, 16));
 }
 
 void put_bytes(const UChar *bytes, SizeT length) {
+    HChar *end = end_of(TRACE_FILE);
     SizeT at;
-    put(&trace_file, " ");
+    *end++ = ' ';
     for (at = 0; at < length; at++) {
-        trace_file.text[trace_file.length++] = "0123456789abcdef"[bytes[at] >> 4];
-        trace_file.text[trace_file.length++] = "0123456789abcdef"[bytes[at] & 15];
+        *end++ = "0123456789abcdef"[bytes[at] >> 4];
+        *end++ = "0123456789abcdef"[bytes[at] & 15];
     }
+    set_end(TRACE_FILE, end);
 }
 
 void end_event(const HChar *label) {
-    put(&trace_file, "\n");
-    if (label != NULL && label_file.descriptor >= 0)
+    put(TRACE_FILE, "\n");
+    if (label != NULL && has_labels())
         put_label(label);
-    if (trace_file.length > BUFFER_BYTES - LONGEST_LINE || label_file.length > BUFFER_BYTES - LONGEST_LINE)
+    keep_progress();
+    if (common->trace.now.waiting[TRACE_FILE] > TEXT_BYTES_WAITING - LONGEST_LINE ||
+        common->trace.now.waiting[LABEL_FILE] > TEXT_BYTES_WAITING - LONGEST_LINE)
         write_trace();
 }

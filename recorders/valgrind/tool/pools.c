@@ -1,13 +1,15 @@
 #include "pools.h"
+#include "common.h"
+#include "descriptors.h"
 #include "options.h"
 
-enum { LARGEST_STORE = 4096, PATH_BYTES = 4200, KIND_OF_SHARING = 15 };
+enum { LARGEST_STORE = 4096, KIND_OF_SHARING = 15, LINK_BYTES = 64 };
 
-struct Pool {
-    ULong device, inode;
-    HChar *name;
-    Int descriptor; /* of the recorder's own, to read by; -1: none */
-};
+/* What this process has of a pool: a descriptor of the recorder's own, to read by; -1 where it can't be read. */
+typedef struct {
+    Bool known;
+    Int descriptor;
+} OwnPool;
 
 typedef struct {
     Addr start;
@@ -19,14 +21,18 @@ typedef struct {
 UWord pools_begin, pools_span;
 PoolCounts pool_counts;
 
-static Pool pools[MOST_POOLS];
-static Int pool_count;
+static OwnPool own_pools[MOST_POOLS];
 static Mapping *mappings;
 static Int mapping_count, mapping_room;
 static Int last_found;
+static Bool any_mapped;
 
 Bool had_pools(void) {
-    return pool_count > 0;
+    return common->pools.count > 0;
+}
+
+Bool had_mappings(void) {
+    return any_mapped;
 }
 
 Bool find_in_pools(Addr place, ULong *address, SizeT *room) {
@@ -92,57 +98,120 @@ static SizeT whole_pages(SizeT length) {
     return VG_PGROUNDUP(length);
 }
 
-/* The name of a descriptor's file; without prefixes each regular file that may be written counts as a pool. */
-static Bool is_pool_file(Int descriptor, const struct vg_stat *status, HChar *name) {
-    HChar link[64];
-    Int number;
-    VG_(sprintf)(link, "/proc/self/fd/%d", descriptor);
-    SSizeT length = VG_(readlink)(link, name, PATH_BYTES - 1);
-    if (length < 0)
-        return False;
-    name[length] = '\0';
-    if (options.prefix_count == 0)
-        return VKI_S_ISREG(status->mode) && (VG_(fcntl)(descriptor, VKI_F_GETFL, 0) & VKI_O_ACCMODE) == VKI_O_RDWR;
-    for (number = 0; number < options.prefix_count; number++)
-        if (VG_(strncmp)(name, options.prefixes[number], VG_(strlen)(options.prefixes[number])) == 0)
-            return True;
-    return False;
+static void name_link(HChar *link, Int descriptor) {
+    VG_(snprintf)(link, LINK_BYTES, "/proc/self/fd/%d", descriptor);
 }
 
-static Int open_to_read(Int descriptor) {
-    HChar link[64];
-    VG_(sprintf)(link, "/proc/self/fd/%d", descriptor);
-    SysRes opened = VG_(open)(link, VKI_O_RDONLY, 0);
-    if (sr_isError(opened)) {
-        pool_counts.unreadable++;
-        return -1;
-    }
-    return VG_(safe_fd)((Int)sr_Res(opened));
+/* The name of a descriptor's file; whether there is one. */
+static Bool read_name(Int descriptor, HChar *name) {
+    HChar link[LINK_BYTES];
+    name_link(link, descriptor);
+    SSizeT length = VG_(readlink)(link, name, MOST_PATH_BYTES - 1);
+    name[length < 0 ? 0 : length] = '\0';
+    return length >= 0;
 }
 
-static Int find_pool(const struct vg_stat *status) {
+static Bool fits(const PoolName *pool, const HChar *name) {
+    SizeT length = VG_(strlen)(pool->text);
+    return VG_(strncmp)(name, pool->text, length) == 0 && (pool->kind != VERY_FILE || name[length] == '\0');
+}
+
+/* The number of the word by which a file of this name is a pool; -1 if there is none. */
+static Int word_for(const HChar *name, Bool mapped) {
     Int number;
-    for (number = 0; number < pool_count; number++)
-        if (pools[number].device == status->dev && pools[number].inode == status->ino)
+    for (number = 0; number < options.name_count; number++)
+        if ((mapped || options.names[number].written) && fits(&options.names[number], name))
             return number;
     return -1;
 }
 
+/* Without names each regular file that is mapped and may be written counts as a pool. */
+static Bool is_pool_file(Int descriptor, const struct vg_stat *status, const HChar *name, Bool mapped) {
+    if (options.name_count == 0)
+        return VKI_S_ISREG(status->mode) && (VG_(fcntl)(descriptor, VKI_F_GETFL, 0) & VKI_O_ACCMODE) == VKI_O_RDWR;
+    return word_for(name, mapped) >= 0;
+}
+
+/* Opens a pool's file by some name, to read it. */
+static void learn(Int number, const HChar *name) {
+    own_pools[number] = (OwnPool){True, open_reserved(name, VKI_O_RDONLY)};
+    pool_counts.unreadable += own_pools[number].descriptor < 0;
+}
+
+static void learn_by(Int number, Int descriptor) {
+    HChar link[LINK_BYTES];
+    name_link(link, descriptor);
+    learn(number, link);
+}
+
+static Int descriptor_of(const Pool *pool) {
+    Int number = pool_number(pool);
+    if (!own_pools[number].known)
+        learn(number, pool->name);
+    return own_pools[number].descriptor;
+}
+
+/* When a file was made, where its file system tells; else 0. */
+static ULong born(Int descriptor) {
+    enum { BIRTH = 0x800 };
+    struct vki_statx found = {0};
+    SysRes done = VG_(do_syscall)(__NR_statx, (RegWord)descriptor, (RegWord) "", VKI_AT_EMPTY_PATH, BIRTH, (RegWord)&found, 0, 0, 0);
+    if (sr_isError(done) || (found.stx_mask & BIRTH) == 0)
+        return 0;
+    return (ULong)found.stx_btime.tv_sec * 1000000000 + found.stx_btime.tv_nsec;
+}
+
+static Int find_pool(const struct vg_stat *status) {
+    Int number;
+    for (number = 0; number < common->pools.count; number++)
+        if (common->pools.all[number].device == status->dev && common->pools.all[number].inode == status->ino)
+            return number;
+    return -1;
+}
+
+/* The pool that a descriptor is open for; -1 if it is none. The number of a file that all processes have left may be that of a new one. */
+static Int pool_of_file(Int descriptor, const struct vg_stat *status) {
+    Int number = find_pool(status);
+    if (number < 0 || own_pools[number].known)
+        return number;
+    if (common->pools.all[number].born != born(descriptor)) {
+        common->pools.all[number].inode = 0;
+        return -1;
+    }
+    learn_by(number, descriptor);
+    return number;
+}
+
+static Int add_pool(Int descriptor, const struct vg_stat *status, const HChar *name, Bool is_mapped) {
+    Int number = common->pools.count;
+    Pool *added = &common->pools.all[number];
+    *added = (Pool){.device = status->dev, .inode = status->ino, .born = born(descriptor), .by = word_for(name, is_mapped)};
+    VG_(strcpy)(added->name, name);
+    learn_by(number, descriptor);
+    common->pools.count++;
+    pool_may_be_cut(added);
+    return number;
+}
+
 /* The number of the pool that a descriptor is open for, a new one if it is one; -1 if not. */
-static Int known_pool(Int descriptor) {
+static Int known_pool(Int descriptor, Bool is_mapped) {
     struct vg_stat status;
-    HChar name[PATH_BYTES];
+    HChar name[MOST_PATH_BYTES];
     if (VG_(fstat)(descriptor, &status) != 0)
         return -1;
-    Int number = find_pool(&status);
-    if (number >= 0 || !is_pool_file(descriptor, &status, name))
+    Int number = pool_of_file(descriptor, &status);
+    if (number >= 0 || !read_name(descriptor, name) || !is_pool_file(descriptor, &status, name, is_mapped))
         return number;
-    if (pool_count == MOST_POOLS) {
+    if (common->pools.count == MOST_POOLS) {
         pool_counts.too_many++;
         return -1;
     }
-    pools[pool_count] = (Pool){status.dev, status.ino, VG_(strdup)("pools.name", name), open_to_read(descriptor)};
-    return pool_count++;
+    return add_pool(descriptor, &status, name, is_mapped);
+}
+
+Bool opened(Int descriptor) {
+    Int before = common->pools.count;
+    return options.written && known_pool(descriptor, False) >= before;
 }
 
 void mapped(Addr start, SizeT length, Int flags, Int descriptor, ULong offset) {
@@ -151,7 +220,8 @@ void mapped(Addr start, SizeT length, Int flags, Int descriptor, ULong offset) {
     Int sharing = flags & KIND_OF_SHARING;
     Bool shared = sharing == VKI_MAP_SHARED || sharing == (VKI_MAP_SHARED | VKI_MAP_PRIVATE);
     if (shared && (flags & VKI_MAP_ANONYMOUS) == 0) {
-        Int pool = known_pool(descriptor);
+        Int pool = known_pool(descriptor, True);
+        any_mapped = any_mapped || pool >= 0;
         if (pool >= 0 && (offset >= POOL_SPAN || length > POOL_SPAN - offset))
             pool_counts.too_far++;
         else if (pool >= 0)
@@ -179,17 +249,24 @@ void moved(Addr from, SizeT old_length, Addr to, SizeT new_length, Bool stays) {
 
 Pool *pool_of(Int descriptor) {
     struct vg_stat status;
-    if (pool_count == 0 || VG_(fstat)(descriptor, &status) != 0)
+    if (common->pools.count == 0 || VG_(fstat)(descriptor, &status) != 0)
+        return NULL;
+    return pool_numbered(pool_of_file(descriptor, &status));
+}
+
+Pool *pool_at(const HChar *path) {
+    struct vg_stat status;
+    if (common->pools.count == 0 || sr_isError(VG_(stat)(path, &status)))
         return NULL;
     return pool_numbered(find_pool(&status));
 }
 
 Pool *pool_numbered(Int number) {
-    return number >= 0 && number < pool_count ? &pools[number] : NULL;
+    return number >= 0 && number < common->pools.count ? &common->pools.all[number] : NULL;
 }
 
 Int pool_number(const Pool *pool) {
-    return (Int)(pool - pools);
+    return (Int)(pool - common->pools.all);
 }
 
 ULong pool_address(const Pool *pool, ULong offset) {
@@ -200,10 +277,15 @@ const HChar *pool_name(const Pool *pool) {
     return pool->name;
 }
 
+const PoolName *pool_taken_by(const Pool *pool) {
+    return pool->by < 0 ? NULL : &options.names[pool->by];
+}
+
 SizeT read_pool(const Pool *pool, ULong offset, void *buffer, SizeT length) {
+    Int descriptor = descriptor_of(pool);
     SizeT done = 0;
-    while (pool->descriptor >= 0 && done < length) {
-        SysRes got = VG_(pread)(pool->descriptor, (HChar *)buffer + done, (Int)(length - done), (OffT)(offset + done));
+    while (descriptor >= 0 && done < length) {
+        SysRes got = VG_(pread)(descriptor, (HChar *)buffer + done, (Int)(length - done), (OffT)(offset + done));
         if (sr_isError(got) || sr_Res(got) == 0)
             break;
         done += sr_Res(got);
@@ -213,7 +295,37 @@ SizeT read_pool(const Pool *pool, ULong offset, void *buffer, SizeT length) {
 
 ULong pool_bytes(const Pool *pool) {
     struct vg_stat status;
-    return pool->descriptor >= 0 && VG_(fstat)(pool->descriptor, &status) == 0 ? (ULong)status.size : 0;
+    Int descriptor = descriptor_of(pool);
+    return descriptor >= 0 && VG_(fstat)(descriptor, &status) == 0 ? (ULong)status.size : 0;
+}
+
+ULong pool_data_from(const Pool *pool, ULong offset) {
+    enum { SEEK_TO_DATA = 3 };
+    Int descriptor = descriptor_of(pool);
+    SysRes found;
+    if (descriptor < 0)
+        return POOL_SPAN;
+    found = VG_(do_syscall)(__NR_lseek, (RegWord)descriptor, (RegWord)offset, SEEK_TO_DATA, 0, 0, 0, 0, 0);
+    if (sr_isError(found))
+        return sr_Err(found) == VKI_ENXIO ? POOL_SPAN : offset;
+    return (ULong)sr_Res(found);
+}
+
+void pool_may_be_cut(Pool *pool) {
+    struct vg_stat status;
+    Int descriptor = descriptor_of(pool);
+    Bool ends = descriptor >= 0 && VG_(fstat)(descriptor, &status) == 0 && VKI_S_ISREG(status.mode);
+    pool->end = ends ? (ULong)status.size : POOL_SPAN;
+}
+
+SizeT within_file(ULong address, SizeT length) {
+    Pool *pool = &common->pools.all[address / POOL_SPAN];
+    ULong offset = address % POOL_SPAN;
+    if (offset + length > pool->end)
+        pool_may_be_cut(pool);
+    if (offset >= pool->end)
+        return 0;
+    return length < pool->end - offset ? length : (SizeT)(pool->end - offset);
 }
 
 Bool covers_mapping(Addr start, SizeT length) {

@@ -1,11 +1,10 @@
 #include "requests.h"
 #include "../pmtrim_record.h"
-#include "bases.h"
 #include "events.h"
 #include "ignored.h"
 #include "labels.h"
 #include "options.h"
-#include "output.h"
+#include "windows.h"
 
 /* The requests that PMDK makes of pmemcheck, as its pmemcheck.h numbers them. */
 enum {
@@ -24,23 +23,25 @@ static Bool take_claim(ThreadId thread, const UWord *words) {
     const HChar *label = label_at(thread, VG_(get_IP)(thread));
     switch (words[0]) {
     case PMTRIM_REQUEST_IS_PERSIST:
-        note_is_persist(thread, words[1], words[2], label);
+        note_is_persist(thread, claimed_memory(words[1], words[2]), label);
         return True;
     case PMTRIM_REQUEST_IS_ORDERED_BEFORE:
-        note_is_ordered_before(thread, words[1], words[2], words[3], words[4], label);
+        note_is_ordered_before(thread, claimed_memory(words[1], words[2]), claimed_memory(words[3], words[4]), label);
         return True;
+    case PMTRIM_REQUEST_FILE_IS_PERSIST:
+        note_is_persist(thread, claimed_file((Int)words[1], words[2], words[3]), label);
+        return True;
+    case PMTRIM_REQUEST_FILE_IS_ORDERED_BEFORE: {
+        const ULong *of_file = (const ULong *)words[1];
+        note_is_ordered_before(thread, claimed_file((Int)of_file[0], of_file[1], of_file[2]),
+                               claimed_file((Int)of_file[3], of_file[4], of_file[5]), label);
+        return True;
+    }
     case PMTRIM_REQUEST_START:
-        if (recording != OFF && recording != AFTER_WINDOW) {
-            forget_events();
-            restart_trace();
-            begin_bases();
-        }
+        begin_or_go_on(thread);
         return True;
     case PMTRIM_REQUEST_STOP:
-        if (recording == RECORDING) {
-            settle_events();
-            recording = AFTER_WINDOW;
-        }
+        close_window();
         return True;
     default:
         return False;

@@ -2,15 +2,19 @@
 #include "bases.h"
 #include "calls.h"
 #include "children.h"
+#include "cut.h"
 #include "events.h"
 #include "ignored.h"
 #include "instrument.h"
 #include "options.h"
 #include "output.h"
+#include "pending.h"
 #include "pools.h"
+#include "processes.h"
 #include "syscalls.h"
 #include "threads.h"
-#include "turns.h"
+#include "windows.h"
+#include "lock.h"
 
 enum { TEXT_BYTES = 4000 };
 
@@ -45,8 +49,12 @@ static void add_all_missing(void) {
     add_missing(notes.other_flushes, "flushes of memory that is in no pool");
     if (notes.other_flushes > 0 && notes.first_other_flush != NULL)
         add(", the first at %s", notes.first_other_flush);
+    add_missing(notes.behind_end, "stores behind the end of a pool's file");
     add_missing(notes.locked, "locked instructions as fences after flushes (--locked-fences notes them)");
     add_missing(notes.failed_masks, "masks of masked stores, which are noted whole");
+    add_missing(notes.set_aside, "claims that a range is saved before one that was stored to before the window");
+    add_missing(unfollowed_stores, "stores before the window that may not be safe, behind 4000000 others");
+    add_missing(unrestored_stores, "stores before the window that the base has, though they are not safe");
     add_missing(notes.claims_outside, "claims on memory that is in no pool");
     add_missing(call_counts.unreturned, "calls of a named function that did not return");
     add_missing(system_counts.unseen_writes, "calls of the system that may have written to a pool's file");
@@ -57,25 +65,87 @@ static void add_all_missing(void) {
     add_missing(lost_bases, "bases of pools");
     add_missing(unrecorded_children, "child processes (--trace-children yes records them)");
     add_missing(undrawn_turns, "turns that were drawn without the seed");
+    add_missing(refused_windows, "windows that the program asked for, which one trace of several processes has not");
 }
 
 static const HChar *recorder_name(void) {
     return "pmtrim-record: ";
 }
 
+static void add_switches(void) {
+    if (carried_events > 0)
+        add(", %llu carried into the window", carried_events);
+    if (thread_count() > 1)
+        add(", %llu switches between threads", switches().all);
+}
+
+/* Threads that never met, which no seed changes. */
+static void print_meeting(void) {
+    if (thread_count() > 1 && switches().back == 0)
+        VG_(printf)("%sthe threads ran one after another: none went on between two events of another one, so the trace shows no more than "
+                    "one thread would\n",
+                    recorder_name());
+}
+
+/* Why the trace has no event. */
+static const HChar *why_empty(void) {
+    if (had_pools())
+        return "no store, flush or fence of a pool came in the window";
+    return options.written ? "no file was opened or mapped that counts as a pool: see --file and --pool"
+                           : "no file was mapped that counts as a pool: see --pool";
+}
+
+/* Says beside a trace that did not end too early where it is not all of what happened all the same. */
+static void say_cut(void) {
+    if (recording == ENDED)
+        return;
+    if (event_count() == 0)
+        write_cut(0, why_empty());
+    else if (recording == AFTER_WINDOW && event_counts.after > 0)
+        write_cut(event_count(), "the window was closed here, and events came after it");
+    else
+        begin_cut(trace_place());
+}
+
+/* A name as a word for the shell, with an ending. */
+static void add_word(const HChar *name, const HChar *ending) {
+    const HChar *at;
+    Bool plain = True;
+    for (at = name; *at != '\0'; at++)
+        plain = plain && (VG_(isdigit)(*at) || (*at >= 'a' && *at <= 'z') || (*at >= 'A' && *at <= 'Z') ||
+                          VG_(strchr)("/._-+,:=@%", *at) != NULL);
+    add(plain ? "" : "'");
+    for (at = name; *at != '\0'; at++)
+        add(*at == '\'' ? "'\\''" : "%c", *at);
+    add("%s%s", ending, plain ? "" : "'");
+}
+
 /* The command that explains the trace, without the ranges that are ignored, if there are such. */
 static void add_next(ULong ignored) {
-    if (event_counts.events == 0) {
-        add(had_pools() ? "; no store, flush or fence of a pool came in the window"
-                        : "; no file was mapped that counts as a pool: see --pool");
+    if (event_count() == 0) {
+        add("; %s", why_empty());
         return;
     }
     add("; next: pmtrim explain ");
-    if (options.labels)
-        add("--labels %s.labels ", trace_path());
-    if (ignored > 0)
-        add("--ignore-file %s.ignore ", trace_path());
-    add("%s", trace_path());
+    if (options.labels) {
+        add("--labels ");
+        add_word(trace_path(), ".labels");
+        add(" ");
+    }
+    if (ignored > 0) {
+        add("--ignore-file ");
+        add_word(trace_path(), ".ignore");
+        add(" ");
+    }
+    add_word(trace_path(), "");
+}
+
+/* What became of the processes of one trace. */
+static void print_processes(void) {
+    UInt killed = processes_killed();
+    if (killed > 0)
+        VG_(printf)("%s%u process%s killed while it ran; the last thing that it did may be missing\n", recorder_name(), killed,
+                    killed == 1 ? " was" : "es were");
 }
 
 /* Which addresses the pools have, where there are several. */
@@ -86,23 +156,75 @@ static void print_pools(void) {
         VG_(printf)("%s%s has the addresses from 0x%llx on\n", recorder_name(), pool_name(pool), pool_address(pool, 0));
 }
 
+/* Which files were taken by the form of --pool that may mean a file or a prefix. */
+static void print_taken(void) {
+    const Pool *pool;
+    Int word, number, taken;
+    for (word = 0; word < options.name_count; word++) {
+        const PoolName *name = &options.names[word];
+        if (name->kind != PREFIX_OR_FILE)
+            continue;
+        length = 0;
+        taken = 0;
+        for (number = 0; (pool = pool_numbered(number)) != NULL; number++)
+            if (pool_taken_by(pool) == name)
+                add("%s%s", taken++ > 0 ? ", " : "", pool_name(pool));
+        VG_(printf)("%s--pool %s took %s; --pool=FILE takes one file, and --pool-prefix those whose names begin so\n", recorder_name(),
+                    name->text, taken > 0 ? text : "no file");
+    }
+}
+
+static void add_names(const HChar *const *names, Int count) {
+    Int at;
+    for (at = 0; at < count; at++)
+        add("%s%s", at > 0 ? ", " : "", names[at]);
+}
+
+/* The functions that were named and not called, and names that several functions have. */
+static void print_functions(void) {
+    const WantedName *name;
+    Int number;
+    Bool called;
+    for (number = 0; (name = wanted_function(number, &called)) != NULL; number++) {
+        length = 0;
+        if (!called) {
+            add("the function %s was never called by that name: is it inlined, or has it no symbol?", name->wanted);
+            add(name->similar_count > 0 ? " Called were: " : "");
+            add_names(name->similar, name->similar_count);
+        } else if (name->called_count > 1) {
+            add("%s is the name of several functions: ", name->wanted);
+            add_names(name->called, name->called_count);
+        } else
+            continue;
+        VG_(printf)("%s%s\n", recorder_name(), text);
+    }
+}
+
 void print_summary(void) {
     HChar path[TEXT_BYTES / 4];
-    const HChar *uncalled = uncalled_function();
     settle_events();
     write_trace();
     keep_bases();
-    length = 0;
+    say_cut();
+    print_processes();
     print_pools();
-    if (uncalled != NULL)
-        VG_(printf)("%sthe function %s was never called by that name: is it inlined, or has it no symbol?\n", recorder_name(), uncalled);
+    print_meeting();
+    print_taken();
+    print_functions();
+    length = 0;
     VG_(snprintf)(path, sizeof path, "%s.ignore", trace_path());
     ULong ignored = write_ignored(path);
     if (ignored > 0)
         VG_(printf)("%s%llu range%s that the program calls clean or not persistent %s in %s\n", recorder_name(), ignored,
                     ignored == 1 ? "" : "s", ignored == 1 ? "stands" : "stand", path);
-    add("%s%llu events of %d thread%s in %s", recorder_name(), event_counts.events, thread_count(), thread_count() == 1 ? "" : "s",
-        trace_path());
+    if (ended_ignoring > 0)
+        VG_(printf)("%s%llu range%s of that kind %s freed or used again, and %s not ignored\n", recorder_name(), ended_ignoring,
+                    ended_ignoring == 1 ? "" : "s", ended_ignoring == 1 ? "was" : "were", ended_ignoring == 1 ? "is" : "are");
+    add("%s%llu events of %llu thread%s", recorder_name(), event_count(), thread_count(), thread_count() == 1 ? "" : "s");
+    if (options.one_trace)
+        add(" of %u process%s", process_count(), process_count() == 1 ? "" : "es");
+    add(" in %s", trace_path());
+    add_switches();
     add_all_missing();
     add_next(ignored);
     VG_(printf)("%s\n", text);
@@ -111,8 +233,17 @@ void print_summary(void) {
                     recorder_name(), unknown_text);
 }
 
+void print_summary_of_process(void) {
+    length = 0;
+    add("%sprocess %d", recorder_name(), VG_(getpid)());
+    add_all_missing();
+    if (any_missing)
+        VG_(printf)("%s\n", text);
+    print_functions();
+}
+
 void print_unrecorded(void) {
     if (event_counts.missing > 0)
-        VG_(printf)("%s%llu events of a child process are not recorded; --trace-children yes records them\n", recorder_name(),
-                    event_counts.missing);
+        VG_(printf)("%s%llu events of a child process are not recorded; %s\n", recorder_name(), event_counts.missing,
+                    options.parent_trace != NULL ? "the first process had ended before" : "--trace-children yes records them");
 }

@@ -2,11 +2,13 @@
 #include "bases.h"
 #include "children.h"
 #include "dirty.h"
+#include "emptied.h"
 #include "events.h"
 #include "file_writes.h"
 #include "output.h"
 #include "pools.h"
-#include "turns.h"
+#include "lock.h"
+#include "robust.h"
 
 enum { KEEPS_OLD_MAPPING = 4, PAGE_BITS = 12, SYNCHRONOUS = 4 };
 
@@ -22,9 +24,13 @@ void before_call(ThreadId thread, UInt call, UWord *arguments, UInt count) {
     settle_events();
     write_trace();
     before_file_call(thread, call, arguments);
+    if (call == __NR_exit)
+        note_robust_locks(thread);
+    else if (call == __NR_exit_group)
+        note_all_robust_locks();
     if (call == __NR_execve || call == __NR_execveat)
-        before_execution();
-    enters_system(thread, call);
+        before_execution(call == __NR_execve ? (const HChar *)arguments[0] : NULL);
+    lock_enters_system(call, arguments);
 }
 
 void written_by_system(CorePart part, ThreadId thread, Addr start, SizeT length) {
@@ -92,6 +98,34 @@ static void after_futex(ThreadId thread, const UWord *arguments) {
         note_system_store(thread, arguments[4], sizeof(UInt));
 }
 
+/* What calls write to memory besides, and Valgrind does not tell of: the lengths of what they answer, and the second half of what
+ * capget does. */
+static void after_answering(ThreadId thread, UInt call, const UWord *arguments) {
+    enum { FIRST_VERSION = 0x19980330, HALF = 12 };
+    switch (call) {
+    case __NR_accept:
+    case __NR_accept4:
+    case __NR_getsockname:
+    case __NR_getpeername:
+        if (arguments[1] != 0)
+            note_system_store(thread, arguments[2], sizeof(UInt));
+        break;
+    case __NR_getsockopt:
+        note_system_store(thread, arguments[4], sizeof(UInt));
+        break;
+    case __NR_recvfrom:
+        if (arguments[4] != 0)
+            note_system_store(thread, arguments[5], sizeof(UInt));
+        break;
+    case __NR_capget:
+        if (arguments[1] != 0 && *(const UInt *)arguments[0] != FIRST_VERSION)
+            note_system_store(thread, arguments[1] + HALF, HALF);
+        break;
+    default:
+        break;
+    }
+}
+
 static void count_unseen(UInt call, const UWord *arguments) {
     if (!had_pools())
         return;
@@ -102,13 +136,20 @@ static void count_unseen(UInt call, const UWord *arguments) {
 }
 
 void after_call(ThreadId thread, UInt call, UWord *arguments, UInt count, SysRes result) {
-    leaves_system(thread);
-    if (sr_isError(result))
+    lock_leaves_system();
+    if (sr_isError(result)) {
+        forget_emptied(thread);
+        if (call == __NR_execve || call == __NR_execveat)
+            execution_failed();
         return;
+    }
     after_mapping(call, arguments, (Addr)sr_Res(result));
     after_file_call(thread, call, arguments, (ULong)sr_Res(result));
     after_synchronizing(thread, call, arguments);
+    after_answering(thread, call, arguments);
     if (call == __NR_futex)
         after_futex(thread, arguments);
+    else if (call == __NR_set_robust_list)
+        robust_list_set(thread, arguments[0]);
     count_unseen(call, arguments);
 }

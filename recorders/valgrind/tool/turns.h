@@ -1,5 +1,5 @@
-/* Whose turn it is. Valgrind runs one thread at a time and lets it run for long; here threads give way after fences and flushes,
- * and who is next is drawn from a seed, so that the same seed gives the same run of a program with the same input. */
+/* Whose turn it is. Valgrind runs one thread at a time and lets it run for long; here threads give way after what others may be
+ * waiting to see, and who is next is drawn from a seed, so that the same seed gives the same run of a program with the same input. */
 #ifndef TURNS_H
 #define TURNS_H
 
@@ -7,19 +7,35 @@
 
 void begin_turns(void);
 
-/* Lets the running thread give way at its next block of code, sometimes. */
-void give_way(VexGuestAMD64State *registers);
+/* A number below `count`, from the seed. */
+ULong draw(ULong count);
 
-/* Told by the core. */
+/* Who touched a line last: the thread and its process. The processes of a trace have a table of them in common. */
+enum { MOST_TOUCHED = 1 << 14 };
+
+typedef struct {
+    ULong line;
+    UInt process;
+    ThreadId thread;
+} Touched;
+
+/* Whether threads give way where they need not. */
+Bool turns_are_drawn(void);
+
+/* Whether the running thread is to give way. Translated code looks where it begins and has a store, flush or fence: the core itself looks
+ * only where code jumps backwards. */
+extern UWord gives_way;
+
+/* Lets the running thread give way at its next block of code, sometimes. As often as that, it costs no more than what is run. */
+void give_way(void);
+
+/* The running thread stores to a line or flushes it: it may give way where another thread did so before. */
+void give_way_at_line(ULong line, ThreadId thread);
+
+/* Told by the core: the thread runs code of the program, after so many blocks of code in all threads. */
 void turn_starts(ThreadId thread, ULong blocks);
-void turn_of_new_thread(void);
-void turn_of_ended_thread(ThreadId thread);
-void only_turn(ThreadId thread);
-void note_kernel_thread(ThreadId thread);
-void enters_system(ThreadId thread, UInt call);
-void leaves_system(ThreadId thread);
 
-/* How often the next thread could not be drawn from the seed, as a thread did not come to rest. */
-extern ULong undrawn_turns;
+/* The process is a copy of its parent, with one thread. */
+void only_turn(void);
 
 #endif

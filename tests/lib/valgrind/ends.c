@@ -21,8 +21,10 @@ static void save(int word) {
     save_value(word, (unsigned long)word + 1);
 }
 
-static void *save_one(void *word) {
-    save((int)(long)word);
+/* Without a fence: the number of the thread stays its own. */
+static void *leave_open(void *word) {
+    pool[(long)word] = (unsigned long)word;
+    __asm__ volatile("clwb (%0)" : : "r"(&pool[(long)word]) : "memory");
     return NULL;
 }
 
@@ -68,7 +70,7 @@ int main(int count, char **words) {
     if (strcmp(what, "threads") == 0)
         for (long number = 1; number < 300; number++) {
             pthread_t begun;
-            if (pthread_create(&begun, NULL, save_one, (void *)number) != 0)
+            if (pthread_create(&begun, NULL, leave_open, (void *)number) != 0)
                 return 8;
             pthread_join(begun, NULL);
         }

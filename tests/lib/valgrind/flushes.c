@@ -16,7 +16,7 @@ int main(int count, char **words) {
     int file = open(words[count - 1], O_RDWR | O_CREAT | O_TRUNC, 0666);
     if (file < 0 || ftruncate(file, 8192) != 0)
         return 1;
-    char *pool = mmap(NULL, 8192, PROT_READ | PROT_WRITE, MAP_SHARED, file, 0);
+    char *pool = mmap(NULL, 8192, PROT_READ | PROT_WRITE, MAP_SHARED | MAP_32BIT, file, 0);
     if (pool == MAP_FAILED)
         return 1;
     __cpuid_count(7, 0, a, b, c, d);
@@ -36,6 +36,8 @@ int main(int count, char **words) {
     FLUSH("sfence\n mfence\n lfence", "r"(p));
     FLUSH("mov %0, %%rax\n clwb 0x53f(%%rax)", "r"(p));
     FLUSH("lock incl %0\n lock incl %0", "m"(outside[0]));
+    /* of the address its low half counts */
+    FLUSH("mov %0, %%rax\n bts $40, %%rax\n .byte 0x67\n clwb 0x580(%%rax)", "r"(p));
     FLUSH("mov %0, %%rax\n clflushopt 0x540(%%rax)\n mfence", "r"(p));
     return 0;
 }

@@ -26,7 +26,11 @@ int main(int count, char **words) {
     pool[80] = 2;
     pool[256] = 3;
     ask(SET_CLEAN, pool + 256, 8);
-    pool[512] = 4; /* lost in truth */
+    ask(REMOVE, pool + 1024, 32);
+    pool[1024] = 5; /* a lock, which is freed */
+    ask(REGISTER, pool + 1032, 64);
+    pool[1032] = 6; /* lost in truth */
+    pool[512] = 4;  /* so is this */
     printf("%lu %lu %lu\n", all, part, rest);
     ask(REMOVE, pool, 4096);
     munmap((void *)pool, 4096);

@@ -1,0 +1,102 @@
+#include "rest.h"
+#include "descriptors.h"
+
+enum { PATH_BYTES = 64 };
+
+static Doing read_doing(Int descriptor) {
+    HChar text[128];
+    const HChar *state;
+    SysRes got = VG_(pread)(descriptor, text, sizeof text - 1, 0);
+    text[sr_isError(got) ? 0 : sr_Res(got)] = '\0';
+    state = VG_(strrchr)(text, ')');
+    if (state == NULL || state[1] == '\0' || state[2] == 'Z' || state[2] == 'X')
+        return GONE;
+    return state[2] == 'R' || state[2] == 'D' ? RUNS_THERE : SLEEPS_THERE;
+}
+
+Doing doing_in(Int kernel_process, Int kernel_thread) {
+    HChar path[PATH_BYTES];
+    VG_(sprintf)(path, "/proc/%d/task/%d/stat", kernel_process, kernel_thread);
+    SysRes opened = VG_(open)(path, VKI_O_RDONLY, 0);
+    if (sr_isError(opened))
+        return sr_Err(opened) == VKI_ENOENT ? GONE : SLEEPS_THERE;
+    Doing found = read_doing((Int)sr_Res(opened));
+    VG_(close)((Int)sr_Res(opened));
+    return found;
+}
+
+Int open_doing(Int kernel_thread) {
+    HChar path[PATH_BYTES];
+    VG_(sprintf)(path, "/proc/self/task/%d/stat", kernel_thread);
+    return open_reserved(path, VKI_O_RDONLY);
+}
+
+Doing doing(Int descriptor, Int kernel_thread) {
+    return descriptor >= 0 ? read_doing(descriptor) : doing_in(VG_(getpid)(), kernel_thread);
+}
+
+void pause_between_looks(Int looks) {
+    struct vki_timespec shortly = {0, 50000};
+    if (looks < QUICK_LOOKS)
+        VG_(do_syscall)(__NR_sched_yield, 0, 0, 0, 0, 0, 0, 0, 0);
+    else
+        VG_(do_syscall)(__NR_nanosleep, (RegWord)&shortly, 0, 0, 0, 0, 0, 0, 0);
+}
+
+static Sleeping sleeping_on_futex(const UWord *arguments) {
+    enum { WAIT = 0, WAKE = 1, LOCK_PI = 6, TRYLOCK_PI = 8, WAIT_BITSET = 9, WAKE_BITSET = 10, LOCK_PI2 = 13, COMMAND = 127 };
+    switch (arguments[1] & COMMAND) {
+    case WAIT:
+    case WAIT_BITSET:
+    case LOCK_PI:
+    case LOCK_PI2:
+        return (Sleeping){.sleeps_on = arguments[0]};
+    case TRYLOCK_PI:
+        return (Sleeping){0};
+    case WAKE:
+    case WAKE_BITSET:
+        return (Sleeping){.wakes = WAKES_WORD, .woken = arguments[0]};
+    default:
+        return (Sleeping){.wakes = WAKES_ANYBODY};
+    }
+}
+
+Sleeping sleeping(UInt call, const UWord *arguments) {
+    switch (call) {
+    case __NR_futex:
+        return sleeping_on_futex(arguments);
+    case __NR_mmap:
+    case __NR_munmap:
+    case __NR_mprotect:
+    case __NR_madvise:
+    case __NR_brk:
+    case __NR_getpid:
+    case __NR_gettid:
+    case __NR_rt_sigprocmask:
+    case __NR_set_robust_list:
+    case __NR_sched_yield:
+    case __NR_sched_getaffinity:
+    case __NR_fstat:
+    case __NR_newfstatat:
+    case __NR_lseek:
+    case __NR_pread64:
+    case __NR_pwrite64:
+    case __NR_ftruncate:
+    case __NR_msync:
+    case __NR_fsync:
+    case __NR_fdatasync:
+    case __NR_nanosleep:
+    case __NR_clock_nanosleep:
+        return (Sleeping){.wakes = WAKES_NOBODY};
+    case __NR_kill:
+    case __NR_tkill:
+    case __NR_tgkill:
+    case __NR_rt_sigqueueinfo:
+    case __NR_rt_tgsigqueueinfo:
+    case __NR_exit:
+    case __NR_exit_group:
+        return (Sleeping){.wakes = WAKES_ANYBODY};
+    default:
+        return (Sleeping){.wakes = WAKES_SLEEPERS};
+    }
+}

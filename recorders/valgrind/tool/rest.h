@@ -1,0 +1,30 @@
+/* Whether a thread rests in the system, as the kernel tells. */
+#ifndef REST_H
+#define REST_H
+
+#include "core.h"
+
+/* It will go on by itself, it sleeps till something comes, or the kernel has no such thread any more. */
+typedef enum { RUNS_THERE, SLEEPS_THERE, GONE } Doing;
+
+Doing doing_in(Int kernel_process, Int kernel_thread);
+
+/* Of a thread of this process, by a descriptor that was opened for it; -1 where there was no room for one. */
+Int open_doing(Int kernel_thread);
+Doing doing(Int descriptor, Int kernel_thread);
+
+/* Between one look at others and the next: the first ones come at once. */
+enum { QUICK_LOOKS = 200 };
+void pause_between_looks(Int looks);
+
+/* A call of a thread, as far as sleeping and waking go. */
+typedef struct {
+    enum { WAKES_NOBODY, WAKES_WORD, WAKES_SLEEPERS, WAKES_ANYBODY } wakes;
+    Addr woken;    /* of WAKES_WORD: the futex */
+    Addr sleeps_on; /* the futex that it waits for; 0 if it waits for none */
+} Sleeping;
+
+/* What a call can do. A sleeper on a futex is woken by calls on that futex, by signals and by ends of threads. */
+Sleeping sleeping(UInt call, const UWord *arguments);
+
+#endif

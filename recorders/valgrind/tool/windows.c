@@ -1,0 +1,204 @@
+#include "windows.h"
+#include "bases.h"
+#include "events.h"
+#include "labels.h"
+#include "options.h"
+#include "output.h"
+#include "pending.h"
+#include "pools.h"
+#include "threads.h"
+
+ULong carried_events, refused_windows;
+
+/* How many events the run had; whether a window was opened, and not only the program begun; whether the carry is being written. */
+static ULong passed;
+static Bool was_opened, carrying;
+
+void begin_windows(void) {
+    passed = carried_events = 0;
+    was_opened = False;
+    if (options.start_after != NULL || options.first_event > 1)
+        recording = BEFORE_WINDOW;
+}
+
+static void write_carried(const Carried *one) {
+    ThreadId thread = one->kind == CARRIED_STORE ? thread_of_serial(one->serial) : one->thread;
+    Int number = thread != VG_INVALID_THREADID ? thread_number(thread) : one->number >= 0 ? one->number : number_of_ended();
+    if (!begin_event_by(one->kind == CARRIED_STORE ? "store" : "clwb", number))
+        return;
+    put_address(one->address);
+    if (one->kind == CARRIED_STORE)
+        put_bytes(one->bytes, one->length);
+    end_event(label_of_past(one->instruction));
+    carried_events++;
+}
+
+static void carry(void) {
+    HChar why[96];
+    SizeT count, at;
+    Carried *all = take_carried(&count, MOST_EVENTS);
+    if (all == NULL) {
+        VG_(sprintf)(why, "the window would begin with %lu stores and flushes that are not safe", count);
+        end_trace(why);
+        return;
+    }
+    restore_rest_in_bases();
+    for (at = count; at > 0; at--)
+        if (all[at - 1].kind == CARRIED_STORE)
+            restore_in_bases(all[at - 1].address, all[at - 1].old, all[at - 1].length);
+    for (at = 0; at < count; at++)
+        write_carried(&all[at]);
+    VG_(free)(all);
+}
+
+static ThreadId opener;
+
+static void write_outside_store(ULong address, const UChar *bytes, SizeT length) {
+    if (begin_event("store", opener)) {
+        put_address(address);
+        put_bytes(bytes, length);
+        end_event("between windows");
+        carried_events++;
+    }
+}
+
+/* A line that became safe between two windows: what was stored to it, word by word, and a flush that makes it safe at once. */
+static void write_made_safe(ULong line, const UChar *bytes, ULong mask) {
+    enum { WORD_BYTES = 8 };
+    UInt at, end;
+    for (at = 0; at < LINE_BYTES; at = end) {
+        end = at + 1;
+        if ((mask >> at & 1) == 0)
+            continue;
+        while (end % WORD_BYTES != 0 && (mask >> end & 1) != 0)
+            end++;
+        write_outside_store(line + at, bytes + at, end - at);
+    }
+    if (begin_event("clflush", opener)) {
+        put_address(line);
+        end_event("between windows");
+        carried_events++;
+    }
+}
+
+static void all_was_outside(void);
+
+static void write_fences(void) {
+    Int number;
+    for (number = 0; number < MOST_THREADS; number++)
+        if (take_fenced(number) && begin_event_by("sfence", number)) {
+            end_event("between windows");
+            carried_events++;
+        }
+}
+
+void open_window(ThreadId thread) {
+    if (recording != BEFORE_WINDOW && recording != AFTER_WINDOW)
+        return;
+    settle_events();
+    Bool again = recording == AFTER_WINDOW;
+    was_opened = carrying = True;
+    recording = RECORDING;
+    opener = thread;
+    keep_bases();
+    if (again) {
+        write_fences();
+        take_made_safe(write_made_safe);
+    }
+    carry();
+    end_of_restoring();
+    carrying = False;
+}
+
+void begin_or_go_on(ThreadId thread) {
+    if (options.one_trace) {
+        refused_windows++;
+        return;
+    }
+    if (recording == RECORDING || recording == ENDED) {
+        settle_events();
+        restart_trace();
+        forget_numbers();
+        unwrite_pending();
+        all_was_outside();
+        begin_bases();
+        carried_events = 0;
+        recording = BEFORE_WINDOW;
+    }
+    open_window(thread);
+}
+
+void close_window(void) {
+    refused_windows += options.one_trace;
+    if (recording == RECORDING && !options.one_trace) {
+        settle_events();
+        recording = AFTER_WINDOW;
+    }
+}
+
+void event_passed(ThreadId thread) {
+    if (carrying)
+        return;
+    passed++;
+    if (options.first_event > 1 && passed + 1 == (ULong)options.first_event)
+        open_window(thread);
+    if (options.last_event > 0 && passed == (ULong)options.last_event)
+        close_window();
+}
+
+/* Which bytes were ever stored to, and which of them last inside of a window that was opened: two words of bits for 64 bytes. */
+
+enum { CHUNK_BITS = 20, CHUNK_WORDS = 2 * (1 << CHUNK_BITS) / 64 };
+
+typedef struct {
+    ULong **chunks;
+    SizeT count;
+} Chunks;
+
+static Chunks pools_chunks[MOST_POOLS];
+
+static ULong *words_of(ULong address, Bool made) {
+    Chunks *all = &pools_chunks[address / POOL_SPAN];
+    SizeT number = (address % POOL_SPAN) >> CHUNK_BITS;
+    if (number >= all->count) {
+        SizeT count = number + number / 2 + 8;
+        if (!made)
+            return NULL;
+        all->chunks = VG_(realloc)("windows.chunks", all->chunks, count * sizeof *all->chunks);
+        VG_(memset)(all->chunks + all->count, 0, (count - all->count) * sizeof *all->chunks);
+        all->count = count;
+    }
+    if (all->chunks[number] == NULL && made)
+        all->chunks[number] = VG_(calloc)("windows.chunk", CHUNK_WORDS, sizeof(ULong));
+    return all->chunks[number] == NULL ? NULL : all->chunks[number] + 2 * (address % (1 << CHUNK_BITS) / 64);
+}
+
+void mark_stored(ULong address, SizeT length) {
+    if (options.one_trace)
+        return;
+    ULong *words = words_of(address, True), mask = ((1ULL << length) - 1) << (address % 64);
+    words[0] |= mask;
+    if (was_opened && recording == RECORDING)
+        words[1] |= mask;
+    else
+        words[1] &= ~mask;
+}
+
+static void all_was_outside(void) {
+    ULong number, at;
+    SizeT chunk;
+    for (number = 0; number < MOST_POOLS; number++)
+        for (chunk = 0; chunk < pools_chunks[number].count; chunk++)
+            for (at = 1; pools_chunks[number].chunks[chunk] != NULL && at < CHUNK_WORDS; at += 2)
+                pools_chunks[number].chunks[chunk][at] = 0;
+}
+
+Bool was_stored_outside(ULong address, SizeT length) {
+    ULong at;
+    for (at = address; was_opened && at < address + length; at++) {
+        const ULong *words = words_of(at, False);
+        if (words != NULL && ((words[0] & ~words[1]) >> (at % 64) & 1) != 0)
+            return True;
+    }
+    return False;
+}

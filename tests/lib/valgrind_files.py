@@ -1,0 +1,200 @@
+#!/usr/bin/env python3
+"""Runs programs under pmtrim-record that write to files, by themselves and through the system: valgrind_files.py PROGRAM. The last line
+is 'N passed, M failed'.
+
+What must stand in a trace follows from what the programs of tests/lib/valgrind do, or is the file's last bytes.
+"""
+import os
+import pathlib
+import re
+import shlex
+import subprocess
+import sys
+import tempfile
+
+from valgrind import HERE, RECORD, SECOND_POOL, Tests
+from valgrind_runs import events_of, rebuilt, run, stores_of, text_of
+
+SQLITE = """\
+pragma journal_mode = wal;
+pragma synchronous = SYNCHRONOUS;
+.dbconfig no_ckpt_on_close on
+create table words (number integer primary key, word text);
+insert into words select value, hex(zeroblob(value)) from generate_series(1, 100);
+pragma wal_checkpoint(passive);
+"""
+
+
+class FileTests(Tests):
+    """The tests."""
+
+    def named(self):
+        """Which files are pools: one by its name, those of a folder, those that begin so; and the form that may mean either."""
+        program, pool = self.build("nofile"), self.folder / "named/lm.pool"
+        pool.parent.mkdir()
+        lock = f"{pool}-lock"
+        for words, wanted in (
+            ([f"--pool={pool}"], [str(pool)]),
+            ([f"--pool={pool.parent}/"], [str(pool), lock]),
+            ([f"--pool={pool.parent}"], [str(pool), lock]),
+            (["--pool-prefix", f"{pool}-"], [lock]),
+            ([f"--pool-prefix={pool}"], [str(pool), lock]),
+            (["--pool", pool], [str(pool), lock]),
+            ([f"--pool={pool}", "--pool", lock], [str(pool), lock]),
+        ):
+            faults = self.record("named", [program, pool, lock], *words)[3]
+            number = len(stores_of(self.folder / "named.trace"))
+            self.expect(f"pools by {words}", number == len(wanted), f"{number} {faults}")
+            took = re.findall(r"--pool (\S+) took (.*); --pool=FILE takes one file", faults)
+            self.expect(f"pools by {words}: no program that is not there", "becomes another" not in faults, faults)
+            old = [(str(words[-1]), ", ".join(wanted[-1:] if len(words) > 2 else wanted))] if "--pool" in words else []
+            self.expect(f"pools by {words}: what was taken is told", took == old, faults)
+
+    def files(self):
+        """Each call that writes to a file, and the calls that save it: what stands in the trace is what stands in the files."""
+        program, folder = self.build("files"), self.folder / "written"
+        folder.mkdir()
+        trace, status, _, faults = self.record("files", [program, folder], "--file", folder / "log", f"--file={folder}/data")
+        self.expect("files", status == 0 and "not recorded" not in faults, faults)
+        data, log = (folder / "data").read_bytes(), bytearray(400)
+        self.expect("files: the data", rebuilt(trace, bytes(len(data)), SECOND_POOL) == data and len(data) == 8015, len(data))
+        for at, text in ((0, b"writewritev, in twowritev, in two"), (100, b"pwrite"), (200, b"writev, in two"), (300, b"writ")):
+            log[at : at + len(text)] = text
+        events = text_of(trace).splitlines()
+        saved = events.index("sfence 0")
+        first = self.folder / "files.first"
+        first.write_text("\n".join(events[:saved]) + "\n")
+        self.expect("files: the log, when it was saved", rebuilt(first, bytes(400)) == log, rebuilt(first, bytes(400)))
+        lines = [f"clwb 0 {line:#x}" for line in (0, 0x40, 0xC0, 0x100)]
+        self.expect("files: fdatasync", events[saved - 4 : saved] == lines, events[saved - 5 : saved])
+        self.expect("files: the log, which was emptied", rebuilt(trace, bytes(400)) == bytes(400), "it is not empty")
+        claims = re.findall(r"^(?:persist|ordered) \d+ \w+$", self.accept(trace)[1], re.M)
+        self.expect("files: claims", [claim.split()[2] for claim in claims] == ["pass", "fail", "pass", "pass", "fail"], claims)
+        trace, _, _, found = self.record("files.named", [program, folder], "--base", "--file-prefix", folder / "da")
+        base, last = trace.with_name(f"{trace.name}.base").read_bytes(), (folder / "data").read_bytes()
+        right = base == data + bytes(8) and rebuilt(trace, base) == last and len(last) == 8023
+        self.expect("files: what stood in them before", right, f"{len(base)} {len(last)}")
+        wanted = [f"{folder}/data has the addresses from 0x0 on", f"{folder}/data-other has the addresses from 0x10000000000 on"]
+        self.expect("files by a prefix", all(line in found for line in wanted) and "/log has" not in found, found)
+
+    def sqlite(self):
+        """Debian's sqlite3 with a write-ahead log: both files are rebuilt, and the order of log and data can be claimed."""
+        for synchronous, wanted in (("full", "pass"), ("off", "fail")):
+            pool = self.folder / f"sqlite.{synchronous}"
+            commands = SQLITE.replace("SYNCHRONOUS", synchronous)
+            names = [f"--file={pool}{ending}" for ending in ("-wal", "")]
+            trace, told = self.folder / f"sqlite.{synchronous}.trace", self.folder / "sqlite.sql"
+            told.write_text(commands)
+            status, _, faults = run([RECORD, *names, "--trace", trace, "sqlite3", pool, f".read {told}"])
+            addresses = {path: int(at, 16) for path, at in re.findall(r"(\S+) has the addresses from (\S+) on", faults)}
+            files = {path: pathlib.Path(path).read_bytes() for path in addresses}
+            self.expect(f"sqlite {synchronous}", status == 0 and len(files) == 2 and "not recorded" not in faults, faults)
+            for path, last in files.items():
+                right = len(last) > 20000 and rebuilt(trace, bytes(len(last)), addresses[path]) == last
+                self.expect(f"sqlite {synchronous}: {path}", right, len(last))
+            self.checkpoint(synchronous, trace, addresses[f"{pool}-wal"], addresses[f"{pool}"], wanted)
+
+    def checkpoint(self, name, trace, log, data, wanted):
+        """Claims that each page of the log is saved before it is written to the data."""
+        frame, page = 24 + 4096, 4096
+        text = rebuilt(trace, bytes(1 << 20), log)
+        pages = {}
+        for at in range(32, 1 << 20, frame):
+            number = int.from_bytes(text[at : at + 4], "big")
+            if number > 0:
+                pages[number] = at + 24
+        claims = [f"isOrderedBefore 0 {log + at:#x} {page} {data + (number - 1) * page:#x} {page}" for number, at in pages.items()]
+        claimed = trace.with_name(f"{trace.name}.claimed")
+        claimed.write_text(text_of(trace) + "".join(f"{claim}\n" for claim in claims))
+        verdicts = re.findall(r"^ordered \d+ (\w+)$", self.accept(claimed)[1], re.M)
+        self.expect(f"sqlite {name}: log before data", len(verdicts) == len(pages) > 3 and set(verdicts) == {wanted}, verdicts)
+
+    # What the system does besides
+
+    def answers(self):
+        program, pool = self.build("answers"), self.folder / "answers.pool"
+        trace, status, _, faults = self.record("answers", [program, pool])
+        last = pool.read_bytes()
+        self.expect("answers of the system", status == 0 and rebuilt(trace, bytes(len(last))) == last, faults)
+        lengths = [int.from_bytes(last[at : at + 4], "little") for at in range(4096, 4096 + 6 * 64, 64)]
+        self.expect("answers: lengths", lengths == [2, 10, 10, 4, 0, 100] and "not recorded" not in faults, lengths)
+        # the thread left two locks, and the program one of these, which it took over, and another
+        marks = [int.from_bytes(last[at : at + 4], "little") & 0x40000000 != 0 for at in (0, 128, 256, 384)]
+        self.expect("answers: the kernel's marks", marks == [True, True, True, False], marks)
+
+    def holes(self):
+        """A hole takes little memory, and what is stored behind the end of a file is in no trace."""
+        program, pool = self.build("holes"), self.folder / "holes.pool"
+        trace = self.record("holes", [program, pool, 1], "--base")[0]
+        last = pool.read_bytes()
+        base = trace.with_name(f"{trace.name}.base").read_bytes()
+        self.expect("holes: the file", rebuilt(trace, base)[:-2] == last and len(base) == (1 << 20) + 7, f"{len(base)} {len(last)}")
+        behind = [address for address, data in stores_of(trace) if address + len(data) > len(base)]
+        self.expect("holes: behind the end", behind == [], behind)
+        words = [RECORD, "--trace", self.folder / "large.trace", program, self.folder / "large.pool", 64]
+        with subprocess.Popen([str(word) for word in words], stdout=subprocess.DEVNULL, stderr=subprocess.PIPE) as running:
+            faults = running.stderr.read().decode()
+            _, status, used = os.wait4(running.pid, 0)
+            running.returncode = status
+        self.expect("a large hole", status == 0 and used.ru_maxrss < 400_000, f"{used.ru_maxrss} KB")
+        missing = re.search(r"events after the end of the trace: (\d+)", faults)
+        self.expect("a large hole: counted", missing and int(missing[1]) > (64 << 20) // 8 - 1_000_000, faults)
+        self.expect("a large hole: behind the end", "stores behind the end of a pool's file: " in faults, faults)
+
+    def many(self):
+        """As many pools as there may be, each known by a descriptor of the recorder's own."""
+        folder = self.folder / "many.files"
+        folder.mkdir()
+        trace, status, _, faults = self.record("many", [self.build("many"), folder, 257])
+        found = [int(fields[2], 16) for fields in events_of(trace)]
+        self.expect("256 pools", status == 0 and found == [number * SECOND_POOL for number in range(256)], len(found))
+        self.expect("256 pools: the next one", "mappings of a 257th pool or a further one: 1" in faults, faults[-300:])
+
+    # Names
+
+    def functions(self):
+        """Names of C++ without parameters, and calls that an exception leaves."""
+        built = self.folder / "functions"
+        status, _, told = run(["g++", "-O1", "-g", "-mclwb", "-Wall", "-Wextra", "-Werror", HERE / "names.cpp", "-o", built])
+        self.expect("names.cpp is built", status == 0, told)
+        for name, wanted in (
+            ("save", ["0x0 1", "0x80 1"]),
+            ("save(char*, unsigned long, bool)", ["0x0 1", "0x80 1"]),
+            ("tree::Leaf::save:2,3", ["0xc0 1"]),
+            ("tree::put", ["0x100 8", "0x108 8"]),
+            ("tree::put<long>", ["0x100 8"]),
+        ):
+            trace, status, _, faults = self.record("functions", [built, self.folder / "functions.pool"], "--persist", name)
+            found = [" ".join(fields[2:]) for fields in events_of(trace) if fields[0] == "isPersist"]
+            self.expect(f"--persist {name}", found == wanted and status == 0, f"{found} {faults}")
+            left = "calls of a named function that did not return: 1" in faults
+            self.expect(f"--persist {name}: the exception", left == name.startswith("save"), faults)
+            several = re.search(r"tree::put is the name of several functions: .*put<long>\(.*, .*put<char>\(", faults) is not None
+            self.expect(f"--persist {name}: several", several == (name == "tree::put"), faults)
+        faults = self.record("functions", [built, self.folder / "functions.pool"], "--persist", "Leaf::save")[3]
+        hint = "Leaf::save was never called by that name: is it inlined, or has it no symbol? Called were: save(char*, unsigned long, bool), "
+        hint += "tree::Leaf::save(char*, unsigned long) const\n"
+        self.expect("a name that is none: a hint", hint in faults, faults)
+
+    def quoted(self):
+        """The next command is one for the shell, whatever the trace's name is."""
+        program = self.folder / "nofile"
+        for name in ("two words", "it's", "plain"):
+            trace = self.folder / f"{name}.trace"
+            faults = run([RECORD, "--trace", trace, program, self.folder / "quoted.pool"])[2]
+            shown = faults.rsplit("; next: ", 1)[-1].rstrip("\n")
+            wanted = ["pmtrim", "explain", "--labels", f"{trace}.labels", str(trace)]
+            self.expect(f"the next command of {name}", shlex.split(shown) == wanted and ("'" in shown) == (name != "plain"), faults)
+
+
+def main():
+    with tempfile.TemporaryDirectory() as name:
+        tests = FileTests(sys.argv[1], pathlib.Path(name).resolve())
+        for part in (tests.named, tests.files, tests.sqlite, tests.answers, tests.holes, tests.many, tests.functions, tests.quoted):
+            part()
+    print(f"{tests.counts.passed} passed, {tests.counts.failed} failed")
+    return 1 if tests.counts.failed else 0
+
+
+if __name__ == "__main__":
+    sys.exit(main())

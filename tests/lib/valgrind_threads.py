@@ -1,0 +1,93 @@
+"""Threads under pmtrim-record: that they meet by the seed, at what cost, and their numbers. The programs are the kinds of threads.c."""
+import re
+import subprocess
+import time
+
+SAVE_EVENTS = 3
+
+
+def switches_of(events):
+    numbers = [fields[1] for fields in events]
+    return sum(one != other for one, other in zip(numbers, numbers[1:]))
+
+
+def told_switches(faults):
+    found = re.search(r" events of (\d+) threads?.*, (\d+) switches between threads", faults)
+    return tuple(map(int, found.groups())) if found else None
+
+
+class Threads:
+    """The tests of threads, with those that have the folder and the counts."""
+
+    def __init__(self, tests, events_of):
+        self.tests = tests
+        self.expect = tests.expect
+        self.events_of = events_of
+        self.program = tests.build("threads")
+        self.pool = tests.folder / "threads.pool"
+
+    def record(self, kind, threads, times, *options, accepted=False):
+        self.pool.unlink(missing_ok=True)
+        words = [self.program, kind, self.pool, threads, times]
+        trace, status, told, faults = self.tests.record(f"threads.{kind}", words, *options, accepted=accepted)
+        self.expect(f"{kind}: its status", status == 0, faults)
+        return self.events_of(trace), told, faults
+
+    def run(self):
+        self.meet()
+        self.log()
+        self.piped()
+        self.numbers()
+        self.cost()
+
+    def meet(self):
+        """Threads under a lock go on between each other's saves, and how often is told."""
+        for kind, threads in (("locked", 4), ("spun", 3), ("free", 4), ("calls", 6)):
+            events, _, faults = self.record(kind, threads, 150, accepted=kind == "locked")
+            found = switches_of(events)
+            self.expect(f"{kind}: all is recorded", len(events) == SAVE_EVENTS * threads * 150, len(events))
+            self.expect(f"{kind}: threads meet", found > 40, found)
+            self.expect(f"{kind}: it is told", told_switches(faults) == (threads, found), faults)
+            self.expect(f"{kind}: no warning", "ran one after another" not in faults, faults)
+        again = [self.record("locked", 4, 150, "--seed", seed)[0] for seed in (7, 7, 8)]
+        self.expect("a lock: one seed, one run", again[0] == again[1] != again[2], "they differ, or not")
+
+    def log(self):
+        """The fault that shows only where another thread comes between two appends."""
+        found = [int(self.record("log", 2, 60, "--seed", seed)[1]) for seed in range(1, 4)]
+        self.expect("a log under a lock: its fault", max(found) > 0, found)
+
+    def piped(self):
+        """Whom a call has woken counts among those that may be next, whenever it comes: one seed, one run."""
+        texts = [self.record("piped", 12, 60, "--seed", 3)[0] for _ in range(6)]
+        self.expect("threads that wake each other: one seed, one run", all(text == texts[0] for text in texts), "they differ")
+        self.expect("threads that wake each other: all is recorded", len(texts[0]) == SAVE_EVENTS * 12 * 60, len(texts[0]))
+
+    def numbers(self):
+        """A number is free again when its thread has ended without an open flush."""
+        events, _, faults = self.record("short", 1000, 1)
+        self.expect("1000 threads", len(events) == SAVE_EVENTS * 1000 - 1 and {fields[1] for fields in events} == {"0"}, len(events))
+        told = told_switches(faults)
+        self.expect("1000 threads: told", told == (1000, 999) and "the threads ran one after another" in faults, faults)
+        events, _, faults = self.record("window", 300, 1)
+        self.expect("threads before the window", [fields[:2] for fields in events] == [["store", "0"], ["clwb", "0"], ["sfence", "0"]], events)
+        self.expect("threads before the window: told", "events before the window: 900" in faults, faults)
+
+    def seconds(self, words):
+        start = time.monotonic()
+        subprocess.run([str(word) for word in words], check=True, capture_output=True)
+        return time.monotonic() - start
+
+    def cost(self):
+        """Many threads that could all run cost no more than five times what Valgrind takes for them."""
+        record = [self.tests.recorder, "--trace", self.tests.folder / "many.trace"]
+        words = [self.program, "barrier", self.pool, 128, 1]
+        plain = self.seconds(["valgrind", "--tool=none", "-q", "--fair-sched=yes", *words])
+        took = self.seconds([*record, *words])
+        self.expect("128 threads at a barrier", took < 5 * plain, f"{took:.1f} seconds, Valgrind alone {plain:.1f}")
+        words = [self.program, "free", self.pool, 64, 125]
+        plain, took = self.seconds([*record, "--switch-every", 0, *words]), self.seconds([*record, *words])
+        self.expect("64 threads without a lock", took < 5 * plain, f"{took:.1f} seconds, without switches {plain:.1f}")
+        for options in ([], ["--events", "1000000-"]):
+            took = self.seconds([*record, *options, self.program, "hot", self.pool, 1, 100000])
+            self.expect(f"a line that is never safe {options}", took < 10, f"{took:.1f} seconds")
