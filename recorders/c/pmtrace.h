@@ -19,7 +19,7 @@
  * - Each call has put its events in the file before it returns, so nothing is lost when the program exits, aborts or is killed.
  * - The trace is always a true beginning of what happened. It ends early where it is full (1,000,000 events), where 257 threads
  *   have a number at one time, where a call never returned, or where the file can't be written. The program goes on; standard
- *   error and pmtrace_close tell of it.
+ *   error, pmtrace_close and the file FILE.cut beside the trace tell of it.
  * - Calls before pmtrace_open and after pmtrace_close do the store alone. So do those of a child made by fork.
  * - Not to be called from a signal handler.
  *
@@ -90,7 +90,9 @@
  * Meanwhile stores are done, and followed by lines: at the start, the words of a line that was stored to and not flushed and
  * fenced since are noted as stores, and its flush if one is open, so that it is not taken for safe. What was made safe counts as
  * what stood in the pool from the first, where the trace has no store yet; else its lines are noted too, as stores and a clflush.
- * What was stored before the stop, and flushed or fenced after it, counts as not flushed.
+ * What was stored before the stop, and flushed or fenced after it, counts as not flushed. A claim of order about bytes of the second
+ * range whose last store came before the window is set aside, which is told: the trace can't say when these became safe. So a claim
+ * that passes in a window passes in the whole run.
  * The environment's PMTRACE_START=N leaves out the first N events, to the end of the call that makes event N; PMTRACE_STOP=N leaves
  * out what comes after the call that makes event N. Answer 0, or -1 where no trace is open. */
 #define pmtrace_start() pmtrace_start_at(PMTRACE_HERE)
@@ -598,6 +600,7 @@ typedef struct pmtrace_pool_ {
     pmtrace_file_ file;
     unsigned char *copy; /* of a watched pool: what the trace makes of it */
     void *kept;          /* a page of the file that stays mapped, or NULL */
+    int kept_file;       /* a descriptor of the file, by its path alone, or -1 */
 } pmtrace_pool_;
 
 /* A mapping of a part of a pool. */
@@ -635,20 +638,22 @@ static struct {
     bool stored;   /* a store is in the trace */
     bool prepared; /* what happens once did */
     char *name;
+    char *cut_name; /* of the file that says where the trace was cut, from the root on */
     unsigned line_size;
-    unsigned opened;   /* how often a trace was opened */
-    uint64_t calls;    /* that took the lock */
-    uint64_t events;   /* in the trace */
-    uint64_t seen;     /* events in the trace and outside of the window */
-    uint64_t start_at; /* the window opens when so many were seen */
-    uint64_t stop_at;  /* it closes then */
-    uint64_t missing;  /* events that came after the trace's end */
-    uint64_t outside;  /* calls that reached outside the pools */
-    bool incomplete;   /* something else is not in the trace, which was told */
-    const char *label; /* of the call */
-    int error;         /* errno as the call found it */
-    int cancel;        /* whether the thread could be cancelled */
-    int cancel_type;   /* and how */
+    unsigned opened;    /* how often a trace was opened */
+    uint64_t calls;     /* that took the lock */
+    uint64_t events;    /* in the trace */
+    uint64_t seen;      /* events in the trace and outside of the window */
+    uint64_t start_at;  /* the window opens when so many were seen */
+    uint64_t stop_at;   /* it closes then */
+    uint64_t closed_at; /* so many were seen when it closed last */
+    uint64_t missing;   /* events that came after the trace's end */
+    uint64_t outside;   /* calls that reached outside the pools */
+    bool incomplete;    /* something else is not in the trace, which was told */
+    const char *label;  /* of the call */
+    int error;          /* errno as the call found it */
+    int cancel;         /* whether the thread could be cancelled */
+    int cancel_type;    /* and how */
     pmtrace_output_ trace;
     pmtrace_output_ labels;
     pmtrace_pool_ *pools;
@@ -663,8 +668,15 @@ static struct {
     pmtrace_line_ *lines; /* a table of what happened outside the window */
     size_t line_room;
     size_t line_count;
-    int fault_file; /* by which the kernel is told to follow the pages; or -1 */
-    int pages_file; /* by which it tells which changed */
+    char *ages; /* a table of lines, and which of their bytes were stored to last in this window */
+    size_t age_room;
+    size_t age_count;
+    bool aging;             /* a window was closed: ages are followed */
+    bool ages_known;        /* nothing is missing in the table */
+    unsigned window_number; /* how often the window was opened and closed, from 1 */
+    uint64_t aside;         /* claims of order that only the whole run can judge */
+    int fault_file;         /* by which the kernel is told to follow the pages; or -1 */
+    int pages_file;         /* by which it tells which changed */
 } pmtrace_;
 
 /* What is read and written without the lock. */
@@ -681,6 +693,16 @@ static PMTRACE_OF_THREAD_ unsigned pmtrace_number_, pmtrace_number_of_;
 static PMTRACE_OF_THREAD_ int pmtrace_inside_; /* the thread has the lock, or is about to */
 static pthread_key_t pmtrace_key_;             /* by which the end of a thread is seen */
 
+static bool pmtrace_is_(const int *flag) {
+    return __atomic_load_n(flag, __ATOMIC_SEQ_CST) != 0;
+}
+
+static int pmtrace_get_state_(void) {
+    int state = __atomic_load_n(&pmtrace_state_, __ATOMIC_ACQUIRE);
+    bool here = state != PMTRACE_OPEN_ || pmtrace_here_ == NULL || __atomic_load_n(pmtrace_here_, __ATOMIC_RELAXED) != 0;
+    return here ? state : (int)PMTRACE_FORKED_;
+}
+
 /* --- telling --- */
 
 __attribute__((format(printf, 1, 2))) static void pmtrace_tell_(const char *format, ...) {
@@ -692,10 +714,52 @@ __attribute__((format(printf, 1, 2))) static void pmtrace_tell_(const char *form
     fprintf(stderr, "pmtrace: %s\n", text);
 }
 
+/* Beside a trace that is not all of what happened stands FILE.cut: one line, the number of the last event and why no more are there.
+ * Where the disk is full it may be empty. */
+
+static const char pmtrace_cut_ending_[] = ".cut";
+
+/* Names the file, wherever the program goes from its folder, and removes that of an earlier trace. */
+static bool pmtrace_begin_cut_(void) {
+    char *folder = *pmtrace_.name == '/' ? NULL : getcwd(NULL, 0);
+    const char *before = folder != NULL ? folder : "", *between = folder != NULL ? "/" : "";
+    size_t size = strlen(before) + 1 + strlen(pmtrace_.name) + sizeof pmtrace_cut_ending_;
+    free(pmtrace_.cut_name);
+    pmtrace_.cut_name = (char *)malloc(size);
+    if (pmtrace_.cut_name != NULL) {
+        snprintf(pmtrace_.cut_name, size, "%s%s%s%s", before, between, pmtrace_.name, pmtrace_cut_ending_);
+        unlink(pmtrace_.cut_name);
+    }
+    free(folder);
+    return pmtrace_.cut_name != NULL;
+}
+
+/* Whether the trace is a file that others can stand beside, and no device. */
+static bool pmtrace_is_in_folder_(void) {
+    struct stat status;
+    size_t length = strlen(pmtrace_.cut_name) + 1 - sizeof pmtrace_cut_ending_;
+    pmtrace_.cut_name[length] = '\0';
+    bool found = stat(pmtrace_.cut_name, &status) == 0 && S_ISREG(status.st_mode);
+    pmtrace_.cut_name[length] = *pmtrace_cut_ending_;
+    return found;
+}
+
+static void pmtrace_write_cut_(const char *why) {
+    if (!pmtrace_is_in_folder_())
+        return;
+    int file = open(pmtrace_.cut_name, O_WRONLY | O_CREAT | O_TRUNC | O_CLOEXEC, 0666);
+    if (file < 0 || dprintf(file, "%llu %s\n", (unsigned long long)pmtrace_.events, why) < 0)
+        pmtrace_tell_("%s: %s", pmtrace_.cut_name, strerror(errno));
+    if (file >= 0)
+        close(file);
+}
+
 /* Nothing more is noted, which is told once. */
 static void pmtrace_end_(const char *why) {
-    if (!pmtrace_.ended)
+    if (!pmtrace_.ended) {
         pmtrace_tell_("%s: the trace ends after event %llu: %s", pmtrace_.name, (unsigned long long)pmtrace_.events, why);
+        pmtrace_write_cut_(why);
+    }
     pmtrace_.ended = true;
 }
 
@@ -703,16 +767,6 @@ static void pmtrace_end_(const char *why) {
 static void pmtrace_miss_(const char *what) {
     pmtrace_tell_("%s: %s", pmtrace_.name, what);
     pmtrace_.incomplete = true;
-}
-
-static bool pmtrace_is_(const int *flag) {
-    return __atomic_load_n(flag, __ATOMIC_SEQ_CST) != 0;
-}
-
-static int pmtrace_get_state_(void) {
-    int state = __atomic_load_n(&pmtrace_state_, __ATOMIC_ACQUIRE);
-    bool here = state != PMTRACE_OPEN_ || pmtrace_here_ == NULL || __atomic_load_n(pmtrace_here_, __ATOMIC_RELAXED) != 0;
-    return here ? state : (int)PMTRACE_FORKED_;
 }
 
 /* --- the files --- */
@@ -984,8 +1038,10 @@ static void pmtrace_write_all_(void) {
 static bool pmtrace_may_put_(void) {
     if (pmtrace_is_(&pmtrace_broken_))
         pmtrace_.ended = true;
-    if (!pmtrace_.ended && pmtrace_.events == PMTRACE_MOST_EVENTS_)
+    if (!pmtrace_.ended && pmtrace_.events == PMTRACE_MOST_EVENTS_) {
+        pmtrace_write_all_();
         pmtrace_end_("a trace has at most 1000000 events");
+    }
     if (!pmtrace_.ended && !pmtrace_has_room_(&pmtrace_.trace, PMTRACE_LONGEST_LINE_))
         pmtrace_lose_();
     if (pmtrace_.ended)
@@ -1290,6 +1346,134 @@ static size_t pmtrace_gather_lines_(void) {
     return count;
 }
 
+/* --- the ages of stores, where a window was closed --- */
+
+/* A claim of order about bytes whose last store came before the window opened asks when older bytes became safe, which the trace does not
+ * tell: it might pass there and fail in the whole run. For each line, which bytes were stored to last while the window was as it is, and
+ * which before. */
+
+enum { PMTRACE_MASK_BYTES_ = 256 / 8 }; /* of the longest line */
+
+typedef struct pmtrace_age_ {
+    uint64_t address;
+    unsigned window; /* when the newer stores were made; 0: the place in the table is free */
+    unsigned char newer[PMTRACE_MASK_BYTES_], older[PMTRACE_MASK_BYTES_];
+} pmtrace_age_;
+
+/* A place takes only so much of the masks as a line of the trace has, to whole words. */
+static size_t pmtrace_age_size_(void) {
+    size_t size = offsetof(pmtrace_age_, newer) + 2 * (size_t)pmtrace_.line_size / 8;
+    return (size + sizeof(uint64_t) - 1) / sizeof(uint64_t) * sizeof(uint64_t);
+}
+
+static unsigned char *pmtrace_age_older_(pmtrace_age_ *age) {
+    return age->newer + pmtrace_.line_size / 8;
+}
+
+/* The place in the table where the line is, or belongs. */
+static pmtrace_age_ *pmtrace_find_age_(char *ages, size_t room, uint64_t address) {
+    size_t at = (size_t)(address / pmtrace_.line_size * UINT64_C(0x9e3779b97f4a7c15) >> 20) & (room - 1);
+    for (;;) {
+        pmtrace_age_ *age = (pmtrace_age_ *)(void *)(ages + at * pmtrace_age_size_());
+        if (age->window == 0 || age->address == address)
+            return age;
+        at = (at + 1) & (room - 1);
+    }
+}
+
+static void pmtrace_forget_ages_(void) {
+    free(pmtrace_.ages);
+    pmtrace_.ages = NULL;
+    pmtrace_.age_room = pmtrace_.age_count = 0;
+}
+
+/* Makes room for one line more. Without memory nothing is known. */
+static bool pmtrace_make_age_room_(void) {
+    const size_t size = pmtrace_age_size_(), room = pmtrace_.age_room, more = room == 0 ? 1024 : 2 * room;
+    if (2 * (pmtrace_.age_count + 1) <= room)
+        return true;
+    char *ages = (char *)calloc(more, size);
+    if (ages == NULL) {
+        pmtrace_.ages_known = false;
+        return false;
+    }
+    for (size_t at = 0; at < room; at++) {
+        pmtrace_age_ *age = (pmtrace_age_ *)(void *)(pmtrace_.ages + at * size);
+        if (age->window != 0)
+            memcpy((void *)pmtrace_find_age_(ages, more, age->address), age, size);
+    }
+    free(pmtrace_.ages);
+    pmtrace_.ages = ages;
+    pmtrace_.age_room = more;
+    return true;
+}
+
+/* Newer stores of an earlier window are older ones now. */
+static void pmtrace_let_age_(pmtrace_age_ *age) {
+    for (unsigned at = 0; age->window != pmtrace_.window_number && at < pmtrace_.line_size / 8; at++) {
+        pmtrace_age_older_(age)[at] |= age->newer[at];
+        age->newer[at] = 0;
+    }
+    age->window = pmtrace_.window_number;
+}
+
+/* Bytes of one line were stored to. */
+static void pmtrace_age_store_(uint64_t from, size_t length) {
+    uint64_t line = from - from % pmtrace_.line_size;
+    if (!pmtrace_.aging || !pmtrace_make_age_room_())
+        return;
+    pmtrace_age_ *age = pmtrace_find_age_(pmtrace_.ages, pmtrace_.age_room, line);
+    if (age->window == 0) {
+        age->address = line;
+        age->window = pmtrace_.window_number;
+        pmtrace_.age_count++;
+    }
+    pmtrace_let_age_(age);
+    for (unsigned byte = (unsigned)(from - line); length > 0; byte++, length--) {
+        age->newer[byte / 8] |= (unsigned char)(1u << byte % 8);
+        pmtrace_age_older_(age)[byte / 8] &= (unsigned char)~(1u << byte % 8);
+    }
+}
+
+/* Whether a byte of the range was stored to last before the window opened, or may have been. */
+static bool pmtrace_is_older_(pmtrace_range_ range) {
+    bool older = pmtrace_.aging && !pmtrace_.ages_known;
+    for (uint64_t at = range.from; pmtrace_.aging && pmtrace_.age_room > 0 && !older && at < range.from + range.length; at++) {
+        unsigned byte = (unsigned)(at % pmtrace_.line_size);
+        pmtrace_age_ *age = pmtrace_find_age_(pmtrace_.ages, pmtrace_.age_room, at - byte);
+        if (age->window != 0)
+            pmtrace_let_age_(age);
+        older = age->window != 0 && (pmtrace_age_older_(age)[byte / 8] >> byte % 8 & 1) != 0;
+    }
+    return older;
+}
+
+/* The stores of a line of the trace: `store T 0xA BYTES`. */
+static void pmtrace_age_line_(const char *line, const char *end) {
+    static const char word[] = "store ";
+    char *after;
+    if ((size_t)(end - line) < sizeof word || memcmp(line, word, sizeof word - 1) != 0)
+        return;
+    (void)strtoul(line + sizeof word - 1, &after, 10);
+    uint64_t from = strtoull(after, &after, 16);
+    if (after < end)
+        pmtrace_age_store_(from, (size_t)(end - after - 1) / 2);
+}
+
+/* From here on ages are followed. What was stored in the first window stands in the trace, if that can be read. */
+static void pmtrace_begin_aging_(void) {
+    if (pmtrace_.aging)
+        return;
+    const char *line = pmtrace_.trace.room, *end = line + pmtrace_.trace.whole;
+    pmtrace_.aging = true;
+    pmtrace_.ages_known = pmtrace_.trace.mapped || pmtrace_.events == 0;
+    while (pmtrace_.trace.mapped && line < end) {
+        const char *next = (const char *)memchr(line, '\n', (size_t)(end - line));
+        pmtrace_age_line_(line, next);
+        line = next + 1;
+    }
+}
+
 /* --- which pages changed --- */
 
 /* Linux 6.7 and later tell which pages of a range were written to since they were asked last (userfaultfd(2), asynchronous write
@@ -1441,6 +1625,8 @@ static bool pmtrace_track_(pmtrace_range_ range) {
 
 static void pmtrace_note_word_(uint64_t from, const unsigned char *bytes, size_t length);
 
+static void pmtrace_unkeep_file_(const pmtrace_pool_ *pool);
+
 static unsigned char *pmtrace_copied_(const pmtrace_pool_ *pool, uint64_t from) {
     return pool->copy + (from - (pool->from - pool->from % PMTRACE_WORD_BYTES_));
 }
@@ -1449,8 +1635,7 @@ static unsigned char *pmtrace_copied_(const pmtrace_pool_ *pool, uint64_t from) 
 static void pmtrace_free_pools_(void) {
     for (unsigned number = 0; number < pmtrace_.pool_count; number++) {
         free(pmtrace_.pools[number].copy);
-        if (pmtrace_.pools[number].kept != NULL)
-            munmap(pmtrace_.pools[number].kept, (size_t)sysconf(_SC_PAGESIZE));
+        pmtrace_unkeep_file_(&pmtrace_.pools[number]);
     }
     free(pmtrace_.pools);
     pmtrace_.pools = NULL;
@@ -1835,6 +2020,7 @@ static uint64_t pmtrace_line_of_(uint64_t from) {
 }
 
 static void pmtrace_note_word_(uint64_t from, const unsigned char *bytes, size_t length) {
+    pmtrace_age_store_(from, length);
     if (pmtrace_.window) {
         pmtrace_put_store_(from, bytes, length);
     } else {
@@ -1913,6 +2099,11 @@ static void pmtrace_note_assertion_(const char *word, pmtrace_range_ first, cons
         pmtrace_.seen++;
         return;
     }
+    if (second != NULL && pmtrace_is_older_(*second)) {
+        pmtrace_.aside++;
+        pmtrace_.seen++;
+        return;
+    }
     char *at = pmtrace_begin_(word);
     if (at == NULL)
         return;
@@ -1952,15 +2143,23 @@ static void pmtrace_open_window_(void) {
     size_t count = pmtrace_gather_lines_();
     uint64_t bytes = (uint64_t)count * pmtrace_.line_size, seen = pmtrace_.seen;
     pmtrace_.window = true;
+    pmtrace_.window_number++;
     pmtrace_keep_bases_();
+    pmtrace_.aging = false; /* what is carried is as old as it is */
     if (pmtrace_has_events_("what was stored outside the window,", bytes, bytes / PMTRACE_WORD_BYTES_ + count))
         pmtrace_put_lines_(count);
+    pmtrace_.aging = true;
     pmtrace_.seen = seen;
     pmtrace_forget_lines_();
 }
 
 static void pmtrace_close_window_(void) {
     pmtrace_look_();
+    if (!pmtrace_.window)
+        return;
+    pmtrace_begin_aging_();
+    pmtrace_.window_number++;
+    pmtrace_.closed_at = pmtrace_.seen;
     pmtrace_.window = false;
 }
 
@@ -2018,25 +2217,77 @@ static pmtrace_place_ pmtrace_place_of_(uintptr_t at, size_t length, pmtrace_fil
     return place;
 }
 
-/* Maps a page of a pool's file once more, not to be read: while it stands no other file gets the number by which this one is known. */
-static void *pmtrace_keep_file_(uintptr_t at, pmtrace_file_ file) {
+#ifndef O_PATH
+#define O_PATH 010000000
+#endif
+
+enum { PMTRACE_FIRST_KEPT_ = 500 }; /* a descriptor's number that is out of the program's way */
+
+/* The path of the file that is mapped there; false where there is none. */
+static bool pmtrace_path_at_(uintptr_t address, char path[PMTRACE_BASE_PATH_]) {
+    char line[PMTRACE_BASE_PATH_ + 200];
+    unsigned long start, end;
+    bool found = false;
+    FILE *maps = fopen("/proc/self/maps", "re");
+    while (maps != NULL && !found && fgets(line, sizeof line, maps) != NULL)
+        found = sscanf(line, "%lx-%lx", &start, &end) == 2 && start <= address && address < end;
+    if (maps != NULL)
+        fclose(maps);
+    char *first = found ? strchr(line, '/') : NULL, *last = found ? strchr(line, '\n') : NULL;
+    if (first == NULL || last == NULL || last - first >= PMTRACE_BASE_PATH_)
+        return false;
+    memcpy(path, first, (size_t)(last - first));
+    path[last - first] = '\0';
+    return true;
+}
+
+/* A descriptor by a file's path alone, or -1. It keeps none of the program's locks: a mapping would keep those of flock, and the end of an
+ * ordinary descriptor would give up those of fcntl. */
+static int pmtrace_keep_path_(uintptr_t at, pmtrace_file_ file) {
+    char path[PMTRACE_BASE_PATH_];
+    struct stat status;
+    int found = pmtrace_path_at_(at, path) ? open(path, O_PATH | O_CLOEXEC) : -1;
+    bool same = found >= 0 && fstat(found, &status) == 0 && status.st_ino == file.number;
+    int kept = same ? fcntl(found, F_DUPFD_CLOEXEC, PMTRACE_FIRST_KEPT_) : -1;
+    if (found >= 0 && !(same && kept < 0))
+        close(found);
+    return same && kept < 0 ? found : kept;
+}
+
+/* Keeps a pool's file: while it is kept no other file gets the number by which this one is known. Where its path leads to it no more a
+ * page of it is mapped once more, not to be read. */
+static void pmtrace_keep_file_(pmtrace_pool_ *pool, uintptr_t at) {
     const uintptr_t page = (uintptr_t)sysconf(_SC_PAGESIZE);
     const long may_move = 1; /* MREMAP_MAYMOVE: of a shared mapping with the length 0 it makes another one */
-    if (!file.shared)
-        return NULL;
+    if (!pool->file.shared)
+        return;
+    pool->kept_file = pmtrace_keep_path_(at, pool->file);
+    if (pool->kept_file >= 0)
+        return;
     void *kept = (void *)(uintptr_t)syscall(SYS_mremap, at - at % page, 0L, page, may_move, 0L);
     if (kept == MAP_FAILED)
-        return NULL;
+        return;
     (void)mprotect(kept, page, PROT_NONE);
-    return kept;
+    pool->kept = kept;
+}
+
+/* The program may have closed all descriptors, and opened others by their numbers. */
+static void pmtrace_unkeep_file_(const pmtrace_pool_ *pool) {
+    struct stat status;
+    bool same = pool->kept_file >= 0 && (fcntl(pool->kept_file, F_GETFL) & O_PATH) != 0 && fstat(pool->kept_file, &status) == 0 &&
+                status.st_ino == pool->file.number;
+    if (same)
+        close(pool->kept_file);
+    if (pool->kept != NULL)
+        munmap(pool->kept, (size_t)sysconf(_SC_PAGESIZE));
 }
 
 static bool pmtrace_add_pool_(uintptr_t at, uint64_t from, pmtrace_file_ file) {
-    pmtrace_pool_ pool = {from, from, file, NULL, NULL};
+    pmtrace_pool_ pool = {from, from, file, NULL, NULL, -1};
     pmtrace_pool_ *more = (pmtrace_pool_ *)realloc(pmtrace_.pools, (pmtrace_.pool_count + 1) * sizeof pool);
     if (more == NULL)
         return false;
-    pool.kept = pmtrace_keep_file_(at, file);
+    pmtrace_keep_file_(&pool, at);
     pmtrace_.pools = more;
     more[pmtrace_.pool_count++] = pool;
     return true;
@@ -2416,6 +2667,7 @@ static void pmtrace_in_child_(void) {
             pmtrace_drop_file_(&pmtrace_.labels);
         pmtrace_stop_tracking_();
         pmtrace_forget_lines_();
+        pmtrace_forget_ages_();
         pmtrace_free_pools_();
         __atomic_store_n(&pmtrace_state_, PMTRACE_FORKED_, __ATOMIC_SEQ_CST);
     }
@@ -2491,6 +2743,8 @@ static void pmtrace_reset_(void) {
     free(pmtrace_.mappings);
     free(pmtrace_.based);
     pmtrace_forget_lines_();
+    pmtrace_forget_ages_();
+    pmtrace_.aging = false;
     pmtrace_.mappings = NULL;
     pmtrace_.based = NULL;
     pmtrace_.based_count = 0;
@@ -2526,7 +2780,8 @@ static void pmtrace_set_up_(unsigned line_size, bool labeled) {
     pmtrace_.look_at_all = watch != NULL && strcmp(watch, "all") == 0;
     pmtrace_.ended = pmtrace_.incomplete = pmtrace_.stored = false;
     pmtrace_.opened++;
-    pmtrace_.events = pmtrace_.seen = pmtrace_.missing = pmtrace_.outside = 0;
+    pmtrace_.events = pmtrace_.seen = pmtrace_.missing = pmtrace_.outside = pmtrace_.aside = 0;
+    pmtrace_.window_number = 1;
     pmtrace_.fault_file = pmtrace_.pages_file = -1;
     memset(pmtrace_.threads, 0, sizeof pmtrace_.threads);
     __atomic_store_n(&pmtrace_lost_, 0, __ATOMIC_RELAXED);
@@ -2552,11 +2807,13 @@ static bool pmtrace_begin_trace_(const char *label, const char *file, unsigned l
         return false;
     free(pmtrace_.name);
     pmtrace_.name = strdup(file);
-    if (pmtrace_.name == NULL || !pmtrace_make_files_(line_size, label != NULL))
+    if (pmtrace_.name == NULL || !pmtrace_begin_cut_() || !pmtrace_make_files_(line_size, label != NULL))
         return false;
     pmtrace_set_up_(line_size, label != NULL);
     pmtrace_set_up_bases_();
     pmtrace_.window = start == 0;
+    if (!pmtrace_.window)
+        pmtrace_begin_aging_();
     pmtrace_.start_at = start == 0 ? UINT64_MAX : start;
     pmtrace_.stop_at = stop;
     return true;
@@ -2670,10 +2927,23 @@ static bool pmtrace_tell_missing_(void) {
     if (pmtrace_.outside > 0)
         pmtrace_tell_("%s: %llu calls reached outside the pool%s", pmtrace_.name, (unsigned long long)pmtrace_.outside,
                       pmtrace_.pool_count > 1 ? "s" : "");
+    if (pmtrace_.aside > 0)
+        pmtrace_tell_("%s: %llu claims of order about what was stored last before the window are not in the trace", pmtrace_.name,
+                      (unsigned long long)pmtrace_.aside);
     if (children > 0)
         pmtrace_tell_("%s: %llu calls of children that fork made reached the pool and are not in the trace", pmtrace_.name,
                       (unsigned long long)children);
-    return pmtrace_.ended || pmtrace_.incomplete || lost > 0 || pmtrace_.outside > 0 || children > 0;
+    return pmtrace_.ended || pmtrace_.incomplete || lost > 0 || pmtrace_.outside > 0 || pmtrace_.aside > 0 || children > 0;
+}
+
+/* A trace that ended as it should, and has no event, or not what came after its window: says so beside it. */
+static void pmtrace_say_cut_(void) {
+    if (pmtrace_.ended)
+        return;
+    if (pmtrace_.events == 0)
+        pmtrace_write_cut_(pmtrace_.seen > 0 ? "no event came while the window was open" : "no event came");
+    else if (!pmtrace_.window && pmtrace_.seen > pmtrace_.closed_at)
+        pmtrace_write_cut_("the window was closed here, and events came after it");
 }
 
 /* Ends the trace. Where a call never gave the lock back the first who comes does it without. */
@@ -2696,6 +2966,7 @@ static int pmtrace_end_trace_(const char *label, int state) {
         return -1;
     }
     pmtrace_close_files_();
+    pmtrace_say_cut_();
     bool missing = pmtrace_tell_missing_();
     if (entered) {
         pmtrace_stop_tracking_();

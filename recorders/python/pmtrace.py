@@ -15,10 +15,13 @@ places of the pool by their distance from its beginning, which is the beginning 
 - Each call writes its events before it returns, so nothing is lost when the program exits, aborts or is killed. (A signal that kills
   inside a write may leave a part of a line, which pmtrim refuses as `truncated`.)
 - The trace is always a true beginning of what happened. It ends early where it is full (1,000,000 events), where a 257th thread comes,
-  or where the file can't be written. Standard error tells of it once, and so does the answer of `close`.
+  or where the file can't be written. Standard error tells of it once, and so do the answer of `close` and the file FILE.cut, whose line
+  has the number of the last event and the reason. A trace without events has such a file too.
 - A range that leaves the pool is refused by IndexError; nothing is changed or noted then.
 """
+import contextlib
 import os
+import stat
 import sys
 import threading
 
@@ -48,8 +51,11 @@ class Recorder:
         self._ended = None
         self._name = os.fspath(file)
         self._here = os.getcwd() + os.sep
+        self._cut = os.path.abspath(self._name) + ".cut"
         self._trace = open(file, "wb", buffering=0)
         self._labels = None
+        with contextlib.suppress(FileNotFoundError):
+            os.unlink(self._cut)
         header = b"pmtrace 2 %d\n" % line_size
         _write_whole(self._trace, header)
         self._written = len(header)
@@ -66,6 +72,8 @@ class Recorder:
         """Ends the trace. True where all that happened is in it."""
         with self._lock:
             if not self._trace.closed:
+                if self._ended is None and self._events == 0:
+                    self._write_cut("no event came")
                 self._trace.close()
                 if self._labels:
                     self._labels.close()
@@ -193,34 +201,33 @@ class Recorder:
         with self._lock:
             self._write(events, label)
 
-    def _number(self):
-        """The calling thread's number, or None where the trace has ended."""
+    def _refusal(self):
+        """Why the calling thread's next event can't be noted; None where it can, and the thread has a number."""
         if self._ended is None and self._events == MOST_EVENTS:
-            self._end("a trace has at most 1000000 events")
+            return "a trace has at most 1000000 events"
         if self._ended is None and not hasattr(self._thread, "number"):
             if self._threads == MOST_THREADS:
-                self._end("a trace has at most 256 threads, and here is the 257th")
-            else:
-                self._thread.number = self._threads
-                self._threads += 1
-        return self._thread.number if self._ended is None else None
+                return "a trace has at most 256 threads, and here is the 257th"
+            self._thread.number = self._threads
+            self._threads += 1
+        return self._ended
 
     def _write(self, events, label):
         """Writes the events of a call, and then their labels."""
-        lines, labels = [], []
+        lines, labels, refusal = [], [], None
         for word, fields in events:
-            number = self._number()
-            # what came before the end is written below, so the end is told with the right event
-            if number is None:
+            refusal = refusal or self._refusal()
+            if refusal is not None:
                 self._missing += 1
                 continue
             self._events += 1
-            lines.append(f"{word} {number}{fields}\n")
+            lines.append(f"{word} {self._thread.number}{fields}\n")
             if label is not None:
                 labels.append(f"{self._events} {label}\n")
-        if not lines or not self._write_lines("".join(lines).encode()):
-            return
-        if self._labels and labels:
+        written = self._write_lines("".join(lines).encode())
+        if refusal is not None:
+            self._end(refusal)
+        if written and self._labels and labels:
             try:
                 _write_whole(self._labels, "".join(labels).encode())
             except OSError as error:
@@ -249,7 +256,18 @@ class Recorder:
     def _end(self, why):
         if self._ended is None:
             self._tell(f"the trace ends after event {self._events}: {why}")
-        self._ended = why
+            self._write_cut(why)
+            self._ended = why
+
+    def _write_cut(self, why):
+        """Says beside the trace that it is not all of what happened. No file stands beside a device."""
+        if not stat.S_ISREG(os.fstat(self._trace.fileno()).st_mode):
+            return
+        try:
+            with open(self._cut, "wb", buffering=0) as file:
+                _write_whole(file, f"{self._events} {why}\n".encode())
+        except OSError as error:
+            print(f"pmtrace: {self._cut}: {error.strerror}", file=sys.stderr)
 
     def _tell(self, text):
         print(f"pmtrace: {self._name}: {text}", file=sys.stderr)

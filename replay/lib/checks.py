@@ -45,9 +45,12 @@ class Output:
             if not self.take():
                 break
 
-    def lines(self):
-        """The last lines, cut, and without bytes that a terminal would obey."""
+    def lines(self, own_words):
+        """The last lines, cut, without bytes that a terminal would obey, and with other words for some, by which one run differs from the
+        next."""
         text = self.bytes.decode("utf-8", "replace")
+        for own, other in own_words.items():
+            text = text.replace(own, other)
         shown = ["".join(letter if letter.isprintable() else "?" for letter in line.rstrip("\r").expandtabs()) for line in text.split("\n")]
         return [line if len(line) <= LINE_LENGTH else line[: LINE_LENGTH - 3] + "..." for line in shown if line][-KEPT_LINES:]
 
@@ -72,6 +75,8 @@ class Checker:
         """Runs it, with a folder for its temporary files."""
         words = ["sh", "-c", LIMITED, str(self.blocks), *self.words_for(paths)]
         environment = {**os.environ, "TMPDIR": str(folder)}
+        own_words = {str(path): "{}" if number == 1 else f"{{{number}}}" for number, path in enumerate(paths, 1)}
+        own_words[str(folder)] = "$TMPDIR"
         try:
             process = self.processes.begin(words, stdin=subprocess.DEVNULL, stdout=subprocess.PIPE, stderr=subprocess.STDOUT, env=environment)
         except OSError as error:
@@ -84,7 +89,7 @@ class Checker:
             output.take_rest()
         self.processes.ended(process)
         self.processes.go_on()
-        return Outcome(not in_time or process.returncode != 0, self._status(process.returncode, in_time), output.lines())
+        return Outcome(not in_time or process.returncode != 0, self._status(process.returncode, in_time), output.lines(own_words))
 
     def _wait(self, process, output):
         """Waits for the checker's end, and takes what it writes. Answers whether it ended in time."""

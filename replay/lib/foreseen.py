@@ -112,3 +112,16 @@ class Memory:
                     del ranks[line]
             number -= 1
         return lost[::-1], kept[::-1]
+
+    def last_kept(self, crash):
+        """The number of the last store before this place that a crash keeps; None where it keeps none."""
+        persisted = crash.persisted(self.open)
+        ranks = {number: count for number, (_, count) in self.open.items()}
+        for number in range(self.place, 0, -1):
+            store = self.trace.store(number)
+            line = store[0] // self.trace.line_size if store else None
+            if store and (line not in ranks or ranks[line] <= persisted[line]):
+                return number
+            if store:
+                ranks[line] -= 1
+        return None

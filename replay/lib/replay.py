@@ -17,7 +17,7 @@ from foreseen import Memory
 from pools import check_stores, find_pools
 from processes import Processes, Stopped
 from results import KeptResults, Results, identity_of, remove_tree
-from telling import MOST_STORES, Progress, next_words, summary, table
+from telling import MOST_STORES, Progress, Texts, next_words, summary, table
 from trace import Trace
 from words import HELP, take_words
 
@@ -64,6 +64,7 @@ class Replay:
         self.results = Results()
         self.kept = pathlib.Path(options.keep).absolute() if options.keep else None
         self.failures = {}
+        self.texts = Texts()
         self.reached = 0
         self.lock = threading.Lock()
         self.fault = None
@@ -134,8 +135,10 @@ class Replay:
                 self.counts.known += 1
                 self.note(name, self.results.known[name])
             return
-        contents, (lost, kept) = memory.open_contents(crash), memory.divided_stores(crash)
-        result.update(lost=lost[:MOST_STORES], losses=len(lost), made_by=self.made_by(crash))
+        contents, (all_lost, kept) = memory.open_contents(crash), memory.divided_stores(crash)
+        lost = [number for number in all_lost if not self.trace.is_ignored(number)]
+        result.update(lost=lost[:MOST_STORES], losses=len(lost), ignored=len(all_lost) - len(lost))
+        result.update(last_kept=memory.last_kept(crash), made_by=self.made_by(crash))
         if len(kept) < len(lost):
             result.update(kept=kept[:MOST_STORES], keeps=len(kept))
         while not room.acquire(timeout=0.5):
@@ -157,7 +160,7 @@ class Replay:
             outcome = self.check_in(folder, crash, contents)
             result.update(failed=outcome.failed, status=outcome.status, tail=outcome.tail)
             if not outcome.failed:
-                result = {"failed": False}
+                result = {"failed": False, "number": result["number"], "place": crash.place, "tail": outcome.tail}
             with self.lock:
                 self.counts.run += 1
                 self.results.add(name, result)
@@ -189,6 +192,8 @@ class Replay:
         if result["failed"]:
             self.counts.failed += 1
             self.failures[result["number"]] = result
+        elif "tail" in result:
+            self.texts.add(result)
 
     def last_kept(self):
         """The number of the last failed image that is kept."""
@@ -201,9 +206,15 @@ class Replay:
         for pool, path in enumerate(self.maker.make(crash, folder)):
             shutil.move(path, self.kept / f"image{number}{f'.{pool + 1}' if pool else ''}")
 
-    def tell(self, seconds):
+    def stopped_words(self):
+        more = "the same words go on" if self.options.keep else "with --keep DIR the same words would go on"
+        return f"stopped at place {self.reached} of {self.last}; {more}"
+
+    def tell(self, seconds, stopped=False):
         """The answer, on standard output."""
-        lines = summary(self.trace, self.places, self.options, self.counts, seconds)
+        lines = [f"{self.trace.path}: {self.stopped_words()}; this is of the images until then"] if stopped else []
+        lines += summary(self.trace, self.places, self.options, self.counts, seconds)
+        lines += self.texts.rows()
         failures = [self.failures[number] for number in sorted(self.failures)]
         if failures:
             lines += ["", *table(self.trace, failures), "", *next_words(self.trace, failures[0])]
@@ -248,11 +259,12 @@ def run(options, here):
         replay.tell(time.monotonic() - begun)
         return 1 if replay.failures else 0
     except Ended:
-        if replay is not None:
+        if replay is None:
+            print(f"{options.trace}: stopped before the first image", flush=True)
+        else:
             replay.processes.stop()
-            replay.tell(time.monotonic() - begun)
-            more = "the same words go on" if options.keep else "with --keep DIR the same words would go on"
-            print(f"pmtrim-replay: stopped at place {replay.reached} of {replay.last}; {more}", file=sys.stderr)
+            replay.tell(time.monotonic() - begun, stopped=True)
+            print(f"pmtrim-replay: {replay.stopped_words()}", file=sys.stderr)
         raise
     finally:
         if replay is not None:

@@ -3,7 +3,7 @@ import shlex
 import sys
 import time
 
-MOST_FAILURES, MOST_STORES, MOST_LINES = 20, 6, 8
+MOST_FAILURES, MOST_STORES, MOST_LINES, MOST_TEXTS = 20, 6, 8, 4
 EVERY = {True: 0.2, False: 60.0}  # seconds between two lines of progress: on a terminal, and elsewhere
 
 
@@ -50,14 +50,55 @@ def stores_of(trace, verb, numbers, count):
     return [f"{verb} {trace.describe(number)}" for number in numbers] + [f"{verb} {more} more"] * (more > 0)
 
 
+def last_kept(trace, result):
+    """The last store that the crash keeps, where it is not among those that are told."""
+    number = result.get("last_kept")
+    if number in result.get("kept", []):
+        return []
+    return [f"keeps, as the last store, {trace.describe(number)}" if number else "keeps no store"]
+
+
+def losses(trace, result):
+    """The stores that the crash loses, but those to ranges that need no saving."""
+    ignored = result.get("ignored", 0)
+    told = stores_of(trace, "loses", result["lost"], result["losses"])
+    if ignored:
+        told.append(f"loses {counted(ignored, 'store')} to ranges of {trace.path}.ignore")
+    return told or ["loses nothing"]
+
+
 def row_of(trace, result):
     """A failed image: its number, its place, the event there, the checker's status; of the stores that a crash there can lose those that
-    this one keeps, if they are the fewer, and those that it loses; and what the checker wrote last."""
+    this one keeps, if they are the fewer, the last one that it keeps, and those that it loses; and what the checker wrote last."""
     rows = [f"{result['number']:>6} {result['place']:>6}  {trace.describe(result['place'])}"]
     told = [f"checker: {result['status']}"]
     told += stores_of(trace, "keeps", result.get("kept", []), result.get("keeps", 0))
-    told += stores_of(trace, "loses", result["lost"], result["losses"]) or ["loses nothing"]
+    told += [*last_kept(trace, result), *losses(trace, result)]
     return rows + [f"{'':15}{words}" for words in [*told, *(f"| {line}" for line in result["tail"])]]
+
+
+class Texts:
+    """What the checker wrote last where it did not fail: texts that differ tell images apart, though each is taken."""
+
+    def __init__(self):
+        self.images = {}
+
+    def add(self, result):
+        self.images.setdefault(tuple(result["tail"]), []).append((result["number"], result["place"]))
+
+    def rows(self):
+        """The most frequent texts, where there are several."""
+        if len(self.images) < 2:
+            return []
+        rows = [f"where it did not fail, the checker wrote {len(self.images)} different texts:"]
+        by_count = sorted(self.images.items(), key=lambda item: (-len(item[1]), min(item[1])))
+        for text, images in by_count[:MOST_TEXTS]:
+            number, place = min(images)
+            rows.append(f"{'':7}{counted(len(images), 'image')}, the first is image {number} of place {place}:")
+            rows += [f"{'':15}| {line}" for line in text] or [f"{'':15}nothing"]
+        if len(by_count) > MOST_TEXTS:
+            rows.append(f"{'':7}and {counted(len(by_count) - MOST_TEXTS, 'more text')}")
+        return rows
 
 
 def table(trace, failures):

@@ -1,5 +1,8 @@
 """A trace, as far as images need it. That it is one is judged by pmtrim before."""
-from faults import FILE_FAULT, Fault, of_file
+import bisect
+import re
+
+from faults import FILE_FAULT, REFUSED, Fault, of_file
 
 FENCES = ("sfence", "mfence")
 
@@ -18,6 +21,7 @@ class Trace:
             raise Fault(FILE_FAULT, f"{path}: it has changed while it was read") from error
         self.line_size = int(header.split(" ")[2]) if header.startswith("pmtrace 2") else 64
         self.labels = read_labels(f"{path}.labels")
+        self.ignored = read_ignored(f"{path}.ignore")
 
     def store(self, number):
         """The address and the bytes of a store; None of another event."""
@@ -30,6 +34,12 @@ class Trace:
             if line.startswith("store "):
                 yield (number, *self.store(number))
 
+    def is_ignored(self, number):
+        """Whether all bytes of a store lie in ranges that need no saving."""
+        address, written = self.store(number)
+        at = bisect.bisect_right(self.ignored, (address, float("inf"))) - 1
+        return at >= 0 and address + len(written) <= self.ignored[at][1]
+
     def may_raise(self, number):
         """Whether the event may make stores safe: a fence, or a clflush."""
         return self.lines[number - 1].startswith((*FENCES, "clflush "))
@@ -40,6 +50,33 @@ class Trace:
             return "the beginning"
         label = self.labels.get(number)
         return f"event {number}{f' at {label}' if label else ''}: {self.lines[number - 1]}"
+
+
+def read_ignored(path):
+    """The ranges that need no saving, as pmtrim-record --pmdk writes them beside a trace: rising pairs of the first address and that
+    behind the last one, none of which touch. None where there is no such file."""
+    try:
+        with open(path, encoding="utf-8", errors="replace") as file:
+            lines = file.read().splitlines()
+    except FileNotFoundError:
+        return []
+    except OSError as error:
+        raise of_file(path, error) from error
+    joined = []
+    for start, length in sorted(read_range(path, number, line) for number, line in enumerate(lines, 1)):
+        if joined and start <= joined[-1][1]:
+            joined[-1] = (joined[-1][0], max(joined[-1][1], start + length))
+        else:
+            joined.append((start, start + length))
+    return joined
+
+
+def read_range(path, number, line):
+    """A:N, as `explain --ignore-file` takes it."""
+    found = re.fullmatch(r"0x([0-9a-f]{1,12}):(\d{1,15})", line)
+    if found is None:
+        raise Fault(REFUSED, f"{path}:{number}: {line!r} is no range as 0x1000:8")
+    return int(found[1], 16), int(found[2])
 
 
 def read_labels(path):

@@ -6,31 +6,52 @@ import re
 from faults import WRONG_WORDS, Fault
 
 HELP = """\
-usage: pmtrim-replay [--at PLACES] [--off K] [--jobs N] [--keep DIR] [--seconds S] TRACE -- CHECKER [ARGUMENT]..
+Runs a recovery, or another checker, on the pool as crashes leave it.
 
-Makes the pool as crashes of the run that TRACE records leave it, and runs CHECKER on each of these images: a recovery, a test of
-what it leaves, a tool such as `pmempool check`. It fails where its status is not 0. {} among its words is the path of the image,
-which is its own copy; {2}, {3} .. are those of further pools. The pool's bytes before the trace stand in TRACE.base and its first
-address in TRACE.origin, as recorders write them: PMTRACE_BASE=1, or pmtrim-record --base.
+Usage: pmtrim-replay [--at PLACES] [--off K] [--jobs N] [--keep DIR] [--seconds S]
+                     TRACE -- CHECKER [ARGUMENT]..
 
-The images, each once. At each place, that is after so many events, a crash leaves of each cache line a number of its stores, the
-first ones: no fewer than its front, those that no crash can lose, and no more than its count, all those so far. Taken are all
-crashes where at most K cache lines are off their front, and all where at most K are off their count. Crashes that leave the same
-bytes are one image, of the first place. The places are those where crashes turn: right after each fence and each clflush, and
-right after a store, or at the beginning, where no store comes next. Right before and right after any flush, fence or claim, and
-at the end, a crash leaves just what one leaves at such a place. With a K as large as the number of cache lines these are all
-crashes of the run. `pmtrim image --list` tells them.
+Arguments:
+  TRACE       the trace; beside it the pool's bytes from before
+  CHECKER     the program that runs on each image
+  ARGUMENT..  its words, one of which has {}
 
-  --at PLACES   other places: numbers and ranges of them, as 12,40-60; each number of a range is a place
+Options:
+  --at PLACES   other places: numbers and ranges of them, as 12,40-60; each number of a range is a
+                place
   --off K       how many cache lines may be off, 0 to 64 (1)
   --jobs N      how many checkers run at once (one for each processor)
-  --seconds S   how long a checker may take, in whole seconds (60); after that it is killed, and has failed
-  --keep DIR    keeps in DIR what the checkers said, and the images of the first 20 that failed. The same words go on where a run
-                was stopped
-  --help, --version
+  --keep DIR    keeps in DIR what the checkers said, and the images of the first 20 that failed. The
+                same words go on where a run was stopped
+  --seconds S   how long a checker may take, in whole seconds (60); after that it is killed, and has
+                failed
+  --help        says this
+  --version     says which version it is
 
-Statuses: 0 no checker failed, 1 one did, 2 wrong words, 3 the trace or its base is refused, 4 a file can't be read or written,
-5 out of memory, 6 an image is not what was foreseen. PMTRIM in the environment names the program pmtrim."""
+Makes the pool as crashes of the run that TRACE records leave it, and runs CHECKER on each of these
+images: a recovery, a test of what it leaves, a tool such as `pmempool check`. It fails where its
+status is not 0. {} among its words is the path of the image, which is its own copy; {2}, {3} .. are
+those of further pools. The pool's bytes before the trace stand in TRACE.base and its first address
+in TRACE.origin, as recorders write them: PMTRACE_BASE=1, or pmtrim-record --base.
+
+The images, each once. At each place, that is after so many events, a crash leaves of each cache
+line a number of its stores, the first ones: no fewer than its front, those that no crash can lose,
+and no more than its count, all those so far. Taken are all crashes where at most K cache lines are
+off their front, and all where at most K are off their count. Crashes that leave the same bytes are
+one image, of the first place. The places are those where crashes turn: right after each fence and
+each clflush, and right after a store, or at the beginning, where no store comes next. Right before
+and right after any flush, fence or claim, and at the end, a crash leaves just what one leaves at
+such a place. With a K as large as the number of cache lines these are all crashes of the run.
+`pmtrim image --list` tells them.
+
+A run that is stopped says so in the first line of its answer, which is of the images until then,
+and ends by the signal. PMTRIM in the environment names the program pmtrim.
+
+Statuses: 0 no checker failed; 1 one did; 2 wrong words, or DIR has the results of another run;
+3 the trace or its base is refused; 4 a file can't be read or written; 5 out of memory; 6 an image
+is not what was foreseen; 129 it was stopped by SIGHUP, as a shell tells it; 130 by SIGINT; 143 by
+SIGTERM
+Example: PMTRACE_BASE=1 ./engine && pmtrim-replay engine.trace -- ./engine --recover {}"""
 
 RANGE = re.compile(r"(\d{1,7})(?:-(\d{1,7}))?")
 MOST_OFF, MOST_JOBS, MOST_SECONDS = 64, 1024, 1_000_000

@@ -90,9 +90,9 @@ class Tests(recording.Tests):
     # Judging
 
     def labels(self, trace):
-        """The label of each event, after `lines` found the source lines."""
+        """The label of each event, after pmtrim-lines found the source lines."""
         path = trace.with_name(trace.name + ".labels")
-        self.expect(f"lines of {path.name}", run([TOP / "recorders/libpmem/lines", path], cwd=TOP) == (0, ""), text_of(path)[:200])
+        self.expect(f"lines of {path.name}", run([TOP / "recorders/libpmem/pmtrim-lines", path], cwd=TOP) == (0, ""), text_of(path)[:200])
         entries = [line.split(" ", 1) for line in text_of(path).splitlines()]
         right = [number for number, _ in entries] == [str(number + 1) for number in range(text_of(trace).count("\n") - 1)]
         self.expect(f"{path.name} has a label for each event", right, entries[:3])
@@ -333,7 +333,7 @@ class Tests(recording.Tests):
         status, told = run([self.folder / "redo.gcc.gcc", "add", "pool", "1", "2"], cwd=folder)
         place = re.match(r"pmtrace: (.*\+0x[0-9a-f]+): ", told)
         (folder / "told.labels").write_text(f"1 {place[1] if place else told}\n")
-        run([TOP / "recorders/libpmem/lines", folder / "told.labels"], cwd=TOP)
+        run([TOP / "recorders/libpmem/pmtrim-lines", folder / "told.labels"], cwd=TOP)
         line = source_of(text_of(folder / "told.labels").rstrip("\n").split(" ", 1)[1])
         self.expect("redo: the flush that is no flush", status == 0 and "Persist(&redo, " in line, (told, line))
 
@@ -345,6 +345,11 @@ class Tests(recording.Tests):
         force = {"PMEM_IS_PMEM_FORCE": "1", "LD_LIBRARY_PATH": str(self.libraries["gcc"] / "shared")}
         self.says("libpmemobj", ["sh", "-c", 'echo recorded | "$1" pool', "sh", program], UNMAPPED, cwd=folder, set=force)
         self.report(folder / "pool.trace")
+        built = run(["gcc", "-g", HERE / "reopens.c", "-o", self.folder / "reopens", "-lpmemobj"])
+        self.expect("reopens is built", built == (0, ""), built[1])
+        status, told = run([self.folder / "reopens", "again"], cwd=folder, set=force)
+        self.expect("libpmemobj: a pool is opened again", status == 0 and "opened again\n" in told, told)
+        self.report(folder / "again.trace")
         text = text_of(folder / "pool.trace")
         self.expect("libpmemobj: its stores are there", f" {b'recorded'.hex()}\n" in text and text.count("\nsfence ") > 10, text[-200:])
 

@@ -40,6 +40,7 @@ POOLS = {
     "growing": (
         [ONE_STORED, "store 0 0x40 03", *flushes(0, PAGE), "store 0 0x10000000000 02", "store 0 0x2000 04", "sfence 0"], [], 0),
     "in-place": (["store 0 0x63 02", "store 0 0x1000 01"], [], 0),
+    "locks": ([ONE_STORED], [], 0),
     # the first range begins at 0x24 of its line: address 0x400 is the place 1088 of the memory
     "seam": (["store 0 0x402 020202020202", "store 0 0x408 0202020202020202", "store 0 0x410 020202020202", "clwb 0 0x400"], [], 0),
     "apart": (["store 0 0x3e0 01", "store 0 0x3f0 02"], [], 0),
@@ -105,7 +106,9 @@ WINDOWS = {
         [*words_of(0x40, line_of([99] + [11] * 7)), *words_of(0x80, line_of([12] * 8)), *words_of(0xC0, line_of([13] * 8)),
          "clwb 0 0x80", "clwb 1 0xc0", "isPersist 0 0x0 64", "isPersist 0 0x40 64", "isPersist 0 0x80 64", "sfence 0", "isPersist 0 0x80 64",
          "isPersist 0 0xc0 64", "isPersist 0 0x100 64"], [], 0),
-    "order": ([ONE_STORED, *words_of(0x40, line_of([2], 0)), "clflush 0 0x40", "isOrderedBefore 0 0x0 1 0x40 1"], [], 0),
+    "order": (
+        [ONE_STORED, *words_of(0x40, line_of([2], 0)), "clflush 0 0x40"],
+        ["1 claims of order about what was stored last before the window are not in the trace"], -1),
     "plain": ([*words_of(0x40, line_of([2], 0)), "store 0 0x80 03"], [], 0),
     "fill": (
         WORK,
@@ -230,6 +233,9 @@ class CaseTests(Tests):
         for number, (variables, wanted) in enumerate(BY_ENVIRONMENT):
             trace = self.folder / f"rounds.{number}.trace"
             self.case(f"windows {variables}", [program, trace, "rounds"], trace, (wanted, [], 0), env={**os.environ, **variables})
+            beside, closed = trace.with_name(f"{trace.name}.cut"), "the window was closed here, and events came after it"
+            said = text_of(beside) == (f"{len(wanted)} {closed}\n" if "PMTRACE_STOP" in variables else "")
+            self.expect(f"windows {variables}: the end", said, text_of(beside))
         status, text = run([program, self.folder / "none.trace", "rounds"], env={**os.environ, "PMTRACE_START": "7x"})
         self.expect("a window that is no number", status == 1 and "PMTRACE_START=7x is no number of events" in text, text)
 

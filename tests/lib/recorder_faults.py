@@ -33,6 +33,12 @@ class FaultTests(Tests):
         self.report(trace)
         return trace, status, told.replace(str(trace), "TRACE")
 
+    def cut(self, name, trace, wanted):
+        """What stands beside the trace: after which event it was cut and why; None where it was not."""
+        beside = trace.with_name(f"{trace.name}.cut")
+        found = beside.read_text() if beside.exists() else None
+        self.expect(f"{name}: what the trace says of its end", found == wanted, found)
+
     def full(self, name, program):
         """What every recorder does where the trace has to end."""
         trace, status, told = self.fault(name, program, "threads")
@@ -41,12 +47,17 @@ class FaultTests(Tests):
         numbers = [int(fields[1]) for fields in events_of(trace)]
         right = sorted(told.splitlines()) == sorted(f"{wanted}closed -1".splitlines())
         self.expect(f"{name}: the 257th thread", right and status == 0 and numbers == [number // 3 for number in range(768)], told)
+        self.cut(f"{name}: the 257th thread", trace, "768 a trace has at most 256 threads, and here is the 257th\n")
 
         trace, status, told = self.fault(name, program, "events")
         later = "pmtrace: TRACE: 125000 later events are not in the trace\n"
         wanted = f"pmtrace: TRACE: the trace ends after event 1000000: a trace has at most 1000000 events\n{later}"
         right = sorted(told.splitlines()) == sorted(f"{wanted}closed -1".splitlines())
         self.expect(f"{name}: a million events", right and status == 0 and text_of(trace).count("\n") == 1000001, told)
+        self.cut(f"{name}: a million events", trace, "1000000 a trace has at most 1000000 events\n")
+        moved = self.folder / f"{name}.moves.trace"
+        run([*program, moved.name, "moves"], env=PYTHON, cwd=self.folder)
+        self.cut(f"{name}: in another folder", moved, "1000000 a trace has at most 1000000 events\n")
 
         trace, status, told = self.fault(name, program, "disk", limited=True)
         whole = "pmtrace 2 64\n" + "".join(f"store 0 {8 * at:#x} {f'{at // 512:02x}' * 8}\n" for at in range(51200))
@@ -58,11 +69,19 @@ class FaultTests(Tests):
         self.expect(f"{name}: a full disk", told_right and 99900 < len(text) <= 100000 and whole.startswith(text), f"{told} {len(text)}")
         counted = told_right and (int(told_right[1]), int(told_right[1]) + int(told_right[2])) == (text.count("\n") - 1, 51200)
         self.expect(f"{name}: what is missing is counted", counted, told)
+        reason = re.search("File too large.*", told)
+        self.cut(f"{name}: a full disk", trace, f"{told_right and told_right[1]} {reason and reason[0]}\n")
+        trace, status, told = self.fault(name, program, "empty")
+        self.expect(f"{name}: no event", (text_of(trace), told) == ("pmtrace 2 64\n", "closed 0\n"), told)
+        self.cut(f"{name}: no event", trace, "0 no event came\n")
 
     def ends(self, name, program):
         """What was recorded is written when the program aborts or exits without closing; files that can't be written are told."""
         for case, wanted in (("abort", -signal.SIGABRT), ("exit", 3)):
+            # of an earlier trace
+            (self.folder / f"{name}.{case}.trace.cut").write_text("5 the disk was full\n")
             trace, status, told = self.fault(name, program, case)
+            self.cut(f"{name}: {case}", trace, None)
             self.expect(f"{name}: {case}", (text_of(trace), status) == (WORD_SAVED, wanted), f"{status} {told}")
         for file in ("/dev/full", self.folder / "none/trace"):
             status, told = run([*program, file, "abort"], env=PYTHON)

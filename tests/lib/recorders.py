@@ -12,6 +12,7 @@ import tempfile
 
 from recorder_cases import CaseTests
 from recorder_faults import FaultTests
+from recorder_parts import PartTests
 from recorder_threads import ThreadTests
 from recording import AS_C, AS_CPP, HEADERS, HERE, SANITIZED, TOP, build, has_compiler, labels_of, run, source_of, text_of
 
@@ -67,7 +68,7 @@ CALLED = [
 ]
 
 
-class RecorderTests(CaseTests, FaultTests, ThreadTests):
+class RecorderTests(CaseTests, FaultTests, PartTests, ThreadTests):
     """The tests."""
 
     # Calls
@@ -76,6 +77,14 @@ class RecorderTests(CaseTests, FaultTests, ThreadTests):
         """pmtrace.h is what its parts make."""
         status, told = run([HEADERS / "parts/join"])
         self.expect("pmtrace.h is made from its parts", status == 0 and told == text_of(HEADERS / "pmtrace.h"), told[:200])
+
+    def labelled_calls(self):
+        """The page has each function that takes a label, with the names of its arguments."""
+        declared = re.findall(r"(pmtrace_\w+_at)\(([^)]*)\)", text_of(HEADERS / "parts/functions.h"))
+        wanted = {name: [argument.split()[-1].strip("*") for argument in arguments.split(",")] for name, arguments in declared}
+        rows = re.findall(r"^\| (`pmtrace_\w+_at`[^|]*) \| `([^`]*)`", text_of(TOP / "recorders/README.md"), re.M)
+        found = {name: arguments.split(", ") for names, arguments in rows for name in re.findall(r"`(\w+)`", names)}
+        self.expect("the page has the functions that take a label", len(wanted) >= 20 and found == wanted, f"{found}\n{wanted}")
 
     def calls(self):
         for name, compiler, flags in (("c11", AS_C, ["-std=c11"]), ("cpp17", AS_CPP, [])):
@@ -192,6 +201,7 @@ def main():
         python = [sys.executable, "-W", "error"]
         c, cpp = (tests.in_c("threads", compiler, ending) for compiler, ending in ((AS_C, ".c"), (AS_CPP, ".cpp")))
         tests.joined()
+        tests.labelled_calls()
         tests.calls()
         tests.off()
         tests.threads(
@@ -199,6 +209,7 @@ def main():
         )
         tests.sanitized()
         tests.all_cases()
+        tests.parts()
         faults = [tests.in_c("faults", AS_C, ".c")]
         for name, program in (("faults.c", faults), ("faults.rs", [made / "faults"]), ("faults.py", [*python, HERE / "faults.py"])):
             tests.full(name, program)

@@ -6,7 +6,7 @@ import shutil
 import subprocess
 import tempfile
 
-from examples import Counts
+from counts import Counts
 
 TOP = pathlib.Path(__file__).resolve().parents[2]
 HERE = TOP / "tests/lib/recorders"

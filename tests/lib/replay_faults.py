@@ -37,7 +37,7 @@ class FaultTests(Runs):
     """What may go wrong."""
 
     def fault_tests(self):
-        return self.checkers, self.folders, self.kept_images, self.refusals, self.full, self.stopped, self.others_results, self.large
+        return self.checkers, self.texts, self.last_kept, self.ignored, self.folders, self.kept_images, self.refusals, self.full, self.stopped, self.stopped_at_once, self.others_results, self.large
 
     def small(self, name="small.trace", lines=(), size=128):
         self.write_trace(self.folder / name, "pmtrace 2 64", lines or TWO_LINES, bytes(size), 0)
@@ -62,6 +62,54 @@ class FaultTests(Runs):
             self.expect(f"{script}: told", told.count(said) == 4 and len(told) < 6000, told[:3000])
             self.expect(f"{script}: time", time.monotonic() - begun < 60, time.monotonic() - begun)
             self.expect(f"{script}: nothing runs on", not is_running("1234.5"), "a child of the checker")
+
+    def texts(self):
+        """What checkers write that fail on no image: told where it differs, but for paths, which always do."""
+        trace, differs = self.small(), "where it did not fail, the checker wrote 2 different texts:"
+        for script, texts in (
+            ('echo "read $1, kept in $TMPDIR/copy"', []),
+            ("true", []),
+            ('od -An -tu1 -N1 "$1"', ["2 images, the first is image 1 of place 2:\n               |    0", "2 images, the first is image 2 of "]),
+            ('od -An -tu1 -N1 "$1" | grep 1; true', ["2 images, the first is image 1 of place 2:\n               nothing\n"]),
+        ):
+            status, told, faults = self.replay(["--jobs", "1", trace, *of_shell(script)])
+            self.expect(f"{script}: status", (status, faults, counts_of(told)) == (0, "", (6, 4, 0, 0)), told + faults)
+            right = (differs in told) == bool(texts) and all(text in told for text in texts)
+            self.expect(f"{script}: the texts", right, told)
+        # those of an earlier run count too, and a failure is no text
+        kept, words = self.folder / "texts", [trace, *of_shell('od -An -tu1 -N1 "$1"; [ "$(od -An -tu1 -j64 -N1 "$1")" -eq 0 ]')]
+        for number in range(2):
+            status, told, _ = self.replay(["--keep", kept, "--jobs", "1", *words])
+            one_each = told.count("1 image, the first is image ") == 2
+            self.expect(f"texts that are kept, run {number}", status == 1 and differs in told and one_each, told)
+
+    def last_kept(self):
+        """The last store that a crash keeps is told, be it safe or not, unless it is listed."""
+        lines = ["store 0 0x0 01", "clwb 0 0x0", "sfence 0", "store 0 0x8 02", *(f"store 0 0x40 {number:02x}" for number in range(1, 9))]
+        trace = self.small("late.trace", lines)
+        status, told, _ = self.replay(["--off", "2", "--at", "12", trace, *of_shell("false")])
+        rows = told.split("checker: status 1\n")[1:]
+        # the first line keeps one store or two, the other from none to eight
+        self.expect("the last store that is kept: images", status == 1 and len(rows) == 18, told)
+        wanted = {4 + count for count in range(1, 9)} | {1, 4}
+        shown = [max(int(number) for number in re.findall(r"keeps(?:, as the last store,)? event (\d+): store", row)) for row in rows]
+        self.expect("the last store that is kept", set(shown) == wanted and shown.count(1) == 1 and shown.count(4) == 1, shown)
+        status, told, _ = self.replay(["--at", "1", self.small(), *of_shell("false")])
+        self.expect("no store is kept", status == 1 and told.count("keeps no store\n") == 1, told)
+
+    def ignored(self):
+        """Stores that need no saving are not among those that a crash loses."""
+        trace = self.small("locks.trace", ["store 0 0x0 01", "store 0 0x40 0102030405060708", "store 0 0x50 01"])
+        ranges = self.folder / "locks.trace.ignore"
+        ranges.write_text("0x44:4\n0x40:4\n")
+        words = ["--off", "2", "--at", "3", trace, *of_shell("false")]
+        told = self.replay(words)[1]
+        lost = re.findall(r"loses (.*)", told)
+        self.expect("ranges that are ignored", "loses event 2: " not in told and "loses event 1: store 0 0x0 01" in told, told)
+        self.expect("ranges that are ignored: counted", lost.count("1 store to ranges of locks.trace.ignore") == 2, lost)
+        ranges.write_text("0x44:4\n64 to 68\n")
+        status, told, faults = self.replay(words)
+        self.expect("ranges that are none", (status, told) == (3, "") and "locks.trace.ignore:2: '64 to 68' is no range" in faults, faults)
 
     def folders(self):
         """What a checker leaves is removed. No folder around its own changes, nor what its links lead to."""
@@ -152,6 +200,8 @@ class FaultTests(Runs):
             process.send_signal(number)
             told, faults = process.communicate(timeout=60)
             self.expect(f"{number.name}: status", process.returncode == -number and "stopped" in faults, (process.returncode, told, faults))
+            first = re.match(r"long\.trace: stopped at place \d+ of 24; the same words go on; this is of the images until then\n", told)
+            self.expect(f"{number.name}: said in the answer", first is not None and counts_of(told) is not None, told)
             self.expect(f"{number.name}: what is left", not (kept / "work").exists() and not list(self.temporary.iterdir()), list(kept.iterdir()))
             with open(state, "a") as file:
                 file.write('{"image": "half')
@@ -159,6 +209,24 @@ class FaultTests(Runs):
             counts = counts_of(told)
             self.expect(f"{number.name}: it goes on", (status, faults) == (1, "") and counts[:3] == (24, 9, 3) and 3 <= counts[3] < 9, told + faults)
             self.expect(f"{number.name}: the same table", rows_of(told) == wanted, told)
+
+    def stopped_at_once(self):
+        """A run that is stopped before there is an image says so too: here pmtrim does not answer."""
+        slow = self.folder / "slow"
+        slow.write_text("#!/bin/sh\nexec sleep 1234.5\n")
+        slow.chmod(0o755)
+        words = [str(word) for word in (REPLAY, self.small(), *of_shell("true"))]
+        environment = {**self.environment, "PMTRIM": str(slow)}
+        streams = {"stdout": subprocess.PIPE, "stderr": subprocess.PIPE, "text": True}
+        process = subprocess.Popen(words, cwd=self.folder, env=environment, **streams)
+        until = time.monotonic() + 60
+        while time.monotonic() < until and not is_running("1234.5"):
+            time.sleep(0.05)
+        process.send_signal(signal.SIGTERM)
+        told, faults = process.communicate(timeout=60)
+        wanted = (-signal.SIGTERM, "small.trace: stopped before the first image\n", "")
+        self.expect("stopped at once", (process.returncode, told, faults) == wanted, (process.returncode, told, faults))
+        self.expect("stopped at once: what is left", not is_running("1234.5") and not list(self.temporary.iterdir()), "something")
 
     def others_results(self):
         """Results of another run are not taken for this one's."""

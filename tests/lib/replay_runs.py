@@ -5,7 +5,7 @@ import re
 import shutil
 import subprocess
 
-from examples import Counts
+from counts import Counts
 
 TOP = pathlib.Path(__file__).resolve().parents[2]
 HERE = TOP / "tests/lib/replay"

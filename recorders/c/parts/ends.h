@@ -94,6 +94,7 @@ static void pmtrace_in_child_(void) {
             pmtrace_drop_file_(&pmtrace_.labels);
         pmtrace_stop_tracking_();
         pmtrace_forget_lines_();
+        pmtrace_forget_ages_();
         pmtrace_free_pools_();
         __atomic_store_n(&pmtrace_state_, PMTRACE_FORKED_, __ATOMIC_SEQ_CST);
     }

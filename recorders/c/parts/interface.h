@@ -19,7 +19,7 @@
  * - Each call has put its events in the file before it returns, so nothing is lost when the program exits, aborts or is killed.
  * - The trace is always a true beginning of what happened. It ends early where it is full (1,000,000 events), where 257 threads
  *   have a number at one time, where a call never returned, or where the file can't be written. The program goes on; standard
- *   error and pmtrace_close tell of it.
+ *   error, pmtrace_close and the file FILE.cut beside the trace tell of it.
  * - Calls before pmtrace_open and after pmtrace_close do the store alone. So do those of a child made by fork.
  * - Not to be called from a signal handler.
  *
@@ -90,7 +90,9 @@
  * Meanwhile stores are done, and followed by lines: at the start, the words of a line that was stored to and not flushed and
  * fenced since are noted as stores, and its flush if one is open, so that it is not taken for safe. What was made safe counts as
  * what stood in the pool from the first, where the trace has no store yet; else its lines are noted too, as stores and a clflush.
- * What was stored before the stop, and flushed or fenced after it, counts as not flushed.
+ * What was stored before the stop, and flushed or fenced after it, counts as not flushed. A claim of order about bytes of the second
+ * range whose last store came before the window is set aside, which is told: the trace can't say when these became safe. So a claim
+ * that passes in a window passes in the whole run.
  * The environment's PMTRACE_START=N leaves out the first N events, to the end of the call that makes event N; PMTRACE_STOP=N leaves
  * out what comes after the call that makes event N. Answer 0, or -1 where no trace is open. */
 #define pmtrace_start() pmtrace_start_at(PMTRACE_HERE)

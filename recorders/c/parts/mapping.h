@@ -40,25 +40,77 @@ static pmtrace_place_ pmtrace_place_of_(uintptr_t at, size_t length, pmtrace_fil
     return place;
 }
 
-/* Maps a page of a pool's file once more, not to be read: while it stands no other file gets the number by which this one is known. */
-static void *pmtrace_keep_file_(uintptr_t at, pmtrace_file_ file) {
+#ifndef O_PATH
+#define O_PATH 010000000
+#endif
+
+enum { PMTRACE_FIRST_KEPT_ = 500 }; /* a descriptor's number that is out of the program's way */
+
+/* The path of the file that is mapped there; false where there is none. */
+static bool pmtrace_path_at_(uintptr_t address, char path[PMTRACE_BASE_PATH_]) {
+    char line[PMTRACE_BASE_PATH_ + 200];
+    unsigned long start, end;
+    bool found = false;
+    FILE *maps = fopen("/proc/self/maps", "re");
+    while (maps != NULL && !found && fgets(line, sizeof line, maps) != NULL)
+        found = sscanf(line, "%lx-%lx", &start, &end) == 2 && start <= address && address < end;
+    if (maps != NULL)
+        fclose(maps);
+    char *first = found ? strchr(line, '/') : NULL, *last = found ? strchr(line, '\n') : NULL;
+    if (first == NULL || last == NULL || last - first >= PMTRACE_BASE_PATH_)
+        return false;
+    memcpy(path, first, (size_t)(last - first));
+    path[last - first] = '\0';
+    return true;
+}
+
+/* A descriptor by a file's path alone, or -1. It keeps none of the program's locks: a mapping would keep those of flock, and the end of an
+ * ordinary descriptor would give up those of fcntl. */
+static int pmtrace_keep_path_(uintptr_t at, pmtrace_file_ file) {
+    char path[PMTRACE_BASE_PATH_];
+    struct stat status;
+    int found = pmtrace_path_at_(at, path) ? open(path, O_PATH | O_CLOEXEC) : -1;
+    bool same = found >= 0 && fstat(found, &status) == 0 && status.st_ino == file.number;
+    int kept = same ? fcntl(found, F_DUPFD_CLOEXEC, PMTRACE_FIRST_KEPT_) : -1;
+    if (found >= 0 && !(same && kept < 0))
+        close(found);
+    return same && kept < 0 ? found : kept;
+}
+
+/* Keeps a pool's file: while it is kept no other file gets the number by which this one is known. Where its path leads to it no more a
+ * page of it is mapped once more, not to be read. */
+static void pmtrace_keep_file_(pmtrace_pool_ *pool, uintptr_t at) {
     const uintptr_t page = (uintptr_t)sysconf(_SC_PAGESIZE);
     const long may_move = 1; /* MREMAP_MAYMOVE: of a shared mapping with the length 0 it makes another one */
-    if (!file.shared)
-        return NULL;
+    if (!pool->file.shared)
+        return;
+    pool->kept_file = pmtrace_keep_path_(at, pool->file);
+    if (pool->kept_file >= 0)
+        return;
     void *kept = (void *)(uintptr_t)syscall(SYS_mremap, at - at % page, 0L, page, may_move, 0L);
     if (kept == MAP_FAILED)
-        return NULL;
+        return;
     (void)mprotect(kept, page, PROT_NONE);
-    return kept;
+    pool->kept = kept;
+}
+
+/* The program may have closed all descriptors, and opened others by their numbers. */
+static void pmtrace_unkeep_file_(const pmtrace_pool_ *pool) {
+    struct stat status;
+    bool same = pool->kept_file >= 0 && (fcntl(pool->kept_file, F_GETFL) & O_PATH) != 0 && fstat(pool->kept_file, &status) == 0 &&
+                status.st_ino == pool->file.number;
+    if (same)
+        close(pool->kept_file);
+    if (pool->kept != NULL)
+        munmap(pool->kept, (size_t)sysconf(_SC_PAGESIZE));
 }
 
 static bool pmtrace_add_pool_(uintptr_t at, uint64_t from, pmtrace_file_ file) {
-    pmtrace_pool_ pool = {from, from, file, NULL, NULL};
+    pmtrace_pool_ pool = {from, from, file, NULL, NULL, -1};
     pmtrace_pool_ *more = (pmtrace_pool_ *)realloc(pmtrace_.pools, (pmtrace_.pool_count + 1) * sizeof pool);
     if (more == NULL)
         return false;
-    pool.kept = pmtrace_keep_file_(at, file);
+    pmtrace_keep_file_(&pool, at);
     pmtrace_.pools = more;
     more[pmtrace_.pool_count++] = pool;
     return true;

@@ -5,6 +5,7 @@ static uint64_t pmtrace_line_of_(uint64_t from) {
 }
 
 static void pmtrace_note_word_(uint64_t from, const unsigned char *bytes, size_t length) {
+    pmtrace_age_store_(from, length);
     if (pmtrace_.window) {
         pmtrace_put_store_(from, bytes, length);
     } else {
@@ -83,6 +84,11 @@ static void pmtrace_note_assertion_(const char *word, pmtrace_range_ first, cons
         pmtrace_.seen++;
         return;
     }
+    if (second != NULL && pmtrace_is_older_(*second)) {
+        pmtrace_.aside++;
+        pmtrace_.seen++;
+        return;
+    }
     char *at = pmtrace_begin_(word);
     if (at == NULL)
         return;
@@ -122,15 +128,23 @@ static void pmtrace_open_window_(void) {
     size_t count = pmtrace_gather_lines_();
     uint64_t bytes = (uint64_t)count * pmtrace_.line_size, seen = pmtrace_.seen;
     pmtrace_.window = true;
+    pmtrace_.window_number++;
     pmtrace_keep_bases_();
+    pmtrace_.aging = false; /* what is carried is as old as it is */
     if (pmtrace_has_events_("what was stored outside the window,", bytes, bytes / PMTRACE_WORD_BYTES_ + count))
         pmtrace_put_lines_(count);
+    pmtrace_.aging = true;
     pmtrace_.seen = seen;
     pmtrace_forget_lines_();
 }
 
 static void pmtrace_close_window_(void) {
     pmtrace_look_();
+    if (!pmtrace_.window)
+        return;
+    pmtrace_begin_aging_();
+    pmtrace_.window_number++;
+    pmtrace_.closed_at = pmtrace_.seen;
     pmtrace_.window = false;
 }
 

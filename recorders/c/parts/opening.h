@@ -46,6 +46,8 @@ static void pmtrace_reset_(void) {
     free(pmtrace_.mappings);
     free(pmtrace_.based);
     pmtrace_forget_lines_();
+    pmtrace_forget_ages_();
+    pmtrace_.aging = false;
     pmtrace_.mappings = NULL;
     pmtrace_.based = NULL;
     pmtrace_.based_count = 0;
@@ -81,7 +83,8 @@ static void pmtrace_set_up_(unsigned line_size, bool labeled) {
     pmtrace_.look_at_all = watch != NULL && strcmp(watch, "all") == 0;
     pmtrace_.ended = pmtrace_.incomplete = pmtrace_.stored = false;
     pmtrace_.opened++;
-    pmtrace_.events = pmtrace_.seen = pmtrace_.missing = pmtrace_.outside = 0;
+    pmtrace_.events = pmtrace_.seen = pmtrace_.missing = pmtrace_.outside = pmtrace_.aside = 0;
+    pmtrace_.window_number = 1;
     pmtrace_.fault_file = pmtrace_.pages_file = -1;
     memset(pmtrace_.threads, 0, sizeof pmtrace_.threads);
     __atomic_store_n(&pmtrace_lost_, 0, __ATOMIC_RELAXED);
@@ -107,11 +110,13 @@ static bool pmtrace_begin_trace_(const char *label, const char *file, unsigned l
         return false;
     free(pmtrace_.name);
     pmtrace_.name = strdup(file);
-    if (pmtrace_.name == NULL || !pmtrace_make_files_(line_size, label != NULL))
+    if (pmtrace_.name == NULL || !pmtrace_begin_cut_() || !pmtrace_make_files_(line_size, label != NULL))
         return false;
     pmtrace_set_up_(line_size, label != NULL);
     pmtrace_set_up_bases_();
     pmtrace_.window = start == 0;
+    if (!pmtrace_.window)
+        pmtrace_begin_aging_();
     pmtrace_.start_at = start == 0 ? UINT64_MAX : start;
     pmtrace_.stop_at = stop;
     return true;
@@ -225,10 +230,23 @@ static bool pmtrace_tell_missing_(void) {
     if (pmtrace_.outside > 0)
         pmtrace_tell_("%s: %llu calls reached outside the pool%s", pmtrace_.name, (unsigned long long)pmtrace_.outside,
                       pmtrace_.pool_count > 1 ? "s" : "");
+    if (pmtrace_.aside > 0)
+        pmtrace_tell_("%s: %llu claims of order about what was stored last before the window are not in the trace", pmtrace_.name,
+                      (unsigned long long)pmtrace_.aside);
     if (children > 0)
         pmtrace_tell_("%s: %llu calls of children that fork made reached the pool and are not in the trace", pmtrace_.name,
                       (unsigned long long)children);
-    return pmtrace_.ended || pmtrace_.incomplete || lost > 0 || pmtrace_.outside > 0 || children > 0;
+    return pmtrace_.ended || pmtrace_.incomplete || lost > 0 || pmtrace_.outside > 0 || pmtrace_.aside > 0 || children > 0;
+}
+
+/* A trace that ended as it should, and has no event, or not what came after its window: says so beside it. */
+static void pmtrace_say_cut_(void) {
+    if (pmtrace_.ended)
+        return;
+    if (pmtrace_.events == 0)
+        pmtrace_write_cut_(pmtrace_.seen > 0 ? "no event came while the window was open" : "no event came");
+    else if (!pmtrace_.window && pmtrace_.seen > pmtrace_.closed_at)
+        pmtrace_write_cut_("the window was closed here, and events came after it");
 }
 
 /* Ends the trace. Where a call never gave the lock back the first who comes does it without. */
@@ -251,6 +269,7 @@ static int pmtrace_end_trace_(const char *label, int state) {
         return -1;
     }
     pmtrace_close_files_();
+    pmtrace_say_cut_();
     bool missing = pmtrace_tell_missing_();
     if (entered) {
         pmtrace_stop_tracking_();

@@ -23,6 +23,8 @@
 
 #include "state.h"
 
+#include "telling.h"
+
 #include "output.h"
 
 #include "threads.h"
@@ -32,6 +34,8 @@
 #include "pools.h"
 
 #include "window.h"
+
+#include "ages.h"
 
 #include "pages.h"
 

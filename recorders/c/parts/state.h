@@ -71,6 +71,7 @@ typedef struct pmtrace_pool_ {
     pmtrace_file_ file;
     unsigned char *copy; /* of a watched pool: what the trace makes of it */
     void *kept;          /* a page of the file that stays mapped, or NULL */
+    int kept_file;       /* a descriptor of the file, by its path alone, or -1 */
 } pmtrace_pool_;
 
 /* A mapping of a part of a pool. */
@@ -108,20 +109,22 @@ static struct {
     bool stored;   /* a store is in the trace */
     bool prepared; /* what happens once did */
     char *name;
+    char *cut_name; /* of the file that says where the trace was cut, from the root on */
     unsigned line_size;
-    unsigned opened;   /* how often a trace was opened */
-    uint64_t calls;    /* that took the lock */
-    uint64_t events;   /* in the trace */
-    uint64_t seen;     /* events in the trace and outside of the window */
-    uint64_t start_at; /* the window opens when so many were seen */
-    uint64_t stop_at;  /* it closes then */
-    uint64_t missing;  /* events that came after the trace's end */
-    uint64_t outside;  /* calls that reached outside the pools */
-    bool incomplete;   /* something else is not in the trace, which was told */
-    const char *label; /* of the call */
-    int error;         /* errno as the call found it */
-    int cancel;        /* whether the thread could be cancelled */
-    int cancel_type;   /* and how */
+    unsigned opened;    /* how often a trace was opened */
+    uint64_t calls;     /* that took the lock */
+    uint64_t events;    /* in the trace */
+    uint64_t seen;      /* events in the trace and outside of the window */
+    uint64_t start_at;  /* the window opens when so many were seen */
+    uint64_t stop_at;   /* it closes then */
+    uint64_t closed_at; /* so many were seen when it closed last */
+    uint64_t missing;   /* events that came after the trace's end */
+    uint64_t outside;   /* calls that reached outside the pools */
+    bool incomplete;    /* something else is not in the trace, which was told */
+    const char *label;  /* of the call */
+    int error;          /* errno as the call found it */
+    int cancel;         /* whether the thread could be cancelled */
+    int cancel_type;    /* and how */
     pmtrace_output_ trace;
     pmtrace_output_ labels;
     pmtrace_pool_ *pools;
@@ -136,8 +139,15 @@ static struct {
     pmtrace_line_ *lines; /* a table of what happened outside the window */
     size_t line_room;
     size_t line_count;
-    int fault_file; /* by which the kernel is told to follow the pages; or -1 */
-    int pages_file; /* by which it tells which changed */
+    char *ages; /* a table of lines, and which of their bytes were stored to last in this window */
+    size_t age_room;
+    size_t age_count;
+    bool aging;             /* a window was closed: ages are followed */
+    bool ages_known;        /* nothing is missing in the table */
+    unsigned window_number; /* how often the window was opened and closed, from 1 */
+    uint64_t aside;         /* claims of order that only the whole run can judge */
+    int fault_file;         /* by which the kernel is told to follow the pages; or -1 */
+    int pages_file;         /* by which it tells which changed */
 } pmtrace_;
 
 /* What is read and written without the lock. */
@@ -153,30 +163,6 @@ static uint64_t *pmtrace_children_; /* calls of children that reached a shared p
 static PMTRACE_OF_THREAD_ unsigned pmtrace_number_, pmtrace_number_of_;
 static PMTRACE_OF_THREAD_ int pmtrace_inside_; /* the thread has the lock, or is about to */
 static pthread_key_t pmtrace_key_;             /* by which the end of a thread is seen */
-
-/* --- telling --- */
-
-__attribute__((format(printf, 1, 2))) static void pmtrace_tell_(const char *format, ...) {
-    va_list values;
-    char text[1024];
-    va_start(values, format);
-    vsnprintf(text, sizeof text, format, values);
-    va_end(values);
-    fprintf(stderr, "pmtrace: %s\n", text);
-}
-
-/* Nothing more is noted, which is told once. */
-static void pmtrace_end_(const char *why) {
-    if (!pmtrace_.ended)
-        pmtrace_tell_("%s: the trace ends after event %llu: %s", pmtrace_.name, (unsigned long long)pmtrace_.events, why);
-    pmtrace_.ended = true;
-}
-
-/* Something is not in the trace that goes on. */
-static void pmtrace_miss_(const char *what) {
-    pmtrace_tell_("%s: %s", pmtrace_.name, what);
-    pmtrace_.incomplete = true;
-}
 
 static bool pmtrace_is_(const int *flag) {
     return __atomic_load_n(flag, __ATOMIC_SEQ_CST) != 0;

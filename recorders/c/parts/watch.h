@@ -2,6 +2,8 @@
 
 static void pmtrace_note_word_(uint64_t from, const unsigned char *bytes, size_t length);
 
+static void pmtrace_unkeep_file_(const pmtrace_pool_ *pool);
+
 static unsigned char *pmtrace_copied_(const pmtrace_pool_ *pool, uint64_t from) {
     return pool->copy + (from - (pool->from - pool->from % PMTRACE_WORD_BYTES_));
 }
@@ -10,8 +12,7 @@ static unsigned char *pmtrace_copied_(const pmtrace_pool_ *pool, uint64_t from) 
 static void pmtrace_free_pools_(void) {
     for (unsigned number = 0; number < pmtrace_.pool_count; number++) {
         free(pmtrace_.pools[number].copy);
-        if (pmtrace_.pools[number].kept != NULL)
-            munmap(pmtrace_.pools[number].kept, (size_t)sysconf(_SC_PAGESIZE));
+        pmtrace_unkeep_file_(&pmtrace_.pools[number]);
     }
     free(pmtrace_.pools);
     pmtrace_.pools = NULL;

@@ -28,7 +28,8 @@
 //! - Each call writes its events before it returns, so nothing is lost when the program exits, panics, aborts or is killed. (A signal
 //!   that kills inside a write may leave a part of a line, which pmtrim refuses as `truncated`.)
 //! - The trace is always a true beginning of what happened. It ends early where it is full (1,000,000 events), where a 257th thread
-//!   comes, or where the file can't be written. Standard error tells of it once, and [`Recorder::close`] at the end.
+//!   comes, or where the file can't be written. Standard error tells of it once, [`Recorder::close`] at the end, and the file FILE.cut,
+//!   whose line has the number of the last event and the reason. A trace without events has such a file too.
 //! - A range that leaves the pool panics, as a slice does; nothing is changed or noted then.
 #![forbid(unsafe_code)]
 #![warn(missing_docs)]

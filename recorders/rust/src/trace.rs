@@ -1,8 +1,9 @@
 //! The trace and its labels as files: each call's events are written before it returns.
 use std::collections::HashMap;
+use std::env;
 use std::ffi::OsString;
 use std::fmt;
-use std::fs::File;
+use std::fs::{self, File};
 use std::io::{self, ErrorKind, Write};
 use std::panic::Location;
 use std::path::{Path, PathBuf};
@@ -18,6 +19,8 @@ const ROOM: usize = 1 << 16;
 #[derive(Debug)]
 pub(crate) struct Trace {
     path: PathBuf,
+    /// The file that says where the trace was cut, from the root on.
+    cut_path: PathBuf,
     file: File,
     labels: Option<File>,
     /// Lines that wait to be written.
@@ -36,10 +39,16 @@ impl Trace {
     pub(crate) fn create(path: &Path, line_size: usize, labeled: bool) -> io::Result<Trace> {
         let header = format!("pmtrace 2 {line_size}\n");
         let mut file = File::create(path)?;
+        let cut_path = env::current_dir().unwrap_or_default().join(beside(path, ".cut"));
+        match fs::remove_file(&cut_path) {
+            Err(error) if error.kind() != ErrorKind::NotFound => return Err(error),
+            _ => {}
+        }
         file.write_all(header.as_bytes())?;
-        let labels = labeled.then(|| File::create(labels_path(path))).transpose()?;
+        let labels = labeled.then(|| File::create(beside(path, ".labels"))).transpose()?;
         Ok(Trace {
             path: path.to_owned(),
+            cut_path,
             file,
             labels,
             text: Vec::new(),
@@ -84,6 +93,9 @@ impl Trace {
     /// Ends the trace.
     pub(crate) fn close(mut self) -> Result<(), Incomplete> {
         self.write_out();
+        if self.ended.is_none() && self.events == 0 {
+            self.write_cut("no event came");
+        }
         let Some(why) = self.ended else { return Ok(()) };
         if self.missing > 0 {
             eprintln!("pmtrace: {}: {} later events are not in the trace", self.path.display(), self.missing);
@@ -94,6 +106,7 @@ impl Trace {
     /// The thread's number for one more event, if there is room for it.
     fn thread_of_event(&mut self) -> Option<usize> {
         if self.ended.is_none() && self.events == MOST_EVENTS {
+            self.write_out();
             self.end("a trace has at most 1000000 events".to_owned());
         }
         if self.ended.is_some() {
@@ -102,6 +115,7 @@ impl Trace {
         let next = self.threads.len();
         let id = thread::current().id();
         if next == MOST_THREADS && !self.threads.contains_key(&id) {
+            self.write_out();
             self.end("a trace has at most 256 threads, and here is the 257th".to_owned());
             return None;
         }
@@ -111,7 +125,7 @@ impl Trace {
     fn write_labels(&mut self) {
         let Some(labels) = &mut self.labels else { return };
         if let (_, Err(error)) = write_whole(labels, &self.label_text) {
-            eprintln!("pmtrace: {}: the labels end here: {error}", labels_path(&self.path).display());
+            eprintln!("pmtrace: {}: the labels end here: {error}", beside(&self.path, ".labels").display());
             self.labels = None;
         }
     }
@@ -134,14 +148,26 @@ impl Trace {
     fn end(&mut self, why: String) {
         if self.ended.is_none() {
             eprintln!("pmtrace: {}: the trace ends after event {}: {why}", self.path.display(), self.events);
+            self.write_cut(&why);
+            self.ended = Some(why);
         }
-        self.ended = Some(why);
+    }
+
+    /// Says beside the trace that it is not all of what happened. No file stands beside a device.
+    fn write_cut(&self, why: &str) {
+        if !self.file.metadata().is_ok_and(|data| data.is_file()) {
+            return;
+        }
+        if let Err(error) = fs::write(&self.cut_path, format!("{} {why}\n", self.events)) {
+            eprintln!("pmtrace: {}: {error}", self.cut_path.display());
+        }
     }
 }
 
-fn labels_path(path: &Path) -> PathBuf {
+/// The file of this name with an ending behind it.
+fn beside(path: &Path, ending: &str) -> PathBuf {
     let mut name = OsString::from(path);
-    name.push(".labels");
+    name.push(ending);
     PathBuf::from(name)
 }
 

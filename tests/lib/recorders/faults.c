@@ -147,7 +147,9 @@ static int run(const char *trace, const char *name) {
         return fork_a_child();
     } else if (strcmp(name, "again") == 0) {
         return open_again(trace);
-    } else if (strcmp(name, "events") == 0) {
+    } else if (strcmp(name, "empty") == 0) {
+        return close_and_tell();
+    } else if (strcmp(name, "events") == 0 || (strcmp(name, "moves") == 0 && chdir("/") == 0)) {
         for (int at = 0; at < POOL; at += 8000)
             pmtrace_memset(pool + at, 1, 8000);
         return close_and_tell();

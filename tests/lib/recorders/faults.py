@@ -50,7 +50,8 @@ def run(pool, case):
     elif case == "disk":
         for page in range(100):
             pool.fill(page * PAGE, page, PAGE)
-    elif case == "events":
+    elif case in ("events", "moves"):
+        os.chdir("/" if case == "moves" else ".")
         pool.fill(0, 1, POOL)
     print("closed", 0 if pool.close() else -1)
 

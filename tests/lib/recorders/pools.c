@@ -4,7 +4,9 @@
 #include <fcntl.h>
 #include <stdio.h>
 #include <stdlib.h>
+#include <sys/file.h>
 #include <sys/mman.h>
+#include <sys/wait.h>
 #include <unistd.h>
 
 enum { PAGE = 4096 };
@@ -148,6 +150,31 @@ static int remade(void) {
     return close_and_tell();
 }
 
+/* The locks of a pool's file are the program's: that of a description ends with the mapping and the descriptors, that of the process
+ * stays till it closes one of these. */
+static int locks(void) {
+    struct flock whole;
+    memset(&whole, 0, sizeof whole);
+    whole.l_type = F_WRLCK;
+    whole.l_whence = SEEK_SET;
+    int file = open_file(0, PAGE), other = open_file(1, PAGE);
+    CHECK(flock(file, LOCK_EX | LOCK_NB) == 0 && fcntl(other, F_SETLK, &whole) == 0);
+    unsigned char *one = map(file, 0, PAGE), *two = map(other, 0, PAGE);
+    CHECK(pmtrace_open(trace, one, PAGE, 64) == 0 && pmtrace_open(trace, two, PAGE, 64) == 0);
+    pmtrace_store(one[0], 1);
+    CHECK(pmtrace_forget(one, PAGE) == 0 && munmap(one, PAGE) == 0 && close(file) == 0);
+    CHECK(flock(open_file(0, PAGE), LOCK_EX | LOCK_NB) == 0);
+    CHECK(pmtrace_forget(two, PAGE) == 0 && munmap(two, PAGE) == 0);
+    int answer = close_and_tell();
+    fflush(stdout);
+    pid_t child = fork();
+    if (child == 0)
+        _exit(fcntl(other, F_SETLK, &whole) == 0);
+    int status;
+    CHECK(waitpid(child, &status, 0) == child && status == 0);
+    return answer;
+}
+
 /* Private memory of a pool's file is another pool, and what is not opened is outside. */
 static int private_copy(void) {
     int file = open_file(0, PAGE);
@@ -169,7 +196,7 @@ int main(int argc, char **argv) {
         int (*run)(void);
     } cases[] = {{"several", several}, {"twice", mapped_twice},  {"growing", growing}, {"in-place", growing_in_place},
                  {"seam", seam},       {"unnoticed", unnoticed}, {"apart", apart},     {"replaced", replaced},
-                 {"remade", remade},   {"private", private_copy}};
+                 {"remade", remade},   {"private", private_copy}, {"locks", locks}};
     for (size_t at = 0; at < sizeof cases / sizeof cases[0]; at++) {
         if (strcmp(argv[3], cases[at].name) == 0)
             return cases[at].run();

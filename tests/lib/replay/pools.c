@@ -9,6 +9,7 @@ static volatile char *pool;
 
 __attribute__((noinline)) void format(void) {
     memset((char *)pool, 'f', 64);
+    __asm__ volatile("clwb (%0)\n sfence" : : "r"(pool) : "memory");
 }
 
 int main(void) {

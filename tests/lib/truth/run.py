@@ -2,7 +2,7 @@
 """Records random programs and judges their traces: run.py PROGRAM [COUNT [FIRST]]. The last line is 'N passed, M failed'.
 
 PROGRAM is pmtrim, which must accept each trace. COUNT programs (1000) are made of the seeds from FIRST (1) on, and for the recorders for
-Rust and Python a tenth as many. A failed program's script, trace and log stay in the folders that are named.
+Rust and Python a tenth as many; and COUNT programs of steps by pmtrim-record (turns.py). A failed program's script, trace and log stay in the folders that are named.
 """
 import collections
 import concurrent.futures
@@ -22,6 +22,7 @@ from labels import check_labels
 from mutations import MUTATIONS, Mutations
 from programs import DATA
 from records import read_logs, read_memory, read_text
+from turns import run_programs
 
 BATCH = 12
 MUTATED = 10  # of each so many programs one gives false records
@@ -211,14 +212,16 @@ def main():
         if never:
             print(f"no record was made false by {' '.join(never)}")
         runs.failed += len(never)
+    turned, wrong, switches = run_programs(pmtrim, count, first)
     if runs.failed:
         print("what they left is in", *folders)
     else:
         for folder in folders:
             shutil.rmtree(folder)
     print(f"{runs.passed} programs recorded truly, {runs.refused.total()} false records refused")
-    print(f"{runs.passed + runs.refused.total()} passed, {runs.failed} failed")
-    return 1 if runs.failed else 0
+    print(f"{turned} programs recorded truly by pmtrim-record, with {switches} switches between threads")
+    print(f"{runs.passed + runs.refused.total() + turned} passed, {runs.failed + wrong} failed")
+    return 1 if runs.failed + wrong else 0
 
 
 if __name__ == "__main__":

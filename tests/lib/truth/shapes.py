@@ -140,6 +140,10 @@ class Windowed(Threads):
     """Main is alone while the window is closed."""
 
     closes_early = 0
+
+    def claim(self):
+        """Claims of order about what was stored before the window are set aside: parts.c tries them."""
+        return ("is_persist", *self.range())
     def before(self):
         return [*self.operations(0, self.random.randrange(4)), *self.closed(), *self.operations(0, self.random.randrange(4))]
 
@@ -309,6 +313,10 @@ class WatchedWindowed(Watched):
     """A watched pool, and closed windows in which main stores plainly too."""
 
     closes_early = 0
+
+    def claim(self):
+        """Claims of order about what was stored before the window are set aside: parts.c tries them."""
+        return ("is_persist", *self.range())
 
     def before(self):
         closed = [("stop",), *self.operations(0, self.random.randrange(1, 12)), ("start",)]

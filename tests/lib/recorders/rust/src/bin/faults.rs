@@ -57,7 +57,12 @@ fn main() {
         "threads" => count_threads(&pool),
         "outside" => leave_the_pool(&pool),
         "disk" => (0..100).for_each(|page| pool.fill(page * PAGE..(page + 1) * PAGE, page as u8)),
+        "empty" => {}
         "events" => pool.fill(0..POOL, 1),
+        "moves" => {
+            std::env::set_current_dir("/").expect("there is a root");
+            pool.fill(0..POOL, 1);
+        }
         other => panic!("there is no case {other}"),
     }
     println!("closed {}", if pool.close().1.is_ok() { 0 } else { -1 });
