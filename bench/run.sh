@@ -12,7 +12,7 @@ build() {
   fi
 }
 
-build trace_bench pmt_workers pmt_analysis pmt_sweep pmt_trim pmt_asserts pmt_findings pmt_lines pmt_marks pmt_text pmt_model
+build trace_bench pmt_workers pmt_analysis pmt_pass pmt_trim pmt_asserts pmt_findings pmt_lines pmt_marks pmt_text pmt_model
 python3 bench/run.py "$@"
 python3 bench/recording.py crates/pmtrim/out/pmtrim
 python3 bench/hostile.py crates/pmtrim/out/pmtrim

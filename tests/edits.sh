@@ -1,6 +1,6 @@
 #!/usr/bin/env bash
-# Whether the prover refuses each must-fail edit in the function that it turns: of the crates that are named, or of all, so many crates
-# side by side as LANES says. First it tries itself on two tiny crates. Last line: 'N passed, M failed'.
+# Whether the prover refuses each must-fail edit in the function that it turns: of the crates that are named, or of all. First it tries
+# itself on two tiny crates. Words go to tests/lib/edits.py. Last line: 'N passed, M failed'.
 set -u
 cd "$(dirname "$0")/.." || exit 1
 . tests/lib/cases.sh
@@ -24,13 +24,22 @@ tee "$folder"/crates/{low,high}/src/lib.rt < tests/lib/first_call/low.rt.txt > /
 edit low none_more 'count + 1' 'count'
 edit low the_same 'count + 1' '1 + count'
 edit high not_there 'count + 3' 'count + 4'
-python3 tests/lib/edits.py --top "$folder" > "$folder/told" 2>&1
+tried() { python3 tests/lib/edits.py --top "$folder" --kept "$folder/kept" > "$folder/told" 2>&1; }
+tried
 says 'a wrong body is refused' '^low: none_more: refused: src/lib\.rt:[0-9]+: it is not proved that what the function ensures holds'
 says 'a body that means the same is not' '^low: the_same: NOT REFUSED$'
 says 'an edit that is not made refuses nothing' '^high: not_there: BAD EDIT: '
 says 'what is not refused fails' '^1 passed, 2 failed$'
+rm "$folder"/crates/low/must-fail/the_same.edit "$folder"/crates/high/must-fail/not_there.edit
+tried
+sed -i 's/refused/kept/' "$folder"/kept/*
+tried
+says 'a refusal is kept' '^low: none_more: kept: '
+echo '// One line more.' >> "$folder/crates/low/src/lib.rt"
+tried
+says 'a refusal is of the text that was tried' '^low: none_more: refused: '
 
-python3 tests/lib/edits.py --lanes "${LANES:-1}" "$@" | tee "$folder/told"
+python3 tests/lib/edits.py "$@" | tee "$folder/told"
 counts=$(tail -n 1 "$folder/told")
 passed=$((passed + ${counts%% *}))
 counts=${counts#*, }

@@ -23,7 +23,7 @@ judge() {
   fi
 }
 
-for command in '' check explain trim fronts record draw image; do
+for command in '' check explain trim fronts record draw image slice; do
   expect 0 'Statuses: ' ${command:+"$command"} --help
   expect 0 'Example: pmtrim' ${command:+"$command"} --help
 done
@@ -69,6 +69,8 @@ expect 3 'script 1 line 1000001: too-many-events' record "$folder/longer"
 expect 3 'script 2 line 1000001: too-many-events' record "$folder/good" "$folder/longer" "$folder/bad"
 told=$("$program" record "$folder/million" "$folder/empty" 2>&1 | grep -cx 'sfence 0')
 judge 'million_events' 0 0 "$told" 1000000
+told=$({ echo pmtrace 1; yes 'sfence 0' | head -n 1000000; } | "$program" trim 2>&1)
+judge 'a trace of a million events' "$?" 0 "<$told>" '<pmtrace 1>'
 
 # As many scripts as there may be, each a part of what is recorded; scripts without events; the events of version 2 are no words.
 printf 'clwb 0x1000\nsfence\n' > "$folder/flush"
@@ -91,8 +93,36 @@ judge 'a fault that can not be written' "$?" 4 "$told" ''
 told=$("$program" trim examples/one_persist.trace 2>&1 <&-)
 judge 'no standard input, and none needed' "$?" 0 "$told" 'sfence 0'
 cp examples/one_persist.trace "$folder/-"
-told=$(cd "$folder" && "$program" trim - 2>&1 < /dev/null)
-judge 'a dash is a file name' "$?" 0 "$told" 'sfence 0'
+told=$(cd "$folder" && "$program" trim ./- 2>&1 < /dev/null)
+judge 'a file that is named by a dash' "$?" 0 "$told" 'sfence 0'
+# dash PART WORD ..: the program's answer to the words on a trace that comes by standard input
+dash() {
+  local part=$1 told
+  shift
+  told=$("$program" "$@" 2>&1 < examples/one_persist.trace)
+  judge "a dash is standard input: $*" "$?" 0 "$told" "$part"
+}
+dash 'sfence 0' trim -
+dash 'sfence 0' trim --stream -
+dash 'kept 3 dropped 0' check -
+dash '3 events' explain -
+dash '<svg' draw -
+dash 'place 3 lines 1' fronts - 3
+
+# A pipe whose reader has gone: quiet, but for the commands whose fault lines are fixed.
+mkfifo "$folder/pipe"
+exec 8<> "$folder/pipe"
+exec 9> "$folder/pipe"
+exec 8<&-
+for words in 'explain examples/mark_too_early.trace' 'explain --json examples/mark_too_early.trace' 'draw examples/mark_too_early.trace'; do
+  wanted=$([[ $words == draw* ]]; echo $?)
+  # shellcheck disable=SC2086 # words of a command
+  told=$("$program" $words 2>&1 >&9)
+  judge "a pipe that nobody reads: $words" "$?" "$wanted" "<$told>" '<>'
+done
+told=$("$program" check examples/one_persist.trace 2>&1 >&9)
+judge 'a pipe that nobody reads: check' "$?" 4 "$told" 'file fault'
+exec 9>&-
 told=$("$program" trim --workers=4 2>&1 < examples/one_persist.trace)
 judge 'a value after the equals sign' "$?" 0 "$told" 'sfence 0'
 

@@ -1,23 +1,30 @@
 #!/usr/bin/env python3
-"""Tries the edits crates/NAME/must-fail/*.edit: edits.py [--top FOLDER] [--lanes N] [CRATE ..], all of the project if no crate is named.
+"""Tries the edits crates/NAME/must-fail/*.edit: edits.py [OPTION ..] [CRATE ..], all of the project if no crate is named.
 
 An edit turns the meaning of a function. It is refused where the prover says of a line of that function that a goal is not proved, or of
 a line of its proof that it proves no goal. A proof that only names what is gone says nothing of the contract. A function is proved by its
 own body and the contracts of those that it calls, so the edits of a crate are tried in one check; those that turn one function in
 several, and an edit of no function, as of a constant, alone. The crates below are taken as they were built last.
+What was refused is kept by the sum of all that was read: the crate, its edits, the libraries below, the kit, and what tells what an edit turns.
 The last line is 'N passed, M failed'.
 """
 import argparse
+import hashlib
+import json
+import os
 import pathlib
 import re
 import shutil
+import signal
 import subprocess
 import sys
 import tempfile
+import time
 from concurrent.futures import ThreadPoolExecutor
 from typing import NamedTuple
 
-from claims import TOP, items_of
+import sources
+from sources import TOP, items_of
 
 # What a check reads of a crate.
 PARTS = ("src", "specs", "proofs")
@@ -88,16 +95,21 @@ def module_of(file):
 
 
 def functions_of(crate):
-    """The functions of a crate. Attributes are lines of theirs."""
-    for path in sorted((crate / "src").rglob("*.rt")):
+    """The functions of a crate. Attributes are lines of theirs. A method goes by the module of its type, also if it stands in another file."""
+    paths = sorted((crate / "src").rglob("*.rt"))
+    items = {path: list(items_of(crate.name, path)) for path in paths}
+    homes = {(item.name, path) for path in paths for item in items[path] if item.kind in ("struct", "enum")}
+    for path in paths:
         file, lines = str(path.relative_to(crate)), path.read_text().splitlines()
-        for item in items_of(crate.name, path):
+        for item in items[path]:
             if item.kind == "fn":
                 first = item.first
                 while first and lines[first - 1].lstrip().startswith("#["):
                     first -= 1
                 block = item.owner + (item.trait if item.trait != item.owner else "")
-                yield Function(file, "::".join(filter(None, (module_of(file), block, item.name))), first + 1, item.last + 1)
+                beside = [] if item.trait or (item.owner, path) in homes else [home for name, home in homes if name == item.owner]
+                home = str(beside[0].relative_to(crate)) if len(beside) == 1 else file
+                yield Function(file, "::".join(filter(None, (module_of(home), block, item.name))), first + 1, item.last + 1)
 
 
 def read_edit(crate, path, functions):
@@ -148,25 +160,56 @@ def write_edited(crate, copy, edits):
         (copy / change.file).write_text(text[: change.first] + change.new + text[change.last :])
 
 
-def prover(crate):
-    """The command that checks a crate over the kit's libraries and those of the project, as they were built."""
-    top = crate.parents[1]
-    kit = pathlib.Path(subprocess.run(["rt", "doc"], capture_output=True, text=True, check=True).stdout.strip()).parent
+class Built(NamedTuple):
+    """What a crate is checked over: the kit, and the folders of the project's libraries below it, by name."""
+
+    kit: pathlib.Path
+    needs: list[str]
+    below: dict[str, pathlib.Path]
+
+    def command(self, crate):
+        """The command that checks the crate over these libraries."""
+        for name, folder in self.below.items():
+            if not (folder / f"{name}.rlib").is_dir():
+                raise Fault(f"{name} is not built: ./test builds all crates, and rt check in {crate.name} those below it")
+        words = ["--antt-project", self.kit / "rattle/logic/antt-project.json", "--logic-built", self.kit / "logic_built"]
+        words += [word for folder in (self.kit / "rlibs", *self.below.values()) for word in ("-L", f"dependency={folder}")]
+        for name in ("std", *self.needs):
+            words += ["--extern", f"{name}={self.below.get(name, self.kit / 'rlibs') / name}.rlib"]
+        return [self.kit / "bin/rattle", "check", "--crate-name", crate.name, "src/lib.rt", *words, "--jobs", "1", "--incremental", "kept"]
+
+    def sum(self, crate):
+        """The sum of all that a trial of the crate's edits reads. The format of a library has the sum of its files."""
+        read = [pathlib.Path(__file__), pathlib.Path(sources.__file__), self.kit / "KIT-ID"]
+        read += [folder / f"{name}.rlib/format" for name, folder in self.below.items()]
+        read += [path for part in (*PARTS, "must-fail") for path in sorted((crate / part).rglob("*")) if path.is_file()]
+        told = hashlib.sha256(repr(self.needs).encode())
+        for path in read:
+            name = path.relative_to(crate) if path.is_relative_to(crate) else path.name
+            told.update(repr((str(name), path.read_bytes())).encode())
+        return told.hexdigest()
+
+
+def needs_of(top):
+    """What each crate of the project stands on, by name."""
     lines = (top / "crates.txt").read_text().splitlines()
-    needs = {found[1]: found[2].split() for line in lines if (found := re.match(r"(\w+)[^:]*:(.*)", line))}
-    below, front = set(), {crate.name}
+    return {found[1]: found[2].split() for line in lines if (found := re.match(r"(\w+)[^:]*:(.*)", line))}
+
+
+def crates_below(needs, name):
+    """The crates of the project below this one."""
+    below, front = set(), {name}
     while front:
-        front = {name for one in front for name in needs[one] if name in needs} - below
+        front = {lower for one in front for lower in needs[one] if lower in needs} - below
         below |= front
-    folders = {name: top / "crates" / name / "out/rlib" for name in sorted(below)}
-    for name, folder in folders.items():
-        if not (folder / f"{name}.rlib").is_dir():
-            raise Fault(f"{name} is not built: ./test builds all crates, and rt check in {crate.name} those below it")
-    words = ["--antt-project", kit / "rattle/logic/antt-project.json", "--logic-built", kit / "logic_built"]
-    words += [word for folder in (kit / "rlibs", *folders.values()) for word in ("-L", f"dependency={folder}")]
-    for name in ("std", *needs[crate.name]):
-        words += ["--extern", f"{name}={folders.get(name, kit / 'rlibs') / name}.rlib"]
-    return [kit / "bin/rattle", "check", "--crate-name", crate.name, "src/lib.rt", *words, "--jobs", "1", "--incremental", "kept"]
+    return sorted(below)
+
+
+def built(crate, place):
+    """What the crate is checked over, where the project's libraries are built at that place."""
+    kit = pathlib.Path(subprocess.run(["rt", "doc"], capture_output=True, text=True, check=True).stdout.strip()).parent
+    needs = needs_of(crate.parents[1])
+    return Built(kit, needs[crate.name], {name: place / "crates" / name / "out/rlib" for name in crates_below(needs, crate.name)})
 
 
 def check(command, copy, paths):
@@ -179,9 +222,9 @@ def check(command, copy, paths):
     return [Goal(file, int(line), what) for file, line, what in told]
 
 
-def try_edits(crate, copy):
+def try_edits(crate, command, copy):
     """Tries the edits of a crate on a copy: what refuses each, and what is wrong."""
-    functions, command, paths = list(functions_of(crate)), prover(crate), sorted((crate / "must-fail").iterdir())
+    functions, paths = list(functions_of(crate)), sorted((crate / "must-fail").iterdir())
     if strays := [path.name for path in paths if path.suffix != ".edit"]:
         raise Fault(f"must-fail/ has files whose names do not end in .edit: {', '.join(strays)}")
     edits = [read_edit(crate, path, functions) for path in paths]
@@ -196,29 +239,87 @@ def try_edits(crate, copy):
     return told, wrong
 
 
-def try_crate(crate):
-    """Tries the edits of a crate. A fault ends it."""
-    with tempfile.TemporaryDirectory() as room:
+class Kept:
+    """What earlier runs refused, each by the sum of all that it read."""
+
+    def __init__(self, folder):
+        self.folder = folder
+
+    def told(self, name):
+        """What was told then; nothing, where nothing is kept."""
         try:
-            return try_edits(crate, pathlib.Path(room))
-        except (Fault, OSError, subprocess.CalledProcessError) as fault:
-            return [], [str(fault)]
+            return json.loads((self.folder / name).read_text())
+        except (OSError, ValueError):
+            return None
+
+    def keep(self, name, told):
+        """Keeps what was told, if there is a place for it."""
+        try:
+            self.folder.mkdir(parents=True, exist_ok=True)
+            with tempfile.NamedTemporaryFile("w", dir=self.folder, delete=False) as new:
+                json.dump(told, new)
+            os.replace(new.name, self.folder / name)
+        except OSError:
+            pass
+
+
+def try_crate(crate, place, kept):
+    """Tries the edits of a crate, if they were not refused before. A fault ends it."""
+    try:
+        over = built(crate, place)
+        name = over.sum(crate)
+        if (told := kept.told(name)) is not None:
+            return told, []
+        with tempfile.TemporaryDirectory() as room:
+            told, wrong = try_edits(crate, over.command(crate), pathlib.Path(room))
+        if not wrong and name == over.sum(crate):
+            kept.keep(name, told)
+        return told, wrong
+    except (Fault, OSError, subprocess.CalledProcessError) as fault:
+        return [], [str(fault)]
+
+
+def try_ahead(crates, asked, kept):
+    """Tries the edits of each crate once a run that proves the crates has proved it and those below, one after another, so that they are
+    kept. The run adds the names of what it has proved to a file, and ends this one, which ends its check."""
+    signal.signal(signal.SIGTERM, lambda *_: sys.exit(1))
+    needs, left = needs_of(asked.top), list(crates)
+    while left:
+        proved = set(asked.ahead.read_text().split()) if asked.ahead.exists() else set()
+        ready = [crate for crate in left if proved.issuperset([crate.name, *crates_below(needs, crate.name)])]
+        for crate in ready[:1]:
+            left.remove(crate)
+            try_crate(crate, asked.built, kept)
+        if not ready:
+            time.sleep(1)
+
+
+def arguments():
+    cache = pathlib.Path(os.environ.get("XDG_CACHE_HOME") or pathlib.Path.home() / ".cache")
+    parser = argparse.ArgumentParser()
+    parser.add_argument("--top", type=pathlib.Path, default=TOP, help="the project")
+    parser.add_argument("--built", type=pathlib.Path, help="where its libraries are built, if elsewhere")
+    parser.add_argument("--lanes", type=int, default=1, help="how many crates are tried side by side")
+    parser.add_argument("--ahead", type=pathlib.Path, help="a file with the names of crates that are proved by now: try each once it is there, for a later run")
+    parser.add_argument("--kept", type=pathlib.Path, default=cache / "pmtrim-edits", help="where refusals are kept")
+    parser.add_argument("crates", nargs="*")
+    return parser
 
 
 def main():
-    parser = argparse.ArgumentParser()
-    parser.add_argument("--top", type=pathlib.Path, default=TOP)
-    parser.add_argument("--lanes", type=int, default=1)
-    parser.add_argument("crates", nargs="*")
+    parser = arguments()
     asked = parser.parse_args()
     crates = [it.parent for it in asked.top.glob("crates/*/must-fail") if not asked.crates or it.parent.name in asked.crates]
     if unknown := set(asked.crates) - {crate.name for crate in crates}:
         parser.error(f"no edits: {', '.join(sorted(unknown))}")
     # the largest first, so that none is left at the end
     crates.sort(key=lambda it: -sum(path.stat().st_size for path in it.rglob("*.rt")))
+    kept = Kept(asked.kept)
+    if asked.ahead:
+        return try_ahead(crates, asked, kept)
     passed = failed = 0
     with ThreadPoolExecutor(asked.lanes) as lanes:
-        for crate, (told, wrong) in zip(crates, lanes.map(try_crate, crates)):
+        for crate, (told, wrong) in zip(crates, lanes.map(lambda crate: try_crate(crate, asked.built or asked.top, kept), crates)):
             print(*(f"{crate.name}: {line}" for line in (*told, *wrong)), sep="\n", flush=True)
             passed += len(told)
             failed += len(wrong)

@@ -1,5 +1,4 @@
 """What `explain` tells of words, files and lines that are wrong, and the status. The texts are written by hand."""
-import subprocess
 
 HEADER = "the first line is 'pmtrace 1', or 'pmtrace 2 S' where S, the size of a cache line in bytes, is 32, 64, 128 or 256\n"
 THREAD = "a thread is a decimal number from 0 to 255, without leading zeros\n"
@@ -106,42 +105,3 @@ BAD_WORDS = [
 ]
 
 SAVED = b"pmtrace 1\nstore 0 0x1000 01\nclwb 0 0x1000\nsfence 0\n"
-
-
-def faults(program, folder, counts):
-    """Each is told on standard error alone, with its status."""
-
-    def told(words, **options):
-        options.setdefault("stdin", subprocess.DEVNULL)
-        done = subprocess.run([program, "explain", *words], capture_output="stdout" not in options, cwd=folder, timeout=120, **options)
-        return done.returncode, done.stdout or b"", done.stderr.decode()
-
-    def expect(name, answer, status, fault):
-        counts.expect(name, answer == (status, b"", fault), f"{answer}, wanted {fault!r}")
-
-    trace, labels = folder / "t", folder / "l"
-    for text, fault in REFUSED:
-        trace.write_bytes(text)
-        expect(f"the trace {text[:40]}", told(["t"]), 3, fault)
-    expect("standard input", told([], stdin=None, input=b"pmtrace 3\n"), 3, f"standard input:1: this is no header of a trace\n    pmtrace 3\n{HEADER}")
-    trace.write_bytes(SAVED)
-    for text, fault in BAD_LABELS:
-        labels.write_bytes(text)
-        expect(f"the labels {text[:40]}", told(["--labels", "l", "t"]), 3, fault)
-    for text, fault in BAD_RANGES:
-        (folder / "r").write_bytes(text)
-        expect(f"the ranges {text[:40]}", told(["--ignore-file", "r", "t"]), 3, fault)
-    labels.write_text("1 a\n")
-    for words, part in BAD_WORDS:
-        status, out, fault = told(words)
-        counts.expect(f"the words {words}", (status, out) == (2, b"") and part in fault, f"{status} {fault}")
-    (folder / "d").mkdir()
-    missing = "No such file or directory\n"
-    expect("no trace", told(["none"]), 4, f"cannot open none: {missing}")
-    expect("no labels", told(["--labels", "none", "t"]), 4, f"cannot open none: {missing}")
-    expect("no ranges", told(["--ignore-file", "none", "t"]), 4, f"cannot open none: {missing}")
-    expect("labels before the trace", told(["--labels", "none.labels", "none"]), 4, f"cannot open none.labels: {missing}")
-    expect("a folder", told(["d"]), 4, "cannot read d: Is a directory\n")
-    with open("/dev/full", "wb") as full:
-        answer = told(["t"], stdout=full, stderr=subprocess.PIPE)
-        expect("a full device", answer, 4, "cannot write the answer: No space left on device\n")

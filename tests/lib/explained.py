@@ -8,6 +8,7 @@ import itertools
 import json
 
 import grouped
+import placed
 from machine import FENCES, FLUSHES, Trace, entries_at, is_empty_fence, is_kept, least, spelled
 
 KINDS = ("failure", "never_persisted", "dropped", "overwritten", "unwritten", "late")
@@ -27,6 +28,10 @@ class Explained:
         self.asked = {**NOTHING, **(asked or {})}
         self.end = len(trace.events)
         self.entries = list(itertools.chain.from_iterable(entries_at(trace, number) for number in trace.numbers))
+
+    def is_whole(self):
+        """Whether all of the trace is told of."""
+        return self.asked == NOTHING
 
     # Events
 
@@ -276,6 +281,7 @@ class Explained:
             "dropped": self.dropped(),
             "overwritten": self.overwritten(),
             "unwritten": self.unwritten(),
+            "place": list(placed.entries(self)),
             "late": [self.late_entry(*group) for group in grouped.late(self)],
             "thread": [self.row_entry("thread", *row) for row in grouped.thread_rows(self.trace)],
             "label": [self.row_entry("label", *row) for row in grouped.label_rows(self)],
@@ -292,7 +298,7 @@ class Explained:
             counts[f"{kind}_dropped_percent"] = 100 * dropped // counts[kind] if counts[kind] else 0
         return {
             "kind": "summary",
-            "schema": 2,
+            "schema": 3,
             "asked": self.asked_words(),
             "events": self.end,
             "threads": len({event[1] for event in trace.events}),

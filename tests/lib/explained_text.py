@@ -3,7 +3,10 @@ late stores, tables.
 
 The findings are those of explained.py, groups and tables those of grouped.py.
 """
+import re
+
 import grouped
+import placed as by_place
 from explained import NOTHING
 from machine import FENCES, FLUSHES, spelled
 
@@ -14,7 +17,6 @@ OVERWRITTEN = "note: stores overwritten before any flush of their cache line, th
 LATE = "note: stores that two fences or more of their own thread left unsafe, most first:"
 THREADS = "table: what each thread makes, and how many of its flushes and fences do nothing:"
 LABELS = "table: what is made at each source place, those first where most does nothing:"
-GUESSES = "guess: if a crash may lose these, as locks or statistics, this leaves them out:"
 NOTHING_FOUND = "Nothing of what is asked for was found."
 COLUMNS = "   stores  flushes   fences  do nothing"
 REASONS = {
@@ -61,34 +63,13 @@ def dropped_lines(explained):
 def late_lines(explained):
     """A line for all late stores of one place, most first."""
     lines = []
-    for (kind, where), stores in grouped.late(explained):
+    for (kind, where), stores in [] if explained.is_whole() else grouped.late(explained):
         spot = f"at {where}" if kind == "label" else f"to cache line {where}"
         waits = [grouped.fences_waited(explained.trace, store) for store in stores]
         most = f", and {max(waits)} another one" if max(waits) > waits[0] else ""
         count = "1 store" if len(stores) == 1 else f"{len(stores)} stores"
         lines.append(f"  {count} {spot}, first event {stores[0]}: {waits[0]} fences of its thread left it unsafe{most}")
     return lines
-
-
-def asserted_lines(explained):
-    """The lines with a byte of a range of a failed assertion."""
-    return {byte // explained.trace.size for number in explained.failing() for byte in explained.bytes_of(number)}
-
-
-def guess_lines(explained):
-    """At most three lines that nothing flushes and no failed assertion names, and three with the same bytes stored again."""
-    trace, asserted = explained.trace, asserted_lines(explained)
-    quiet, again = [], []
-    for group in explained.never_persisted():
-        line = int(group["cache_line"], 16) // trace.size
-        if line not in asserted and not any(trace.is_flush_of(number, line, ("clflush", *FLUSHES)) for number in trace.numbers):
-            count = "1 store" if group["count"] == 1 else f"{group['count']} stores"
-            quiet.append(f"  --ignore {group['cache_line']}:{trace.size}  {count}, and no flush of the line in the whole trace")
-    for group in explained.overwritten():
-        if group["same"] == group["count"]:
-            length = len(trace.event(group["earlier"]["event"])[3])
-            again.append(f"  --ignore {group['earlier']['address']}:{length}  the same bytes are stored again, {times(group['count'])} in this line")
-    return [*quiet[:3], *again[:3]]
 
 
 def table_lines(rows):
@@ -234,16 +215,45 @@ def lost_lines(explained, group):
         yield f"  also:   cache line{'s' if len(others) > 1 else ''} {lines}{more}"
 
 
+def lost_groups(explained):
+    """What is never persisted by cause, where something is asked for."""
+    return [] if explained.is_whole() else grouped.lost(explained)
+
+
 def wrong_losses(explained, entries):
     """What is wrong with the entries of what is never persisted."""
-    wanted = [list(lost_lines(explained, group)) for group in grouped.lost(explained)]
+    wanted = [list(lost_lines(explained, group)) for group in lost_groups(explained)]
     told = [entry[: entry.index(next(line for line in entry if line.startswith("  why: ")))] for entry in entries]
     return None if told == wanted else f"never persisted: wanted {wanted}, in {told}"
 
 
+PLACE = re.compile(r"(error|note): .*: \d+ stores?: \d+ never persisted, \d+ saved late, \d+ in time(, \d+ ignored)?$")
+
+
+def wrong_places(explained, lines):
+    """What is wrong with the entries of places."""
+    heading = by_place.LABELLED if explained.labels else by_place.THREADS
+    wanted = list(by_place.heads(explained))
+    told = below(lines, heading)
+    starts = [at for at, line in enumerate(told) if PLACE.match(line)]
+    entries = [told[start:end] for start, end in zip(starts, [*starts[1:], len(told)])]
+    if [entry[0] for entry in entries] != [head for head, _ in wanted]:
+        return f"places: wanted {wanted}, in {told}"
+    for entry, (_, (name, number)) in zip(entries, wanted):
+        draw = f"  draw:   pmtrim draw --line {explained.address(explained.trace.line(number))} "
+        first = f"  {name + ':':7} {named(explained, number)}"
+        if entry[1] != first or not entry[-1].startswith(draw) or not entry[-1].endswith(f" > event{number}.svg"):
+            return f"a place: wanted {first} .. {draw}, in {entry}"
+        if not any(line.startswith("  fix:    ") for line in entry):
+            return f"a place without a fix: {entry}"
+        if name == "late" and entry[2] != f"  why:    {grouped.fences_waited(explained.trace, number)} fences of its thread left it unsafe":
+            return f"why a store of a place is late: {entry}"
+    return None
+
+
 def errors_of(lines):
     """The lines of each error, from its first one to the last of its own."""
-    starts = [at for at, line in enumerate(lines) if line.startswith("error: ")]
+    starts = [at for at, line in enumerate(lines) if line.startswith("error: ") and not PLACE.match(line)]
     ends = [next((at for at in range(start + 1, len(lines)) if not lines[at].startswith("  ")), len(lines)) for start in starts]
     return [lines[start:end] for start, end in zip(starts, ends)]
 
@@ -257,7 +267,7 @@ def told_of_range(entry):
 def wrong_draws(explained, entries):
     """Each error ends with the command of its picture."""
     failing = [(f"--failure {members[0]}", members[0]) for _, members in explained.causes]
-    lost = [(f"--line {group[0]['cache_line']}", group[0]["last"]["event"]) for group in grouped.lost(explained)]
+    lost = [(f"--line {group[0]['cache_line']}", group[0]["last"]["event"]) for group in lost_groups(explained)]
     wanted = [(f"  draw:   pmtrim draw {option} ", f" > event{number}.svg") for option, number in (*failing, *lost)]
     ends = [entry[-1] for entry in entries]
     if len(ends) != len(wanted) or not all(end.startswith(first) and end.endswith(last) for end, (first, last) in zip(ends, wanted)):
@@ -304,10 +314,15 @@ def wrong_text(explained, told):
         return f"found nothing: {found_nothing(explained)}, in\n{told.decode()}"
     if [line for line in lines if line.startswith("  told below: ")] != asked_lines(explained):
         return f"what is asked for: wanted {asked_lines(explained)}, in\n{told.decode()}"
-    sections = [(DROPPED, dropped_lines), (OVERWRITTEN, overwritten_lines), (LATE, late_lines), (GUESSES, guess_lines)]
+    sections = [(DROPPED, dropped_lines), (OVERWRITTEN, overwritten_lines), (LATE, late_lines)]
     for heading, wanted in (*((heading, of(explained)) for heading, of in sections), *tables(explained)):
         if below(lines, heading) != wanted:
             return f"{heading} wanted {wanted}, in\n{told.decode()}"
+    if [line for line in lines if line.startswith("guess: ")] != by_place.guess_lines(explained):
+        return f"the guess: wanted {by_place.guess_lines(explained)}, in\n{told.decode()}"
+    wrong = wrong_places(explained, lines)
+    if wrong:
+        return wrong
     causes, entries = explained.causes, errors_of(lines)
     failures = [line for entry in entries[: len(causes)] for line in entry]
     heads = [line for line in failures if line.startswith(("error: ", "  claim: ", "  also: ", "  loses: "))]
@@ -328,12 +343,13 @@ def wrong_screen(explained, told):
         return f"{len(lines)} lines:\n{told.decode()}"
     found = {
         "assertion": explained.causes,
-        "never persisted": explained.never_persisted(),
+        "never persisted": [] if explained.is_whole() else explained.never_persisted(),
         "do nothing": explained.dropped(),
         "overwritten": explained.overwritten(),
-        "left unsafe": grouped.late(explained),
+        "left unsafe": [] if explained.is_whole() else grouped.late(explained),
+        "places": list(by_place.heads(explained)),
     }
-    for named, entries in found.items():
-        if entries and not any(named in line for line in lines[5:]):
-            return f"nothing of what {named}:\n{told.decode()}"
+    for name, entries in found.items():
+        if entries and not any(name in line for line in lines[5:]):
+            return f"nothing of what {name}:\n{told.decode()}"
     return None

@@ -118,21 +118,22 @@ def least(limit, measure, runs):
     return min(measures), most
 
 
-def cases(pages):
-    for name, (_, _, notes) in CASES.items():
-        page, blocks = made(pages, name)
-        size = page.stat().st_size
-        yield f"{name}: sizes", wrong_size(size, blocks)
-        pages.browser.send("Performance.enable", timeDomain="threadTicks")
-        first, most = least(FIRST, lambda: opened(pages, page), RUNS)
-        told = pages.browser.run("[...document.querySelectorAll('#summary .note')].map((note) => note.textContent).join('; ')")
-        yield f"{name}: notes", [f"{note} is not told: {told}" for note in notes if note not in told]
-        yield f"{name}: first picture", "" if first <= most else f"{first:.0f} ms"
-        steps = {step: least(STEP, lambda: timed(pages.browser, script), 2) for step, script in STEPS.items()}
-        pages.browser.send("Performance.disable")
-        yield f"{name}: steps", [f"{step} {time:.0f} ms" for step, (time, most) in steps.items() if time > most]
-        elements = pages.browser.run("document.querySelectorAll('*').length")
-        yield f"{name}: elements", "" if elements <= MOST_ELEMENTS else f"{elements}"
-        yield f"{name}: console", pages.faults(page)
-        page.unlink()
-        print(f"{name}: {size / 1e6:.1f} MB, first picture {first:.0f} ms of its thread, the slowest step {max(steps.values())[0]:.0f} ms; {told}")
+def cases(pages, name):
+    """What is asked of the page of a case, and what is wrong about it."""
+    _, _, notes = CASES[name]
+    page, blocks = made(pages, name)
+    size = page.stat().st_size
+    yield f"{name}: sizes", wrong_size(size, blocks)
+    pages.browser.send("Performance.enable", timeDomain="threadTicks")
+    first, most = least(FIRST, lambda: opened(pages, page), RUNS)
+    told = pages.browser.run("[...document.querySelectorAll('#summary .note')].map((note) => note.textContent).join('; ')")
+    yield f"{name}: notes", [f"{note} is not told: {told}" for note in notes if note not in told]
+    yield f"{name}: first picture", "" if first <= most else f"{first:.0f} ms"
+    steps = {step: least(STEP, lambda: timed(pages.browser, script), 2) for step, script in STEPS.items()}
+    pages.browser.send("Performance.disable")
+    yield f"{name}: steps", [f"{step} {time:.0f} ms" for step, (time, most) in steps.items() if time > most]
+    elements = pages.browser.run("document.querySelectorAll('*').length")
+    yield f"{name}: elements", "" if elements <= MOST_ELEMENTS else f"{elements}"
+    yield f"{name}: console", pages.faults(page)
+    page.unlink()
+    print(f"{name}: {size / 1e6:.1f} MB, first picture {first:.0f} ms of its thread, the slowest step {max(steps.values())[0]:.0f} ms; {told}")

@@ -197,11 +197,4 @@ def fetching(pages):
     yield "a trace without events", pages.faults(page) or ("" if pages.shown()["place"] == 0 else pages.shown())
 
 
-def cases(pages):
-    yield from hostile(pages)
-    yield from without_script(pages)
-    yield from still_picture(pages)
-    yield from colours(pages)
-    yield from widths(pages)
-    yield from reading(pages)
-    yield from fetching(pages)
+PARTS = (hostile, without_script, still_picture, colours, widths, reading, fetching)

@@ -3,7 +3,7 @@ import json
 import pathlib
 import random
 
-from explain import random_trace
+from crowded import random_trace
 from explained import Explained
 from machine import FENCES, FLUSHES, Trace, is_kept, least, spelled, text_of
 

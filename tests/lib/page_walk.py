@@ -208,11 +208,17 @@ def filtered_walks(pages):
         yield f"filter {fields} walked by mouse", "" if sorted(found) == sorted(wanted) else f"{found}, and not {sorted(wanted)}"
 
 
-def filters(pages):
-    trace, labels = pages.folder / "known.trace", pages.folder / "known.labels"
+def known_trace(pages):
+    """The file of the trace whose findings are known by hand."""
+    trace = pages.folder / "known.trace"
     trace.write_text(KNOWN)
+    return trace
+
+
+def filters(pages):
+    labels = pages.folder / "known.labels"
     labels.write_text(KNOWN_LABELS)
-    page, _ = pages.make(trace, "--labels", labels, name="known")
+    page, _ = pages.make(known_trace(pages), "--labels", labels, name="known")
     pages.open(page)
     for fields, wanted in FILTERS:
         found = filtered(pages, fields)
@@ -292,7 +298,7 @@ ADDRESSES = [
 
 
 def addresses(pages):
-    page, _ = pages.make(pages.folder / "known.trace", name="addresses")
+    page, _ = pages.make(known_trace(pages), name="addresses")
     for at, finding, place, stretch in ADDRESSES:
         pages.open(page, at)
         shown = pages.shown()
@@ -319,13 +325,10 @@ def addresses(pages):
     yield "the page follows the address", "" if current(pages) == ("failure", 3) else str(current(pages))
 
 
-def cases(pages):
-    for trace, words in examples():
-        page, blocks = pages.make(trace, *words, name=trace.stem)
-        yield f"{trace.stem} by keys", walk_by_keys(pages, page, trace, blocks)
-        yield f"console of {trace.stem} by keys", pages.faults(page)
-        yield f"{trace.stem} by mouse", walk_by_mouse(pages, page, trace, blocks)
-        yield f"console of {trace.stem} by mouse", pages.faults(page)
-    yield from filters(pages)
-    yield from strip(pages)
-    yield from addresses(pages)
+def walks(pages, trace, words):
+    """The page of an example, by keys and by mouse."""
+    page, blocks = pages.make(trace, *words, name=trace.stem)
+    yield f"{trace.stem} by keys", walk_by_keys(pages, page, trace, blocks)
+    yield f"console of {trace.stem} by keys", pages.faults(page)
+    yield f"{trace.stem} by mouse", walk_by_mouse(pages, page, trace, blocks)
+    yield f"console of {trace.stem} by mouse", pages.faults(page)

@@ -2,7 +2,7 @@
 import json
 import re
 
-from explained_text import LABELS, LATE, THREADS, errors_of, told_of_range
+from explained_text import LABELS, PLACE, THREADS, errors_of, told_of_range
 
 
 def first_at(lines, part):
@@ -14,6 +14,18 @@ def below_at(lines, heading, rows):
     """Where the line stands so many rows below the heading."""
     at = first_at(lines, heading)
     return None if at is None else at + rows
+
+
+def place_at(lines, kind="", rows=0):
+    """Where the line stands so many rows below the first place of this kind."""
+    at = next((at for at, line in enumerate(lines) if line.startswith(kind) and PLACE.match(line)), None)
+    return None if at is None else at + rows
+
+
+def below_place(lines, part):
+    """Where the first line with this part stands below the first place."""
+    at = place_at(lines)
+    return None if at is None else at + first_at(lines[at:], part)
 
 
 def range_at(lines):
@@ -40,18 +52,20 @@ def turned(line):
 TEXT = {
     "a member of a group": (lambda lines: first_at(lines, "  also: "), raised(r"\d+(?= and |$)")),
     "the size of a group": (lambda lines: first_at(lines, " assertions fail for this cause"), raised(r"\d+(?= assertions)")),
-    "how many lost stores": (lambda lines: first_at(lines, " cache lines for this cause"), raised(r"\d+(?= stores? to \d+ cache lines)")),
-    "a lost cache line": (lambda lines: first_at(lines, "  also:   cache line"), lambda line: f"{line[:-1]}1"),
-    "lost cache lines left out": (lambda lines: first_at(lines, "  also:   cache line"), None),
+    "a place left out": (place_at, None),
+    "how many stores a place has": (place_at, raised(r"\d+(?= stores?: \d+ never)")),
+    "how many of them are never persisted": (place_at, raised(r"\d+(?= never persisted,)")),
+    "how many of them are late": (place_at, raised(r"\d+(?= saved late)")),
+    "how many of them are in time": (place_at, raised(r"\d+(?= in time)")),
+    "the first store of a place": (lambda lines: place_at(lines, rows=1), raised(r"(?<=event )\d+")),
+    "for how many fences it is late": (lambda lines: place_at(lines, "note: ", 2), raised(r"\d+(?= fences of its thread)")),
+    "what mends a place": (lambda lines: below_place(lines, "  fix:    "), None),
+    "the picture of a place": (lambda lines: below_place(lines, "  draw:   "), raised(r"(?<=event)\d+(?=\.svg)")),
     "where the lost line lies": (lambda lines: first_at(lines, "in the last cache line"), lambda line: line.replace("the last", "the inner")),
     "a line of a range": (range_at, turned),
     "a line of a range left out": (range_at, None),
     "the flush of a line": (range_at, raised(r"(?<=last flush event )\d+")),
     "the fence of a line": (range_at, raised(r"(?<=, fence event )\d+")),
-    "how many stores are late": (lambda lines: below_at(lines, LATE, 1), raised(r"\d+(?= store)")),
-    "the first late store": (lambda lines: below_at(lines, LATE, 1), raised(r"(?<=first event )\d+")),
-    "for how many fences": (lambda lines: below_at(lines, LATE, 1), raised(r"\d+(?= fences of its thread)")),
-    "late stores left out": (lambda lines: below_at(lines, LATE, 1), None),
     "a thread's row": (lambda lines: below_at(lines, THREADS, 2), raised(r"\d+(?=  thread)")),
     "a thread's row left out": (lambda lines: below_at(lines, THREADS, 2), None),
     "a label's row": (lambda lines: below_at(lines, LABELS, 2), raised(r"\d+(?=  at )")),

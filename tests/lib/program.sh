@@ -1,11 +1,6 @@
 #!/usr/bin/env bash
-# For the tests that run the program: $program is the built one, which is built first where that is needed. PMTRIM names another.
-program=${PMTRIM:-}
-if [ -z "$program" ]; then
-  if ! ./pmtrim --version > /dev/null; then
-    echo "the program is not built"
-    echo "0 passed, 1 failed"
-    exit 1
-  fi
-  program=$PWD/crates/pmtrim/out/pmtrim
+# For the scripts that run the program: $program is the one that PMTRIM names or that is built (program.py).
+if ! program=$(python3 tests/lib/program.py); then
+  echo "$program"
+  exit 1
 fi

@@ -13,3 +13,11 @@ alone() {
 install_packages() {
   { apt-get update && apt-get install -y --no-install-recommends "$@"; } > /dev/null 2>&1
 }
+
+# Builds pmtrim-record against the package valgrind, which is installed where it may be.
+build_recorder() {
+  if ! [ -e /usr/include/valgrind/pub_tool_basics.h ] || ! command -v valgrind > /dev/null; then
+    alone install_packages valgrind
+  fi
+  alone make -s -C recorders/valgrind || { echo "pmtrim-record is not built; it needs: apt-get install gcc make valgrind"; return 1; }
+}

@@ -1,4 +1,6 @@
 //! Tests of the workers over forty lines.
+mod analyse;
+
 ghost use Rattle.std.specs.Prelude.{◌≤◌};
 
 use crate::lines::has_steps;
@@ -39,13 +41,14 @@ fn add_flushes(trace: &mut Trace, lines: u64) -> Result<(), Fail>
     Ok(())
 }
 
-// The trace of so many stores to a line each, a flush of each, and a fence.
+// The trace of so many stores to a line each, a flush of each, and two fences.
 fn trace_of(alloc: Global, lines: u64) -> Result<Trace, Fail>
     requires { lines ≤ 40 }
 {
     let mut trace = Trace::new(alloc);
     add_stores(&mut trace, lines)?;
     add_flushes(&mut trace, lines)?;
+    add(&mut trace, Op::Sfence)?;
     add(&mut trace, Op::Sfence)?;
     Ok(trace)
 }
@@ -56,11 +59,11 @@ fn forty_lines(alloc: Global) -> Result<Jobs, Fail> {
     Ok(split(alloc, &mut ListSource::new(&trace))?)
 }
 
-// Each line has its store, its flush and the fence.
+// Each line has its store, its flush and the first fence.
 #[test]
 fn steps_of_a_job(rt: HostRuntime) -> Result<(), Fail> {
     let Jobs { lines, fences, .. } = forty_lines(rt.alloc())?;
-    assert_eq!(rt; (lines.len(), fences.steps().len()), (40, 41));
+    assert_eq!(rt; (lines.len(), fences.steps().len()), (40, 42));
     for (place, job) in lines.iter().enumerate() {
         has_steps(&rt, job, (place as u64).saturating_add(64), 3, 81);
     }

@@ -1,1 +1,2 @@
 pub mod Analysing
+pub mod Workers

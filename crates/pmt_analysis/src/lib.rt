@@ -3,10 +3,13 @@
 //! What an analysis is stands in `specs/` and in pmt_model.
 #![tactic(auto)]
 
+pub mod workers;
+
 ghost use Rattle.std.specs.Prelude.{◌≡◌};
 ghost use Rattle.pmt_model.specs.Analyses.{IsAnalysis};
 ghost use Rattle.pmt_analysis.specs.Analysing.{IsAnalysed};
 
+pub use crate::workers::are_allowed;
 use pmt_model::{Finding, Selection, Trace, Verdict};
 use std::marker::Model;
 

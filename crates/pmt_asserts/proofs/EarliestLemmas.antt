@@ -49,16 +49,6 @@ pub earliest-skip : (T : Recording) (i line : ℕ) (A : Span) (o : Option Earlie
 earliest-skip T i line A None is = λ b j below taken. is b j (omega (arith, below, taken)) taken
 earliest-skip T i line A (Some e) is = record { first = λ b j below taken. is.first b j (omega (arith, below, taken)) taken; taken = is.taken; reached = is.reached }
 
--- lines without stores
-pub earliest-bare : (T : Recording) (i from to : ℕ) (skipped : Option ℕ) (A : Span) (o : Option Earliest) → ((b : ℕ) → InSpan A b → from ≤ line_of T.format b → line_of T.format b < to → IsUnwritten T i b) →
-    EarliestOfBelow T i skipped A from o → EarliestOfBelow T i skipped A to o
-earliest-bare T i from to skipped A None bare is = λ b j below taken. elim (cases_lt (line_of T.format b) from) [ inl earlier ↦ is b j earlier taken | inr later ↦ bare b j later below ]
-earliest-bare T i from to skipped A (Some e) bare is = record {
-  first = λ b j below taken. elim (cases_lt (line_of T.format b) from) [ inl earlier ↦ is.first b j earlier taken | inr later ↦ unwritten-comes T i e.number b (bare b j later below) ];
-  taken = is.taken;
-  reached = is.reached;
-}
-
 -- one more line
 pub earliest-more : (T : Recording) (i line : ℕ) (skipped : Option ℕ) (A : Span) (old : Option Earliest) (o : Option Oldest) → IsTaken skipped line → EarliestOfBelow T i skipped A line old → IsOldestOfLine T i line A o → EarliestOfBelow T i skipped A (line + 1) (earlier_of old line o)
 earliest-more T i line skipped A None None open' is none = λ b j below taken. elim (cases_eq (line_of T.format b) line) [ inl own ↦ none b j own | inr other ↦ is b j (omega (arith, below, other)) taken ]

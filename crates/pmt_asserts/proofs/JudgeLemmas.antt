@@ -15,7 +15,7 @@ use Rattle.pmt_laws.proofs.AssertLemmas.{persist_by_fronts, ordered_by_fronts, l
 use Rattle.pmt_asserts.specs.declared.oldest.Oldest.{Oldest}
 use Rattle.pmt_asserts.specs.declared.oldest.Earliest.{Earliest}
 use Rattle.pmt_asserts.specs.Tables.{PersistedBy, RankedBy, IsUnwritten, IsLastAt}
-use Rattle.pmt_asserts.specs.Judging.{IsBare, EachIn, IsOldestIn, EachApart, ComesNoEarlier, IsEarliest, IsEarliestOf, RanksBefore, IsLineInOrder, IsLineOrdered, place_for}
+use Rattle.pmt_asserts.specs.Judging.{EachIn, IsOldestIn, EachApart, ComesNoEarlier, IsEarliest, IsEarliestOf, RanksBefore, IsLineInOrder, IsLineOrdered, place_for}
 use Rattle.pmt_lines.proofs.TraceLemmas.{writes-line}
 
 -- The last store to a byte is to the byte's line.
@@ -192,15 +192,3 @@ place-within T i line B e o is apart = go (eqb_tells line e.line) o apart
     go (inr free) c first =
         subst (λ t. IfSome (if t then option_map (λ d. d.number) c else Some e.number) (λ n. n ≤ i)) (sym free.0)
         (let r = is.reached in (r.4).by_now)
-
--- a line without stores
-
-pub bare-persisted : (T : Recording) (i n line : ℕ) (A : Span) → IsBare T i line → EachIn T line A (PersistedBy T i n)
-bare-persisted T i n line A bare b j own = subst (λ o. IfSome o (λ (x : Placed). x.rank ≤ front_at T x.line n)) (sym (bare b own)) tt
-
-pub bare-ordered : (T : Recording) (i line : ℕ) (A B : Span) (by : Option ℕ) → IsBare T i line → IsLineOrdered T i A B line by
-bare-ordered T i line A B by bare = (λ a k own b j same. subst (λ o. IfSome o (λ (y : Placed). RankedBy T i y.rank a)) (sym (bare b same)) tt, go by)
-  where
-    go : (o : Option ℕ) → IfSome o (λ n. EachIn T line A (PersistedBy T i n))
-    go None = tt
-    go (Some n) = bare-persisted T i n line A bare

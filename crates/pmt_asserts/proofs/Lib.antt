@@ -9,4 +9,4 @@ pub mod PartLemmas
 pub mod JudgeLemmas
 pub mod EarliestLemmas
 pub mod VerdictLemmas
-pub mod StretchLemmas
+pub mod LineLemmas

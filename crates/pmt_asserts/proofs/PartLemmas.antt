@@ -8,7 +8,7 @@ use Rattle.pmt_model.specs.Formats.{IsFormat}
 use Rattle.pmt_model.specs.Traces.{Recording}
 use Rattle.pmt_model.specs.Assertions.{InSpan}
 use Rattle.pmt_asserts.specs.declared.oldest.Oldest.{Oldest}
-use Rattle.pmt_asserts.specs.declared.oldest.Part.{Part}
+use Rattle.pmt_asserts.specs.declared.part.Part.{Part}
 use Rattle.pmt_asserts.specs.Tables.{IsOldestOf}
 use Rattle.pmt_asserts.specs.Judging.{IsOldestOfLine}
 use Rattle.pmt_lines.proofs.TraceLemmas.{Bytes32, Bytes64, Bytes128, Bytes256, size-of_format, size-some}

@@ -10,10 +10,9 @@ use Rattle.pmt_model.specs.Traces.{Recording, IsTrace, history, count_at}
 use Rattle.pmt_model.specs.Fronts.{front_at}
 use Rattle.pmt_model.specs.Assertions.{up_to_last}
 use Rattle.pmt_lines.specs.declared.step.Step.{Step}
-use Rattle.pmt_lines.specs.declared.raises.Raise.{Raise}
+use Rattle.pmt_lines.specs.Raises.{Raise, LineFound, IsLineResult, RaisesBetween}
 use Rattle.pmt_lines.specs.Jobs.{IsJobOf}
 use Rattle.pmt_lines.specs.Splitting.{IsJob}
-use Rattle.pmt_lines.specs.Raises.{LineFound, IsLineResult, RaisesBetween}
 use Rattle.pmt_asserts.specs.declared.put.Put.{Put}
 use Rattle.pmt_asserts.specs.Puts.{puts_of, no_put, put_at, last_in, IsLeastIn}
 use Rattle.pmt_asserts.specs.Tables.{LieIn, EachFrom, PersistedBy, RankedBy, ComesFrom, IsLastAt, IsOldest, IsUnwritten}
@@ -48,23 +47,23 @@ raises-are : (T : Recording) (found : LineFound) (raises : List Raise) → raise
 raises-are T found raises same right job = subst (RaisesBetween T found.job.line 0 (length T.events)) (sym same) (right.raises T job)
 
 -- the raises can be searched by their places
-pub raises-partitioned : (T : Recording) (found : LineFound) (raises : List Raise) (n : ℕ) → raises ≡ found.raises → IsLineResult found → IsJob T found.job → IsPartitionedBy (λ r. nat_le r.place n) raises
+pub raises-partitioned : (T : Recording) (found : LineFound) (raises : List Raise) (n : ℕ) → raises ≡ found.raises → IsLineResult found → IsJob T found.job → IsPartitionedBy (λ r. nat_le r.0 n) raises
 raises-partitioned T found raises n same right job =
-    IsPartitionedBy-leb (λ (r : Raise). r.place) raises n
-    (IsNonDecreasingBy-from_default (λ (r : Raise). r.place) raises no_raise (places-rise T found.job.line 0 (length T.events) raises (raises-are T found raises same right job)))
+    IsPartitionedBy-leb (λ (r : Raise). r.0) raises n
+    (IsNonDecreasingBy-from_default (λ (r : Raise). r.0) raises no_raise (places-rise T found.job.line 0 (length T.events) raises (raises-are T found raises same right job)))
 
 -- the front after those that come by a place
 pub front-found :
     (T : Recording) (found : LineFound) (raises : List Raise) (n i : ℕ) → raises ≡ found.raises → IsLineResult found → IsJob T found.job → n ≤ length T.events → i ≤ length raises →
-    IsPartitionPoint (λ r. nat_le r.place n ≡ true) (λ r. nat_le r.place n ≡ false) raises i → front_at T found.job.line n ≡ front_after 0 raises i
+    IsPartitionPoint (λ r. nat_le r.0 n ≡ true) (λ r. nat_le r.0 n ≡ false) raises i → front_at T found.job.line n ≡ front_after 0 raises i
 front-found T found raises n i same right job by_end within point =
     front-raised T found.job.line 0 (length T.events) n i raises (raises-are T found raises same right job) (omega arith) by_end within
-    (λ k h. leb-true (get_or raises k no_raise).place n (point.0 k no_raise (omega arith) h)) (λ k h m. past-from (get_or raises k no_raise).place n (point.1 k no_raise h m))
+    (λ k h. leb-true (get_or raises k no_raise).0 n (point.0 k no_raise (omega arith) h)) (λ k h m. past-from (get_or raises k no_raise).0 n (point.1 k no_raise h m))
 
 -- after some raises the front is that of the last one
-pub front_after-some : (raises : List Raise) (i : ℕ) → 0 < i → front_after 0 raises i ≡ (get_or raises (i - 1) no_raise).front
+pub front_after-some : (raises : List Raise) (i : ℕ) → 0 < i → front_after 0 raises i ≡ (get_or raises (i - 1) no_raise).1
 front_after-some raises zero h = absurd (omega arith)
-front_after-some raises (suc i) h = let e : suc i - 1 ≡ i = omega arith in ap (λ k. (get_or raises k no_raise).front) (sym e)
+front_after-some raises (suc i) h = let e : suc i - 1 ≡ i = omega arith in ap (λ k. (get_or raises k no_raise).1) (sym e)
 
 -- a rank is that of the last store to the byte, which is a store to the byte's line
 pub ranked-last :

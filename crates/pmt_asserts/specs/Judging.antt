@@ -1,5 +1,5 @@
 -- How the verdicts come about from the tables.
-use Rattle.std.specs.Prelude.{◌≡◌, ◌≢◌, ℕ, Bool, true, false, List, ◌≤◌, Option, None, Some, MatchOption, IfSome, ◌==◌, nat_le, if◌then◌else◌}
+use Rattle.std.specs.Prelude.{◌≡◌, ◌≢◌, ℕ, Bool, true, false, List, length, ◌≤◌, Option, None, Some, MatchOption, IfSome, ◌==◌, nat_le, if◌then◌else◌}
 use Rattle.std.specs.Option.{option_map}
 use Rattle.pmt_model.specs.declared.finding.Verdict.{Verdict}
 use Rattle.pmt_model.specs.Values.{Layout, Span, line_of}
@@ -10,19 +10,17 @@ use Rattle.pmt_model.specs.Traces.{Recording, IsTrace, history, event}
 use Rattle.pmt_model.specs.Selections.{IsRising, Has}
 use Rattle.pmt_model.specs.Assertions.{InSpan, last_store, up_to_last}
 use Rattle.pmt_model.specs.Analyses.{IsVerdictOf}
+use Rattle.pmt_lines.specs.Raises.{LineFound}
 use Rattle.pmt_asserts.specs.declared.oldest.Oldest.{Oldest}
 use Rattle.pmt_asserts.specs.declared.oldest.Earliest.{Earliest}
-use Rattle.pmt_asserts.specs.Tables.{ComesFrom, IsLastAt, IsUnwritten, PersistedBy, RankedBy}
+use Rattle.pmt_asserts.specs.Tables.{AreResultsOf, ComesFrom, IsLastAt, IsUnwritten, PersistedBy, RankedBy}
 
--- It is known of the trace after its first n events, and the trace has this format.
-pub record Knows (is_of : Recording → ℕ → Type 0) (format : Layout) (n : ℕ) (T : Recording) : Type 0 where
-  pub is : is_of T n
+-- The tables are those of the results of all jobs of the trace, which has this format, and n events at least.
+pub record Knows (tables : List LineFound) (format : Layout) (n : ℕ) (T : Recording) : Type 0 where
+  pub results : AreResultsOf T tables
+  pub within : n ≤ length T.events
   pub formatted : T.format ≡ format
   pub trace : IsTrace T
-
--- No byte of this line is stored by the first i events.
-abbrev pub IsBare : Recording → ℕ → ℕ → Type 0
-IsBare T i line = (b : ℕ) → line_of T.format b ≡ line → IsUnwritten T i b
 
 -- P holds of each byte of A in this line.
 abbrev pub EachIn : Recording → ℕ → Span → (ℕ → Type 0) → Type 0
@@ -93,10 +91,6 @@ asserts Sfence = false
 asserts Mfence = false
 asserts (IsPersist r) = true
 asserts (IsOrderedBefore r q) = true
-
--- The event is an assertion.
-abbrev pub event_asserts : Event → Bool
-event_asserts e = asserts e.op
 
 -- Rising numbers, among them those of all assertions of the first n events, and none above n.
 pub record AreAssertions (T : Recording) (n : ℕ) (numbers : List ℕ) : Type 0 where

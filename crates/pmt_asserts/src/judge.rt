@@ -1,19 +1,15 @@
 //! The verdicts of the assertions of a trace.
 ghost use Rattle.std.specs.Prelude.{◌≡◌, ◌≢◌, ℕ, ◌+◌, ◌<◌, ◌≤◌, ◌^◌, ◌↔◌, IsTrue, false, IfOk, IfSome, length, Option, Some};
-ghost use Rattle.std.specs.List.{list_any};
 ghost use Rattle.pmt_model.specs.Values.{line_of};
-ghost use Rattle.pmt_model.specs.declared.event.Event.{Event};
 ghost use Rattle.pmt_model.specs.Traces.{Recording, event, history};
 ghost use Rattle.pmt_model.specs.Assertions.{InSpan, PersistPasses, OrderedPasses};
 ghost use Rattle.pmt_model.specs.Analyses.{IsVerdicts};
 ghost use Rattle.pmt_asserts.specs.Tables.{AreResultsOf, IsUnwritten};
-ghost use Rattle.pmt_asserts.specs.Judging.{AreAssertions, asserts, event_asserts, IsEarliestOf, IsVerdictAt, IsLineInOrder, IsLineOrdered, Knows, earlier_of, place_for};
+ghost use Rattle.pmt_asserts.specs.Judging.{AreAssertions, asserts, IsEarliestOf, IsVerdictAt, IsLineInOrder, IsLineOrdered, Knows, earlier_of, place_for};
 
-use crate::lines::LineAnswers;
-use crate::oldest::{Earliest, Oldest, Spot};
-use crate::stretch::stretch_of;
+use crate::oldest::{Earliest, Oldest};
 use crate::tables::Tables;
-use pmt_model::{Event, Format, Op, OutOfMemory, Range, Trace, Verdict};
+use pmt_model::{Format, Op, OutOfMemory, Range, Trace, Verdict};
 use rayon::prelude::*;
 use std::alloc::Global;
 use std::thread::Threads;
@@ -81,47 +77,30 @@ pub fn verdict(tables: &Tables, trace: &Trace, number: u64) -> Option<Verdict>
     ensures { IsVerdictAt trace.now number result }
 {
     let op = trace.get(number)?.op;
-    verdict_by(tables, trace.format(), number, op)
-}
-
-/// Whether one of the events is an assertion.
-pub fn has_assertion(events: &[Event]) -> bool
-    ensures { result ≡ list_any event_asserts events.now }
-{
-    events.iter().any(|event| is_assertion(event.op))
-}
-
-/// The verdict of the event with this number and op, by what is known of the lines after it; none where it is no assertion.
-pub fn verdict_by<L: LineAnswers>(lines: &L, format: Format, number: u64, op: Op) -> Option<Verdict>
-    ensures { (T : Recording) (e : Event) → Knows (L.is_of lines.now) format number T → event T number ≡ Some e → e.op ≡ op → IsVerdictAt T number result }
-{
+    let format = trace.format();
     match op {
         Op::IsPersist(range) => Some(Verdict {
             event: number,
             ordered: false,
-            pass: persists(lines, format, number, range),
+            pass: persists(tables, format, number, range),
         }),
         Op::IsOrderedBefore(first, second) => Some(Verdict {
             event: number,
             ordered: true,
-            pass: is_ordered(lines, format, number, first, second),
+            pass: is_ordered(tables, format, number, first, second),
         }),
         _ => None,
     }
 }
 
 // Whether isPersist passes after the event with this number.
-fn persists<L: LineAnswers>(lines: &L, format: Format, number: u64, range: Range) -> bool
-    ensures { (T : Recording) → Knows (L.is_of lines.now) format number T → (IsTrue result ↔ PersistPasses (history T number) range) }
+fn persists(tables: &Tables, format: Format, number: u64, range: Range) -> bool
+    ensures { (T : Recording) → Knows tables.now format number T → (IsTrue result ↔ PersistPasses (history T number) range) }
 {
     let (first, end) = lines_of(format, range);
-    for block in first / 16..(end - 1) / 16 + 1 {
-        let stretch = stretch_of(lines, first, end, block);
-        for line in stretch.first..stretch.end {
-            let spot = stretch.spot(line);
-            if !lines.is_line_persisted(format, range, spot, number, number) {
-                return false;
-            }
+    for line in first..end {
+        if !tables.is_line_persisted(format, range, line, number, number) {
+            return false;
         }
     }
     true
@@ -141,25 +120,21 @@ fn lines_of(format: Format, range: Range) -> (u64, u64)
 
 // Of the last ones of the events up to this number that store to a byte of the range, the first, where those to one line may
 // be left out.
-fn earliest<L: LineAnswers>(
-    lines: &L,
+fn earliest(
+    tables: &Tables,
     format: Format,
     number: u64,
     range: Range,
     skipped: Option<u64>,
 ) -> Option<Earliest>
-    ensures { (T : Recording) → Knows (L.is_of lines.now) format number T → IsEarliestOf T number skipped range result }
+    ensures { (T : Recording) → Knows tables.now format number T → IsEarliestOf T number skipped range result }
 {
     let (first, end) = lines_of(format, range);
     let mut earliest = None;
-    for block in first / 16..(end - 1) / 16 + 1 {
-        let stretch = stretch_of(lines, first, end, block);
-        for line in stretch.first..stretch.end {
-            if skipped != Some(line) {
-                let spot = stretch.spot(line);
-                let oldest = lines.line_oldest(format, range, spot, number);
-                earliest = earlier(earliest, line, oldest);
-            }
+    for line in first..end {
+        if skipped != Some(line) {
+            let oldest = tables.line_oldest(format, range, line, number);
+            earliest = earlier(earliest, line, oldest);
         }
     }
     earliest
@@ -183,8 +158,8 @@ fn earlier(earliest: Option<Earliest>, line: u64, oldest: Option<Oldest>) -> Opt
 
 // Of the last ones of the events up to this number that store to a byte of the range, the first to another line than that of the
 // earliest. It is looked for only where that line is one of the lines from `start` on, below `end`.
-fn next_earliest<L: LineAnswers>(
-    lines: &L,
+fn next_earliest(
+    tables: &Tables,
     format: Format,
     number: u64,
     range: Range,
@@ -192,58 +167,44 @@ fn next_earliest<L: LineAnswers>(
     start: u64,
     end: u64,
 ) -> Option<Earliest>
-    ensures { (T : Recording) → Knows (L.is_of lines.now) format number T → start ≤ found.line → found.line < end → IsEarliestOf T number (Some found.line) range result }
+    ensures { (T : Recording) → Knows tables.now format number T → start ≤ found.line → found.line < end → IsEarliestOf T number (Some found.line) range result }
 {
     if start <= found.line && found.line < end {
-        earliest(lines, format, number, range, Some(found.line))
+        earliest(tables, format, number, range, Some(found.line))
     } else {
         None
     }
 }
 
 // Whether isOrderedBefore passes after the event with this number.
-fn is_ordered<L: LineAnswers>(
-    lines: &L,
-    format: Format,
-    number: u64,
-    first: Range,
-    second: Range,
-) -> bool
-    ensures { (T : Recording) → Knows (L.is_of lines.now) format number T → (IsTrue result ↔ OrderedPasses (history T number) first second) }
+fn is_ordered(tables: &Tables, format: Format, number: u64, first: Range, second: Range) -> bool
+    ensures { (T : Recording) → Knows tables.now format number T → (IsTrue result ↔ OrderedPasses (history T number) first second) }
 {
-    if !is_written(lines, format, number, first) {
+    if !is_written(tables, format, number, first) {
         return true;
     }
-    let Some(found) = earliest(lines, format, number, second, None) else {
+    let Some(found) = earliest(tables, format, number, second, None) else {
         return true;
     };
     let (start, end) = lines_of(format, first);
-    let other = next_earliest(lines, format, number, second, found, start, end);
-    for block in start / 16..(end - 1) / 16 + 1 {
-        let stretch = stretch_of(lines, start, end, block);
-        for line in stretch.first..stretch.end {
-            let by = place_by(found, other, line);
-            let spot = stretch.spot(line);
-            if !is_line_ordered(lines, format, number, first, second, spot, by) {
-                return false;
-            }
+    let other = next_earliest(tables, format, number, second, found, start, end);
+    for line in start..end {
+        let by = place_by(found, other, line);
+        if !is_line_ordered(tables, format, number, first, second, line, by) {
+            return false;
         }
     }
     true
 }
 
 // Whether one of the events up to this number stores to a byte of the range.
-fn is_written<L: LineAnswers>(lines: &L, format: Format, number: u64, range: Range) -> bool
-    ensures { result ≡ false → (T : Recording) → Knows (L.is_of lines.now) format number T → (b : ℕ) → InSpan range b → IsUnwritten T number b }
+fn is_written(tables: &Tables, format: Format, number: u64, range: Range) -> bool
+    ensures { result ≡ false → (T : Recording) → Knows tables.now format number T → (b : ℕ) → InSpan range b → IsUnwritten T number b }
 {
     let (first, end) = lines_of(format, range);
-    for block in first / 16..(end - 1) / 16 + 1 {
-        let stretch = stretch_of(lines, first, end, block);
-        for line in stretch.first..stretch.end {
-            let spot = stretch.spot(line);
-            if lines.line_oldest(format, range, spot, number).is_some() {
-                return true;
-            }
+    for line in first..end {
+        if tables.line_oldest(format, range, line, number).is_some() {
+            return true;
         }
     }
     false
@@ -264,41 +225,41 @@ fn place_by(found: Earliest, other: Option<Earliest>, line: u64) -> Option<u64>
 
 // Whether in this line the last stores to bytes of the first range come before those to bytes of the second, and are persisted
 // for sure by a place.
-fn is_line_ordered<L: LineAnswers>(
-    lines: &L,
+fn is_line_ordered(
+    tables: &Tables,
     format: Format,
     number: u64,
     first: Range,
     second: Range,
-    spot: Spot,
+    line: u64,
     by: Option<u64>,
 ) -> bool
-    requires line { spot.line < 2 ^ 48 }
-    ensures { (T : Recording) → Knows (L.is_of lines.now) format number T → IfSome by (λ place. place ≤ number) → (IsTrue result ↔ IsLineOrdered T number first second spot.line by) }
+    requires line { line < 2 ^ 48 }
+    ensures { (T : Recording) → Knows tables.now format number T → IfSome by (λ place. place ≤ number) → (IsTrue result ↔ IsLineOrdered T number first second line by) }
 {
-    if !is_line_in_order(lines, format, number, first, second, spot) {
+    if !is_line_in_order(tables, format, number, first, second, line) {
         return false;
     }
     match by {
         None => true,
-        Some(place) => lines.is_line_persisted(format, first, spot, number, place),
+        Some(place) => tables.is_line_persisted(format, first, line, number, place),
     }
 }
 
 // Whether in this line the last stores to bytes of the first range come before those to bytes of the second.
-fn is_line_in_order<L: LineAnswers>(
-    lines: &L,
+fn is_line_in_order(
+    tables: &Tables,
     format: Format,
     number: u64,
     first: Range,
     second: Range,
-    spot: Spot,
+    line: u64,
 ) -> bool
-    requires line { spot.line < 2 ^ 48 }
-    ensures { (T : Recording) → Knows (L.is_of lines.now) format number T → (IsTrue result ↔ IsLineInOrder T number first second spot.line) }
+    requires line { line < 2 ^ 48 }
+    ensures { (T : Recording) → Knows tables.now format number T → (IsTrue result ↔ IsLineInOrder T number first second line) }
 {
-    match lines.line_oldest(format, second, spot, number) {
+    match tables.line_oldest(format, second, line, number) {
         None => true,
-        Some(oldest) => lines.is_line_ranked(format, first, spot, number, oldest.rank),
+        Some(oldest) => tables.is_line_ranked(format, first, line, number, oldest.rank),
     }
 }

@@ -1,4 +1,4 @@
-//! The verdicts of the assertions of a trace, from what is known of its lines, as the results of their jobs.
+//! The verdicts of the assertions of a trace, from the results of the jobs of its lines.
 //!
 //! The definitions stand in `specs/`.
 #![tactic(auto)]
@@ -6,16 +6,11 @@
 mod answers;
 mod build;
 mod judge;
-mod lines;
 mod oldest;
 mod part;
 mod put;
-mod stretch;
 mod table;
 mod tables;
 
-pub use crate::judge::{has_assertion, verdict, verdict_by, verdicts};
-pub use crate::lines::LineAnswers;
-pub use crate::oldest::{Oldest, Part, Spot};
-pub use crate::part::part_of;
+pub use crate::judge::{verdict, verdicts};
 pub use crate::tables::Tables;

@@ -3,11 +3,17 @@ ghost use Rattle.std.specs.Prelude.{◌≡◌, ℕ, ◌<◌, ◌≤◌, ◌^◌,
 ghost use Rattle.pmt_model.specs.Values.{line_of};
 ghost use Rattle.pmt_model.specs.Assertions.{InSpan};
 
-use crate::oldest::Part;
 use pmt_model::{Format, Range};
 
-/// The bytes of the range that lie in the line.
-pub fn part_of(format: Format, range: Range, line: u64) -> Part
+// The addresses from `low` on, below `high`.
+#[derive(Clone, Copy, Debug, PartialEq, Eq)]
+pub(crate) struct Part {
+    pub(crate) low: u64,
+    pub(crate) high: u64,
+}
+
+// The bytes of the range that lie in the line.
+pub(crate) fn part_of(format: Format, range: Range, line: u64) -> Part
     requires { line < 2 ^ 48 }
     ensures { (b : ℕ) → ((result.low ≤ b) × (b < result.high)) ↔ (InSpan range b × (line_of format b ≡ line)) }
 {

@@ -58,12 +58,8 @@ impl LineTable {
         ensures { OfEachTrace self.now (λ T l. place ≤ length T.events → front_by T l place ≡ result) }
     {
         let raises = self.found.raises();
-        let count = raises.partition_point(|raise| raise.place as u64 <= place);
-        if count == 0 {
-            0
-        } else {
-            raises[count - 1].front as u64
-        }
+        let count = raises.partition_point(|raise| raise.0 <= place);
+        if count == 0 { 0 } else { raises[count - 1].1 }
     }
 
     // The rank of the last one of the first `count` stores that writes the byte, or 0.

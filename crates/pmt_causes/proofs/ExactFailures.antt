@@ -22,7 +22,7 @@ use Rattle.pmt_causes.specs.contracts.lost.LostKeyPartialEq.TheImpl as lost_eq
 abbrev key_of_parts : AssertionKind → CauseKind → RangePart → Origin → FailureKey
 key_of_parts k c p o = record { kind = k; cause = c; part = p; origin = o }
 
-origin-exact : (x y : Origin) → (origin_eq.ghosts).eq x y ≡ true → x ≡ y
+pub origin-exact : (x y : Origin) → (origin_eq.ghosts).eq x y ≡ true → x ≡ y
 origin-exact (Label a) (Label b) e = ap Label (eqb-true a b e)
 origin-exact (Label a) (Thread t) e = absurd (false≢true e)
 origin-exact (Thread t) (Label b) e = absurd (false≢true e)

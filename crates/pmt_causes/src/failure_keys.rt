@@ -129,8 +129,8 @@ fn part_of(format: Format, range: Range, byte: u64) -> RangePart
     }
 }
 
-// Whence an event of the thread comes.
-pub(crate) fn origin_of(labels: &[Option<u64>], event: u64, thread: u8) -> Origin
+/// Whence an event of the thread comes: from the place with its label, or from its thread where it has none.
+pub fn origin_of(labels: &[Option<u64>], event: u64, thread: u8) -> Origin
     ensures { result ≡ origin_in labels.now event thread }
 {
     match label_of(labels, event) {

@@ -41,11 +41,11 @@ use Rattle.pmt_explanation.specs.declared.ignoring.ByteRange.{ByteRange}
 use Rattle.pmt_explain_json.specs.Lines.{summary_data, more_data, asked_data, byte_range_data}
 use Rattle.pmt_explanation.specs.Choosing.{kind_name}
 
-both : (a b : Bool) → a ≡ false → b ≡ false → (a || b) ≡ false
+pub both : (a b : Bool) → a ≡ false → b ≡ false → (a || b) ≡ false
 both true b p q = p
 both false b p q = q
 
-or_null-float : {A : Type 0} (f : A → Data) → ((x : A) → has_float (f x) ≡ false) → (o : Option A) → has_float (or_null f o) ≡ false
+pub or_null-float : {A : Type 0} (f : A → Data) → ((x : A) → has_float (f x) ≡ false) → (o : Option A) → has_float (or_null f o) ≡ false
 or_null-float f each None = refl
 or_null-float f each (Some x) = each x
 
@@ -56,10 +56,10 @@ array-float f each (x ∷ xs) = both (has_float (f x)) (items_have_float (items_
 address-float : (o : Option ℕ) → has_float (or_null address_data o) ≡ false
 address-float o = or_null-float address_data (λ a. refl) o
 
-count-float : (o : Option ℕ) → has_float (or_null count_data o) ≡ false
+pub count-float : (o : Option ℕ) → has_float (or_null count_data o) ≡ false
 count-float o = or_null-float count_data (λ n. refl) o
 
-label-float : (o : Option (List ℕ)) → has_float (or_null string o) ≡ false
+pub label-float : (o : Option (List ℕ)) → has_float (or_null string o) ≡ false
 label-float o = or_null-float string (λ s. refl) o
 
 known-float : (labels : Labels) (n : ℕ) (e : Event) → has_float (known_event_data labels n e) ≡ false
@@ -67,7 +67,7 @@ known-float labels n e =
     both (has_float (or_null address_data (address_of e.op))) (has_float (or_null string (label_of labels n)) || false) (address-float (address_of e.op))
     (both (has_float (or_null string (label_of labels n))) false (label-float (label_of labels n)) refl)
 
-event-float : (T : Recording) (labels : Labels) (n : ℕ) → has_float (event_data T labels n) ≡ false
+pub event-float : (T : Recording) (labels : Labels) (n : ℕ) → has_float (event_data T labels n) ≡ false
 event-float T labels n = or_null-float (known_event_data labels n) (known-float labels n) (event T n)
 
 other-float : (T : Recording) (labels : Labels) (o : Option ℕ) → has_float (or_null (event_data T labels) o) ≡ false

@@ -12,7 +12,7 @@ push-on s s1 s2 a b e f = f ∙ ap (λ (t : List ℕ). t ++ b) e ∙ append_asso
 pub pushed-3 : (s s1 s2 s3 a b c : List ℕ) → s1 ≡ s ++ a → s2 ≡ s1 ++ b → s3 ≡ s2 ++ c → s3 ≡ s ++ (a ++ b ++ c)
 pushed-3 s s1 s2 s3 a b c e f g = push-on s s2 s3 (a ++ b) c (push-on s s1 s2 a b e f) g
 
-pushed-4 : (s s1 s2 s3 s4 a b c d : List ℕ) → s1 ≡ s ++ a → s2 ≡ s1 ++ b → s3 ≡ s2 ++ c → s4 ≡ s3 ++ d → s4 ≡ s ++ (a ++ b ++ c ++ d)
+pub pushed-4 : (s s1 s2 s3 s4 a b c d : List ℕ) → s1 ≡ s ++ a → s2 ≡ s1 ++ b → s3 ≡ s2 ++ c → s4 ≡ s3 ++ d → s4 ≡ s ++ (a ++ b ++ c ++ d)
 pushed-4 s s1 s2 s3 s4 a b c d e f g h = push-on s s3 s4 (a ++ b ++ c) d (pushed-3 s s1 s2 s3 a b c e f g) h
 
 pub pushed-8 : (s s1 s2 s3 s4 s5 s6 s7 s8 a b c d k m n o : List ℕ) →

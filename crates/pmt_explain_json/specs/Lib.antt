@@ -2,4 +2,6 @@ pub mod Entries
 pub mod Groups
 pub mod Lines
 pub mod Parts
+pub mod Places
 pub mod Tables
+pub mod Clean

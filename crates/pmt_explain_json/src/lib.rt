@@ -6,9 +6,11 @@
 mod causes;
 mod entries;
 mod failures;
+pub mod laws;
 mod lines;
 mod objects;
 mod parts;
+mod places;
 mod summary;
 mod tables;
 mod words;

@@ -52,7 +52,7 @@ pub(crate) fn summary_value(
         ("limit", Ok(Value::from(limit))),
         ("more", Ok(more)),
         ("never_persisted", Ok(Value::from(summary.never_persisted))),
-        ("schema", Ok(Value::from(2u64))),
+        ("schema", Ok(Value::from(3u64))),
         ("stores", Ok(Value::from(summary.stores))),
         ("threads", Ok(Value::from(summary.threads))),
     ]?;
@@ -92,6 +92,10 @@ pub(crate) fn more_value(alloc: Global, explanation: &Explanation) -> Result<Val
         (
             "overwritten",
             Value::from(explanation.overwritten.len().saturating_sub(limit))
+        ),
+        (
+            "place",
+            Value::from(explanation.places.len().saturating_sub(limit))
         ),
         (
             "thread",

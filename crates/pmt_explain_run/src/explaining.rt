@@ -2,13 +2,13 @@
 ghost use Rattle.std.specs.Prelude.{◌≡◌, IfOk, IfErr, IfSome};
 ghost use Rattle.pmt_text.specs.Coming.{ComesWhole};
 ghost use Rattle.pmt_text.specs.Sources.{CountsReads};
-ghost use Rattle.pmt_lines.specs.Sourcing.{IsFaultOf, TellsTaken, told_by};
+ghost use Rattle.pmt_taking.specs.Sourcing.{IsFaultOf, TellsTaken, told_by};
 ghost use Rattle.pmt_analysis.specs.Analysing.{IsAnalysed};
 ghost use Rattle.pmt_explanation.specs.Explaining.{IsExplanation};
 
 use pmt_explanation::{Explanation, Labels, Options, explanation_of};
-use pmt_lines::TakeError;
 use pmt_report::swept;
+use pmt_taking::TakeError;
 use pmt_text::EventSource;
 use std::alloc::Global;
 

@@ -1,173 +1,188 @@
-//! Guesses at what is noise: what could be left out.
+//! A guess at what is noise: the places that could be left out.
 
-use crate::parts::{is_unflushed, push_count};
+use crate::claims::{Claims, claims_of};
+use crate::members::line_of_store;
+use crate::merging::merged;
+use crate::parts::{place_of, push_count, push_place_name};
 use crate::screen::Section;
-use crate::telling::{Telling, line_address};
-use pmt_explain::{LostGroup, OverwrittenGroup};
-use pmt_model::{Op, OutOfMemory, Range, Trace, line_of};
+use crate::telling::{Telling, tells_all};
+use pmt_causes::Origin;
+use pmt_explanation::ByteRange;
+use pmt_fates::{PlaceRow, Standing, standing_of};
+use pmt_model::{Op, OutOfMemory, Trace};
 use pmt_pen::Pen;
 use std::collections::HashMap;
 
-// The most guesses of each kind.
-const FEW: usize = 3;
+// The most places and the most ranges that are named.
+const NAMED: usize = 8;
 
-// The most bytes of an assertion's range.
-const LONGEST: u64 = 4096;
+// The places that lose all that they store, by whether the program speaks of a line of theirs.
+type Places = HashMap<Origin, bool>;
 
-// What looks like noise: stores to a line that no event flushes, and stores that always write the same bytes again.
+// The places that lose all that they store, to lines of which the program speaks nowhere, in one line: neither they nor the lines before
+// them are flushed, no assertion names them, and no other place loses a store to them. Nothing is guessed where a trace has no flush or
+// no assertion, since a program that never speaks says nothing by that.
 pub(crate) fn guesses_section(told: &Telling<'_>) -> Section {
     let mut section = Section::new(
         told.alloc,
-        "guess: if a crash may lose these, as locks or statistics, this leaves them out:\n",
+        "",
         0,
         "guesses at what could be ignored",
         "--limit all",
     );
-    if !told.explanation.lost.is_empty() && add_unflushed(&mut section, told).is_err() {
+    if tells_all(told.screen.choice) && add_guess(&mut section, told).is_err() {
         section.refuse();
     }
-    add_repeated(&mut section, told);
     section.total = section.entries.len();
     section
 }
 
-// Adds the first lines of never persisted stores that no event flushes and no failed assertion names.
-fn add_unflushed(section: &mut Section, told: &Telling<'_>) -> Result<(), OutOfMemory> {
-    let flushed = flushed_lines(told)?;
-    let claimed = claimed_lines(told)?;
-    let mut guesses = 0usize;
-    for group in told.explanation.lost.as_slice() {
-        let is_flushed = flushed.get(&group.line).copied().unwrap_or(true);
-        let is_quiet = is_unflushed(group.cause) && !is_flushed;
-        if guesses < FEW && is_quiet && !is_claimed(told.trace, &claimed, group.line) {
-            section.add(line_guess(told, group));
-            guesses = guesses.saturating_add(1);
+// Adds the guess, if there is one.
+fn add_guess(section: &mut Section, told: &Telling<'_>) -> Result<(), OutOfMemory> {
+    let mut places = losing_all(told)?;
+    if places.is_empty() {
+        return Ok(());
+    }
+    let claims = claims_of(told)?;
+    if claims.is_silent() {
+        return Ok(());
+    }
+    let others = other_lines(told, &places)?;
+    for store in told.explanation.stores.as_slice() {
+        let line = line_of_store(told.trace, *store);
+        if is_spoken_of(told.trace, &claims, &others, line) {
+            note_spoken_of(told, &mut places, *store)?;
         }
+    }
+    let ranges = ranges_of(told, &places)?;
+    if !ranges.is_empty() {
+        section.add(guess_of(told, &places, ranges.as_slice()));
     }
     Ok(())
 }
 
-// The guess at the line of the stores.
-fn line_guess(told: &Telling<'_>, group: &LostGroup) -> Pen {
-    let line = line_address(told.trace, group.line);
-    let mut pen = Pen::new(told.alloc);
-    pen.fill("  --ignore @:#  ", &[line, told.trace.format().line_size()]);
-    push_count(&mut pen, group.count, "store");
-    pen.put(", and no flush of the line in the whole trace\n");
-    pen
-}
-
-// The ranges of failed assertions: of each line with which one begins the last line of the longest one.
-fn claimed_lines(told: &Telling<'_>) -> Result<HashMap<u64, u64>, OutOfMemory> {
-    let mut claimed = HashMap::new(told.alloc);
-    for number in told.explanation.failing.as_slice() {
-        let Some(event) = told.trace.get(*number) else {
-            continue;
-        };
-        let op = event.op;
-        match op {
-            Op::IsPersist(range) => note_range(told.trace, &mut claimed, range)?,
-            Op::IsOrderedBefore(first, second) => {
-                note_range(told.trace, &mut claimed, first)?;
-                note_range(told.trace, &mut claimed, second)?;
-            }
-            Op::Store(_)
-            | Op::Clwb(_)
-            | Op::ClflushOpt(_)
-            | Op::Clflush(_)
-            | Op::Sfence
-            | Op::Mfence => {}
+// The places that lose all that they store.
+fn losing_all(told: &Telling<'_>) -> Result<Places, OutOfMemory> {
+    let mut places = HashMap::new(told.alloc);
+    for row in told.explanation.places.as_slice() {
+        if loses_all(row) {
+            places.insert(row.place, false)?;
         }
     }
-    Ok(claimed)
+    Ok(places)
 }
 
-// Notes the lines of the range.
-fn note_range(
-    trace: &Trace,
-    claimed: &mut HashMap<u64, u64>,
-    range: Range,
-) -> Result<(), OutOfMemory> {
-    let size = trace.format().line_size();
-    let start = range.addr().get();
-    let end = start.saturating_add(range.len());
-    let last = end.saturating_sub(1) / size;
-    let before = claimed.get(&(start / size)).copied().unwrap_or(0);
-    claimed.insert(start / size, last.max(before))?;
-    Ok(())
-}
-
-// Whether one of these ranges has the line.
-fn is_claimed(trace: &Trace, claimed: &HashMap<u64, u64>, line: u64) -> bool {
-    let most = LONGEST / trace.format().line_size();
-    for first in line.saturating_sub(most)..line.saturating_add(1) {
-        if let Some(last) = claimed.get(&first) {
-            if *last >= line {
-                return true;
-            }
-        }
+// Whether the place loses all that it stores.
+fn loses_all(row: &PlaceRow) -> bool {
+    match standing_of(row) {
+        Standing::LosesAll => true,
+        Standing::LosesSome | Standing::DelaysSome | Standing::DelaysAll | Standing::Keeps => false,
     }
-    false
 }
 
-// Of each line with stores that no flush follows, whether an event flushes it.
-fn flushed_lines(told: &Telling<'_>) -> Result<HashMap<u64, bool>, OutOfMemory> {
+// The lines to which other places lose a store.
+fn other_lines(told: &Telling<'_>, places: &Places) -> Result<HashMap<u64, bool>, OutOfMemory> {
     let mut lines = HashMap::new(told.alloc);
-    for group in told.explanation.lost.as_slice() {
-        if is_unflushed(group.cause) {
-            lines.insert(group.line, false)?;
-        }
-    }
-    if lines.is_empty() {
-        return Ok(lines);
-    }
-    for event in told.trace.events() {
-        let op = event.op;
-        match op {
-            Op::Clwb(addr) | Op::ClflushOpt(addr) | Op::Clflush(addr) => {
-                let line = line_of(told.trace.format(), addr);
-                if lines.contains_key(&line) {
-                    lines.insert(line, true)?;
-                }
-            }
-            Op::Store(_) | Op::Sfence | Op::Mfence | Op::IsPersist(_) | Op::IsOrderedBefore(_, _) =>
-                {}
+    for store in told.explanation.stores.as_slice() {
+        if !places.contains_key(&place_of(told, *store)) {
+            lines.insert(line_of_store(told.trace, *store), true)?;
         }
     }
     Ok(lines)
 }
 
-// Adds the first lines whose overwritten stores all write the same bytes again.
-fn add_repeated(section: &mut Section, told: &Telling<'_>) {
-    let mut guesses = 0usize;
-    for group in told.explanation.overwritten.as_slice() {
-        if guesses < FEW && group.same == group.count {
-            if let Some((addr, len)) = bytes_of(told.trace, group) {
-                let mut pen = Pen::new(told.alloc);
-                pen.fill(
-                    "  --ignore @:#  the same bytes are stored again, ",
-                    &[addr, len],
-                );
-                push_count(&mut pen, group.count, "time");
-                pen.put(" in this line\n");
-                section.add(pen);
-                guesses = guesses.saturating_add(1);
-            }
+// Whether the line is flushed, named by an assertion, or one to which another place loses a store.
+fn is_spoken_of(trace: &Trace, claims: &Claims, others: &HashMap<u64, bool>, line: u64) -> bool {
+    claims.is_flushed(line) || others.contains_key(&line) || claims.is_claimed(trace, line)
+}
+
+// Notes that the program speaks of a line of the store's place.
+fn note_spoken_of(told: &Telling<'_>, places: &mut Places, store: u64) -> Result<(), OutOfMemory> {
+    let place = place_of(told, store);
+    if places.contains_key(&place) {
+        places.insert(place, true)?;
+    }
+    Ok(())
+}
+
+// The bytes that the places store of whose lines the program does not speak, by rising address.
+fn ranges_of(told: &Telling<'_>, places: &Places) -> Result<Vec<ByteRange>, OutOfMemory> {
+    let mut ranges = Vec::new(told.alloc);
+    for store in told.explanation.stores.as_slice() {
+        if is_quiet(places, place_of(told, *store)) {
+            push_range(told.trace, &mut ranges, *store)?;
         }
+    }
+    merged(told.alloc, ranges)
+}
+
+// Whether it is such a place.
+fn is_quiet(places: &Places, place: Origin) -> bool {
+    match places.get(&place) {
+        Some(is_spoken_of) => !*is_spoken_of,
+        None => false,
     }
 }
 
-// The bytes of the first store that is overwritten.
-fn bytes_of(trace: &Trace, group: &OverwrittenGroup) -> Option<(u64, u64)> {
-    let op = trace.get(group.first.earlier)?.op;
-    match op {
-        Op::Store(store) => Some((store.addr().get(), store.bytes().len() as u64)),
-        Op::Clwb(_)
-        | Op::ClflushOpt(_)
-        | Op::Clflush(_)
-        | Op::Sfence
-        | Op::Mfence
-        | Op::IsPersist(_)
-        | Op::IsOrderedBefore(_, _) => None,
+// Adds the bytes of the store.
+fn push_range(trace: &Trace, ranges: &mut Vec<ByteRange>, number: u64) -> Result<(), OutOfMemory> {
+    let Some(event) = trace.get(number) else {
+        return Ok(());
+    };
+    let op = event.op;
+    if let Op::Store(store) = op {
+        let addr = store.addr().get();
+        let len = store.bytes().len() as u64;
+        ranges.push(ByteRange { addr, len })?;
+    }
+    Ok(())
+}
+
+// The guess at these places, which store these bytes.
+fn guess_of(told: &Telling<'_>, places: &Places, ranges: &[ByteRange]) -> Pen {
+    let mut pen = Pen::new(told.alloc);
+    push_places(&mut pen, told, places);
+    pen.put(". If a crash may lose that, as locks or statistics, leave it out by");
+    for range in ranges.iter().take(NAMED) {
+        pen.fill(" --ignore @:#", &[range.addr, range.len]);
+    }
+    if ranges.len() > NAMED {
+        pen.fill(
+            " and # more ranges",
+            &[ranges.len().saturating_sub(NAMED) as u64],
+        );
+    }
+    pen.put("\n");
+    pen
+}
+
+// Adds the places, and how much they store.
+fn push_places(pen: &mut Pen, told: &Telling<'_>, places: &Places) {
+    let mut count = 0u64;
+    let mut stores = 0u64;
+    let mut names = Pen::new(told.alloc);
+    for row in told.explanation.places.as_slice() {
+        if is_quiet(places, row.place) {
+            count = count.saturating_add(1);
+            stores = stores.saturating_add(row.lost);
+            if count <= NAMED as u64 {
+                names.put(if count == 1 { "" } else { ", " });
+                push_place_name(&mut names, told, row.place);
+            }
+        }
+    }
+    pen.put("guess: ");
+    push_count(pen, count, "place");
+    pen.put(if count == 1 {
+        " loses all that it stores ("
+    } else {
+        " lose all that they store ("
+    });
+    push_count(pen, stores, "store");
+    pen.put("), to cache lines that nothing flushes and no assertion names: ");
+    pen.share(&names);
+    pen.put(names.as_str());
+    if count > NAMED as u64 {
+        pen.fill(" and # more", &[count.saturating_sub(NAMED as u64)]);
     }
 }

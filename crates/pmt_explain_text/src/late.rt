@@ -2,14 +2,22 @@
 
 use crate::parts::{push_count, push_label};
 use crate::screen::Section;
-use crate::telling::{Telling, line_address};
+use crate::telling::{Telling, line_address, tells_all};
 use pmt_causes::{Group, LateSpot};
 use pmt_explanation::{first, first_of};
 use pmt_pen::Pen;
 
-// What is saved late.
+// What is saved late, where something is asked for: else it is told by place.
 pub(crate) fn late_section(told: &Telling<'_>) -> Section {
-    let groups = told.explanation.late.as_slice();
+    let all = told.explanation.late.as_slice();
+    let groups = first(
+        all,
+        if tells_all(told.screen.choice) {
+            0
+        } else {
+            all.len()
+        },
+    );
     let mut section = Section::new(
         told.alloc,
         "note: stores that two fences or more of their own thread left unsafe, most first:\n",

@@ -2,6 +2,7 @@
 #![tactic(auto)]
 
 mod causes;
+mod claims;
 mod commands;
 mod dropped;
 mod failures;
@@ -9,15 +10,19 @@ mod guesses;
 mod ignored;
 mod late;
 mod lost;
+mod members;
 mod memory;
+mod merging;
 mod overwritten;
 mod parts;
 mod people;
+mod places;
 mod ranges;
 mod screen;
 mod summary;
 mod tables;
 mod telling;
+mod unknown;
 mod unwritten;
 
 pub use crate::people::text;

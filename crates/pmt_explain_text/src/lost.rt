@@ -3,7 +3,7 @@
 use crate::commands::push_draw;
 use crate::parts::{plural, push_count, push_named, push_remedy};
 use crate::screen::Section;
-use crate::telling::{Telling, line_address};
+use crate::telling::{Telling, line_address, tells_all};
 use pmt_causes::{Group, LostKey};
 use pmt_explain::LostGroup;
 use pmt_explanation::{first, mend_for};
@@ -12,9 +12,17 @@ use pmt_pen::Pen;
 // The most cache lines that are named beside the one in full.
 const NAMED: usize = 10;
 
-// What is never persisted, each cause once.
+// What is never persisted, each cause once, where something is asked for: else it is told by place.
 pub(crate) fn lost_section(told: &Telling<'_>) -> Section {
-    let causes = told.explanation.lost_causes.as_slice();
+    let all = told.explanation.lost_causes.as_slice();
+    let causes = first(
+        all,
+        if tells_all(told.screen.choice) {
+            0
+        } else {
+            all.len()
+        },
+    );
     let mut section = Section::new(
         told.alloc,
         "",

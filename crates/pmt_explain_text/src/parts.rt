@@ -1,7 +1,9 @@
 //! Events, causes and mends in words.
 
 use crate::telling::{Telling, line_address};
-use pmt_model::Event;
+use pmt_causes::{Origin, origin_of};
+use pmt_explanation::frame_of;
+use pmt_model::{Event, Op};
 use pmt_pen::Pen;
 use pmt_reasons::{Cause, Mend};
 use pmt_text::write_event;
@@ -77,6 +79,27 @@ pub(crate) fn push_label(pen: &mut Pen, told: &Telling<'_>, number: u64) {
     }
 }
 
+// The place of the event.
+pub(crate) fn place_of(told: &Telling<'_>, number: u64) -> Origin {
+    let thread = match told.trace.get(number) {
+        Some(event) => event.thread,
+        None => 0,
+    };
+    origin_of(told.explanation.frames.as_slice(), number, thread)
+}
+
+// Adds what the place is called: the innermost frame of its label, or its thread.
+pub(crate) fn push_place_name(pen: &mut Pen, told: &Telling<'_>, place: Origin) {
+    match place {
+        Origin::Label(number) => {
+            if let Some(label) = told.labels.get(number) {
+                pen.put(frame_of(label.as_str()));
+            }
+        }
+        Origin::Thread(thread) => pen.fill("thread #", &[thread as u64]),
+    }
+}
+
 // Adds why the store is not safe by then, and what mends it.
 pub(crate) fn push_remedy(pen: &mut Pen, told: &Telling<'_>, cause: Cause, line: u64, mend: Mend) {
     pen.put("  why:    ");
@@ -133,6 +156,7 @@ fn push_mend(pen: &mut Pen, told: &Telling<'_>, mend: Mend) {
             let line = line_address(told.trace, line);
             pen.fill("Flush cache line @ after ", &[line]);
             push_when(pen, told, after, FENCED, before);
+            push_standing_fence(pen, told, after, before);
         }
         Mend::StoreFirst {
             store,
@@ -154,6 +178,66 @@ const ENOUGH: &str =
 
 const BETWEEN: &str =
     "          Flush its cache line in between, and fence by the thread that flushes it.\n";
+
+// The most events that are searched for the next fence of a thread.
+const NEAR: u64 = 10_000;
+
+// The next fence of the thread after the event and before the other one, if it comes soon.
+fn next_fence(told: &Telling<'_>, thread: u8, after: u64, before: Option<u64>) -> Option<u64> {
+    let last = after.saturating_add(NEAR);
+    let end = before.unwrap_or(u64::MAX).min(last);
+    for number in after.saturating_add(1)..end {
+        let Some(event) = told.trace.get(number) else {
+            return None;
+        };
+        if event.thread == thread && is_fence(event.op) {
+            return Some(number);
+        }
+    }
+    None
+}
+
+// Whether it is a fence.
+fn is_fence(op: Op) -> bool {
+    match op {
+        Op::Sfence | Op::Mfence => true,
+        Op::Store(_)
+        | Op::Clwb(_)
+        | Op::ClflushOpt(_)
+        | Op::Clflush(_)
+        | Op::IsPersist(_)
+        | Op::IsOrderedBefore(_, _) => false,
+    }
+}
+
+// Adds the fence of the event's thread that stands there, if one does: with it no other one is needed.
+fn push_standing_fence(pen: &mut Pen, told: &Telling<'_>, after: u64, before: Option<u64>) {
+    let Some(event) = told.trace.get(after) else {
+        return;
+    };
+    let thread = event.thread;
+    if let Some(fence) = next_fence(told, thread, after, before) {
+        pen.fill("          Thread # fences at ", &[thread as u64]);
+        push_place(pen, told, fence);
+        pen.put(": a flush by it before that needs no other fence.\n");
+    }
+}
+
+// Adds the flush that saves the store of the thread to the line by the thread's next fence.
+pub(crate) fn push_own_flush(pen: &mut Pen, told: &Telling<'_>, line: u64, thread: u8, store: u64) {
+    let line = line_address(told.trace, line);
+    pen.fill(
+        "  fix:    Flush cache line @ by thread # after ",
+        &[line, thread as u64],
+    );
+    push_place(pen, told, store);
+    pen.put(", before its next fence");
+    if let Some(fence) = next_fence(told, thread, store, None) {
+        pen.put(", ");
+        push_place(pen, told, fence);
+    }
+    pen.put(".\n");
+}
 
 // Adds the event, what is to be done besides, and by when.
 fn push_when(pen: &mut Pen, told: &Telling<'_>, number: u64, besides: &str, before: Option<u64>) {

@@ -6,6 +6,7 @@ use crate::guesses::guesses_section;
 use crate::late::late_section;
 use crate::lost::lost_section;
 use crate::overwritten::overwritten_section;
+use crate::places::places_section;
 use crate::screen::push_sections;
 use crate::summary::push_summary;
 use crate::tables::{labels_section, threads_section};
@@ -36,6 +37,7 @@ pub fn text(
     };
     let mut sections = vec![in alloc;
         failures_section(&told),
+        places_section(&told),
         lost_section(&told),
         dropped_section(&told),
         overwritten_section(&told),

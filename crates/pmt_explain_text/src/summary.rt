@@ -3,14 +3,17 @@
 use crate::ignored::push_ignored;
 use crate::parts::{is_unflushed, push_count};
 use crate::telling::Telling;
+use crate::unknown::{push_cut, push_unknown};
 use pmt_explanation::{Choice, Kind, Summary, per_cent, summary_of};
 use pmt_pen::Pen;
 
 // Adds the counts, and what the words mean.
 pub(crate) fn push_summary(pen: &mut Pen, told: &Telling<'_>) {
     let counts = summary_of(told.explanation);
+    push_cut(pen, told);
     push_counts(pen, &counts, told.trace.format().line_size());
     push_ignored(pen, told, &counts);
+    push_unknown(pen, &counts);
     push_choice(pen, told.screen.choice);
     pen.put(LEGEND);
     if !told.explanation.asked_failing.is_empty() {

@@ -1,6 +1,6 @@
 //! What each part of the text for people is told of.
 
-use pmt_explanation::{ByteRange, Choice, Explanation, Labels};
+use pmt_explanation::{ByteRange, Choice, Cut, Explanation, Labels};
 use pmt_model::Trace;
 use std::alloc::Global;
 
@@ -17,6 +17,8 @@ pub struct Screen<'a> {
     pub trace: Option<&'a str>,
     /// The file of the labels, if there is one.
     pub labels: Option<&'a str>,
+    /// Where and why the trace was cut, if it was.
+    pub cut: Option<&'a Cut>,
 }
 
 // What is told, and how.

@@ -1,5 +1,7 @@
+pub mod CallerLemmas
 pub mod CausingLemmas
 pub mod CountingLemmas
+pub mod FramingLemmas
 pub mod IgnoringLemmas
 pub mod LabellingLemmas
 pub mod MendingLemmas

@@ -1,8 +1,8 @@
 -- What an explanation has of each kind.
-use Rattle.std.specs.Prelude.{◌≡◌, ◌-◌, ◌==◌, ◌||◌, Bool, not, length, map, take, count_by, is_some}
+use Rattle.std.specs.Prelude.{◌≡◌, ◌-◌, ◌==◌, ◌||◌, ◌&&◌, Bool, not, length, map, take, count_by, is_some}
 use Rattle.std.specs.List.{All, filter_map}
 use Rattle.pmt_model.specs.declared.finding.Finding.{Finding}
-use Rattle.pmt_explain.specs.Dropping.{AreDropped}
+use Rattle.pmt_explain.specs.Dropping.{AreDropped, event_of}
 use Rattle.pmt_explain.specs.LostGroups.{AreLostGroups}
 use Rattle.pmt_explain.specs.OverwrittenGroups.{AreOverwrittenGroups}
 use Rattle.pmt_causes.specs.Dropped.{dropped_item}
@@ -11,6 +11,7 @@ use Rattle.pmt_causes.specs.Groups.{AreGrouped}
 use Rattle.pmt_causes.specs.Late.{AreWaited}
 use Rattle.pmt_causes.specs.LostCauses.{lost_item}
 use Rattle.pmt_causes.specs.Tables.{AreLabelRows, AreThreadRows}
+use Rattle.pmt_fates.specs.Places.{ArePlaces}
 use Rattle.pmt_analysis.specs.Analysing.{Analysed}
 use Rattle.pmt_explanation.specs.declared.explaining.Explanation.{Explanation}
 use Rattle.pmt_explanation.specs.declared.failures.ShownFailure.{ShownFailure}
@@ -22,6 +23,7 @@ use Rattle.pmt_explanation.specs.declared.labels.Labels.{Labels}
 use Rattle.pmt_explanation.specs.Asking.{asked_dropped, asked_numbers, asked_pairs, asked_unwritten, is_asked_for}
 use Rattle.pmt_explanation.specs.Causing.{AreAskedLate, first_members}
 use Rattle.pmt_explanation.specs.Failing.{failing_events}
+use Rattle.pmt_explanation.specs.Framing.{AreFrameNumbers}
 use Rattle.pmt_explanation.specs.Ignoring.{lost_store, told_stores, overwriting, told_pairs}
 use Rattle.pmt_explanation.specs.Numbering.{AreLabelNumbers}
 use Rattle.pmt_explanation.specs.Showing.{IsShown}
@@ -32,6 +34,8 @@ pub record IsExplanation (a : Analysed) (labels : Labels) (o : Options) (x : Exp
   pub failing : x.failing.items ≡ failing_events a.verdicts
   pub asked_failing : x.asked_failing.items ≡ asked_numbers a.trace labels o.choice kinds.Failure x.failing.items
   pub label_numbers : AreLabelNumbers labels (length a.trace.events) x.label_numbers.items
+  pub frames : AreFrameNumbers labels (length a.trace.events) x.frames.items
+  pub places : ArePlaces a.trace x.frames.items x.stores.items (map event_of x.dropped.items) x.places.items
   pub causes : AreFailureGroups a.trace x.label_numbers.items x.asked_failing.items x.causes.items
   pub failures : All (IsShown a.trace) x.failures.items
   pub shown : map (λ (s : ShownFailure). s.event) x.failures.items ≡ take x.limit (first_members x.causes.items)
@@ -53,6 +57,8 @@ pub record IsExplanation (a : Analysed) (labels : Labels) (o : Options) (x : Exp
 -- What is found in an analysed trace, with these labels, where this is asked.
 pub record AreParts (a : Analysed) (labels : Labels) (o : Options) (p : Parts) : Type 0 where
   pub label_numbers : AreLabelNumbers labels (length a.trace.events) p.label_numbers.items
+  pub frames : AreFrameNumbers labels (length a.trace.events) p.frames.items
+  pub places : ArePlaces a.trace p.frames.items p.lost.stores.items (map event_of p.found.dropped.items) p.found.places.items
   pub found : AreFound a.trace a.verdicts labels p.label_numbers.items o p.found
   pub stores : p.lost.stores.items ≡ told_stores a.trace o.ignored.items a.findings
   pub lost : AreLostGroups a.trace (asked_numbers a.trace labels o.choice kinds.NeverPersisted p.lost.stores.items) p.lost.groups.items
@@ -62,6 +68,6 @@ pub record AreParts (a : Analysed) (labels : Labels) (o : Options) (p : Parts) :
   pub ignored_stores : p.lost.ignored_stores ≡ count_by (λ (f : Finding). is_some (lost_store f)) a.findings - length p.lost.stores.items
   pub ignored_pairs : p.lost.ignored_pairs ≡ count_by (λ (f : Finding). is_some (overwriting f)) a.findings - length (told_pairs a.trace o.ignored.items a.findings)
 
--- An assertion fails, or a store that is not ignored is never persisted.
-abbrev pub has_failed : Explanation → Bool
-has_failed x = not (length x.failing.items == 0) || not (length x.stores.items == 0)
+-- An assertion fails, or a store that is not ignored is never persisted, in a trace that was not cut.
+abbrev pub has_failed : Explanation → Bool → Bool
+has_failed x is_cut = not (length x.failing.items == 0) || (not is_cut && not (length x.stores.items == 0))

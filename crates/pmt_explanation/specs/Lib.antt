@@ -5,6 +5,7 @@ pub mod Counting
 pub mod Explaining
 pub mod Failing
 pub mod Finding
+pub mod Framing
 pub mod Ignoring
 pub mod Labelling
 pub mod Numbering

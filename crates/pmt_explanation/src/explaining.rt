@@ -10,6 +10,7 @@ use crate::asking::asked_unwrittens;
 use crate::choosing::Choice;
 use crate::failures::ShownFailure;
 use crate::found::{Found, found_of};
+use crate::frames::frame_numbers;
 use crate::ignoring::ByteRange;
 use crate::labels::Labels;
 use crate::losses::{Losses, losses_of};
@@ -18,6 +19,7 @@ use crate::unwritten::{Unwritten, unwritten_assertions};
 use pmt_analysis::Analysis;
 use pmt_causes::{DroppedKey, FailureKey, Group, LateSpot, LostKey, Row};
 use pmt_explain::{Dropped, LostGroup, OverwrittenGroup};
+use pmt_fates::PlaceRow;
 use pmt_model::{OutOfMemory, Trace};
 use std::alloc::Global;
 
@@ -45,6 +47,10 @@ pub struct Explanation {
     pub asked_failing: Vec<u64>,
     /// Of each event, in order, the number of its label: that of the first event with it. Nothing where no event has a label.
     pub label_numbers: Vec<Option<u64>>,
+    /// Of each event, in order, the number of the innermost frame of its label: that of the first event with it.
+    pub frames: Vec<Option<u64>>,
+    /// What each place of the source has in the trace: each innermost frame by its number, and each thread that has events without label.
+    pub places: Vec<PlaceRow>,
     /// Those of `asked_failing`, by cause.
     pub causes: Vec<Group<FailureKey>>,
     /// The first failure of each of the first `limit` causes in full, in the order of the causes.
@@ -83,6 +89,7 @@ pub struct Explanation {
 #[derive(Drop)]
 struct Parts {
     label_numbers: Vec<Option<u64>>,
+    frames: Vec<Option<u64>>,
     found: Found,
     lost: Losses,
     unwritten: Vec<Unwritten>,
@@ -117,11 +124,21 @@ fn parts_of(
 {
     let label_numbers = label_numbers(alloc, labels, analysis.trace().len())?;
     let numbers = label_numbers.as_slice();
-    let found = found_of(alloc, analysis, labels, numbers, options)?;
+    let frames = frame_numbers(alloc, labels, numbers, analysis.trace().len())?;
     let lost = losses_of(alloc, analysis, labels, numbers, options)?;
+    let found = found_of(
+        alloc,
+        analysis,
+        labels,
+        numbers,
+        frames.as_slice(),
+        lost.stores.as_slice(),
+        options,
+    )?;
     let unwritten = unwritten_asked(alloc, analysis.trace(), labels, &options.choice)?;
     Ok(Parts {
         label_numbers,
+        frames,
         found,
         lost,
         unwritten,
@@ -136,6 +153,7 @@ fn explained(analysis: Analysis, limit: usize, parts: Parts) -> Explanation
 {
     let Parts {
         label_numbers,
+        frames,
         found,
         lost,
         unwritten,
@@ -146,6 +164,7 @@ fn explained(analysis: Analysis, limit: usize, parts: Parts) -> Explanation
         failing: found.failed.failing,
         asked_failing: found.failed.asked,
         label_numbers,
+        frames,
         causes: found.failed.causes,
         failures: found.failed.shown,
         stores: lost.stores,
@@ -159,6 +178,7 @@ fn explained(analysis: Analysis, limit: usize, parts: Parts) -> Explanation
         waited: found.effects.waited,
         threads: found.effects.threads,
         labelled: found.effects.labelled,
+        places: found.places,
         overwritten: lost.overwritten,
         ignored_overwritten: lost.ignored_pairs,
         unwritten,
@@ -178,9 +198,10 @@ fn unwritten_asked(
     asked_unwrittens(alloc, trace, labels, choice, found.as_slice())
 }
 
-/// Whether an assertion fails, or a store that is not ignored is never persisted.
-pub fn has_failed(explanation: &Explanation) -> bool
-    ensures { result ≡ fails explanation.now }
+/// Whether an assertion fails, or a store that is not ignored is never persisted. Of a trace that was cut the stores are not known to be
+/// lost, and do not count.
+pub fn has_failed(explanation: &Explanation, is_cut: bool) -> bool
+    ensures { result ≡ fails explanation.now is_cut }
 {
-    !explanation.failing.is_empty() || !explanation.stores.is_empty()
+    !explanation.failing.is_empty() || (!is_cut && !explanation.stores.is_empty())
 }

@@ -1,5 +1,7 @@
 //! What an explanation has by from which place on each store is safe.
-ghost use Rattle.std.specs.Prelude.{IfOk};
+ghost use Rattle.std.specs.Prelude.{IfOk, map};
+ghost use Rattle.pmt_explain.specs.Dropping.{event_of};
+ghost use Rattle.pmt_fates.specs.Places.{ArePlaces};
 ghost use Rattle.pmt_explanation.specs.Finding.{AreFound};
 
 use crate::effects::{Effects, effects_of};
@@ -8,6 +10,7 @@ use crate::failed::{Failed, failed_of};
 use crate::labels::Labels;
 use pmt_analysis::Analysis;
 use pmt_explain::{Dropped, EventEffects, effects};
+use pmt_fates::{PlaceRow, place_table};
 use pmt_model::OutOfMemory;
 use std::alloc::Global;
 
@@ -20,25 +23,39 @@ pub(crate) struct Found {
     pub(crate) failed: Failed,
     /// What flushes and fences do, and for whom.
     pub(crate) effects: Effects,
+    /// What each place has.
+    pub(crate) places: Vec<PlaceRow>,
 }
 
-// What is found in the trace that was analysed, where its events have these numbers of labels. From which place on each of its
-// stores is safe is asked once.
+// What is found in the trace that was analysed, where its events have these numbers of labels and of innermost frames, and where these
+// stores are told as never persisted. From which place on each of its stores is safe is asked once.
 pub(crate) fn found_of(
     alloc: Global,
     analysis: &Analysis,
     labels: &Labels,
     numbers: &[Option<u64>],
+    frames: &[Option<u64>],
+    told: &[u64],
     options: &Options,
 ) -> Result<Found, OutOfMemory>
-    ensures { IfOk result (AreFound analysis.now.trace analysis.now.verdicts labels.now numbers.now options.now) }
+    ensures found { IfOk result (AreFound analysis.now.trace analysis.now.verdicts labels.now numbers.now options.now) }
+    ensures places { IfOk result (λ found. ArePlaces analysis.now.trace frames.now told.now (map event_of found.dropped.items) found.places.items) }
 {
     let EventEffects { dropped, safe } = effects(alloc, analysis.trace())?;
     let failed = failed_of(alloc, &safe, analysis.verdicts(), labels, numbers, options)?;
     let effects = effects_of(alloc, &safe, dropped.as_slice(), labels, numbers, options)?;
+    let places = place_table(
+        alloc,
+        &safe,
+        effects.waited.as_slice(),
+        frames,
+        told,
+        dropped.as_slice(),
+    )?;
     Ok(Found {
         dropped,
         failed,
         effects,
+        places,
     })
 }

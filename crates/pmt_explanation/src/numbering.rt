@@ -8,7 +8,7 @@ use std::alloc::Global;
 use std::collections::HashMap;
 
 // The first event with each label, by its text.
-type Firsts<'a> = HashMap<&'a str, u64>;
+pub(crate) type Firsts<'a> = HashMap<&'a str, u64>;
 
 // Of each of so many events, in order, the number of its label: that of the first event with it. None where it has no label; nothing at
 // all where no event has one.
@@ -50,7 +50,11 @@ fn next_number<'a>(
 }
 
 // The first event with the text, which is this one where there is none yet.
-fn first_with<'a>(firsts: &mut Firsts<'a>, text: &'a str, event: u64) -> Result<u64, OutOfMemory>
+pub(crate) fn first_with<'a>(
+    firsts: &mut Firsts<'a>,
+    text: &'a str,
+    event: u64,
+) -> Result<u64, OutOfMemory>
     ensures first { IfOk result (λ first. first ≡ unwrap_or (first_in firsts.old text.now) event) }
     ensures firsts { OnOk result ((q : List ℕ) → first_in firsts.new q ≡ (if bytes_eq text.now q then Some (unwrap_or (first_in firsts.old text.now) event) else first_in firsts.old q)) }
 {

@@ -1,5 +1,5 @@
 -- Pieces of a pool, one after another.
-use Rattle.std.proofs.Common.{◌≡◌, ℕ, suc, ◌+◌, ◌≤◌, List, [], ◌∷◌, ◌++◌, length, take, Option, refl, sym, ap, ap₂, subst, ◌∙◌, arith, length-append}
+use Rattle.std.proofs.Common.{◌≡◌, ℕ, suc, ◌+◌, ◌-◌, ◌<◌, ◌≤◌, List, [], ◌∷◌, ◌++◌, length, take, Option, refl, sym, ap, ap₂, subst, ◌∙◌, arith, length-append}
 use Rattle.std.proofs.lemmas.List.{take_all, length-take}
 use Rattle.std.proofs.KnownBytes.{Appends-trans, Consumes-trans, Consumes-nil, Appends-nil, Consumes-kept, Keeps-refl}
 use Rattle.std.specs.Io.KnownBytes.{Consumes, Appends, Keeps}
@@ -11,13 +11,15 @@ use Rattle.pmt_image.specs.declared.pool.Pool.{Pool}
 use Rattle.pmt_image.specs.declared.crash.Crash.{Crash}
 use Rattle.pmt_image.specs.declared.persisting.StoreFault.{StoreFault}
 use Rattle.pmt_image.specs.declared.persisting.StoreFault.TheVariants as stores
+use Rattle.pmt_image.specs.declared.copying.Stop.{Stop}
+use Rattle.pmt_image.specs.declared.copying.Stop.TheVariants as stops
 use Rattle.pmt_image.specs.declared.copying.CopyFault.{CopyFault}
 use Rattle.pmt_image.specs.declared.copying.ImageFault.{ImageFault}
 use Rattle.pmt_image.specs.Persisting.{written_by}
 use Rattle.pmt_image.specs.Outsiders.{FindsFault}
 use Rattle.pmt_image.specs.Refusing.{IsRefused, refusal_of}
 use Rattle.pmt_image.specs.Pools.{over, AllInside}
-use Rattle.pmt_image.specs.Copying.{IsCopied, Copies, WritesImage, copy_result, image_after, copy_reads, copy_writes, image_reads, image_writes}
+use Rattle.pmt_image.specs.Copying.{IsCopied, IsEndedBy, Copies, WritesImage, copy_result, image_after, copy_reads, copy_writes, image_reads, image_writes}
 use Rattle.pmt_image.proofs.OverLemmas.{over-length, over-append, over-take, over-same}
 
 take-zero : (bs : List ℕ) → take 0 bs ≡ []
@@ -78,6 +80,17 @@ copied-piece image at n k read laid r s w v within is few taken given = record {
   within = omega (arith, length-take n read);
 }
 
+-- what ended the last piece ended the copying
+pub ended-more : (stop : Stop) (size done k : ℕ) (bytes piece : List ℕ) (s : Option (List ℕ)) → length bytes ≡ done → done < size → IsEndedBy stop (size - done) piece k s →
+    IsEndedBy stop size (bytes ++ piece) (done + k) s
+ended-more stops.Read size done k bytes piece s long less ended = omega (arith, length-append {A = ℕ}, long, ended)
+ended-more stops.Short size done k bytes piece s long less (all, short, end) = (
+  omega (arith, length-append {A = ℕ}, long, all),
+  omega (arith, length-append {A = ℕ}, long, less, short),
+  end,
+)
+ended-more stops.Write size done k bytes piece s long less ended = tt
+
 -- ---- The whole pool
 
 pub image-written : (T : Recording) (crash : Crash) (pool : Pool) (found listed : List Written) (r s w v : Option (List ℕ)) (done : Result (Unit {0}) CopyFault) (result : Result (Unit {0}) ImageFault) →
@@ -92,7 +105,7 @@ image-written T crash pool found listed r s w v done result told same inside ima
     go (Ok u) (base, long, out) =
         let out_now = copied-same (written_by (reverse listed)) (image_after T crash) pool.origin base pool.size r s w v each out in
         (base, over (image_after T crash) pool.origin base, out.taken, record { whole = long; inside = inside; bytes_are = refl }, copied-out (image_after T crash) pool.origin base pool.size r s w v long out_now)
-    go (Err fault) (base, few, out) = (base, few, copied-same (written_by (reverse listed)) (image_after T crash) pool.origin base fault.written r s w v each out)
+    go (Err fault) (base, few, out, ended) = (base, few, copied-same (written_by (reverse listed)) (image_after T crash) pool.origin base fault.written r s w v each out, ended)
 
 -- a pool that is refused
 pub image-refused : (T : Recording) (crash : Crash) (pool : Pool) (r w : Option (List ℕ)) (fault : StoreFault) (told : ImageFault) → told ≡ refusal_of fault → FindsFault T crash.place pool fault → WritesImage T crash pool r r w w (Err told)

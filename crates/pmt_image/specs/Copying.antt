@@ -1,6 +1,6 @@
 -- What copying a pool reads and writes.
 use Rattle.std.specs.Prelude.{◌≡◌, ℕ, ◌<◌, ◌≤◌, List, length, take, Option, Result, Ok, Err}
-use Rattle.std.specs.Io.KnownBytes.{Keeps, Appends, Consumes}
+use Rattle.std.specs.Io.KnownBytes.{Keeps, Appends, Consumes, IsAtEnd}
 use Rattle.pmt_model.specs.Machine.{Image, image_of}
 use Rattle.pmt_model.specs.Traces.{Recording, history}
 use Rattle.pmt_image.specs.declared.pool.Pool.{Pool}
@@ -19,12 +19,20 @@ pub record IsCopied (image : Image) (at : ℕ) (bytes : List ℕ) (out : ℕ) (r
   pub given : Appends out_old out_new (take out (over image at bytes))
   pub within : out ≤ length bytes
 
+-- What ended it, where so many bytes were to be read and these were: unless a write failed all of them are out, and too few came only
+-- where the reader has no more.
+abbrev pub IsEndedBy : Stop → ℕ → List ℕ → ℕ → Option (List ℕ) → Type 0
+IsEndedBy stops.Read size bytes out read_new = out ≡ length bytes
+IsEndedBy stops.Short size bytes out read_new = (out ≡ length bytes) × (length bytes < size) × IsAtEnd read_new
+IsEndedBy stops.Write size bytes out read_new = Unit {0}
+
 -- One piece of at most so many bytes: all of it, or the first bytes of it, and then a device failed or nothing more came.
 abbrev pub CopiesPiece : Image → ℕ → ℕ → Option (List ℕ) → Option (List ℕ) → Option (List ℕ) → Option (List ℕ) → Result ℕ CopyFault → Type 0
 CopiesPiece image at most read_old read_new out_old out_new (Ok n) =
     (bytes : List ℕ) × (length bytes ≡ n) × (0 < n) × (n ≤ most) × IsCopied image at bytes n read_old read_new out_old out_new
 CopiesPiece image at most read_old read_new out_old out_new (Err fault) =
     (bytes : List ℕ) × (length bytes ≤ most) × IsCopied image at bytes fault.written read_old read_new out_old out_new
+    × IsEndedBy fault.stop most bytes fault.written read_new
 
 -- So many bytes: all, or the first ones.
 abbrev pub Copies : Image → ℕ → ℕ → Option (List ℕ) → Option (List ℕ) → Option (List ℕ) → Option (List ℕ) → Result (Unit {0}) CopyFault → Type 0
@@ -32,6 +40,7 @@ Copies image at size read_old read_new out_old out_new (Ok u) =
     (bytes : List ℕ) × (length bytes ≡ size) × IsCopied image at bytes size read_old read_new out_old out_new
 Copies image at size read_old read_new out_old out_new (Err fault) =
     (bytes : List ℕ) × (length bytes ≤ size) × IsCopied image at bytes fault.written read_old read_new out_old out_new
+    × IsEndedBy fault.stop size bytes fault.written read_new
 
 -- How many reads failed, and how many writes and flushes.
 abbrev pub stop_reads : Stop → ℕ
@@ -73,8 +82,8 @@ copy_result (Err fault) = Err (Copy fault)
 abbrev pub image_after : Recording → Crash → Image
 image_after T crash a = image_of (persisted_by crash) (history T crash.place) a
 
--- The pool after the crash is out; or its first bytes are, and then a device failed or too few bytes came; or nothing is, since a store
--- lies outside of the pool or memory was refused.
+-- The pool after the crash is out; or its first bytes are, and then a device failed or the reader was at its end before the pool was
+-- whole; or nothing is, since a store lies outside of the pool or memory was refused.
 abbrev pub WritesImage : Recording → Crash → Pool → Option (List ℕ) → Option (List ℕ) → Option (List ℕ) → Option (List ℕ) → Result (Unit {0}) ImageFault → Type 0
 WritesImage T crash pool read_old read_new out_old out_new (Ok u) =
     (base : List ℕ) × (bytes : List ℕ) × Consumes read_old read_new base × IsPoolAfter T crash.place (persisted_by crash) pool base bytes × Appends out_old out_new bytes
@@ -83,3 +92,4 @@ WritesImage T crash pool read_old read_new out_old out_new (Err (Outside event a
 WritesImage T crash pool read_old read_new out_old out_new (Err OutOfMemory) = Keeps read_old read_new × Keeps out_old out_new
 WritesImage T crash pool read_old read_new out_old out_new (Err (Copy fault)) =
     (base : List ℕ) × (length base ≤ pool.size) × IsCopied (image_after T crash) pool.origin base fault.written read_old read_new out_old out_new
+    × IsEndedBy fault.stop pool.size base fault.written read_new

@@ -73,8 +73,8 @@ impl From<AllocError> for ImageFault {
 /// A place past the last event counts as that of the last event.
 ///
 /// # Errors
-/// `Outside`, `OutOfMemory`: nothing is read or written then. `Copy` where a read or a write failed, or fewer bytes came: the first
-/// `written` bytes are out.
+/// `Outside`, `OutOfMemory`: nothing is read or written then. `Copy` where a read or a write failed, or the reader was at its end before
+/// the pool was whole: the first `written` bytes are out, unless a write failed all that were read.
 pub fn write_image<R: Read, W: Write>(
     alloc: Global,
     trace: &Trace,
@@ -229,10 +229,12 @@ fn none_written(stop: Stop) -> CopyFault
 
 // Makes one read of at most so many bytes into the front of the buffer.
 fn read_piece<R: Read>(reader: &mut Counted<R>, buffer: &mut [u8], most: u64) -> io::Result<usize>
+    requires some { (0 < most) × (0 < length buffer.old) }
     requires counted { failure_count reader.old < 2 ^ 64 - 1 }
     ensures within { IfOk result (λ n. n ≤ length buffer.new) }
     ensures most { IfOk result (λ n. n ≤ most) }
     ensures bytes { IfOk result (λ n. Consumes (R.remaining (inner_device reader.old)) (R.remaining (inner_device reader.new)) (take n buffer.new)) }
+    ensures end { IfOk result (λ n. n ≡ 0 → IsAtEnd (R.remaining (inner_device reader.new))) }
     ensures kept { OnErr result (Keeps (R.remaining (inner_device reader.old)) (R.remaining (inner_device reader.new))) }
     ensures failures { failure_count reader.new ≡ failure_count reader.old + failed_call result }
 {

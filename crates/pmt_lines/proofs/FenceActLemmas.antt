@@ -15,7 +15,8 @@ use Rattle.pmt_lines.specs.declared.step.Step.{Step}
 use Rattle.pmt_lines.specs.Steps.{LineWork, with_step}
 use Rattle.pmt_lines.specs.Jobs.{IsStepOf, Touches, ByFence, IsFlushOrFence, AFlush, AFence, IsThreadJobOf}
 use Rattle.pmt_lines.specs.Splitting.{IsLeanJob, line_in, places_of, OpenEach, ArePlaces, IsSplitting, IsSplit, EndsAt}
-use Rattle.pmt_lines.proofs.GrowLemmas.{length-grown, history-old, history-new, act-new, job-stays, job-takes, thread_job-stays}
+use Rattle.pmt_taking.proofs.GrownLemmas.{length-grown, history-old, history-new, act-new}
+use Rattle.pmt_lines.proofs.GrowLemmas.{job-stays, job-takes, thread_job-stays}
 use Rattle.pmt_lines.proofs.LineActLemmas.{untouched-assert, untouched-fence}
 
 -- a fence of a thread without a mark leaves the line; one of another thread leaves the mark

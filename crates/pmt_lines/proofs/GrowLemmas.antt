@@ -1,14 +1,13 @@
 -- A trace with one event more: what was so of its events is so still, and the jobs go on.
-use Rattle.std.proofs.Common.{◌≡◌, ℕ, zero, suc, ◌-◌, ◌<◌, ◌≤◌, ◌⊎◌, inl, inr, List, [], ◌∷◌, ◌++◌, length, map, reverse, Some, refl, sym, ap, subst, ◌∙◌, arith}
-use Rattle.std.specs.Prelude.{slice_get}
+use Rattle.std.proofs.Common.{◌≡◌, ℕ, zero, suc, ◌-◌, ◌<◌, ◌≤◌, ◌⊎◌, inl, inr, List, [], ◌∷◌, ◌++◌, length, refl, sym, ap, subst, ◌∙◌, arith}
 use Rattle.std.proofs.lemmas.Bool.{cases_lt}
-use Rattle.std.proofs.lemmas.List.{take-append-le, length-append}
 use Rattle.pmt_model.specs.declared.event.Event.{Event}
 use Rattle.pmt_model.specs.Machine.{Act, Stores, Flushes, Clflushes, Fences}
-use Rattle.pmt_model.specs.Traces.{Recording, act, event, IsAct, history}
+use Rattle.pmt_model.specs.Traces.{Recording, IsAct}
 use Rattle.pmt_model.specs.Pushing.{with_event}
 use Rattle.pmt_model.specs.Fronts.{open_mark}
-use Rattle.pmt_laws.proofs.Histories.{history-suc, act-within}
+use Rattle.pmt_laws.proofs.Histories.{act-within}
+use Rattle.pmt_taking.proofs.GrownLemmas.{length-grown, event-old, history-old, act-from, act-to, act-past}
 use Rattle.pmt_lines.specs.declared.step.StepKind.{StepKind}
 use Rattle.pmt_lines.specs.declared.step.StepKind.TheVariants.{Store, Flush, Clflush, Fence}
 use Rattle.pmt_lines.specs.declared.step.Step.{Step}
@@ -16,15 +15,6 @@ use Rattle.pmt_lines.specs.Steps.{LineWork, last_number, with_step}
 use Rattle.pmt_lines.specs.Jobs.{IsKind, IsStepOf, Touches, ByStore, ByFlush, ByClflush, ByFence, IsWalkFrom, EachTouches, IsThreadKind, IsThreadStep, IsFlushOrFence, AFlush, AFence, IsThreadJobOf}
 use Rattle.pmt_lines.specs.Splitting.{IsLeanJob}
 use Rattle.pmt_lines.proofs.RunLemmas.{kind-within}
-
-slice_get-left : {A : Type 0} (xs ys : List A) (k : ℕ) → k < length xs → slice_get (xs ++ ys) k ≡ slice_get xs k
-slice_get-left [] ys k h = absurd (omega arith)
-slice_get-left (x ∷ xs) ys zero h = refl
-slice_get-left (x ∷ xs) ys (suc k) h = slice_get-left xs ys k (omega arith)
-
-slice_get-seam : {A : Type 0} (xs : List A) (y : A) → slice_get (xs ++ y ∷ []) (length xs) ≡ Some y
-slice_get-seam [] y = refl
-slice_get-seam (x ∷ xs) y = slice_get-seam xs y
 
 -- steps of one walk are steps of another that goes on
 walk-stays : (A B : Step → Type 0) (M N : ℕ → Type 0) (low : ℕ) (steps : List Step) → ((s : Step) → A s → B s) → ((k : ℕ) → N k → M k) → IsWalkFrom A M low steps → IsWalkFrom B N low steps
@@ -57,62 +47,34 @@ pub last-thread : (T : Recording) (steps : List Step) → IsThreadJobOf T steps 
 last-thread T steps job = walk-last (IsThreadStep T) (IsFlushOrFence T) 0 (length T.events) steps (λ s is. thread_kind-within T s.number s.thread s.kind is) (omega arith) job
 
 module _ (T : Recording) (e : Event) where
-  pub length-grown : length (with_event T e).events ≡ suc (length T.events)
-  length-grown = length-append T.events (e ∷ []) ∙ omega arith
-
-  event-old : (k : ℕ) → k ≤ length T.events → event (with_event T e) k ≡ event T k
-  event-old zero h = refl
-  event-old (suc k) h = slice_get-left T.events (e ∷ []) k (omega arith)
-
-  pub event-new : event (with_event T e) (suc (length T.events)) ≡ Some e
-  event-new = slice_get-seam T.events e
-
-  pub history-old : (k : ℕ) → k ≤ length T.events → history (with_event T e) k ≡ history T k
-  history-old k h = ap (λ es. reverse (map (act T.format) es)) (take-append-le k T.events (e ∷ []) h)
-
-  pub history-new : history (with_event T e) (suc (length T.events)) ≡ act T.format e ∷ history T (length T.events)
-  history-new = history-suc (with_event T e) (length T.events) e event-new ∙ ap (λ h. act T.format e ∷ h) (history-old (length T.events) (omega arith))
-
-  act-from : (k : ℕ) (a : Act) → k ≤ length T.events → IsAct (with_event T e) k a → IsAct T k a
-  act-from k a h is = (is.0, sym (event-old k h) ∙ is.1, is.2)
-
-  act-to : (k : ℕ) (a : Act) → IsAct T k a → IsAct (with_event T e) k a
-  act-to k a is = (is.0, event-old k (act-within T k a is).1 ∙ is.1, is.2)
-
-  pub act-new : IsAct (with_event T e) (suc (length T.events)) (act T.format e)
-  act-new = (e, event-new, refl)
-
-  act-past : (k : ℕ) (a : Act) → suc (length T.events) < k → ¬ IsAct (with_event T e) k a
-  act-past k a h is = omega (arith, (act-within (with_event T e) k a is).1, length-grown)
-
   touches-from : (l k : ℕ) → k ≤ length T.events → Touches (with_event T e) l k → Touches T l k
-  touches-from l k h (ByStore w is) = ByStore w (act-from k (Stores l w) h is)
-  touches-from l k h (ByFlush t is) = ByFlush t (act-from k (Flushes t l) h is)
-  touches-from l k h (ByClflush is) = ByClflush (act-from k (Clflushes l) h is)
-  touches-from l k h (ByFence t is mark) = ByFence t (act-from k (Fences t) h is) (λ none. mark (ap (open_mark t l) (history-old (k - 1) (omega arith)) ∙ none))
+  touches-from l k h (ByStore w is) = ByStore w (act-from T e k (Stores l w) h is)
+  touches-from l k h (ByFlush t is) = ByFlush t (act-from T e k (Flushes t l) h is)
+  touches-from l k h (ByClflush is) = ByClflush (act-from T e k (Clflushes l) h is)
+  touches-from l k h (ByFence t is mark) = ByFence t (act-from T e k (Fences t) h is) (λ none. mark (ap (open_mark t l) (history-old T e (k - 1) (omega arith)) ∙ none))
 
   touches-to : (l k : ℕ) → Touches T l k → Touches (with_event T e) l k
-  touches-to l k (ByStore w is) = ByStore w (act-to k (Stores l w) is)
-  touches-to l k (ByFlush t is) = ByFlush t (act-to k (Flushes t l) is)
-  touches-to l k (ByClflush is) = ByClflush (act-to k (Clflushes l) is)
-  touches-to l k (ByFence t is mark) = ByFence t (act-to k (Fences t) is) (λ none. mark (sym (ap (open_mark t l) (history-old (k - 1) (omega (arith, (act-within T k (Fences t) is).1)))) ∙ none))
+  touches-to l k (ByStore w is) = ByStore w (act-to T e k (Stores l w) is)
+  touches-to l k (ByFlush t is) = ByFlush t (act-to T e k (Flushes t l) is)
+  touches-to l k (ByClflush is) = ByClflush (act-to T e k (Clflushes l) is)
+  touches-to l k (ByFence t is mark) = ByFence t (act-to T e k (Fences t) is) (λ none. mark (sym (ap (open_mark t l) (history-old T e (k - 1) (omega (arith, (act-within T k (Fences t) is).1)))) ∙ none))
 
   touches-past : (l k : ℕ) → suc (length T.events) < k → ¬ Touches (with_event T e) l k
-  touches-past l k h (ByStore w is) = act-past k (Stores l w) h is
-  touches-past l k h (ByFlush t is) = act-past k (Flushes t l) h is
-  touches-past l k h (ByClflush is) = act-past k (Clflushes l) h is
-  touches-past l k h (ByFence t is mark) = act-past k (Fences t) h is
+  touches-past l k h (ByStore w is) = act-past T e k (Stores l w) h is
+  touches-past l k h (ByFlush t is) = act-past T e k (Flushes t l) h is
+  touches-past l k h (ByClflush is) = act-past T e k (Clflushes l) h is
+  touches-past l k h (ByFence t is mark) = act-past T e k (Fences t) h is
 
   kind-to : (l n t : ℕ) (kind : StepKind) → IsKind T l n t kind → IsKind (with_event T e) l n t kind
-  kind-to l n t (Store addr len) is = (is.0, act-to n (Stores l is.0) is.1, is.2, is.3)
-  kind-to l n t Flush is = act-to n (Flushes t l) is
-  kind-to l n t Clflush is = act-to n (Clflushes l) is
-  kind-to l n t Fence is = act-to n (Fences t) is
+  kind-to l n t (Store addr len) is = (is.0, act-to T e n (Stores l is.0) is.1, is.2, is.3)
+  kind-to l n t Flush is = act-to T e n (Flushes t l) is
+  kind-to l n t Clflush is = act-to T e n (Clflushes l) is
+  kind-to l n t Fence is = act-to T e n (Fences t) is
 
   step-to : (l : ℕ) (s : Step) → IsStepOf T l s → IsStepOf (with_event T e) l s
   step-to l s is =
       let within = kind-within T l s.number s.thread s.kind is.kind in
-      record { kind = kind-to l s.number s.thread s.kind is.kind; by = (is.by.0, event-old s.number within.1 ∙ is.by.1, is.by.2) }
+      record { kind = kind-to l s.number s.thread s.kind is.kind; by = (is.by.0, event-old T e s.number within.1 ∙ is.by.1, is.by.2) }
 
   each-to : (l : ℕ) (steps : List Step) → EachTouches T l steps → EachTouches (with_event T e) l steps
   each-to l [] each = tt
@@ -153,17 +115,17 @@ module _ (T : Recording) (e : Event) where
 
   thread_kind-to : (n t : ℕ) (kind : StepKind) → IsThreadKind T n t kind → IsThreadKind (with_event T e) n t kind
   thread_kind-to n t (Store addr len) is = is
-  thread_kind-to n t Flush is = (is.0, act-to n (Flushes t is.0) is.1)
+  thread_kind-to n t Flush is = (is.0, act-to T e n (Flushes t is.0) is.1)
   thread_kind-to n t Clflush is = is
-  thread_kind-to n t Fence is = act-to n (Fences t) is
+  thread_kind-to n t Fence is = act-to T e n (Fences t) is
 
   flush_or_fence-from : (k : ℕ) → k ≤ length T.events → IsFlushOrFence (with_event T e) k → IsFlushOrFence T k
-  flush_or_fence-from k h (AFlush t l is) = AFlush t l (act-from k (Flushes t l) h is)
-  flush_or_fence-from k h (AFence t is) = AFence t (act-from k (Fences t) h is)
+  flush_or_fence-from k h (AFlush t l is) = AFlush t l (act-from T e k (Flushes t l) h is)
+  flush_or_fence-from k h (AFence t is) = AFence t (act-from T e k (Fences t) h is)
 
   flush_or_fence-past : (k : ℕ) → suc (length T.events) < k → ¬ IsFlushOrFence (with_event T e) k
-  flush_or_fence-past k h (AFlush t l is) = act-past k (Flushes t l) h is
-  flush_or_fence-past k h (AFence t is) = act-past k (Fences t) h is
+  flush_or_fence-past k h (AFlush t l is) = act-past T e k (Flushes t l) h is
+  flush_or_fence-past k h (AFence t is) = act-past T e k (Fences t) h is
 
   -- the job of the fences, where the new event is no flush and no fence
   pub thread_job-stays : (steps : List Step) → ¬ IsFlushOrFence (with_event T e) (suc (length T.events)) → IsThreadJobOf T steps → IsThreadJobOf (with_event T e) steps

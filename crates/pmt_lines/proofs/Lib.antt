@@ -16,4 +16,3 @@ pub mod SplitLemmas
 pub mod FenceActLemmas
 pub mod TakeLemmas
 pub mod TakenLemmas
-pub mod SourceRunLemmas

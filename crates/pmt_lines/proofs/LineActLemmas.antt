@@ -1,22 +1,14 @@
 -- Acts on one line: which lines they matter to, and the lines that have appeared.
 use Rattle.std.proofs.Common.{◌≡◌, ◌≢◌, ℕ, zero, suc, ◌-◌, ◌≤◌, ◌⊎◌, inl, inr, Bool, true, false, List, [], ◌∷◌, ◌++◌, length, Some, None, refl, sym, ap, subst, ◌∙◌, arith}
 use Rattle.std.specs.Prelude.{◌==◌, ◌&&◌, if◌then◌else◌}
-use Rattle.std.proofs.lemmas.Bool.{cases_lt, ne_eqb, eqb-false, both_ways, or_parts}
+use Rattle.std.proofs.lemmas.Bool.{ne_eqb}
 use Rattle.pmt_model.specs.Machine.{Act, Stores, Flushes, Clflushes, Fences, Asserts, count}
 use Rattle.pmt_model.specs.Traces.{Recording, IsAct, history, has_line, with_line, lines_of}
 use Rattle.pmt_model.specs.Fronts.{open_mark}
-use Rattle.pmt_laws.proofs.Histories.{history-act, history-step, act-within, act-unique}
+use Rattle.pmt_laws.proofs.Histories.{act-within, act-unique}
 use Rattle.pmt_lines.specs.Jobs.{Touches, ByStore, ByFlush, ByClflush, ByFence}
 use Rattle.pmt_lines.specs.Splitting.{IsLeanJob}
-use Rattle.pmt_lines.proofs.PlaceLemmas.{has_line-push}
-
--- the act is a store, a flush or a clflush of line l
-abbrev pub IsOnLine : ℕ → Act → Type 0
-IsOnLine l (Stores k w) = k ≡ l
-IsOnLine l (Flushes t k) = k ≡ l
-IsOnLine l (Clflushes k) = k ≡ l
-IsOnLine l (Fences t) = ⊥
-IsOnLine l Asserts = ⊥
+use Rattle.pmt_taking.proofs.AppearLemmas.{IsOnLine, absent-act, absent-before, appears}
 
 -- it matters to that line
 pub touches-own_line : (T : Recording) (n l : ℕ) (a : Act) → IsAct T n a → IsOnLine l a → Touches T l n
@@ -59,23 +51,6 @@ lines_of-on_line l (Clflushes k) h on = ap (λ j. with_line j (lines_of h)) on
 lines_of-on_line l (Fences t) h on = absurd on
 lines_of-on_line l Asserts h on = absurd on
 
--- a line that is not among the lines with k is not k, and was not among them before
-absent-with_line : (l k : ℕ) (lines : List ℕ) → has_line l (with_line k lines) ≡ false → (k ≢ l) × (has_line l lines ≡ false)
-absent-with_line l k lines e = go (has_line k lines) refl e
-  where
-    go : (b : Bool) → has_line k lines ≡ b → has_line l (if b then lines else lines ++ k ∷ []) ≡ false → (k ≢ l) × (has_line l lines ≡ false)
-    go true had absent = (λ same. both_ways (has_line l lines) absent (subst (λ j. has_line j lines ≡ true) same had), absent)
-    go false had absent =
-        let parts = or_parts (has_line l lines) (k == l) (sym (has_line-push l lines k) ∙ absent) in
-        (λ same. eqb-false k l parts.1 same, parts.0)
-
-absent-act : (l : ℕ) (a : Act) (h : List Act) → has_line l (lines_of (a ∷ h)) ≡ false → (¬ IsOnLine l a) × (has_line l (lines_of h) ≡ false)
-absent-act l (Stores k w) h e = absent-with_line l k (lines_of h) e
-absent-act l (Flushes t k) h e = absent-with_line l k (lines_of h) e
-absent-act l (Clflushes k) h e = absent-with_line l k (lines_of h) e
-absent-act l (Fences t) h e = (λ on. on, e)
-absent-act l Asserts h e = (λ on. on, e)
-
 -- no thread has a mark on a line that has not appeared
 pub open_mark-absent : (t l : ℕ) (h : List Act) → has_line l (lines_of h) ≡ false → open_mark t l h ≡ None
 open_mark-absent t l [] e = refl
@@ -95,26 +70,6 @@ open_mark-absent t l (Fences u ∷ h) e = go (u == t) (open_mark-absent t l h e)
     go true none = refl
     go false none = none
 open_mark-absent t l (Asserts ∷ h) e = open_mark-absent t l h e
-
--- at no place before
-absent-before : (T : Recording) (l n k : ℕ) → k ≤ n → has_line l (lines_of (history T n)) ≡ false → has_line l (lines_of (history T k)) ≡ false
-absent-before T l zero k h e = let same : 0 ≡ k = omega arith in subst (λ j. has_line l (lines_of (history T j)) ≡ false) same e
-absent-before T l (suc n) k h e =
-    elim (cases_lt n k) [
-      | inl last ↦ let same : suc n ≡ k = omega arith in subst (λ j. has_line l (lines_of (history T j)) ≡ false) same e
-      | inr before ↦ absent-before T l n k before (go (history-step T n))
-    ]
-  where
-    go : ((a : Act) × IsAct T (suc n) a) ⊎ ((length T.events ≤ n) × (history T (suc n) ≡ history T n)) → has_line l (lines_of (history T n)) ≡ false
-    go (inl x) = (absent-act l x.0 (history T n) (ap (λ h. has_line l (lines_of h)) (sym (history-act T n x.0 x.1)) ∙ e)).1
-    go (inr x) = ap (λ h. has_line l (lines_of h)) (sym x.1) ∙ e
-
--- an act on the line makes it appear
-appears : (T : Recording) (l k : ℕ) (a : Act) → has_line l (lines_of (history T (length T.events))) ≡ false → IsAct T k a → IsOnLine l a → ⊥
-appears T l zero a e is on = absurd (omega (arith, (act-within T zero a is).0))
-appears T l (suc k) a e is on =
-    let absent = absent-before T l (length T.events) (suc k) (act-within T (suc k) a is).1 e in
-    (absent-act l a (history T k) (ap (λ h. has_line l (lines_of h)) (sym (history-act T k a is)) ∙ absent)).0 on
 
 -- no event has mattered to a line that has not appeared
 pub untouched-absent : (T : Recording) (l k : ℕ) → has_line l (lines_of (history T (length T.events))) ≡ false → ¬ Touches T l k

@@ -10,6 +10,7 @@ use Rattle.std.proofs.lemmas.Map.Made.{AllPairs-from_IsDistinct}
 use Rattle.std.proofs.lemmas.Option.{get_or_from_slice_get, slice_get_within}
 use Rattle.indexmap.specs.IndexSet.{insert_key}
 use Rattle.pmt_model.specs.Traces.{has_line, with_line}
+use Rattle.pmt_taking.proofs.AppearLemmas.{has_line-push}
 use Rattle.pmt_lines.specs.declared.step.Step.{Step}
 use Rattle.pmt_lines.specs.Steps.{LineWork, last_number, with_step}
 use Rattle.pmt_lines.specs.Splitting.{line_in, with_job, TakesOnLine, EndBefore, EndsAt}
@@ -26,18 +27,6 @@ map-set_more f xs t old new place within read is =
     map-set f xs t new ∙ ap (set (map f xs) t) (is ∙ ap (λ (ps : List ℕ). ps ++ place ∷ []) (sym (get_or-map f xs t old [] within ∙ ap f (sym read))))
 
 -- one place more
-pub has_line-push : (k : ℕ) (places : List ℕ) (place : ℕ) → has_line k (places ++ place ∷ []) ≡ (has_line k places || (place == k))
-has_line-push k [] place = go (place == k)
-  where
-    go : (b : Bool) → (b || false) ≡ b
-    go true = refl
-    go false = refl
-has_line-push k (x ∷ places) place = ap (λ b. (x == k) || b) (has_line-push k places place) ∙ go (x == k) (has_line k places) (place == k)
-  where
-    go : (a b c : Bool) → (a || (b || c)) ≡ ((a || b) || c)
-    go true b c = refl
-    go false b c = refl
-
 pub has_line-push_same : (places : List ℕ) (place : ℕ) → has_line place (places ++ place ∷ []) ≡ true
 has_line-push_same places place = has_line-push place places place ∙ rw (eq-eqb place place refl) (go (has_line place places))
   where

@@ -9,14 +9,13 @@ use Rattle.pmt_laws.proofs.Histories.{history-act, history-step, act-within, fro
 use Rattle.pmt_marks.specs.Lines.{Line, Follows}
 use Rattle.pmt_marks.specs.Others.{LeavesLineUnchanged}
 use Rattle.pmt_marks.proofs.FollowLemmas.{follows-start, others_leave}
-use Rattle.pmt_lines.specs.declared.raises.Raise.{Raise}
+use Rattle.pmt_lines.specs.Raises.{Raise, RaisesBetween, IsRaises}
 use Rattle.pmt_lines.specs.declared.step.StepKind.{StepKind}
 use Rattle.pmt_lines.specs.declared.step.StepKind.TheVariants.{Store, Flush, Clflush, Fence}
 use Rattle.pmt_lines.specs.declared.step.Step.{Step}
 use Rattle.pmt_lines.specs.Steps.{AreSteps}
 use Rattle.pmt_lines.specs.Jobs.{IsKind, IsStepOf, Touches, ByStore, ByFlush, ByClflush, ByFence, IsWalkFrom, IsJobOf}
 use Rattle.pmt_lines.specs.Running.{TakesKind, TakesStep}
-use Rattle.pmt_lines.specs.Raises.{RaisesBetween, IsRaises}
 
 -- an event that doesn't matter to the line concerns other lines alone
 pub leaves-line_unchanged : (T : Recording) (l n : ℕ) (a : Act) → IsAct T (suc n) a → ¬ Touches T l (suc n) → LeavesLineUnchanged l (history T n) a
@@ -61,22 +60,22 @@ raises-stay T l first low high [] r h same = (omega (arith, r.0), λ n above bel
     go : (n : ℕ) → first ≤ n → n ≤ high → (n < low) ⊎ (low ≤ n) → front_at T l n ≡ front_at T l first
     go n above below (inl before) = r.1 n above (omega arith)
     go n above below (inr after) = same n after below ∙ r.1 low r.0 (omega arith)
-raises-stay T l first low high (x ∷ raises) r h same = (r.0, r.1, r.2, r.3, raises-stay T l x.place low high raises r.4 h same)
+raises-stay T l first low high (x ∷ raises) r h same = (r.0, r.1, r.2, r.3, raises-stay T l x.0 low high raises r.4 h same)
 
 -- one raise more
-raises-push : (T : Recording) (l first low : ℕ) (raises : List Raise) (x : Raise) → RaisesBetween T l first low raises → low < x.place → ((n : ℕ) → low ≤ n → n < x.place → front_at T l n ≡ front_at T l low) → front_at T l low < x.front → front_at T l x.place ≡ x.front → RaisesBetween T l first x.place (raises ++ x ∷ [])
+raises-push : (T : Recording) (l first low : ℕ) (raises : List Raise) (x : Raise) → RaisesBetween T l first low raises → low < x.0 → ((n : ℕ) → low ≤ n → n < x.0 → front_at T l n ≡ front_at T l low) → front_at T l low < x.1 → front_at T l x.0 ≡ x.1 → RaisesBetween T l first x.0 (raises ++ x ∷ [])
 raises-push T l first low [] x r later same more is = (
   omega (arith, r.0),
   λ n above below. go n above below (cases_lt n low),
   rw (← r.1 low r.0 (omega arith)) more,
   is,
-  (omega arith, λ n above below. let e : n ≡ x.place = omega arith in ap (front_at T l) e),
+  (omega arith, λ n above below. let e : n ≡ x.0 = omega arith in ap (front_at T l) e),
 )
   where
-    go : (n : ℕ) → first ≤ n → n < x.place → (n < low) ⊎ (low ≤ n) → front_at T l n ≡ front_at T l first
+    go : (n : ℕ) → first ≤ n → n < x.0 → (n < low) ⊎ (low ≤ n) → front_at T l n ≡ front_at T l first
     go n above below (inl before) = r.1 n above (omega arith)
     go n above below (inr after) = same n after below ∙ r.1 low r.0 (omega arith)
-raises-push T l first low (y ∷ raises) x r later same more is = (r.0, r.1, r.2, r.3, raises-push T l y.place low raises x r.4 later same more is)
+raises-push T l first low (y ∷ raises) x r later same more is = (r.0, r.1, r.2, r.3, raises-push T l y.0 low raises x r.4 later same more is)
 
 -- a run after event low, with the rest of the job to come
 pub record Ran (T : Recording) (l low : ℕ) (steps : List Step) (line : Line) (raises : List Raise) : Type 0 where
@@ -174,7 +173,7 @@ running-quiet l steps s rest old new raises running takes counted quiet =
         stays T x same n above below (inr after) = let e : n ≡ s.number = omega arith in ap (front_at T l) e ∙ same
 
 -- a step that raises the front
-pub running-raised : (l : ℕ) (steps : List Step) (s : Step) (rest : List Step) (old new : Line) (raises : List Raise) → Running l steps (s ∷ rest) old raises → TakesStep s old new → new.count ≤ old.count + 1 → old.front < new.front → Running l steps rest new (raises ++ record { place = s.number; front = new.front } ∷ [])
+pub running-raised : (l : ℕ) (steps : List Step) (s : Step) (rest : List Step) (old new : Line) (raises : List Raise) → Running l steps (s ∷ rest) old raises → TakesStep s old new → new.count ≤ old.count + 1 → old.front < new.front → Running l steps rest new (raises ++ (s.number, new.front) ∷ [])
 running-raised l steps s rest old new raises running takes counted raised =
     record {
       low = s.number;
@@ -183,14 +182,14 @@ running-raised l steps s rest old new raises running takes counted raised =
       ran = λ T job. go T (running.ran T job);
     }
   where
-    go : (T : Recording) → Ran T l running.low (s ∷ rest) old raises → Ran T l s.number rest new (raises ++ record { place = s.number; front = new.front } ∷ [])
+    go : (T : Recording) → Ran T l running.low (s ∷ rest) old raises → Ran T l s.number rest new (raises ++ (s.number, new.front) ∷ [])
     go T ran =
         let x = stepped T l running.low s rest old new raises ran takes in
         record {
           rest = x.rest;
           within = x.within;
           follows = x.follows;
-          told = raises-push T l 0 running.low raises (record { place = s.number; front = new.front }) ran.told x.later x.stays (omega (arith, x.old_front, raised)) (sym x.new_front);
+          told = raises-push T l 0 running.low raises ((s.number, new.front)) ran.told x.later x.stays (omega (arith, x.old_front, raised)) (sym x.new_front);
         }
 
 -- the run of the whole job

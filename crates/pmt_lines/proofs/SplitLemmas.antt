@@ -13,9 +13,11 @@ use Rattle.pmt_lines.specs.declared.step.Step.{Step}
 use Rattle.pmt_lines.specs.Steps.{LineWork, with_step}
 use Rattle.pmt_lines.specs.Jobs.{IsStepOf, Touches, IsThreadJobOf}
 use Rattle.pmt_lines.specs.Splitting.{IsLeanJob, line_in, places_of, with_place, OpenEach, ArePlaces, IsSplitting, with_job, TakesOnLine}
-use Rattle.pmt_lines.proofs.GrowLemmas.{length-grown, history-new, act-new, job-stays, job-takes}
+use Rattle.pmt_taking.proofs.GrownLemmas.{length-grown, history-new, act-new}
+use Rattle.pmt_lines.proofs.GrowLemmas.{job-stays, job-takes}
 use Rattle.pmt_lines.proofs.PlaceLemmas.{has_line-push_same, has_line-push_other, lines-with_job}
-use Rattle.pmt_lines.proofs.LineActLemmas.{IsOnLine, touches-own_line, untouched-other_line, lines_of-on_line, open_mark-absent, empty_job}
+use Rattle.pmt_taking.proofs.AppearLemmas.{IsOnLine}
+use Rattle.pmt_lines.proofs.LineActLemmas.{touches-own_line, untouched-other_line, lines_of-on_line, open_mark-absent, empty_job}
 
 -- no list of places below n has n
 has_line-beyond : (n : ℕ) (places : List ℕ) → All (λ place. place < n) places → has_line n places ≡ false

@@ -12,8 +12,9 @@ use Rattle.pmt_lines.specs.declared.step.Step.{Step}
 use Rattle.pmt_lines.specs.Steps.{LineWork, last_number}
 use Rattle.pmt_lines.specs.Jobs.{IsKind, IsBy}
 use Rattle.pmt_lines.specs.Splitting.{IsSplitting, IsAccess, with_job, with_place, places_of, OpenEach, TakesOnLine, EndBefore, EndsAt}
-use Rattle.pmt_lines.proofs.GrowLemmas.{event-new, act-new, thread_job-stays, thread_job-takes, last-lean, last-thread}
-use Rattle.pmt_lines.proofs.LineActLemmas.{IsOnLine}
+use Rattle.pmt_taking.proofs.GrownLemmas.{event-new, act-new}
+use Rattle.pmt_lines.proofs.GrowLemmas.{thread_job-stays, thread_job-takes, last-lean, last-thread}
+use Rattle.pmt_taking.proofs.AppearLemmas.{IsOnLine}
 use Rattle.pmt_lines.proofs.SplitLemmas.{prepared-placed, prepared-open, open-stays, open-flush, placed-flush, split-on_line}
 use Rattle.pmt_lines.proofs.FenceActLemmas.{no_flush_or_fence, split-fence}
 

@@ -7,5 +7,3 @@ pub mod Fences
 pub mod Scans
 pub mod Splitting
 pub mod Splitters
-pub mod Sourcing
-pub mod Blocks

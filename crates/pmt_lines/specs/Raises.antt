@@ -3,17 +3,20 @@ use Rattle.std.specs.Prelude.{◌≡◌, ℕ, ◌<◌, ◌≤◌, List, [], ◌�
 use Rattle.pmt_model.specs.declared.finding.Finding.{Finding}
 use Rattle.pmt_model.specs.Traces.{Recording, IsTrace}
 use Rattle.pmt_model.specs.Fronts.{front_at}
-use Rattle.pmt_lines.specs.declared.raises.Raise.{Raise}
 use Rattle.pmt_lines.specs.Steps.{LineWork}
 use Rattle.pmt_lines.specs.Jobs.{IsJobOf}
 use Rattle.pmt_lines.specs.LineFindings.{AreLineFindings}
+
+-- A place where the front of a line rises, and the front after it.
+abbrev pub Raise : Type 0
+Raise = ℕ × ℕ
 
 -- From place low to place high the front of the line rises at these places, to these numbers, and nowhere else.
 abbrev pub RaisesBetween : Recording → ℕ → ℕ → ℕ → List Raise → Type 0
 RaisesBetween T l low high [] = (low ≤ high) × ((n : ℕ) → low ≤ n → n ≤ high → front_at T l n ≡ front_at T l low)
 RaisesBetween T l low high (r ∷ raises) =
-    (low < r.place) × ((n : ℕ) → low ≤ n → n < r.place → front_at T l n ≡ front_at T l low) × (front_at T l low < r.front)
-    × (front_at T l r.place ≡ r.front) × RaisesBetween T l r.place high raises
+    (low < r.0) × ((n : ℕ) → low ≤ n → n < r.0 → front_at T l n ≡ front_at T l low) × (front_at T l low < r.1)
+    × (front_at T l r.0 ≡ r.1) × RaisesBetween T l r.0 high raises
 
 -- All places at which the front of the line rises, with the new fronts.
 abbrev pub IsRaises : Recording → ℕ → List Raise → Type 0

@@ -11,7 +11,7 @@ use std::marker::Model;
 #[derive(Debug, Drop)]
 pub struct ThreadResult {
     job: ThreadJob,
-    empty: Vec<u32>,
+    empty: Vec<u64>,
 }
 
 impl Model for ThreadResult {
@@ -34,7 +34,7 @@ impl ThreadResult {
     }
 
     /// The rising numbers of the fences whose thread has flushed no line since its last fence.
-    pub fn empty(&self) -> &[u32]
+    pub fn empty(&self) -> &[u64]
         ensures value { result.now ≡ self.now.empty }
         ensures right { IsThreadResult self.now }
     {
@@ -58,7 +58,7 @@ pub fn run_fences(alloc: Global, job: ThreadJob) -> Result<ThreadResult, OutOfMe
         let has_flushed = flushed[step.thread as usize];
         flushed[step.thread as usize] = step.kind.is_flush();
         if step.kind.is_fence() && !has_flushed {
-            empty.push(step.number as u32)?;
+            empty.push(step.number)?;
         }
     }
     Ok(ThreadResult { job, empty })

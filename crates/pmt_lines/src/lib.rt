@@ -6,20 +6,17 @@
 pub mod fences;
 pub mod job;
 mod last_stores;
-pub mod line_findings;
+mod line_findings;
 mod open;
 pub mod raises;
 mod splitter;
 pub mod splitting;
 pub mod step;
-pub mod taking;
 pub mod thread_job;
 
 pub use crate::fences::{ThreadResult, run_fences};
 pub use crate::job::LineJob;
-pub use crate::line_findings::{push_if, push_overwritten};
-pub use crate::raises::{LineResult, Raise, run_line};
+pub use crate::raises::{LineResult, run_line};
 pub use crate::splitting::{Jobs, split, split_trace};
 pub use crate::step::{Step, StepKind};
-pub use crate::taking::{TakeError, take_block, take_trace};
 pub use crate::thread_job::ThreadJob;

@@ -54,7 +54,11 @@ fn next_above(numbers: &[u32], low: u32) -> Option<u32>
 ///
 /// # Errors
 /// Where memory was refused.
-pub fn push_if(found: &mut Vec<Finding>, is_one: bool, finding: Finding) -> Result<(), OutOfMemory>
+pub(crate) fn push_if(
+    found: &mut Vec<Finding>,
+    is_one: bool,
+    finding: Finding,
+) -> Result<(), OutOfMemory>
     ensures { OnOk result (found.new.items ≡ found.old.items ++ found_if is_one finding) }
 {
     if is_one {
@@ -67,7 +71,7 @@ pub fn push_if(found: &mut Vec<Finding>, is_one: bool, finding: Finding) -> Resu
 ///
 /// # Errors
 /// Where memory was refused; some of the findings may be added then.
-pub fn push_overwritten(
+pub(crate) fn push_overwritten(
     found: &mut Vec<Finding>,
     earlier: &[u32],
     flush: u32,

@@ -12,20 +12,11 @@ use pmt_model::{Finding, OutOfMemory};
 use std::alloc::Global;
 use std::marker::Model;
 
-/// A place where the front of a line rose.
-#[derive(Clone, Copy, Debug, Default, PartialEq, Eq)]
-pub struct Raise {
-    /// The number of the event that raised it.
-    pub place: u32,
-    /// The front after that event.
-    pub front: u32,
-}
-
 /// What a line's job gives.
 #[derive(Debug, Drop)]
 pub struct LineResult {
     job: LineJob,
-    raises: Vec<Raise>,
+    raises: Vec<(u64, u64)>,
     findings: Vec<Finding>,
 }
 
@@ -48,8 +39,8 @@ impl LineResult {
         &self.job
     }
 
-    /// The places where the front of the line rises, in order.
-    pub fn raises(&self) -> &[Raise]
+    /// The places where the front of the line rises, each with the front after it, in order.
+    pub fn raises(&self) -> &[(u64, u64)]
         ensures value { result.now ≡ self.now.raises }
         ensures right { IsLineResult self.now }
     {
@@ -78,10 +69,7 @@ pub fn run_line(alloc: Global, job: LineJob) -> Result<LineResult, OutOfMemory>
     let mut raises = Vec::new(alloc);
     for step in steps {
         if take_step(&mut state, step)? {
-            raises.push(Raise {
-                place: step.number as u32,
-                front: state.front() as u32,
-            })?;
+            raises.push((step.number, state.front()))?;
         }
     }
     let ending = Ending {

@@ -6,13 +6,13 @@ ghost use Rattle.pmt_text.specs.Coming.{ComesWhole};
 ghost use Rattle.pmt_text.specs.Sources.{CountsReads};
 ghost use Rattle.pmt_lines.specs.Splitting.{IsSplit};
 ghost use Rattle.pmt_lines.specs.Splitters.{HasTaken};
-ghost use Rattle.pmt_lines.specs.Sourcing.{IsFaultOf, TellsSplit, TellsWhole, told_by};
+ghost use Rattle.pmt_taking.specs.Sourcing.{IsFaultOf, TellsSplit, TellsWhole, told_by};
 
 use crate::job::LineJob;
 use crate::splitter::Splitter;
-use crate::taking::{TakeError, add};
 use crate::thread_job::ThreadJob;
 use pmt_model::{Event, OutOfMemory, Trace};
+use pmt_taking::{TakeError, add};
 use pmt_text::{EventSource, SourceError};
 use std::alloc::Global;
 

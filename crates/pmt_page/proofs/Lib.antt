@@ -2,3 +2,8 @@ pub mod EscapeLemmas
 pub mod LabelLemmas
 pub mod NumberLemmas
 pub mod Pushing
+pub mod SplittingLemmas
+pub mod StepLemmas
+pub mod ReadingBack
+pub mod TellingLaws
+pub mod ArrayLaws

@@ -3,3 +3,4 @@ pub mod Columns
 pub mod Escapes
 pub mod Blocks
 pub mod Pages
+pub mod Telling

@@ -7,3 +7,4 @@ pub mod LastStores
 pub mod FailureLaws
 pub mod MendLaws
 pub mod PuttingInLaws
+pub mod CanMendLaws

@@ -30,7 +30,7 @@ with-high (suc p) zero e es high = absurd (omega arith)
 with-high (suc p) (suc j) e [] high = refl
 with-high (suc p) (suc j) e (d ∷ es) high = with-high p j e es (omega arith)
 
-with-length : (p : ℕ) (e : Event) (es : List Event) → length (with_at p e es) ≡ suc (length es)
+pub with-length : (p : ℕ) (e : Event) (es : List Event) → length (with_at p e es) ≡ suc (length es)
 with-length zero e es = refl
 with-length (suc p) e [] = refl
 with-length (suc p) e (d ∷ es) = ap suc (with-length p e es)
@@ -124,7 +124,7 @@ without-high zero j (d ∷ es) high = refl
 without-high (suc k) zero (d ∷ es) high = absurd (omega arith)
 without-high (suc k) (suc j) (d ∷ es) high = without-high k j es (omega arith)
 
-without-length : (k : ℕ) (es : List Event) → k < length es → suc (length (without_at k es)) ≡ length es
+pub without-length : (k : ℕ) (es : List Event) → k < length es → suc (length (without_at k es)) ≡ length es
 without-length k [] within = absurd (omega arith)
 without-length zero (d ∷ es) within = refl
 without-length (suc k) (d ∷ es) within = ap suc (without-length k es (omega arith))

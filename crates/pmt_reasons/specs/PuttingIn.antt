@@ -1,11 +1,16 @@
 -- Traces with a mend put in: that there are such, whatever place is taken between the two events that the mend names.
-use Rattle.std.specs.Prelude.{◌≡◌, ℕ, zero, suc, ◌<◌, ◌≤◌, true, false, nat_le, if◌then◌else◌, List, [], ◌∷◌, length, Option, Some, MatchOption}
+use Rattle.std.specs.Prelude.{◌≡◌, ℕ, zero, suc, ◌+◌, ◌<◌, ◌≤◌, true, false, nat_le, Bool, if◌then◌else◌, List, [], ◌∷◌, length, Option, None, Some, MatchOption}
 use Rattle.pmt_model.specs.declared.event.Event.{Event}
 use Rattle.pmt_model.specs.Values.{Written}
 use Rattle.pmt_model.specs.Machine.{Stores, Flushes, Fences}
-use Rattle.pmt_model.specs.Traces.{Recording, act, event}
+use Rattle.pmt_model.specs.Traces.{Recording, IsTrace, IsAct, act, event, event_limit}
+use Rattle.pmt_reasons.specs.declared.cause.Cause.{Cause}
+use Rattle.pmt_reasons.specs.declared.failure.Failure.{Failure}
+use Rattle.pmt_reasons.specs.declared.mend.Mend.{Mend}
 use Rattle.pmt_reasons.specs.declared.mend.Mend.TheVariants.{Fence, FlushAndFence, StoreFirst}
-use Rattle.pmt_reasons.specs.Mends.{HasMend}
+use Rattle.pmt_reasons.specs.Causes.{IsCause}
+use Rattle.pmt_reasons.specs.Failures.{IsFailureAt}
+use Rattle.pmt_reasons.specs.Mends.{mend_of, HasMend}
 
 -- The events with one more after the first p.
 abbrev pub with_at : ℕ → Event → List Event → List Event
@@ -70,3 +75,25 @@ FlushedStoreCanBePutFirst =
     (T : Recording) (k p b line thread : ℕ) (what : Written) (store flush fence : Event) → event T (suc k) ≡ Some store → act T.format store ≡ Stores line what →
     act T.format flush ≡ Flushes thread line → act T.format fence ≡ Fences thread → p < b → b ≤ k →
     HasMend T (put_in_both (put_first T k p store) (suc p) flush fence) (λ i. number_after_both (suc p) (number_first k p i)) (StoreFirst (suc k) (Some b) false)
+
+-- ---- That there is such a trace for each mend that is told
+
+-- There is one. It is a trace as T is, unless it gets too long by its two events more.
+pub record CanBePutIn (T : Recording) (m : Mend) : Type 0 where
+  pub mended : Recording
+  pub new : ℕ → ℕ
+  pub has : HasMend T mended new m
+  pub is_trace : IsTrace T → length T.events + 2 ≤ event_limit → IsTrace mended
+
+-- Of a failure: what is told for the cause of its lost store can be put in.
+abbrev pub FailureCanBeMended : Type 0
+FailureCanBeMended =
+    (T : Recording) (i l : ℕ) (w : Written) (f : Failure) (c : Cause) (same_line : Bool) →
+    IsFailureAt T i (Some f) → IsAct T f.lost.store (Stores l w) → IsCause T l f.place f.lost.store c →
+    CanBePutIn T (mend_of c l f.lost.store (Some f.place) same_line)
+
+-- Of a store x that is lost at the end, and the last store to its line that is: what is told for the cause and the last can be put in.
+abbrev pub LossCanBeMended : Type 0
+LossCanBeMended =
+    (T : Recording) (l x last : ℕ) (w v : Written) (c : Cause) → IsAct T x (Stores l w) → IsAct T last (Stores l v) → IsCause T l (length T.events) x c →
+    CanBePutIn T (mend_of c l last None false)

@@ -1,7 +1,7 @@
 //! Laws of what mends a store that is not safe.
 
 ghost use Rattle.pmt_reasons.specs.Mends.{FailureIsMended, LossIsMended};
-ghost use Rattle.pmt_reasons.specs.PuttingIn.{FenceCanBePutIn, FlushAndFenceCanBePutIn, FlushedStoreCanBePutFirst, StoreCanBePutFirst};
+ghost use Rattle.pmt_reasons.specs.PuttingIn.{FenceCanBePutIn, FlushAndFenceCanBePutIn, FlushedStoreCanBePutFirst, StoreCanBePutFirst, FailureCanBeMended, LossCanBeMended};
 
 /// In a trace with the mend of a failure put in, no crash up to the assertion loses the store, or keeps the one store without the other.
 pub fn failure_is_mended()
@@ -31,4 +31,14 @@ pub fn store_can_be_put_first()
 /// There is one with a store made, flushed and fenced before an earlier event.
 pub fn flushed_store_can_be_put_first()
     ensures { FlushedStoreCanBePutFirst }
+{}
+
+/// There is a trace with the mend of a failure put in.
+pub fn failure_can_be_mended()
+    ensures { FailureCanBeMended }
+{}
+
+/// There is one with the mend of stores that are never persisted.
+pub fn loss_can_be_mended()
+    ensures { LossCanBeMended }
 {}

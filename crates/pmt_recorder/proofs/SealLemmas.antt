@@ -7,7 +7,8 @@ use Rattle.pmt_model.specs.Values.{Layout}
 use Rattle.pmt_model.specs.Traces.{Recording}
 use Rattle.pmt_model.specs.Interleavings.{part}
 use Rattle.pmt_recorder.specs.Strips.{Strip, IsOneOfEach, entries_of, by_thread, total_length}
-use Rattle.pmt_recorder.specs.Sealing.{IsSealed, SealFails}
+use Rattle.pmt_recorder.specs.Sealing.{IsSealed, SealFails, IsHandedBack}
+use Rattle.pmt_recorder.specs.Shelving.{IsShelved}
 use Rattle.pmt_recorder.specs.declared.fault.SealKind.TheVariants.{Torn}
 
 -- there are n of them
@@ -100,3 +101,14 @@ pub few_tapes : (parts n : ℕ) (strips after : List Strip) → after ≡ strips
 few_tapes parts n strips after a count left =
     let len : length after ≡ n = ap length a ∙ count in
     omega (arith, len, left)
+
+-- what the ledger tells of the tapes, it tells of the book
+pub handed_back :
+    (n total : ℕ) (f : Layout) (strips : List Strip) (book shown : Recording) → IsShelved n f total book → shown ≡ book → total_length strips ≤ total →
+    (length strips ≡ n → total_length strips ≡ total) → IsHandedBack n f strips shown
+handed_back n total f strips book shown shelved same most all = let P : Recording → Type 0 = λ (R : Recording). IsHandedBack n f strips R in subst P (sym same) (record {
+  format = shelved.format;
+  whose = shelved.whose;
+  most = omega (arith, shelved.count, most);
+  all = λ count. all count ∙ sym shelved.count;
+})

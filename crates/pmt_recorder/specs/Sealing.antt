@@ -1,5 +1,7 @@
 -- What sealing a session gives.
-use Rattle.std.specs.Prelude.{◌≡◌, ℕ, ◌<◌, List, length}
+use Rattle.std.specs.Prelude.{◌≡◌, ℕ, ◌<◌, ◌≤◌, List, length}
+use Rattle.std.specs.List.{AllByRecursion}
+use Rattle.pmt_model.specs.declared.event.Event.{Event}
 use Rattle.pmt_model.specs.Values.{Layout}
 use Rattle.pmt_model.specs.Traces.{Recording}
 use Rattle.pmt_model.specs.Interleavings.{part, IsInterleaving}
@@ -19,3 +21,11 @@ SealFails n strips WrongTapes book = ¬ IsOneOfEach n strips
 SealFails n strips (Torn t) book =
     (t < n) × IsOneOfEach n strips × (total_length strips ≡ length book.events) × ¬ (part t book.events ≡ entries_of t strips)
     × ((u : ℕ) → u < t → part u book.events ≡ entries_of u strips)
+
+-- The book of a session of n tapes, where these were given: in its format, with events of its tapes alone, and as many of them as
+-- the given tapes have entries; or more, those of tapes that were not given, where these are not n.
+pub record IsHandedBack (n : ℕ) (layout : Layout) (strips : List Strip) (book : Recording) : Type 0 where
+  pub format : book.format ≡ layout
+  pub whose : AllByRecursion (λ (e : Event). e.thread < n) book.events
+  pub most : total_length strips ≤ length book.events
+  pub all : length strips ≡ n → total_length strips ≡ length book.events

@@ -1,4 +1,7 @@
 //! Why a call of a session is refused.
+use crate::roll::Roll;
+use crate::tape::Tape;
+use pmt_book::Book;
 use thiserror::Error;
 
 /// Why an event was not appended.
@@ -32,6 +35,17 @@ pub enum SealKind {
         /// The lowest number of such a tape.
         recorder: u8,
     },
+}
+
+/// A session that was not sealed: why, and what it had.
+#[derive(Drop)]
+pub struct SealFault<L: Roll> {
+    /// Why it was not sealed.
+    pub kind: SealKind,
+    /// Its book.
+    pub book: Book,
+    /// The tapes, as they were given.
+    pub tapes: Vec<Tape<L>>,
 }
 
 /// Why scripts were not recorded.

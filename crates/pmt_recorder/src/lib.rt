@@ -27,9 +27,9 @@ pub mod session;
 pub mod shelf;
 pub mod tape;
 
-pub use crate::fault::{AppendError, RecordError, SealKind, SnapshotError, StartError};
+pub use crate::fault::{AppendError, RecordError, SealFault, SealKind, SnapshotError, StartError};
 pub use crate::roll::Roll;
 pub use crate::scripts::record_scripts;
-pub use crate::session::{SealFault, Session};
+pub use crate::session::Session;
 pub use crate::shelf::{Shelf, Snapshot};
 pub use crate::tape::Tape;

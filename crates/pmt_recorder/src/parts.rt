@@ -44,12 +44,12 @@ impl<L: Roll> Rest<L> {
     }
 }
 
-// All parts have the ledger's total: so many events stand in the tapes. Each tape's part is joined with those before it, and given
-// back.
+// The tapes and the parts that were seen have no more than the ledger's total, and just that where they are all parts: so many events
+// stand in the tapes. Each tape's part is joined with those before it, and given back.
 fn audit_from<L: Roll>(count: &mut ledger::Book<L>, seen: &mut Share<L>, tapes: &mut [Tape<L>])
-    requires all { seen.old.parts + length tapes.old ≡ L.parts }
-    requires backed { seen.old.parts ≡ 0 → seen.old.amount ≡ 0 }
-    ensures total { total_length tapes.old + seen.old.amount ≡ count.old.total }
+    requires { seen.old.parts ≡ 0 → seen.old.amount ≡ 0 }
+    ensures most { total_length tapes.old + seen.old.amount ≤ count.old.total }
+    ensures all { seen.old.parts + length tapes.old ≡ L.parts → total_length tapes.old + seen.old.amount ≡ count.old.total }
     ensures same { count.new.total ≡ count.old.total }
     ensures seen { (seen.new.parts ≡ seen.old.parts) × (seen.new.amount ≡ seen.old.amount) }
     ensures tapes { tapes.new ≡ tapes.old }
@@ -65,15 +65,15 @@ fn audit_from<L: Roll>(count: &mut ledger::Book<L>, seen: &mut Share<L>, tapes: 
     }
 }
 
-// The tapes, one of each number, have as many entries as the ledger has counted.
+// The tapes have no more entries than the ledger has counted, and just as many where they are as many as the session's.
 pub(crate) fn audit<L: Roll>(
     count: &mut ledger::Book<L>,
     whole: &Whole<L>,
     rest: &mut Rest<L>,
     tapes: &mut [Tape<L>],
 )
-    requires { length tapes.old ≡ L.tapes }
-    ensures total { total_length tapes.old ≡ count.old.total }
+    ensures most { total_length tapes.old ≤ count.old.total }
+    ensures all { length tapes.old ≡ L.tapes → total_length tapes.old ≡ count.old.total }
     ensures same { count.new.total ≡ count.old.total }
     ensures tapes { tapes.new ≡ tapes.old }
 {

@@ -1,14 +1,13 @@
 //! The session: its one lock, and the tapes that belong to it.
 ghost use Rattle.std.specs.Prelude.{◌≡◌, ℕ, ◌+◌, ◌<◌, ◌≤◌, ◌↔◌, ◌⊎◌, IfOk, OnOk, IfErr, Err};
 ghost use Rattle.pmt_model.specs.Formats.{first_version};
-ghost use Rattle.pmt_recorder.specs.Sealing.{IsSealed, SealFails};
+ghost use Rattle.pmt_recorder.specs.Sealing.{IsSealed, SealFails, IsHandedBack};
 ghost use Rattle.pmt_recorder.specs.Shelving.{Records, IsSnapshot};
 ghost use Rattle.pmt_recorder.specs.Strips.{empty_tapes};
 
-use crate::fault::{AppendError, SealKind, SnapshotError, StartError};
+use crate::fault::{AppendError, SealFault, SnapshotError, StartError};
 use crate::parts::{Rest, Whole};
 use crate::roll::Roll;
-use crate::seal::{is_one_of_each, lowest_torn};
 use crate::shelf::{Shelf, Snapshot};
 use crate::tape::Tape;
 use pmt_book::Book;
@@ -25,17 +24,6 @@ pub struct Session<L: Roll> {
     whole: Whole<L>,
     tapes: usize,
     ghost count: { tapes ≡ L.tapes },
-}
-
-/// A session that was not sealed: why, and what it had.
-#[derive(Drop)]
-pub struct SealFault<L: Roll> {
-    /// Why it was not sealed.
-    pub kind: SealKind,
-    /// Its book.
-    pub book: Book,
-    /// The tapes, as they were given.
-    pub tapes: Vec<Tape<L>>,
 }
 
 // The tapes of the threads below `n`, each with one part of the ledger.
@@ -137,41 +125,25 @@ impl<L: Roll> Session<L> {
         self.shelf.lock(rt).snapshot(tape)
     }
 
-    /// The book as a trace, which is an interleaving of the tapes. They may come in any order.
+    /// The book as a trace, which is an interleaving of the tapes. They may come in any order. It takes the lock apart and makes the
+    /// one call `Shelf::seal`.
     ///
     /// # Errors
     /// `WrongTapes` unless there is just one tape of each number, then `Torn` with the lowest number whose tape is not its part of
-    /// the book. Book and tapes are handed back.
+    /// the book. Book and tapes are handed back, the tapes as they were given.
     pub fn seal(self, tapes: Vec<Tape<L>>) -> Result<Trace, SealFault<L>>
         ensures ok { IfOk result (IsSealed L.tapes L.format tapes.items) }
         ensures err { IfErr result (λ fault. SealFails L.tapes tapes.items fault.kind fault.book) }
+        ensures book { IfErr result (λ fault. IsHandedBack L.tapes L.format tapes.items fault.book) }
         ensures tapes { IfErr result (λ fault. fault.tapes.items ≡ tapes.items) }
-        ensures format { IfErr result (λ fault. fault.book.format ≡ L.format) }
     {
-        let mut tapes = tapes;
         let Session {
             shelf,
             rest,
             whole,
             tapes: count,
         } = self;
-        let mut shelf = shelf.into_inner();
-        let mut rest = rest.into_inner();
-        if !is_one_of_each(tapes.as_slice(), count) {
-            return Err(SealFault {
-                kind: SealKind::WrongTapes,
-                book: shelf.into_book(),
-                tapes,
-            });
-        }
-        shelf.audit(&whole, &mut rest, tapes.as_mut_slice());
-        match lowest_torn(shelf.events(), tapes.as_slice()) {
-            None => Ok(shelf.into_book().into_trace()),
-            Some(recorder) => Err(SealFault {
-                kind: SealKind::Torn { recorder },
-                book: shelf.into_book(),
-                tapes,
-            }),
-        }
+        let shelf = shelf.into_inner();
+        shelf.seal(&whole, rest.into_inner(), count, tapes)
     }
 }

@@ -1,16 +1,17 @@
 //! What lies under the lock of a session, and copies of it.
-ghost use Rattle.std.specs.Prelude.{◌≡◌, ℕ, ◌<◌, [], length, IfOk};
+ghost use Rattle.std.specs.Prelude.{◌≡◌, ℕ, ◌<◌, [], IfOk, IfErr};
 ghost use Rattle.std.specs.List.{AllByRecursion};
 ghost use Rattle.pmt_model.specs.declared.event.Event.{Event};
+ghost use Rattle.pmt_recorder.specs.Sealing.{IsSealed, SealFails, IsHandedBack};
 ghost use Rattle.pmt_recorder.specs.Shelving.{Appends, Shows, IsSnapshot};
-ghost use Rattle.pmt_recorder.specs.Strips.{total_length};
 
-use crate::fault::{AppendError, SnapshotError};
+use crate::fault::{AppendError, SealFault, SealKind, SnapshotError};
 use crate::parts::{Rest, Whole, audit};
 use crate::roll::Roll;
+use crate::seal::{is_one_of_each, lowest_torn};
 use crate::tape::Tape;
 use pmt_book::Book;
-use pmt_model::{Event, Op};
+use pmt_model::{Event, Op, Trace};
 use std::marker::Model;
 use std::sync::ledger;
 
@@ -44,7 +45,7 @@ impl<L: Roll> Shelf<L> {
     }
 
     // Its events, all of the session's tapes.
-    pub(crate) fn events(&self) -> &[Event]
+    fn events(&self) -> &[Event]
         ensures value { result.now ≡ self.now.events }
         ensures whose { AllByRecursion (λ (e : Event). e.thread < L.tapes) self.now.events }
         ensures format { self.now.format ≡ L.format }
@@ -53,10 +54,9 @@ impl<L: Roll> Shelf<L> {
         self.book.events()
     }
 
-    // The tapes, one of each number, have as many entries as the book has events.
-    pub(crate) fn audit(&mut self, whole: &Whole<L>, rest: &mut Rest<L>, tapes: &mut [Tape<L>])
-        requires { length tapes.old ≡ L.tapes }
-        ensures total { total_length tapes.old ≡ length self.old.events }
+    // Its book is the session's of these tapes.
+    fn audit(&mut self, whole: &Whole<L>, rest: &mut Rest<L>, tapes: &mut [Tape<L>])
+        ensures book { IsHandedBack L.tapes L.format tapes.old self.old }
         ensures same { self.new ≡ self.old }
         ensures tapes { tapes.new ≡ tapes.old }
     {
@@ -64,7 +64,7 @@ impl<L: Roll> Shelf<L> {
     }
 
     // Its book, once no thread holds the lock.
-    pub(crate) fn into_book(self) -> Book
+    fn into_book(self) -> Book
         ensures { result ≡ self }
     {
         let Shelf { book, .. } = self;
@@ -97,6 +97,42 @@ impl<L: Roll> Shelf<L> {
         self.count.add(&mut tape.share, 1);
         tape.entries.push_reserved((number, entry));
         Ok(number)
+    }
+
+    // Its book as a trace, which is an interleaving of the tapes; or why it is none. Book and tapes are handed back then. No thread holds
+    // the lock any more, and `count` is the number of the session's tapes.
+    pub(crate) fn seal(
+        self,
+        whole: &Whole<L>,
+        mut rest: Rest<L>,
+        count: usize,
+        mut tapes: Vec<Tape<L>>,
+    ) -> Result<Trace, SealFault<L>>
+        requires { count ≡ L.tapes }
+        ensures trace { IfOk result (λ trace. trace ≡ self) }
+        ensures ok { IfOk result (IsSealed L.tapes L.format tapes.items) }
+        ensures same { IfErr result (λ fault. fault.book ≡ self) }
+        ensures err { IfErr result (λ fault. SealFails L.tapes tapes.items fault.kind fault.book) }
+        ensures book { IfErr result (λ fault. IsHandedBack L.tapes L.format tapes.items fault.book) }
+        ensures tapes { IfErr result (λ fault. fault.tapes.items ≡ tapes.items) }
+    {
+        let mut shelf = self;
+        shelf.audit(whole, &mut rest, tapes.as_mut_slice());
+        if !is_one_of_each(tapes.as_slice(), count) {
+            return Err(SealFault {
+                kind: SealKind::WrongTapes,
+                book: shelf.into_book(),
+                tapes,
+            });
+        }
+        match lowest_torn(shelf.events(), tapes.as_slice()) {
+            None => Ok(shelf.into_book().into_trace()),
+            Some(recorder) => Err(SealFault {
+                kind: SealKind::Torn { recorder },
+                book: shelf.into_book(),
+                tapes,
+            }),
+        }
     }
 
     /// A copy of the book, in the session's format, in which the tape is its thread's part.

@@ -15,11 +15,11 @@ use Rattle.pmt_text.specs.declared.source.SourceState.TheVariants as states
 use Rattle.pmt_text.specs.Coming.{Coming, ComesWhole, whole}
 use Rattle.pmt_text.specs.Sources.{Gives, HasFormat, CountsReads}
 use Rattle.pmt_text.proofs.SourceLemmas.{Gives-trans, whole-parts}
-use Rattle.pmt_lines.specs.declared.taking.TakeError.{TakeError}
-use Rattle.pmt_lines.specs.declared.taking.TakeError.TheVariants as refusals
-use Rattle.pmt_lines.specs.Sourcing.{IsFaultOf, TellsEnd, TellsFault, TellsNothing, TellsRefusal, TellsTaken, told_by}
-use Rattle.pmt_lines.specs.Blocks.{Shown, TakesBlock}
-use Rattle.pmt_lines.proofs.SourceRunLemmas.{SoFar, SameReads}
+use Rattle.pmt_taking.specs.declared.taking.TakeError.{TakeError}
+use Rattle.pmt_taking.specs.declared.taking.TakeError.TheVariants as refusals
+use Rattle.pmt_taking.specs.Sourcing.{IsFaultOf, TellsEnd, TellsFault, TellsNothing, TellsRefusal, TellsTaken, told_by}
+use Rattle.pmt_taking.specs.Blocks.{Shown, TakesBlock}
+use Rattle.pmt_taking.proofs.SourceRunLemmas.{SoFar, SameReads}
 use Rattle.pmt_report.specs.Blockwise.{IsTakenSoFar, IsTakenWhole}
 
 -- ---- Block after block

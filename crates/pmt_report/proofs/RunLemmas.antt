@@ -5,9 +5,9 @@ use Rattle.std.specs.Io.KnownBytes.{Appends}
 use Rattle.std.specs.List.{list_any}
 use Rattle.pmt_model.specs.Traces.{Recording}
 use Rattle.pmt_text.specs.Coming.{Coming, ComesWhole}
-use Rattle.pmt_trim.specs.Marking.{marked_from}
-use Rattle.pmt_trim.specs.Streaming.{IsTextOfTrimmed}
-use Rattle.pmt_trim.specs.WholeTexts.{IsTextOfWhole}
+use Rattle.pmt_flags.specs.Flags.{marked_from}
+use Rattle.pmt_trimming.specs.Streaming.{IsTextOfTrimmed}
+use Rattle.pmt_trimming.specs.WholeTexts.{IsTextOfWhole}
 use Rattle.pmt_text.specs.declared.kind.SourceError.{SourceError}
 use Rattle.pmt_text.specs.declared.kind.SourceError.TheVariants as sources
 use Rattle.pmt_report.specs.Faults.{run_fault}

@@ -2,9 +2,9 @@
 use Rattle.std.specs.Prelude.{◌≡◌, Bool, true, false}
 use Rattle.pmt_model.specs.Traces.{Recording}
 use Rattle.pmt_text.specs.Coming.{ComesWhole}
-use Rattle.pmt_lines.specs.Sourcing.{TellsEnd}
-use Rattle.pmt_lines.specs.Blocks.{Shown}
-use Rattle.pmt_lines.proofs.SourceRunLemmas.{SoFar, SameReads}
+use Rattle.pmt_taking.specs.Sourcing.{TellsEnd}
+use Rattle.pmt_taking.specs.Blocks.{Shown}
+use Rattle.pmt_taking.proofs.SourceRunLemmas.{SoFar, SameReads}
 
 -- all events were taken
 pub record IsTakenWhole (first now : Shown) (T : Recording) : Type 0 where

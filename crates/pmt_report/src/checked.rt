@@ -6,20 +6,20 @@ ghost use Rattle.pmt_model.specs.Traces.{Recording, IsTrace};
 ghost use Rattle.pmt_text.specs.Coming.{ComesWhole};
 ghost use Rattle.pmt_text.specs.Counting.{failure_count, inner_device};
 ghost use Rattle.pmt_text.specs.Sources.{CountsReads};
-ghost use Rattle.pmt_lines.specs.Blocks.{Shown, TakesBlock, shown_by};
-ghost use Rattle.pmt_lines.specs.Sourcing.{IsFaultOf, TellsRefusal, TellsTaken, told_by};
-ghost use Rattle.pmt_sweep.specs.Growing.{HasSwept};
-ghost use Rattle.pmt_workers.specs.Halving.{is_worker_count};
+ghost use Rattle.pmt_taking.specs.Blocks.{Shown, TakesBlock, shown_by};
+ghost use Rattle.pmt_taking.specs.Sourcing.{IsFaultOf, TellsRefusal, TellsTaken, told_by};
+ghost use Rattle.pmt_pass.specs.Passing.{HasSwept};
+ghost use Rattle.pmt_analysis.specs.Workers.{is_worker_count};
 ghost use Rattle.pmt_report.specs.Blockwise.{IsTakenSoFar};
 ghost use Rattle.pmt_report.specs.Checking.{HasTaken, IsCheckOf, IsFoundIn};
 ghost use Rattle.pmt_report.specs.Runs.{IsAnalysisFault, coming_from_reader, run_read_faults, tells_workers};
 
 use crate::fault::{RunError, run_error};
-use pmt_lines::{TakeError, take_block};
+use pmt_analysis::are_allowed;
 use pmt_model::{OutOfMemory, Trace};
-use pmt_sweep::{Sweeper, Swept};
+use pmt_pass::{Sweeper, Swept};
+use pmt_taking::{TakeError, take_block};
 use pmt_text::{Counted, EventSource, TextSource};
-use pmt_workers::are_allowed;
 use std::alloc::Global;
 use std::io::Read;
 use std::thread::{Threads, join_mut};
@@ -142,7 +142,7 @@ fn take_others<T: Threads + Sync, S: EventSource>(
         more = is_full(&next);
         block = next;
     }
-    sweeper.take(alloc, block.events())?;
+    sweeper.take(block.events())?;
     Ok(events)
 }
 
@@ -172,11 +172,11 @@ fn sweep_and_take<T: Threads + Sync, S: EventSource>(
     if two {
         return join_mut(
             rt,
-            &mut || sweeper.take(alloc, block.events()),
+            &mut || sweeper.take(block.events()),
             &mut || take_block(alloc, source, BLOCK),
         );
     }
-    let swept = sweeper.take(alloc, block.events());
+    let swept = sweeper.take(block.events());
     (swept, take_block(alloc, source, BLOCK))
 }
 

@@ -5,28 +5,34 @@ ghost use Rattle.pmt_report.specs.Faults.{fault_line, run_fault, run_status};
 use pmt_model::OutOfMemory;
 use pmt_text::{SourceError, TextError};
 use std::alloc::Global;
-use std::error::Error;
-use std::fmt;
+use thiserror::Error;
 
-/// Why a run did not write its answer.
-#[derive(Clone, Copy, Debug, PartialEq, Eq)]
+/// Why a run did not write its answer. Its fault line is `fault_text`; what Display shows is for a programmer.
+#[derive(Clone, Copy, Debug, PartialEq, Eq, Error)]
 pub enum RunError {
     /// The number of workers is none of 1, 2, 4, 8 and 16.
+    #[error("the number of workers is none of 1, 2, 4, 8 and 16")]
     BadWorkers,
     /// A line of the trace is faulty.
+    #[error("{0}")]
     Text(TextError),
     /// More bytes come than are judged.
+    #[error("the trace is too long")]
     TooMany,
     /// A read failed.
+    #[error("a read failed")]
     Read,
     /// The place lies past the last event.
+    #[error("the place lies past the last of {events} events")]
     PastEnd {
         /// How many events there are.
         events: u64,
     },
     /// A growth was refused.
+    #[error("out of memory")]
     OutOfMemory,
     /// A write or the last flush failed.
+    #[error("a write failed after {written} bytes")]
     Write {
         /// How many bytes of the answer are out: its first ones.
         written: u64,
@@ -51,38 +57,6 @@ impl RunError {
     }
 }
 
-// Shown as its fault line, without its LF.
-impl fmt::Display for RunError {
-    ghost use Rattle.pmt_report.specs.Faults.{fault_line};
-
-    ghost output = { λ error. Some (fault_line error) };
-
-    fn fmt<W: fmt::Write>(&self, f: &mut fmt::Formatter<W>) -> fmt::Result {
-        match *self {
-            RunError::BadWorkers => f.write_str("bad workers"),
-            RunError::Text(fault) => {
-                let line = line_of(&fault);
-                let name = fault.kind.name();
-                write!(f, "trace line {line}: {name}")
-            }
-            RunError::TooMany => f.write_str("trace too long"),
-            RunError::Read => f.write_str("file fault"),
-            RunError::PastEnd { events } => write!(f, "place past end {events}"),
-            RunError::OutOfMemory => f.write_str("out of memory"),
-            RunError::Write { written: _ } => f.write_str("file fault"),
-        }
-    }
-}
-
-impl Error for RunError {}
-
-// The number of the faulty line.
-fn line_of(fault: &TextError) -> u64
-    ensures { result ≡ fault.now.line }
-{
-    fault.line
-}
-
 /// The fault line of the error, without its LF.
 ///
 /// # Errors
@@ -90,7 +64,31 @@ fn line_of(fault: &TextError) -> u64
 pub fn fault_text(alloc: Global, error: &RunError) -> Result<String, OutOfMemory>
     ensures { IfOk result (λ text. string_bytes text ≡ fault_line error.now) }
 {
-    error.to_string(alloc)
+    match *error {
+        RunError::BadWorkers => String::from_str(alloc, "bad workers"),
+        RunError::Text(fault) => line_fault(alloc, &fault),
+        RunError::TooMany => String::from_str(alloc, "trace too long"),
+        RunError::Read => String::from_str(alloc, "file fault"),
+        RunError::PastEnd { events } => place_fault(alloc, events),
+        RunError::OutOfMemory => String::from_str(alloc, "out of memory"),
+        RunError::Write { written: _ } => String::from_str(alloc, "file fault"),
+    }
+}
+
+// The fault line of a trace's line.
+fn line_fault(alloc: Global, fault: &TextError) -> Result<String, OutOfMemory>
+    ensures { IfOk result (λ text. string_bytes text ≡ fault_line (RunError.Text fault.now)) }
+{
+    let line = fault.line;
+    let name = fault.kind.name();
+    format!(in alloc; "trace line {line}: {name}")
+}
+
+// The fault line of a place past the last event.
+fn place_fault(alloc: Global, events: u64) -> Result<String, OutOfMemory>
+    ensures { IfOk result (λ text. string_bytes text ≡ fault_line (RunError.PastEnd events)) }
+{
+    format!(in alloc; "place past end {events}")
 }
 
 /// What a run tells where its source told this fault. A source that is fresh never answers that it failed before.

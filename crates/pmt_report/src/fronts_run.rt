@@ -11,7 +11,7 @@ use crate::first_lines::{TraceLines, first_lines, let_go};
 use crate::fronts::fronts_of_lines;
 use crate::output::write_answer;
 use crate::taking::skip_events;
-use pmt_lines::TakeError;
+use pmt_taking::TakeError;
 use pmt_text::{Counted, EventSource, TextSource};
 use std::alloc::Global;
 use std::io::{Read, Write};

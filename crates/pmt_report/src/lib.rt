@@ -3,7 +3,6 @@
 //! The definitions stand in `specs/`: the text of each answer, and the line and status of each fault.
 #![tactic(auto)]
 
-pub mod analysing;
 pub mod check;
 mod checked;
 pub mod fault;
@@ -19,7 +18,6 @@ mod taking;
 mod texts;
 pub mod trim;
 
-pub use crate::analysing::analysed;
 pub use crate::check::{failed, report_text, run_check};
 pub use crate::fault::{RunError, fault_text, run_error};
 pub use crate::fronts_run::run_fronts;

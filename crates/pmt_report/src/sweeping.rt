@@ -2,15 +2,15 @@
 ghost use Rattle.std.specs.Prelude.{◌≡◌, IfOk, IfErr, IfSome};
 ghost use Rattle.pmt_text.specs.Coming.{ComesWhole};
 ghost use Rattle.pmt_text.specs.Sources.{CountsReads};
-ghost use Rattle.pmt_lines.specs.Sourcing.{IsFaultOf, TellsTaken, told_by};
+ghost use Rattle.pmt_taking.specs.Sourcing.{IsFaultOf, TellsTaken, told_by};
 ghost use Rattle.pmt_analysis.specs.Analysing.{IsAnalysed};
 
 use pmt_analysis::Analysis;
-use pmt_lines::{TakeError, take_trace};
+use pmt_flags::marked_numbers;
 use pmt_model::{OutOfMemory, Trace};
-use pmt_sweep::{Swept, sweep};
+use pmt_pass::{Swept, sweep};
+use pmt_taking::{TakeError, take_trace};
 use pmt_text::EventSource;
-use pmt_trim::marked_numbers;
 use std::alloc::Global;
 
 /// The analysis of the trace whose events the source has still to give, by one thread.
@@ -40,7 +40,9 @@ fn swept_trace(alloc: Global, trace: Trace) -> Result<Analysis, OutOfMemory>
         findings,
         verdicts,
         kept,
+        safe,
     } = sweep(alloc, &trace)?;
+    drop(safe);
     let selection = marked_numbers(alloc, kept.as_slice())?;
     Ok(Analysis::new(trace, lines, findings, verdicts, selection))
 }

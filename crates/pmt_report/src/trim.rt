@@ -1,16 +1,16 @@
 //! The run that trims a trace.
 ghost use Rattle.std.specs.Prelude.{◌≡◌, ◌+◌, ◌-◌, ◌^◌, ◌<◌, true, not};
 ghost use Rattle.pmt_text.specs.Counting.{failure_count, inner_device};
-ghost use Rattle.pmt_trim.specs.Streaming.{IsTextOfTrimmed};
-ghost use Rattle.pmt_workers.specs.Halving.{is_worker_count};
+ghost use Rattle.pmt_trimming.specs.Streaming.{IsTextOfTrimmed};
+ghost use Rattle.pmt_analysis.specs.Workers.{is_worker_count};
 ghost use Rattle.pmt_report.specs.Runs.{IsAnalysisFault, Runs, coming_from_reader, run_read_faults, tells_workers, write_faults};
 
 use crate::fault::{RunError, run_error};
 use crate::output::write_answer;
-use pmt_lines::TakeError;
+use pmt_analysis::are_allowed;
+use pmt_taking::TakeError;
 use pmt_text::{Counted, TextSource};
-use pmt_trim::trimmed_text;
-use pmt_workers::are_allowed;
+use pmt_trimming::trimmed_text;
 use std::alloc::Global;
 use std::io::{Read, Write};
 use std::sync::Wait;

@@ -1,5 +1,5 @@
 -- What stands after the word of a line: the thread, the arguments, and the LF.
-use Rattle.std.proofs.Common.{◌≡◌, ℕ, List, [], ◌∷◌, ◌++◌, ap, sym, ◌∙◌, append_assoc}
+use Rattle.std.proofs.Common.{◌≡◌, ℕ, List, ◌∷◌, ◌++◌, ap, sym, ◌∙◌, append_assoc}
 use Rattle.pmt_text.specs.Spelling.{address, numeral}
 use Rattle.pmt_text.specs.Spelled.{spelled_span}
 use Rattle.pmt_text.specs.Writing.{spaced}

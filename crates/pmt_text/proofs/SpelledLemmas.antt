@@ -19,7 +19,7 @@ use Rattle.pmt_text.proofs.NumeralLemmas.{AreDigits, AreDigits-numeral, number_i
 use Rattle.pmt_text.proofs.FieldLemmas.{AreDigits-hex_bytes, address_in-address, bytes_in-hex_bytes}
 use Rattle.pmt_text.proofs.LineLemmas.{IsFree, parts-join}
 use Rattle.pmt_text.proofs.WordLemmas.{word_in-word_text}
-use Rattle.pmt_text.proofs.JudgedLemmas.{in_format-is_known}
+use Rattle.pmt_text.specs.JudgedEvents.{in_format-is_known}
 
 -- ---- No field has a space or an LF
 

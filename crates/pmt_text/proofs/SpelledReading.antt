@@ -22,7 +22,7 @@ use Rattle.pmt_text.proofs.LineLemmas.{parts-append}
 use Rattle.pmt_text.proofs.LineWriting.{event_text-parts}
 use Rattle.pmt_text.proofs.SpelledLemmas.{event_line_free, line_judged-event_line}
 
-AreDigits-take : (base n : ℕ) (cs : List ℕ) → n ≤ length cs → ((k : ℕ) → k < n → digit_of (get_or cs k 0) < base) → AreDigits base (take n cs)
+pub AreDigits-take : (base n : ℕ) (cs : List ℕ) → n ≤ length cs → ((k : ℕ) → k < n → digit_of (get_or cs k 0) < base) → AreDigits base (take n cs)
 AreDigits-take base zero cs l h = tt
 AreDigits-take base (suc n) [] l h = absurd (omega arith)
 AreDigits-take base (suc n) (c ∷ cs) l h = (h 0 (omega arith), AreDigits-take base n cs (omega arith) (λ k below. h (suc k) (omega arith)))

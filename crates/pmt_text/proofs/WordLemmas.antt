@@ -11,6 +11,7 @@ use Rattle.pmt_text.specs.declared.word.Word.TheVariants as words
 use Rattle.pmt_text.specs.Spelling.{word_text, header, numeral}
 use Rattle.pmt_text.specs.Judging.{word_in, is_known, all_words}
 use Rattle.pmt_text.specs.Coming.{format_in, all_formats}
+use Rattle.pmt_text.specs.JudgedEvents.{find-some}
 
 -- what a test of bytes says
 pub is_text : (field shown text : List ℕ) (b : Bool) → b ≡ bytes_eq field shown → shown ≡ text → b ≡ true → field ≡ text
@@ -53,14 +54,6 @@ word_in-other f field h =
         other : is_known f w ≡ true → bytes_eq (word_text w) field ≡ false
         other known =
             elim (cases_Bool (bytes_eq (word_text w) field)) [ inl same ↦ absurd (h w known (sym ((bytes_eq-Decides (word_text w) field).0 same))) | inr unlike ↦ unlike ]
-
-pub find-some : {X : Type 0} (test : X → Bool) (xs : List X) (x : X) → find test xs ≡ Some x → test x ≡ true
-find-some test [] x e = cc
-find-some test (y ∷ xs) x e = go (test y) refl e (find-some test xs x)
-  where
-    go : (b : Bool) → test y ≡ b → cond b (Some y) (find test xs) ≡ Some x → (find test xs ≡ Some x → test x ≡ true) → test x ≡ true
-    go true t some later = let same : y ≡ x = cc in ap test (sym same) ∙ t
-    go false t none later = later none
 
 -- what was read as a word has its text, and the format has it
 pub word_text-word_in : (f : Layout) (field : List ℕ) (w : Word) → word_in f field ≡ Some w → (word_text w ≡ field) × (is_known f w ≡ true)

@@ -1,5 +1,5 @@
 -- What the parts of the reader of a line give.
-use Rattle.std.specs.Prelude.{◌≡◌, ℕ, ◌+◌, ◌*◌, ◌-◌, ◌^◌, ◌<◌, ◌≤◌, ◌⊎◌, nat_le, ◌&&◌, if◌then◌else◌, min, List, [], ◌∷◌, length, take, get_or, Option, Some, None, Result, Ok, Err}
+use Rattle.std.specs.Prelude.{◌≡◌, ℕ, ◌-◌, ◌^◌, ◌<◌, ◌≤◌, ◌⊎◌, nat_le, ◌&&◌, if◌then◌else◌, min, List, [], ◌∷◌, length, take, get_or, Option, Some, None, Result, Ok, Err}
 use Rattle.std.specs.Option.{option_map}
 use Rattle.std.specs.Borrow.{Bor}
 use Rattle.std.specs.Str.Parse.{digits_value}
@@ -21,18 +21,6 @@ capped n = min n (2 ^ 64 - 1)
 -- The value of 0 to 9 and a to f, and 16 for any other byte.
 abbrev pub digit_of : ℕ → ℕ
 digit_of c = if nat_le 48 c && nat_le c 57 then c - 48 else (if nat_le 97 c && nat_le c 102 then c - 87 else 16)
-
--- The value of 0 to 9 and a to f, and 65536 for any other byte.
-abbrev pub wide_digit_of : ℕ → ℕ
-wide_digit_of c = if nat_le 48 c && nat_le c 57 then c - 48 else (if nat_le 97 c && nat_le c 102 then c - 87 else 65536)
-
--- The number that the four bytes at this place write as digits of base 16; 65536 or more where one of them is none.
-abbrev pub four_at : List ℕ → ℕ → ℕ
-four_at cs n = (wide_digit_of (get_or cs n 0) * 16 + wide_digit_of (get_or cs (n + 1) 0)) * 256 + (wide_digit_of (get_or cs (n + 2) 0) * 16 + wide_digit_of (get_or cs (n + 3) 0))
-
--- As four_at, of the two bytes that they write, the first of them in the place of the last.
-abbrev pub turned_four_at : List ℕ → ℕ → ℕ
-turned_four_at cs n = (wide_digit_of (get_or cs (n + 2) 0) * 16 + wide_digit_of (get_or cs (n + 3) 0)) * 256 + (wide_digit_of (get_or cs n 0) * 16 + wide_digit_of (get_or cs (n + 1) 0))
 
 abbrev pub IsBase : ℕ → Type 0
 IsBase b = (b ≡ 10) ⊎ (b ≡ 16)

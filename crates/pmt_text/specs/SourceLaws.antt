@@ -1,10 +1,11 @@
 -- A source over a text keeps the laws of sources.
-use Rattle.std.specs.Prelude.{◌≡◌, ℕ, ◌+◌, ◌-◌, ◌≤◌, Bool, true, false, nat_lt, if◌then◌else◌, List, [], ◌∷◌, length, Option, Some, None, IfSome, is_some, option_map, Result, Ok, Err, refl}
+use Rattle.std.specs.Prelude.{◌≡◌, ℕ, ◌+◌, ◌-◌, ◌≤◌, Bool, true, false, nat_lt, if◌then◌else◌, List, [], ◌∷◌, length, Option, Some, None, IfSome, IfOk, is_some, option_map, Result, Ok, Err, refl}
+use Rattle.std.specs.List.{AllByRecursion}
 use Rattle.std.proofs.Common.{arith}
 use Rattle.std.proofs.lemmas.Bool.{ltb-true}
 use Rattle.pmt_model.specs.declared.event.Event.{Event}
 use Rattle.pmt_model.specs.Values.{Layout}
-use Rattle.pmt_model.specs.Traces.{event_limit}
+use Rattle.pmt_model.specs.Traces.{IsEventIn, event_limit}
 use Rattle.pmt_text.specs.declared.kind.TextKind.{TextKind}
 use Rattle.pmt_text.specs.declared.kind.TextKind.TheVariants.{TooManyEvents}
 use Rattle.pmt_text.specs.declared.source.SourceState.{SourceState}
@@ -13,6 +14,8 @@ use Rattle.pmt_text.specs.declared.text_source.TextSource.{TextSource}
 use Rattle.pmt_text.specs.Judging.{line_judged}
 use Rattle.pmt_text.specs.Coming.{Coming, Items, text_lines, lines_coming, item_then, ends_with, fault_at, trace_coming, lines_of_trace, header_then, format_in}
 use Rattle.pmt_text.specs.Lines.{Ahead, ahead}
+use Rattle.pmt_text.specs.Sources.{AreOf}
+use Rattle.pmt_text.specs.JudgedEvents.{allowed_line}
 use Rattle.pmt_text.specs.TextSources.{coming_of, coming_in, end_of, text_coming, text_room, text_format}
 
 -- a line gives at most one event, and none where a million stand before it
@@ -75,9 +78,58 @@ of_in Open known format is = is
 of_in Ended known format is = of_end format
 of_in (Failed fault) known format is = tt
 
+-- a line that gives an event gives one of the format
+of_then : (f : Layout) (line given : ℕ) (r : Result Event TextKind) (later : Items Event) → IfOk r (IsEventIn f) → AllByRecursion (IsEventIn f) later.items → AllByRecursion (IsEventIn f) (item_then line given r later).items
+of_then f line given (Err kind) later is each = tt
+of_then f line given (Ok e) later is each = by_test (nat_lt given event_limit) where
+  by_test : (t : Bool)
+      → AllByRecursion (IsEventIn f) (let o : Items Event = if t then record { items = e ∷ later.items; fault = later.fault } else ends_with (Some (fault_at line TooManyEvents)) in o).items
+  by_test true = (is, each)
+  by_test false = tt
+
+of_lines : (f : Layout) (more : Bool) (given : ℕ) (lines : List (List ℕ)) → AllByRecursion (IsEventIn f) (lines_coming (line_judged f) more 2 given lines).items
+unfolding lines_coming
+of_lines f more given [] = tt
+of_lines f more given (rest ∷ []) = tt
+of_lines f more given (line ∷ next ∷ tail) =
+    of_then f (2 + given) given (line_judged f line) (lines_coming (line_judged f) more 2 (given + 1) (next ∷ tail)) (allowed_line f line (line_judged f line) refl) (of_lines f more (given + 1) (next ∷ tail))
+
+abbrev AreTheirs : Coming → Type 0
+AreTheirs c = AreOf c.format c.events
+
+theirs_after : (more : Bool) (format : Option Layout) (lines : List (List ℕ)) → AreTheirs (header_then format more lines)
+theirs_after more None lines = refl
+theirs_after more (Some f) lines = of_lines f more 0 lines
+
+theirs_trace : (more : Bool) (lines : List (List ℕ)) → AreTheirs (lines_of_trace more lines)
+theirs_trace more [] = refl
+theirs_trace more (rest ∷ []) = refl
+theirs_trace more (line ∷ next ∷ tail) = theirs_after more (format_in line) (next ∷ tail)
+
+theirs_coming : (format : Option Layout) (given : ℕ) (a : Ahead) → AreTheirs (coming_of format given a)
+unfolding trace_coming
+theirs_coming None given a = theirs_trace a.more (text_lines a.bytes)
+theirs_coming (Some f) given a = of_lines f a.more given (text_lines a.bytes)
+
+theirs_from : (format : Option Layout) (given : ℕ) (a : Option Ahead) → IfSome (option_map (coming_of format given) a) AreTheirs
+theirs_from format given None = tt
+theirs_from format given (Some a) = theirs_coming format given a
+
+theirs_end : (format : Option Layout) → IfSome (end_of format) AreTheirs
+theirs_end None = tt
+theirs_end (Some f) = tt
+
+theirs_in : (state : SourceState) (known : Option Coming) (format : Option Layout) → IfSome known AreTheirs → IfSome (coming_in state known format) AreTheirs
+theirs_in Open known format are = are
+theirs_in Ended known format are = theirs_end format
+theirs_in (Failed fault) known format are = tt
+
 module _ {R : Type 0} (remaining : R → Option (List ℕ)) where
   pub text_listed : (s : TextSource R) → IfSome (text_coming remaining s) (λ c. length c.events ≤ text_room s)
   text_listed s = few_in s.state _ s.format (text_room s) (few_from s.format s.given (ahead remaining s.lines) s.fresh)
 
   pub text_same_format : (s : TextSource R) → IfSome (text_coming remaining s) (λ c. IfSome (text_format s) (λ f. c.format ≡ Some f))
   text_same_format s = of_in s.state _ s.format (of_from s.format s.given (ahead remaining s.lines))
+
+  pub text_of_format : (s : TextSource R) → IfSome (text_coming remaining s) (λ c. AreOf c.format c.events)
+  text_of_format s = theirs_in s.state _ s.format (theirs_from s.format s.given (ahead remaining s.lines))

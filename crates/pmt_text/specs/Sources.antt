@@ -1,5 +1,6 @@
 -- What a source of events tells, call by call.
 use Rattle.std.specs.Prelude.{◌≡◌, ◌≢◌, ℕ, ◌+◌, ◌<◌, ◌⊎◌, List, [], ◌∷◌, ◌++◌, Option, Some, None, Result, Ok, Err}
+use Rattle.std.specs.List.{AllByRecursion}
 use Rattle.pmt_model.specs.declared.event.Event.{Event}
 use Rattle.pmt_model.specs.Values.{Layout}
 use Rattle.pmt_model.specs.Traces.{IsEventIn}
@@ -44,6 +45,13 @@ HasFormat (Some c) format = c.format ≡ format
 abbrev pub TakesFormat : Option Coming → Result Layout SourceError → Option Coming → Type 0
 TakesFormat old (Ok f) new = HasFormat old (Some f) × Gives old [] new
 TakesFormat old (Err e) new = Faults old e
+
+-- ---- What comes
+
+-- The events are of the format; where none is told, there are none.
+abbrev pub AreOf : Option Layout → List Event → Type 0
+AreOf None es = es ≡ []
+AreOf (Some f) es = AllByRecursion (IsEventIn f) es
 
 -- ---- What was told
 

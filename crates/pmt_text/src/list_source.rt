@@ -1,6 +1,8 @@
 //! The events of a trace in memory, as a source.
 ghost use Rattle.std.specs.Prelude.{◌≡◌, ◌≤◌, true, length, Some};
-ghost use Rattle.pmt_model.specs.Traces.{event_limit};
+ghost use Rattle.std.specs.List.{AllByRecursion};
+ghost use Rattle.pmt_model.specs.Traces.{event_limit, IsEventIn};
+ghost use Rattle.pmt_text.specs.TraceFacts.{are_of_format_prop};
 
 use crate::kind::SourceError;
 use crate::source::EventSource;
@@ -13,6 +15,7 @@ pub struct ListSource<'a> {
     given: usize,
     ended: bool,
     ghost few: { length trace.now.events ≤ event_limit },
+    ghost of_format: { AllByRecursion (IsEventIn trace.now.format) trace.now.events } by { are_of_format_prop trace.now },
     ghost within: { given ≤ length trace.now.events },
     ghost at_end: { ended ≡ true → length trace.now.events ≤ given },
 }
@@ -36,7 +39,7 @@ impl<'a> ListSource<'a> {
 }
 
 impl EventSource for ListSource<'_> {
-    ghost use Rattle.pmt_text.specs.ListSources.{list_coming, list_state, list_format, list_given, list_room, list_few, list_listed, list_same_format};
+    ghost use Rattle.pmt_text.specs.ListSources.{list_coming, list_state, list_format, list_given, list_room, list_few, list_listed, list_same_format, list_of_format};
 
     ghost coming = { list_coming };
 
@@ -53,6 +56,8 @@ impl EventSource for ListSource<'_> {
     ghost listed = { list_listed };
 
     ghost same_format = { list_same_format };
+
+    ghost of_format = { list_of_format };
 
     fn format(&mut self) -> Result<Format, SourceError> {
         Ok(self.trace.format())

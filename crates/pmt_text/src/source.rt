@@ -3,7 +3,7 @@ ghost use Rattle.std.specs.Prelude.{◌≡◌, ℕ, ◌≤◌, List, Option, Som
 ghost use Rattle.pmt_model.specs.Values.{Layout};
 ghost use Rattle.pmt_model.specs.Traces.{event_limit};
 ghost use Rattle.pmt_text.specs.Coming.{Coming};
-ghost use Rattle.pmt_text.specs.Sources.{TakesNext, TakesFormat, TellsNext, TellsFormat, KeepsFormat, IsGivenIn, IsOfFirstLine, IsOfLaterLine, LeavesFewer, LeavesUnknown, CountsReads, Lends, given_after};
+ghost use Rattle.pmt_text.specs.Sources.{AreOf, TakesNext, TakesFormat, TellsNext, TellsFormat, KeepsFormat, IsGivenIn, IsOfFirstLine, IsOfLaterLine, LeavesFewer, LeavesUnknown, CountsReads, Lends, given_after};
 ghost use Rattle.pmt_text.specs.declared.source.SourceState.{SourceState};
 
 use crate::kind::SourceError;
@@ -90,4 +90,7 @@ pub trait EventSource {
 
     // What comes has the format that is known.
     ghost same_format: { (s : Self) → IfSome (coming s) (λ c. IfSome (known_format s) (λ f. c.format ≡ Some f)) };
+
+    // All events that come are of the format that comes.
+    ghost of_format: { (s : Self) → IfSome (coming s) (λ c. AreOf c.format c.events) };
 }

@@ -6,42 +6,16 @@ ghost use Rattle.pmt_text.specs.Reading.{HasRead, IsBase};
 ghost use Rattle.pmt_text.specs.Spelled.{IsAfterWord, IsFirstEvent, front_four, spelled_span};
 ghost use Rattle.pmt_text.specs.Spelling.{address, event_text, hex_bytes, numeral};
 
-use crate::number::{digit, four_digits, turned_four_digits};
+use crate::number::digit;
 use crate::word::Word;
+use pmt_lanes::{decimal_number, hex_bytes, hex_number};
 use pmt_model::{Addr, Event, Format, Op, OpError, Payload, Range, WordStore};
 
 /// A number below this takes one more digit of base 16 and stays below 2^48.
 const DIGIT_LIMIT: u64 = 1 << 44;
 
-/// The number that four digits of base 16 write is below this.
-const FOUR_LIMIT: u64 = 1 << 16;
-
-/// The number that the first digits of base 16 write, four of them at a time, and how many they are: at most 12.
-#[inline(always)]
-fn take_fours(text: &[u8]) -> (u64, usize)
-    ensures { HasRead 16 text.now result.0 result.1 }
-{
-    if text.len() < 12 {
-        return (0, 0);
-    }
-    let first = four_digits(text, 0);
-    if first >= FOUR_LIMIT {
-        return (0, 0);
-    }
-    let second = four_digits(text, 4);
-    if second >= FOUR_LIMIT {
-        return (first, 4);
-    }
-    let eight = first * FOUR_LIMIT + second;
-    let third = four_digits(text, 8);
-    if third >= FOUR_LIMIT {
-        return (eight, 8);
-    }
-    (eight * FOUR_LIMIT + third, 12)
-}
-
-/// The number at the front, and what stands after it.
-#[inline(always)]
+/// The number at the front, digit by digit, and what stands after it.
+#[inline(never)]
 fn take_number(base: u64, text: &[u8]) -> Option<(u64, &[u8])>
     requires { IsBase base }
     ensures { IfSome result (λ p. text.now ≡ numeral base p.0 ++ p.1.now) }
@@ -52,7 +26,8 @@ fn take_number(base: u64, text: &[u8]) -> Option<(u64, &[u8])>
     if text[0] == b'0' {
         return Some((0, &text[1..]));
     }
-    let (mut number, mut at) = if base == 16 { take_fours(text) } else { (0, 0) };
+    let mut number = 0;
+    let mut at = 0;
     while at < text.len() && number < DIGIT_LIMIT {
         let digit = digit(text[at]);
         if digit >= base {
@@ -100,34 +75,36 @@ fn take_word<'a>(word: &[u8], text: &'a [u8]) -> Option<&'a [u8]>
     Some(&text[word.len()..])
 }
 
-/// The number of twelve digits of base 16 at the front, and what stands after it.
+/// The number of base 10 at the front, and what stands after it.
 #[inline(always)]
-fn take_twelve(text: &[u8]) -> Option<(u64, &[u8])>
-    ensures { IfSome result (λ p. text.now ≡ numeral 16 p.0 ++ p.1.now) }
+fn take_decimal(text: &[u8]) -> Option<(u64, &[u8])>
+    ensures { IfSome result (λ p. text.now ≡ numeral 10 p.0 ++ p.1.now) }
 {
-    if text.len() < 12 || text[0] == b'0' {
-        return None;
+    match decimal_number(text) {
+        Some((number, count)) => Some((number, &text[count..])),
+        None => take_number(10, text),
     }
-    let first = four_digits(text, 0);
-    let second = four_digits(text, 4);
-    let third = four_digits(text, 8);
-    if first >= FOUR_LIMIT || second >= FOUR_LIMIT || third >= FOUR_LIMIT {
-        return None;
-    }
-    let number = (first * FOUR_LIMIT + second) * FOUR_LIMIT + third;
-    Some((number, &text[12..]))
 }
 
-/// The address at the front, and what stands after it. Most are of twelve digits.
+/// The number of base 16 at the front, and what stands after it.
+#[inline(always)]
+fn take_hex(text: &[u8]) -> Option<(u64, &[u8])>
+    ensures { IfSome result (λ p. text.now ≡ numeral 16 p.0 ++ p.1.now) }
+{
+    match hex_number(text) {
+        Some((number, count)) => Some((number, &text[count..])),
+        None => take_number(16, text),
+    }
+}
+
+/// The address at the front, and what stands after it.
 #[inline(always)]
 fn take_address(text: &[u8]) -> Option<(u64, &[u8])>
     ensures { IfSome result (λ p. text.now ≡ address p.0 ++ p.1.now) }
 {
     let digits = take_word(b"0x", text)?;
-    if let Some((addr, rest)) = take_twelve(digits) {
-        return Some((addr, rest));
-    }
-    take_number(16, digits)
+    let (addr, rest) = take_hex(digits)?;
+    Some((addr, rest))
 }
 
 /// What stands after the space at the front.
@@ -175,7 +152,7 @@ fn take_thread(text: &[u8]) -> Option<(u8, &[u8])>
     if let Some((thread, rest)) = take_digit(text) {
         return Some((thread, rest));
     }
-    let (number, rest) = take_number(10, text)?;
+    let (number, rest) = take_decimal(text)?;
     if number < 256 {
         Some((number as u8, rest))
     } else {
@@ -183,8 +160,8 @@ fn take_thread(text: &[u8]) -> Option<(u8, &[u8])>
     }
 }
 
-/// The bytes at the front, at most 8, which are put at the front of `out`: how many, and what stands after them.
-#[inline(always)]
+/// The bytes at the front, at most 8, which are put at the front of `out`, digit by digit: how many, and what stands after them.
+#[inline(never)]
 fn take_bytes<'a>(text: &'a [u8], out: &mut [u8; 8]) -> (usize, &'a [u8])
     ensures given { text.now ≡ hex_bytes (take result.0 out.new) ++ result.1.now }
     ensures few { result.0 ≤ 8 }
@@ -203,24 +180,20 @@ fn take_bytes<'a>(text: &'a [u8], out: &mut [u8; 8]) -> (usize, &'a [u8])
     (count, &text[2 * count..])
 }
 
-/// The eight bytes at the front, where an LF stands after them, which are put into `out`: what stands after the LF.
+/// As `take_bytes`, by lanes.
 #[inline(always)]
-fn take_eight<'a>(text: &'a [u8], out: &mut [u8; 8]) -> Option<&'a [u8]>
-    ensures { IfSome result (λ rest. text.now ≡ hex_bytes out.new ++ 10 ∷ rest.now) }
+fn take_pairs<'a>(text: &'a [u8], out: &mut [u8; 8]) -> (usize, &'a [u8])
+    ensures given { text.now ≡ hex_bytes (take result.0 out.new) ++ result.1.now }
+    ensures few { result.0 ≤ 8 }
+    ensures eight { length out.new ≡ 8 }
 {
-    if text.len() < 17 || text[16] != b'\n' {
-        return None;
+    match hex_bytes(text) {
+        Some((number, count)) => {
+            *out = number.to_le_bytes();
+            (count, &text[2 * count..])
+        }
+        None => take_bytes(text, out),
     }
-    let first = turned_four_digits(text, 0);
-    let second = turned_four_digits(text, 4);
-    let third = turned_four_digits(text, 8);
-    let last = turned_four_digits(text, 12);
-    if first >= FOUR_LIMIT || second >= FOUR_LIMIT || third >= FOUR_LIMIT || last >= FOUR_LIMIT {
-        return None;
-    }
-    let value = ((last * FOUR_LIMIT + third) * FOUR_LIMIT + second) * FOUR_LIMIT + first;
-    *out = value.to_le_bytes();
-    Some(&text[17..])
 }
 
 /// The address and the length at the front, and what stands after them.
@@ -230,7 +203,7 @@ fn take_span(text: &[u8]) -> Option<((u64, u64), &[u8])>
 {
     let (addr, text) = take_address(text)?;
     let text = take_space(text)?;
-    let (len, text) = take_number(10, text)?;
+    let (len, text) = take_decimal(text)?;
     Some(((addr, len), text))
 }
 
@@ -249,6 +222,19 @@ fn store_of(addr: u64, bytes: &[u8]) -> Option<Op>
         Ok(store) => Some(Op::Store(store)),
         Err(_) => None,
     }
+}
+
+/// The store of the first `len` bytes. Most stores have all eight, which are copied at once.
+#[inline(always)]
+fn store_of_first(addr: u64, bytes: &[u8], len: usize) -> Option<Op>
+    requires eight { length bytes.now ≡ 8 }
+    requires within { len ≤ 8 }
+    ensures { IfSome result (λ op. op ≡ Op.Store (record { addr = addr; bytes = take len bytes.now })) }
+{
+    if len == 8 {
+        return store_of(addr, bytes);
+    }
+    store_of(addr, &bytes[..len])
 }
 
 /// The isPersist of the span.
@@ -276,15 +262,10 @@ fn after_store(text: &[u8]) -> Option<(Event, &[u8])>
     let (thread, text) = take_thread(text)?;
     let (addr, text) = take_address(take_space(text)?)?;
     let text = take_space(text)?;
-    let mut eight = [0; 8];
-    if let Some(rest) = take_eight(text, &mut eight) {
-        let op = store_of(addr, &eight)?;
-        return Some((Event { thread, op }, rest));
-    }
     let mut bytes = [0; 8];
-    let (len, text) = take_bytes(text, &mut bytes);
+    let (len, text) = take_pairs(text, &mut bytes);
     let text = take_end(text)?;
-    let op = store_of(addr, &bytes[..len])?;
+    let op = store_of_first(addr, &bytes, len)?;
     Some((Event { thread, op }, text))
 }
 

@@ -95,7 +95,7 @@ impl<R: Read> TextSource<R> {
 
 impl<R: Read> EventSource for TextSource<R> {
     ghost use Rattle.pmt_text.specs.TextSources.{text_coming, text_state, text_format, text_given, text_room, text_failures, text_lent, text_few};
-    ghost use Rattle.pmt_text.specs.SourceLaws.{text_listed, text_same_format};
+    ghost use Rattle.pmt_text.specs.SourceLaws.{text_listed, text_same_format, text_of_format};
 
     ghost coming = { text_coming R.remaining };
 
@@ -116,6 +116,8 @@ impl<R: Read> EventSource for TextSource<R> {
     ghost listed = { text_listed R.remaining };
 
     ghost same_format = { text_same_format R.remaining };
+
+    ghost of_format = { text_of_format R.remaining };
 
     fn format(&mut self) -> Result<Format, SourceError> {
         if let SourceState::Failed(_) = self.state {

@@ -9,13 +9,12 @@ use Rattle.pmt_model.specs.Traces.{Recording, IsAct}
 use Rattle.pmt_model.specs.Fronts.{front_at}
 use Rattle.pmt_model.specs.Selections.{IsRising, Has}
 use Rattle.pmt_laws.proofs.Histories.{act-within, act-unique}
-use Rattle.pmt_lines.specs.declared.raises.Raise.{Raise}
+use Rattle.pmt_lines.specs.Raises.{Raise, RaisesBetween, IsRaises}
 use Rattle.pmt_lines.specs.declared.step.StepKind.{StepKind}
 use Rattle.pmt_lines.specs.declared.step.StepKind.TheVariants.{Store, Flush, Clflush, Fence}
 use Rattle.pmt_lines.specs.declared.step.Step.{Step}
 use Rattle.pmt_lines.specs.Steps.{last_number}
 use Rattle.pmt_lines.specs.Jobs.{IsKind, IsStepOf, Touches, ByFlush, IsWalkFrom, IsJobOf}
-use Rattle.pmt_lines.specs.Raises.{RaisesBetween, IsRaises}
 use Rattle.pmt_trim.specs.Kept as kept
 use Rattle.pmt_trim.specs.Kept.{IsKeptFor, IsLineKept}
 use Rattle.pmt_trim.specs.Backwards.{is_kept, waiting_before, LastIsAt, LastIsElsewhere}
@@ -122,7 +121,7 @@ pub told-raised : (T : Recording) (l low : ℕ) (s : Step) (raises before : List
     RaisesBetween T l 0 low before × TellsRise T l s.number true
 told-raised T l low s raises before next told last = go s.number next.later next.untouched told (last.2)
   where
-    go : (k : ℕ) → low < k → ((n : ℕ) → low < n → n < k → ¬ Touches T l n) → RaisesBetween T l 0 k raises → last.0.place ≡ k → RaisesBetween T l 0 low before × TellsRise T l k true
+    go : (k : ℕ) → low < k → ((n : ℕ) → low < n → n < k → ¬ Touches T l n) → RaisesBetween T l 0 k raises → last.0.0 ≡ k → RaisesBetween T l 0 low before × TellsRise T l k true
     go zero later untouched told at = absurd (omega arith)
     go (suc n) later untouched told at =
         let e : suc n - 1 ≡ n = omega arith in

@@ -1,4 +1,3 @@
-pub mod HeadlineLemmas
 pub mod Waiting
 pub mod RaiseLemmas
 pub mod BackLemmas
@@ -6,13 +5,3 @@ pub mod KeptLemmas
 pub mod MarkingLemmas
 pub mod LineLemmas
 pub mod JoinLemmas
-pub mod TrimmingLemmas
-pub mod AllEvents
-pub mod PassingLemmas
-pub mod FencingLemmas
-pub mod SettlingLemmas
-pub mod QueueLemmas
-pub mod StreamLemmas
-pub mod FlowLemmas
-pub mod FlowEnds
-pub mod WholeTextLemmas

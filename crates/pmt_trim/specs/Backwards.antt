@@ -3,7 +3,7 @@
 use Rattle.std.specs.Prelude.{◌≡◌, ◌≢◌, ℕ, Bool, false, List, [], ◌∷◌, ◌++◌, slice_index_or, slice_set}
 use Rattle.pmt_lines.specs.declared.step.StepKind.{StepKind}
 use Rattle.pmt_lines.specs.declared.step.StepKind.TheVariants.{Store, Flush, Clflush, Fence}
-use Rattle.pmt_lines.specs.declared.raises.Raise.{Raise}
+use Rattle.pmt_lines.specs.Raises.{Raise}
 
 -- Whether the step by thread t is kept: a flush where the thread waits, a clflush or a fence where it raises the front.
 abbrev pub is_kept : StepKind → ℕ → Bool → List Bool → Bool
@@ -21,8 +21,8 @@ waiting_before Fence t rises waiting = slice_set waiting t rises
 
 -- The last raise is at this place, and these are the ones before it.
 abbrev pub LastIsAt : List Raise → ℕ → List Raise → Type 0
-LastIsAt raises place before = (r : Raise) × (raises ≡ before ++ r ∷ []) × (r.place ≡ place)
+LastIsAt raises place before = (r : Raise) × (raises ≡ before ++ r ∷ []) × (r.0 ≡ place)
 
 -- The last raise, if there is one, is at another place.
 abbrev pub LastIsElsewhere : List Raise → ℕ → Type 0
-LastIsElsewhere raises place = (before : List Raise) (r : Raise) → raises ≡ before ++ r ∷ [] → r.place ≢ place
+LastIsElsewhere raises place = (before : List Raise) (r : Raise) → raises ≡ before ++ r ∷ [] → r.0 ≢ place

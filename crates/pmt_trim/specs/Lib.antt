@@ -1,10 +1,3 @@
 pub mod Kept
-pub mod Headline
 pub mod Backwards
 pub mod Marking
-pub mod Passing
-pub mod Fencing
-pub mod Streaming
-pub mod LineQueues
-pub mod Leaving
-pub mod WholeTexts

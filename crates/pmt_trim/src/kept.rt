@@ -3,7 +3,7 @@ ghost use Rattle.std.specs.Prelude.{◌≡◌, ◌<◌, reverse, IfOk, MatchOpti
 ghost use Rattle.pmt_trim.specs.Kept.{IsJobKept};
 ghost use Rattle.pmt_trim.specs.Backwards.{is_kept, waiting_before, LastIsAt, LastIsElsewhere};
 
-use pmt_lines::{LineResult, Raise, StepKind};
+use pmt_lines::{LineResult, StepKind};
 use pmt_model::OutOfMemory;
 use std::alloc::Global;
 
@@ -40,15 +40,11 @@ fn kept_back(alloc: Global, found: &LineResult) -> Result<Vec<u64>, OutOfMemory>
 }
 
 // The raises before the last one, if that one is at this place.
-fn raises_before(raises: &[Raise], place: u64) -> Option<&[Raise]>
+fn raises_before(raises: &[(u64, u64)], place: u64) -> Option<&[(u64, u64)]>
     ensures { MatchOption result (LastIsElsewhere raises.now place) (λ before. LastIsAt raises.now place before.now) }
 {
     let (last, before) = raises.split_last()?;
-    if last.place as u64 == place {
-        Some(before)
-    } else {
-        None
-    }
+    if last.0 == place { Some(before) } else { None }
 }
 
 // Goes back over a step, which raises the front or not: true where it is kept.

@@ -2,9 +2,9 @@
 use Rattle.std.specs.Prelude.{◌≡◌, ◌⊎◌, Result, Ok, Err}
 use Rattle.pmt_text.specs.declared.kind.SourceError.{SourceError}
 use Rattle.pmt_text.specs.declared.source.SourceState.{SourceState}
-use Rattle.pmt_lines.specs.declared.taking.TakeError.{TakeError}
-use Rattle.pmt_lines.specs.declared.taking.TakeError.TheVariants as refusals
-use Rattle.pmt_lines.specs.Sourcing.{TellsEnd, TellsFault, TellsNothing}
+use Rattle.pmt_taking.specs.declared.taking.TakeError.{TakeError}
+use Rattle.pmt_taking.specs.declared.taking.TakeError.TheVariants as refusals
+use Rattle.pmt_taking.specs.Sourcing.{TellsEnd, TellsFault, TellsNothing}
 use Rattle.pmt_workers.specs.declared.analyse.AnalyseError.{AnalyseError}
 use Rattle.pmt_workers.specs.declared.analyse.AnalyseError.TheVariants.{BadWorkers, Source, OutOfMemory}
 

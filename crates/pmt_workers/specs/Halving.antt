@@ -1,10 +1,6 @@
 -- How jobs are shared out.
-use Rattle.std.specs.Prelude.{◌==◌, ◌||◌, ◌≤◌, ℕ, ◌+◌, ◌-◌, Bool, List, [], ◌∷◌, length, take, drop}
+use Rattle.std.specs.Prelude.{◌≤◌, ℕ, ◌+◌, ◌-◌, List, [], ◌∷◌, length, take, drop}
 use Rattle.pmt_lines.specs.Steps.{LineWork}
-
--- The numbers of workers that may be asked for.
-abbrev pub is_worker_count : ℕ → Bool
-is_worker_count n = (n == 1) || (n == 2) || (n == 4) || (n == 8) || (n == 16)
 
 -- The steps of all these jobs.
 abbrev pub steps_of : List LineWork → ℕ

@@ -4,21 +4,22 @@ ghost use Rattle.pmt_model.specs.Selections.{cut};
 ghost use Rattle.pmt_text.specs.Coming.{ComesWhole};
 ghost use Rattle.pmt_text.specs.Sources.{CountsReads};
 ghost use Rattle.pmt_lines.specs.Splitting.{IsSplit};
-ghost use Rattle.pmt_lines.specs.Sourcing.{IsFaultOf};
-ghost use Rattle.pmt_trim.specs.Headline.{IsTrimmed};
+ghost use Rattle.pmt_taking.specs.Sourcing.{IsFaultOf};
+ghost use Rattle.pmt_trimming.specs.Headline.{IsTrimmed};
 ghost use Rattle.pmt_analysis.specs.Analysing.{IsAnalysed};
 ghost use Rattle.pmt_workers.specs.Asking.{TellsSource, error_of, told_by};
 ghost use Rattle.pmt_workers.specs.declared.analyse.AnalyseError.TheVariants.{OutOfMemory};
-ghost use Rattle.pmt_workers.specs.Halving.{is_worker_count};
+ghost use Rattle.pmt_analysis.specs.Workers.{is_worker_count};
 
 use crate::halves::run_in_halves;
 use crate::results::taken_apart;
 use crate::shard::ShardGate;
-use pmt_analysis::Analysis;
+use pmt_analysis::{Analysis, are_allowed};
 use pmt_asserts::{Tables, verdicts};
 use pmt_findings::findings;
-use pmt_lines::{Jobs, TakeError, run_fences, split_trace, take_trace};
+use pmt_lines::{Jobs, run_fences, split_trace};
 use pmt_model::{OutOfMemory, Trace};
+use pmt_taking::{TakeError, take_trace};
 use pmt_text::{EventSource, SourceError};
 use pmt_trim::liveness;
 use std::alloc::{AllocError, Global};
@@ -88,13 +89,6 @@ pub fn analyse_with<R: Threads + Sync, S: EventSource, G: ShardGate + Sync>(
     let trace = take_trace(alloc, source)?;
     let analysis = analysis_of(rt, alloc, gate, trace, workers)?;
     Ok(analysis)
-}
-
-/// Whether there may be this many workers.
-pub fn are_allowed(workers: usize) -> bool
-    ensures { result ≡ is_worker_count workers }
-{
-    matches!(workers, 1 | 2 | 4 | 8 | 16)
 }
 
 // The analysis of the trace, which is taken apart by lines.

@@ -8,7 +8,7 @@ mod results;
 pub mod shard;
 pub mod trimming;
 
-pub use crate::analyse::{AnalyseError, analyse_with, are_allowed};
+pub use crate::analyse::{AnalyseError, analyse_with};
 pub use crate::shard::{LineAnswer, ShardGate, run_shard};
 pub use crate::trimming::trimmed;
 pub use pmt_analysis::Analysis;

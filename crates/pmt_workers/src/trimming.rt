@@ -1,6 +1,6 @@
 //! The trimmed trace of an analysis.
 ghost use Rattle.std.specs.Prelude.{IfOk};
-ghost use Rattle.pmt_trim.specs.Headline.{IsTrimmed};
+ghost use Rattle.pmt_trimming.specs.Headline.{IsTrimmed};
 
 use pmt_analysis::Analysis;
 use pmt_model::{OutOfMemory, Trace};

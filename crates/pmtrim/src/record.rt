@@ -2,9 +2,7 @@
 
 ghost use Rattle.std.specs.Prelude.{◌≡◌, IfOk};
 
-use crate::fault::Fault;
-use crate::opener::Opener;
-use crate::writing::write_whole;
+use command_inputs::{Fault, Opener, write_whole};
 use pmt_model::{NoGate, Op, OutOfMemory, Trace};
 use pmt_recorder::{RecordError, record_scripts};
 use pmt_report::RecordFault;

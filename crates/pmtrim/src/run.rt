@@ -1,17 +1,17 @@
 //! Doing what the words ask for.
 ghost use Rattle.std.specs.Prelude.{◌≤◌, IfOk};
 
-use crate::draw::draw;
-use crate::explain::run_explain;
-use crate::fault::Fault;
-use crate::image::run_image;
-use crate::image_list::run_list;
-use crate::opener::Opener;
 use crate::record::record;
-use crate::request::{FrontsWords, Request, TraceWords, request_of};
+use command_draw::draw;
+use command_explain::run_explain;
+use command_image::{run_image, run_list};
+use command_inputs::{Fault, Opener};
+use command_requests::{FrontsWords, Request, TraceWords};
+use command_slice::run_slice;
+use command_words::request_of;
 use pmt_report::{RunError, run_check, run_error, run_fronts, run_trim};
 use pmt_text::{Counted, TextSource};
-use pmt_trim::{StreamError, trim_stream};
+use pmt_trimming::{StreamError, trim_stream};
 use std::alloc::Global;
 use std::convert::AsStr;
 use std::io::{Read, Write};
@@ -65,14 +65,15 @@ where
 {
     match request {
         Request::Show(text) => show(out, text.as_str()),
-        Request::Fronts(words) => fronts(rt.alloc(), *words, files, out),
+        Request::Fronts(words) => fronts(rt.alloc(), *words, files, input, out),
         Request::Check(words) => check(rt, *words, files, input, out),
-        Request::Explain(words) => run_explain(rt, words, files, input, out),
+        Request::Explain(words) => run_explain(rt.alloc(), words, files, input, out),
         Request::Trim(words) => trim(rt, *words, files, input, out),
         Request::Stream(file) => stream(rt.alloc(), *file, files, input, out),
-        Request::Draw(drawing) => draw(rt, drawing, files, input, out),
-        Request::Image(words) => run_image(rt, words, files, input, out),
+        Request::Draw(drawing) => draw(rt.alloc(), drawing, files, input, out),
+        Request::Image(words) => run_image(rt.alloc(), words, files, input, out),
         Request::ImageList(words) => run_list(rt.alloc(), words, files, input, out),
+        Request::Slice(words) => run_slice(rt.alloc(), words, files, input, out),
         Request::Record(scripts) => record(rt, files, scripts.as_slice(), out),
     }
 }
@@ -87,17 +88,36 @@ fn show<W: Write>(out: &mut W, text: &str) -> Result<u8, Fault>
     }
 }
 
-fn fronts<O: Opener, W: Write>(
+// The fronts of the trace of the file, or of that of `input` where none is named.
+fn fronts<O, I, W>(
     alloc: Global,
     words: FrontsWords<'_>,
     files: &O,
+    input: &mut I,
+    out: &mut W,
+) -> Result<u8, Fault>
+where
+    O: Opener,
+    I: Read,
+    W: Write,
+    ensures { IfOk result (λ status. status ≤ 1) }
+{
+    match words.file {
+        Some(name) => fronts_of(alloc, words.place, files.open(name)?, out),
+        None => fronts_of(alloc, words.place, input, out),
+    }
+}
+
+fn fronts_of<R: Read + Drop, W: Write>(
+    alloc: Global,
+    place: u64,
+    reader: R,
     out: &mut W,
 ) -> Result<u8, Fault>
     ensures { IfOk result (λ status. status ≤ 1) }
 {
-    let reader = Counted::new(files.open(words.file)?);
     let mut writer = Counted::new(out);
-    let (_reader, done) = run_fronts(alloc, words.place, reader, &mut writer);
+    let (_reader, done) = run_fronts(alloc, place, Counted::new(reader), &mut writer);
     told(done)
 }
 

@@ -7,7 +7,7 @@ ghost use Rattle.pmt_model.specs.Formats.{first_version};
 use crate::recorder::scripts::has_events;
 use pmt_book::Book;
 use pmt_model::{Format, Op, OpError, Trace};
-use pmt_recorder::{AppendError, Roll, Session, Tape};
+use pmt_recorder::{AppendError, Roll, SealFault, SealKind, Session, StartError, Tape};
 use std::alloc::Global;
 use std::marker::Brand;
 use std::process::Abort;
@@ -188,4 +188,135 @@ fn record_strangers<L: Roll, R: Wait + Abort>(
 fn not_in_format(rt: HostRuntime) -> Result<(), Fail> {
     let clflush = Op::clflush(0x1000)?;
     record_strangers::<Brand, HostRuntime>(&rt, rt.alloc(), Blank::new(256), clflush)
+}
+
+// No session has so many tapes.
+fn refuses_count<L: Roll, R: Abort>(rt: &R, alloc: Global, blank: Blank, count: usize)
+    requires name { blank.name ≡ L.name }
+    requires parts { (blank.parts ≡ L.parts) × (blank.parts ≡ 256) }
+    requires tapes { count ≡ L.tapes }
+    requires format { first_version ≡ L.format }
+{
+    let answer = Session::<L>::start(alloc, blank, count);
+    assert_eq!(rt; answer.err(), Some(StartError::BadCount));
+}
+
+#[test]
+fn bad_counts(rt: HostRuntime) {
+    refuses_count::<Brand, HostRuntime>(&rt, rt.alloc(), Blank::new(256), 0);
+    refuses_count::<Brand, HostRuntime>(&rt, rt.alloc(), Blank::new(256), 257);
+}
+
+// Appends so many fences.
+fn fill<L: Roll, R: Wait + Abort>(rt: &R, session: &Session<L>, tape: &mut Tape<L>, fences: u64) {
+    for _ in 0..fences {
+        assert!(rt; session.append(rt, tape, Op::Sfence).is_ok());
+    }
+}
+
+// Both tapes get a hundred fences, and the second is left.
+fn fill_both<L: Roll, R: Wait + Abort>(
+    rt: &R,
+    session: &Session<L>,
+    tapes: &mut Vec<Tape<L>>,
+) -> Result<(), Fail> {
+    let mut second = take_tape(tapes)?;
+    let mut first = take_tape(tapes)?;
+    fill(rt, session, &mut first, 100);
+    fill(rt, session, &mut second, 100);
+    put_tape(tapes, second)
+}
+
+// The book of both tapes is handed back, and the one tape that is left.
+fn has_handed_back<L: Roll, R: Abort>(rt: &R, fault: &SealFault<L>) {
+    assert_eq!(rt; fault.kind, SealKind::WrongTapes);
+    assert_eq!(rt; fault.book.len(), 200);
+    let lengths = fault.tapes.first().map(|tape| (tape.thread(), tape.len()));
+    assert_eq!(rt; (fault.tapes.len(), lengths), (1, Some((1, 100))));
+}
+
+// The session is not sealed with one of its tapes.
+fn refuses_one<L: Roll, R: Abort>(rt: &R, session: Session<L>, tapes: Vec<Tape<L>>) {
+    match session.seal(tapes) {
+        Ok(_) => panic!(rt; "a session was sealed without a tape"),
+        Err(fault) => has_handed_back(rt, &fault),
+    }
+}
+
+// Both tapes are filled, and one of them is handed in.
+fn lose_one<L: Roll, R: Wait + Abort>(
+    rt: &R,
+    session: Session<L>,
+    tapes: Vec<Tape<L>>,
+) -> Result<(), Fail> {
+    let mut tapes = tapes;
+    fill_both(rt, &session, &mut tapes)?;
+    refuses_one(rt, session, tapes);
+    Ok(())
+}
+
+// A session of two tapes, one of which is lost.
+fn record_two<L: Roll, R: Wait + Abort>(rt: &R, alloc: Global, blank: Blank) -> Result<(), Fail>
+    requires name { blank.name ≡ L.name }
+    requires parts { (blank.parts ≡ L.parts) × (blank.parts ≡ 256) }
+    requires tapes { 2 ≡ L.tapes }
+    requires format { first_version ≡ L.format }
+{
+    match Session::<L>::start(alloc, blank, 2) {
+        Ok((session, tapes)) => lose_one(rt, session, tapes),
+        Err(_) => Err("no session".into()),
+    }
+}
+
+#[test]
+fn two_recorders(rt: HostRuntime) -> Result<(), Fail> {
+    record_two::<Brand, HostRuntime>(&rt, rt.alloc(), Blank::new(256))
+}
+
+// Fills the tape, whose session refuses one event more.
+fn fill_whole<L: Roll, R: Wait + Abort>(
+    rt: &R,
+    session: &Session<L>,
+    tapes: &mut Vec<Tape<L>>,
+) -> Result<(), Fail> {
+    let mut tape = take_tape(tapes)?;
+    fill(rt, session, &mut tape, 1_000_000);
+    let one_more = session.append(rt, &mut tape, Op::Sfence);
+    assert_eq!(rt; one_more, Err(AppendError::Full { events: 1_000_000 }));
+    put_tape(tapes, tape)
+}
+
+// The session is filled, and sealed.
+fn filled<L: Roll, R: Wait + Abort>(
+    rt: &R,
+    session: Session<L>,
+    tapes: Vec<Tape<L>>,
+) -> Result<Trace, Fail> {
+    let mut tapes = tapes;
+    fill_whole(rt, &session, &mut tapes)?;
+    sealed(session, tapes)
+}
+
+// The trace of a session of one tape, which is filled.
+fn record_million<L: Roll, R: Wait + Abort>(
+    rt: &R,
+    alloc: Global,
+    blank: Blank,
+) -> Result<Trace, Fail>
+    requires name { blank.name ≡ L.name }
+    requires parts { (blank.parts ≡ L.parts) × (blank.parts ≡ 256) }
+    requires tapes { 1 ≡ L.tapes }
+    requires format { first_version ≡ L.format }
+{
+    match Session::<L>::start(alloc, blank, 1) {
+        Ok((session, tapes)) => filled(rt, session, tapes),
+        Err(_) => Err("no session".into()),
+    }
+}
+
+#[test]
+fn million_events(rt: HostRuntime) -> Result<(), Fail> {
+    let trace = record_million::<Brand, HostRuntime>(&rt, rt.alloc(), Blank::new(256))?;
+    assert_eq!(rt; trace.len(), 1_000_000);
+    Ok(())
 }

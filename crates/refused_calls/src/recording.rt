@@ -1,4 +1,4 @@
-//! Calls of a book, and of a session in which two threads record.
+//! Calls of a book, and of a session in which two threads record (two_recorders).
 
 ghost use Rattle.std.specs.Prelude.{◌≡◌};
 ghost use Rattle.pmt_model.specs.Formats.{first_version};
@@ -16,7 +16,7 @@ use std::thread::Threads;
 
 const EVENTS: u64 = 61;
 
-const APPENDS: usize = 40;
+const APPENDS: usize = 100;
 
 // A store to line 64, which 20 threads flush; a store by each thread to a line of its own; a fence by each.
 fn event_of(number: u64) -> Option<Event> {

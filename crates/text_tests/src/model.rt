@@ -1,5 +1,8 @@
 //! Tests of values that no text can ask for.
-use pmt_model::{Op, Payload, Selection, SplitStoreError, split_store};
+use pmt_model::{
+    Event, Format, FormatError, Op, Payload, PushError, Selection, SplitStoreError, Trace,
+    split_store,
+};
 use std::alloc::Global;
 use std::process::Abort;
 use std::test::Fail;
@@ -56,5 +59,32 @@ fn split_and_selection(rt: HostRuntime) -> Result<(), Fail> {
     assert_eq!(rt; pieces.as_slice(), wanted.as_slice());
     answers_numbers(&rt, three_numbers(rt.alloc(), 4)?, None);
     answers_numbers(&rt, three_numbers(rt.alloc(), 3)?, Some(2));
+    Ok(())
+}
+
+// No format has lines of this size.
+fn refuses_size(rt: &impl Abort, size: u64) {
+    assert_eq!(rt; Format::v2(size), Err(FormatError::BadLineSize));
+}
+
+#[test]
+fn bad_line_size(rt: HostRuntime) {
+    refuses_size(&rt, 0);
+    refuses_size(&rt, 16);
+    refuses_size(&rt, 512);
+}
+
+// The empty trace refuses the op, and stays empty.
+fn refuses(rt: &impl Abort, trace: &mut Trace, op: Op) {
+    let answer = trace.push(Event { thread: 0, op });
+    assert_eq!(rt; answer, Err(PushError::NotInFormat));
+    assert_eq!(rt; trace.len(), 0);
+}
+
+#[test]
+fn not_in_format(rt: HostRuntime) -> Result<(), Fail> {
+    let mut trace = Trace::new(rt.alloc());
+    refuses(&rt, &mut trace, Op::clflush(0x1000)?);
+    refuses(&rt, &mut trace, Op::Mfence);
     Ok(())
 }

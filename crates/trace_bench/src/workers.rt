@@ -1,7 +1,8 @@
 //! Analysing a trace by some workers, and by one pass over its events.
-use pmt_lines::{LineJob, take_trace};
+use pmt_lines::LineJob;
 use pmt_model::{OutOfMemory, Trace};
-use pmt_sweep::sweep;
+use pmt_pass::sweep;
+use pmt_taking::take_trace;
 use pmt_text::ListSource;
 use pmt_workers::{LineAnswer, ShardGate, analyse_with, run_shard};
 use std::alloc::Global;

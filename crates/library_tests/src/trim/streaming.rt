@@ -51,7 +51,7 @@ impl Write for CountingWriter<'_> {
     }
 }
 
-// What is decided is out before the next event is asked for.
+// What is decided is out before the next event is asked for: stream_as_it_goes.
 #[test]
 fn stream_holds_all_back(rt: HostRuntime) {
     let out = Cell::new(0);

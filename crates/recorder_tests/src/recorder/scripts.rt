@@ -1,11 +1,13 @@
-//! A test of scripts with running threads.
-use pmt_model::{Gate, Op, OpError, Trace};
-use pmt_recorder::record_scripts;
+//! Tests of scripts with running threads.
+use pmt_model::{Gate, NoGate, Op, OpError, Trace};
+use pmt_recorder::{RecordError, record_scripts};
 use std::alloc::Global;
 use std::process::Abort;
+use std::sync::Wait;
 use std::sync::atomic::{AtomicU64, Ordering};
 use std::test::Fail;
 use std::thread;
+use std::thread::Threads;
 
 // The trace has these ops of these threads, and no others.
 pub(crate) fn has_events<R: Abort>(rt: &R, trace: &Trace, wanted: &[(u8, Op)]) {
@@ -88,5 +90,40 @@ fn scripts(rt: HostRuntime) -> Result<(), Fail> {
             (0, Op::Sfence),
         ],
     );
+    Ok(())
+}
+
+// The scripts are refused so.
+fn refuses<R: Threads + Wait + Abort + Sync>(
+    rt: &R,
+    alloc: Global,
+    scripts: Vec<Vec<Op>>,
+    wanted: RecordError,
+) {
+    let answer = record_scripts(rt, alloc, &NoGate, scripts);
+    assert_eq!(rt; answer.err(), Some(wanted));
+}
+
+#[test]
+fn not_in_format(rt: HostRuntime) -> Result<(), Fail> {
+    let scripts = scripts_of(rt.alloc(), store()?, Op::clflush(0x1000)?)?;
+    let wanted = RecordError::NotInFormat { recorder: 1 };
+    refuses(&rt, rt.alloc(), scripts, wanted);
+    Ok(())
+}
+
+// A script of so many fences.
+fn fences(alloc: Global, count: usize) -> Result<Vec<Op>, Fail> {
+    Ok(vec![in alloc; Op::Sfence; count]?)
+}
+
+#[test]
+fn million_events(rt: HostRuntime) -> Result<(), Fail> {
+    let scripts = vec![in rt.alloc(); fences(rt.alloc(), 1_000_001)?]?;
+    let wanted = RecordError::Full {
+        recorder: 0,
+        events: 1_000_000,
+    };
+    refuses(&rt, rt.alloc(), scripts, wanted);
     Ok(())
 }

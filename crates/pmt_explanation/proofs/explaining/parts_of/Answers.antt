@@ -13,12 +13,14 @@ returns c =
     let lost = c.in_ok-lost.lost in
     record {
       label_numbers = search rules;
-      found = subst (λ ns. AreFound a.trace a.verdicts c.args.labels.now ns c.args.options.now c.in_ok-found.found) c.as_slice-numbers.ensures.value c.in_ok-found.ensures;
+      frames = search rules;
+      places = search rules;
+      found = subst (λ ns. AreFound a.trace a.verdicts c.args.labels.now ns c.args.options.now c.in_ok-found.found) c.as_slice-numbers.ensures.value c.in_ok-found.ensures.found;
       stores = c.in_ok-lost.ensures.stores;
       lost = c.in_ok-lost.ensures.groups;
       lost_causes = subst (λ ns. AreGrouped (filter_map (lost_item a.trace ns) lost.groups.items) lost.causes.items) c.as_slice-numbers.ensures.value c.in_ok-lost.ensures.causes;
       overwritten = c.in_ok-lost.ensures.overwritten;
-      unwritten = c.in_ok-unwritten.ensures ∙ ap (λ T. asked_unwritten T c.args.labels.now c.args.options.now.choice (unwritten_of T)) c.trace-2.ensures.value;
+      unwritten = c.in_ok-unwritten.ensures ∙ ap (λ T. asked_unwritten T c.args.labels.now c.args.options.now.choice (unwritten_of T)) c.trace-3.ensures.value;
       ignored_stores = c.in_ok-lost.ensures.ignored_stores;
       ignored_pairs = c.in_ok-lost.ensures.ignored_pairs;
     }

@@ -38,4 +38,5 @@ returns-in-Err-write_all_counted-clause-copied g c =
       take n read,
       omega (arith, length-take n read, c.in-Ok.ensures.most),
       copied-piece (written_by (reverse c.args.stores.now)) c.args.at n k read laid _ _ old new within c.lay_stores.ensures few c.in-Ok.ensures.bytes out,
+      tt,
     )

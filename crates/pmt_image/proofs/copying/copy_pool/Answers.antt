@@ -1,6 +1,6 @@
 use Rattle.std.proofs.Common.{◌++◌, reverse, arith, length-append}
 use Rattle.pmt_image.specs.Persisting.{written_by}
-use Rattle.pmt_image.proofs.CopyLemmas.{copied-more}
+use Rattle.pmt_image.proofs.CopyLemmas.{copied-more, ended-more}
 use Rattle.pmt_image.proofs.copying.copy_pool.Goals as goal
 
 pub loop-done-preserved : goal.loop-done-preserved
@@ -26,4 +26,5 @@ returns-in-Err-clause-copied g c =
       x.0 ++ y.0,
       omega (arith, length-append x.0 y.0, x.1, y.1, c.loop-done-test.true),
       copied-more (written_by (reverse c.args.stores.now)) c.args.pool.origin c.loop-done.done x.0 y.0 c.in-Err.fault.written _ _ _ _ _ _ x.1 x.2 y.2,
+      ended-more c.in-Err.fault.stop c.args.pool.size c.loop-done.done c.in-Err.fault.written x.0 y.0 _ x.1 c.loop-done-test.true y.3,
     )

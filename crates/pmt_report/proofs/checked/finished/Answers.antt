@@ -5,7 +5,7 @@ finish-requires c = (c.requires.0, c.requires.1.swept)
 
 pub returns : goal.returns
 returns c T taken = record {
-  is_trace = taken.swept.sweep.linked.trace;
+  is_trace = taken.swept.known.trace;
   counted = taken.counted;
   right = record {
     touched = c.in_ok-swept.ensures.lines T taken.swept;

@@ -3,9 +3,9 @@ use Rattle.std.proofs.lemmas.List.{length-append}
 use Rattle.pmt_model.specs.Pushing.{empty}
 use Rattle.pmt_model.specs.Traces.{Recording}
 use Rattle.pmt_laws.specs.Passing.{with_events}
-use Rattle.pmt_lines.specs.declared.taking.TakeError.TheVariants.{OutOfMemory}
-use Rattle.pmt_lines.specs.Blocks.{TakesBlock, shown_by}
-use Rattle.pmt_sweep.specs.Growing.{HasSwept}
+use Rattle.pmt_taking.specs.declared.taking.TakeError.TheVariants.{OutOfMemory}
+use Rattle.pmt_taking.specs.Blocks.{TakesBlock, shown_by}
+use Rattle.pmt_pass.specs.Passing.{HasSwept}
 use Rattle.pmt_report.specs.declared.checked.TheConstants.{BLOCK}
 use Rattle.pmt_text.specs.Sources.{CountsReads}
 use Rattle.pmt_report.specs.Blockwise.{IsTakenSoFar}

@@ -2,8 +2,8 @@ use Rattle.std.proofs.Common.{◌≡◌, suc, ◌+◌, ◌==◌, length}
 use Rattle.std.specs.Prelude.{if◌then◌else◌}
 use Rattle.pmt_model.specs.Traces.{Recording, IsTrace}
 use Rattle.pmt_laws.specs.Passing.{with_events}
-use Rattle.pmt_lines.specs.Blocks.{Shown, shown_by}
-use Rattle.pmt_sweep.specs.Growing.{HasSwept}
+use Rattle.pmt_taking.specs.Blocks.{Shown, shown_by}
+use Rattle.pmt_pass.specs.Passing.{HasSwept}
 use Rattle.pmt_report.specs.declared.checked.TheConstants.{BLOCK}
 use Rattle.pmt_report.specs.Blockwise.{IsTakenSoFar}
 use Rattle.pmt_report.proofs.checked.take_others.Given as goal

@@ -1,7 +1,7 @@
 use Rattle.std.proofs.Common.{◌≤◌}
 use Rattle.pmt_model.specs.Traces.{Recording}
-use Rattle.pmt_lines.specs.Blocks.{shown_by}
-use Rattle.pmt_lines.proofs.SourceRunLemmas.{SoFar}
+use Rattle.pmt_taking.specs.Blocks.{shown_by}
+use Rattle.pmt_taking.proofs.SourceRunLemmas.{SoFar}
 use Rattle.pmt_report.specs.FrontsOf.{AreLinesOf}
 use Rattle.pmt_report.proofs.first_lines.first_lines.Given as goal
 

@@ -1,6 +1,6 @@
 use Rattle.std.proofs.Common.{List, ℕ, sym, ap, subst, ◌∙◌}
 use Rattle.pmt_model.specs.Keeping.{IsKeep}
-use Rattle.pmt_trim.specs.Marking.{marked_from}
+use Rattle.pmt_flags.specs.Flags.{marked_from}
 use Rattle.pmt_report.proofs.sweeping.swept_trace.Goals as goal
 
 pub new-requires : goal.new-requires

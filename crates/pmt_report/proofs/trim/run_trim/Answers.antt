@@ -2,7 +2,7 @@ use Rattle.std.proofs.Common.{◌≡◌, ℕ, ◌+◌, Err, sym, ap, ◌∙◌, 
 use Rattle.std.specs.Prelude.{not}
 use Rattle.pmt_text.specs.Counting.{failure_count}
 use Rattle.pmt_report.specs.declared.fault.RunError.{RunError}
-use Rattle.pmt_trim.specs.Streaming.{IsTextOfTrimmed}
+use Rattle.pmt_trimming.specs.Streaming.{IsTextOfTrimmed}
 use Rattle.pmt_report.specs.Runs.{IsAnalysisFault, tells_workers, write_faults}
 use Rattle.pmt_report.proofs.RunLemmas.{fault-untold, fault-unwritten, never-told, runs-written, text-computed, written-unread, written-untold}
 use Rattle.pmt_report.proofs.trim.run_trim.Goals as goal

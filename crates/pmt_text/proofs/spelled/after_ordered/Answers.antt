@@ -1,7 +1,6 @@
 -- The thread and two spans stand after the word.
-use Rattle.std.proofs.Common.{◌≡◌, ℕ, List, [], ◌∷◌, ◌++◌, refl, ap, ◌∙◌}
+use Rattle.std.proofs.Common.{ℕ, List, [], ◌∷◌, refl, ap, ◌∙◌}
 use Rattle.pmt_text.specs.Spelling.{address, numeral}
-use Rattle.pmt_text.specs.Spelled.{spelled_span}
 use Rattle.pmt_text.proofs.AfterLemmas.{spaced-span, thread-spaced}
 use Rattle.pmt_text.proofs.spelled.after_ordered.Goals as goal
 

@@ -1,5 +1,5 @@
 -- The thread and a span stand after the word.
-use Rattle.std.proofs.Common.{◌≡◌, ℕ, List, [], ◌∷◌, refl, ap, ◌∙◌}
+use Rattle.std.proofs.Common.{ℕ, List, [], ◌∷◌, refl, ap, ◌∙◌}
 use Rattle.pmt_text.specs.Spelling.{address, numeral}
 use Rattle.pmt_text.proofs.AfterLemmas.{spaced-span, thread-spaced}
 use Rattle.pmt_text.proofs.spelled.after_persist.Goals as goal

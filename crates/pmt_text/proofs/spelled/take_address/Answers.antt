@@ -3,10 +3,6 @@ use Rattle.std.proofs.Common.{rules}
 use Rattle.pmt_text.specs.Spelling.{address}
 use Rattle.pmt_text.proofs.spelled.take_address.Goals as goal
 
-pub returns-in-Some : goal.returns-in-Some
-unfolding address
-returns-in-Some c = search rules
-
 pub returns : goal.returns
 unfolding address
 returns c = search rules

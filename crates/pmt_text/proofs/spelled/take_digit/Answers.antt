@@ -2,7 +2,7 @@
 use Rattle.std.proofs.Common.{ℕ, List, ◌++◌, sym, ap, ◌∙◌, arith}
 use Rattle.std.proofs.lemmas.List.{take_rest}
 use Rattle.pmt_text.specs.Spelling.{numeral}
-use Rattle.pmt_text.proofs.FourReading.{digit-first}
+use Rattle.pmt_text.proofs.LaneReading.{digit-first}
 use Rattle.pmt_text.proofs.spelled.take_digit.Goals as goal
 
 pub returns : goal.returns

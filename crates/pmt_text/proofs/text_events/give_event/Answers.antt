@@ -2,7 +2,7 @@ use Rattle.std.proofs.Common.{◌<◌, ◌≤◌, ◌++◌, take, Ok, sym, arith
 use Rattle.pmt_model.specs.Traces.{event_limit}
 use Rattle.pmt_text.proofs.EventLemmas.{found-taken, found-late, lends-text, line-is_text}
 use Rattle.pmt_text.specs.Lines.{last_line, unread}
-use Rattle.pmt_text.proofs.JudgedLemmas.{allowed_line}
+use Rattle.pmt_text.specs.JudgedEvents.{allowed_line}
 use Rattle.pmt_text.proofs.text_events.give_event.Goals as goal
 
 pub returns-then-given-eq-EVENT_LIMIT-clause-taken : goal.returns-then-given-eq-EVENT_LIMIT-clause-taken

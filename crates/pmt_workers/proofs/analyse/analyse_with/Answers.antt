@@ -1,6 +1,6 @@
 use Rattle.std.proofs.Common.{refl}
 use Rattle.pmt_model.specs.Selections.{cut}
-use Rattle.pmt_trim.proofs.HeadlineLemmas.{keep-is-trimmed}
+use Rattle.pmt_trimming.proofs.HeadlineLemmas.{keep-is-trimmed}
 use Rattle.pmt_workers.proofs.analyse.analyse_with.Goals as goal
 
 pub returns-clause-trimmed : goal.returns-clause-trimmed

@@ -1,8 +1,8 @@
 use Rattle.std.proofs.Common.{rules, ◌≡◌}
 use Rattle.pmt_model.specs.Selections.{cut}
 use Rattle.pmt_laws.proofs.KeepLemmas.{keep_is_selection}
-use Rattle.pmt_trim.proofs.TrimmingLemmas.{selection-within}
-use Rattle.pmt_trim.proofs.HeadlineLemmas.{keep-is-trimmed}
+use Rattle.pmt_trimming.proofs.TrimmingLemmas.{selection-within}
+use Rattle.pmt_trimming.proofs.HeadlineLemmas.{keep-is-trimmed}
 use Rattle.pmt_workers.proofs.trimming.trimmed.Goals as goal
 
 pub select-requires : goal.select-requires

@@ -3,8 +3,7 @@ use Rattle.std.specs.Prelude.{nat_le}
 use Rattle.std.proofs.lemmas.List.Sorted.{IsPartitionPoint-from_clause}
 use Rattle.pmt_model.specs.Traces.{Recording}
 use Rattle.pmt_model.specs.Fronts.{front_at}
-use Rattle.pmt_lines.specs.Raises.{LineFound, IsLineResult}
-use Rattle.pmt_lines.specs.declared.raises.Raise.{Raise}
+use Rattle.pmt_lines.specs.Raises.{LineFound, IsLineResult, Raise}
 use Rattle.pmt_lines.specs.Splitting.{IsJob}
 use Rattle.pmt_asserts.proofs.RaiseLemmas.{front_after}
 use Rattle.pmt_asserts.proofs.TableLemmas.{raises-partitioned, front-found, front_after-some}
@@ -20,7 +19,7 @@ found c T job by_end =
     let same : raises ≡ f.raises = c.raises-raises.ensures.value ∙ ap (λ (g : LineFound). g.raises) c.self.view_is in
     let right : IsLineResult f = subst IsLineResult c.self.view_is c.raises-raises.ensures.right in
     front-found T f raises c.args.place i same right job by_end c.partition_point-count.ensures.bound
-    (IsPartitionPoint-from_clause (λ (r : Raise). nat_le r.place c.args.place) raises i c.partition_point-count.ensures.partitioned (raises-partitioned T f raises c.args.place same right job) (λ a r g q. search rules))
+    (IsPartitionPoint-from_clause (λ (r : Raise). nat_le r.0 c.args.place) raises i c.partition_point-count.ensures.partitioned (raises-partitioned T f raises c.args.place same right job) (λ a r g q. search rules))
 
 pub returns-then-count-eq0 : goal.returns-then-count-eq0
 returns-then-count-eq0 c = λ T trace job by_end. found (goal.at.returns-then-count-eq0 c).After-partition_point-count T job by_end ∙ ap (front_after 0 c.raises-raises.result.now) c.if-count-eq0.true

@@ -1,6 +1,6 @@
 use Rattle.std.proofs.Common.{arith}
 use Rattle.pmt_lines.proofs.FenceActLemmas.{split-assert}
-use Rattle.pmt_lines.proofs.GrowLemmas.{length-grown}
+use Rattle.pmt_taking.proofs.GrownLemmas.{length-grown}
 use Rattle.pmt_lines.proofs.splitter.Splitter.take_assertion.Goals as goal
 
 pub returns : goal.returns

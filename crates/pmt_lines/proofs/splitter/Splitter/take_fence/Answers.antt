@@ -1,5 +1,5 @@
 use Rattle.std.proofs.Common.{◌<◌, arith}
-use Rattle.pmt_lines.proofs.GrowLemmas.{length-grown}
+use Rattle.pmt_taking.proofs.GrownLemmas.{length-grown}
 use Rattle.pmt_lines.proofs.TakeLemmas.{end_before, fences_before, fence-taken}
 use Rattle.pmt_lines.proofs.splitter.Splitter.take_fence.Goals as goal
 

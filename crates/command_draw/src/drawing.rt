@@ -1,0 +1,275 @@
+//! Drawing a trace.
+ghost use Rattle.std.specs.Prelude.{◌≡◌, IfOk};
+
+use command_inputs::{
+    Fault, Opener, STANDARD_INPUT, bytes_of, labels_of, taken_fault, write_answer,
+};
+use command_requests::Drawing;
+use pmt_causes::Group;
+use pmt_draw::{Known, Label, Picture, Refusal, Span, View, picture_of, refusal_of, svg_text};
+use pmt_explain::{LostGroup, OverwrittenGroup};
+use pmt_explain_run::explain;
+use pmt_explanation::{Choice, Explanation, Kind, Labels, Options, Unwritten};
+use pmt_model::OutOfMemory;
+use pmt_taking::TakeError;
+use pmt_text::{Counted, TextSource};
+use std::alloc::{AllocError, Global};
+use std::io::{Cursor, Read, Write};
+
+/// Draws the trace of the file, or that of `input` where none is named. The status is 0.
+///
+/// # Errors
+/// The fault of the labels, of the trace or of the write; `OutOfMemory`.
+pub fn draw<O, I, W>(
+    alloc: Global,
+    drawing: &Drawing<'_>,
+    files: &O,
+    input: &mut I,
+    out: &mut W,
+) -> Result<u8, Fault>
+where
+    O: Opener,
+    I: Read,
+    W: Write,
+    ensures { IfOk result (λ status. status ≡ 0) }
+{
+    let labels = labels_of(alloc, files, drawing.labels)?;
+    let bytes = bytes_of(alloc, drawing.file, files, input)?;
+    let text = svg_asked(alloc, drawing, &labels, bytes.as_slice())?;
+    write_answer(alloc, text.as_bytes(), out)?;
+    Ok(0)
+}
+
+// The text of the picture that is asked for, of the trace with this text.
+fn svg_asked(
+    alloc: Global,
+    drawing: &Drawing<'_>,
+    labels: &Labels,
+    bytes: &[u8],
+) -> Result<String, Fault> {
+    match explained(alloc, labels, drawing.view.span, bytes) {
+        Ok(explanation) => svg_of(alloc, &explanation, &drawing.view, labels),
+        Err(error) => {
+            let name = drawing.file.unwrap_or(STANDARD_INPUT);
+            Err(taken_fault(alloc, name, bytes, error)?)
+        }
+    }
+}
+
+// The explanation of the trace with this text, with what a picture of the span needs.
+fn explained(
+    alloc: Global,
+    labels: &Labels,
+    span: Span,
+    bytes: &[u8],
+) -> Result<Explanation, TakeError> {
+    let options = Options {
+        ignored: Vec::new(alloc),
+        limit: 0,
+        choice: needed_by(span),
+    };
+    let mut source = TextSource::new(alloc, Counted::new(Cursor::new(bytes)));
+    explain(alloc, &mut source, labels, &options)
+}
+
+// The findings that a picture of the span needs: to draw what is told first all of them, and else those of the signs.
+fn needed_by(span: Span) -> Choice {
+    Choice {
+        only: match span {
+            Span::First => None,
+            Span::Failure(_) | Span::Around(_) | Span::Between { .. } => Some(Kind::Dropped),
+        },
+        thread: None,
+        range: None,
+        from: None,
+        to: None,
+        label: None,
+    }
+}
+
+/// The picture of what the explanation tells first, as SVG.
+///
+/// # Errors
+/// `OutOfMemory`.
+pub fn first_picture(
+    alloc: Global,
+    explanation: &Explanation,
+    labels: &Labels,
+) -> Result<String, Fault> {
+    let view = View {
+        span: Span::First,
+        kept: Vec::new(alloc),
+    };
+    svg_of(alloc, explanation, &view, labels)
+}
+
+// The events and groups of an explanation that a picture marks, by kind.
+#[derive(Drop)]
+struct Marked {
+    failing: Vec<u64>,
+    useless: Vec<u64>,
+    late: Vec<u64>,
+    unwritten: Vec<u64>,
+    overwritten: Vec<OverwrittenGroup>,
+    lost: Vec<LostGroup>,
+}
+
+impl Marked {
+    // No events.
+    fn new(alloc: Global) -> Self {
+        Marked {
+            failing: Vec::new(alloc),
+            useless: Vec::new(alloc),
+            late: Vec::new(alloc),
+            unwritten: Vec::new(alloc),
+            overwritten: Vec::new(alloc),
+            lost: Vec::new(alloc),
+        }
+    }
+
+    // Adds those of the explanation.
+    fn add(&mut self, alloc: Global, explanation: &Explanation) -> Result<(), OutOfMemory> {
+        add_members(&mut self.failing, explanation.causes.as_slice())?;
+        add_members(&mut self.useless, explanation.dropped_groups.as_slice())?;
+        add_members(&mut self.late, explanation.late.as_slice())?;
+        add_events(&mut self.unwritten, explanation.unwritten.as_slice())?;
+        add_overwritten(&mut self.overwritten, explanation.overwritten.as_slice())?;
+        add_lost(alloc, &mut self.lost, explanation)
+    }
+
+    // What is known of the trace.
+    fn known<'a>(&'a self, explanation: &'a Explanation) -> Known<'a> {
+        let analysis = &explanation.analysis;
+        Known {
+            trace: analysis.trace(),
+            lines: analysis.lines() as u64,
+            verdicts: analysis.verdicts(),
+            failing: self.failing.as_slice(),
+            never: explanation.stores.as_slice(),
+            lost: self.lost.as_slice(),
+            dropped: explanation.dropped.as_slice(),
+            useless: self.useless.as_slice(),
+            overwritten: self.overwritten.as_slice(),
+            late: self.late.as_slice(),
+            unwritten: self.unwritten.as_slice(),
+        }
+    }
+}
+
+// The picture of what is explained, of which the view speaks.
+fn picture(alloc: Global, explanation: &Explanation, view: &View) -> Result<Picture, Fault> {
+    let mut marked = Marked::new(alloc);
+    marked.add(alloc, explanation)?;
+    let known = marked.known(explanation);
+    match refusal_of(known, view.span, view.kept.as_slice()) {
+        Some(refusal) => Err(refused(alloc, refusal, known.trace.len())?),
+        None => Ok(picture_of(alloc, known, view)?),
+    }
+}
+
+// What is never persisted, by line, in the order of its causes.
+fn add_lost(
+    alloc: Global,
+    told: &mut Vec<LostGroup>,
+    explanation: &Explanation,
+) -> Result<(), OutOfMemory> {
+    let lost = explanation.lost.as_slice();
+    let mut numbers = Vec::new(alloc);
+    add_members(&mut numbers, explanation.lost_causes.as_slice())?;
+    for number in numbers.as_slice() {
+        if let Ok(place) = lost.binary_search_by_key(number, |group| group.first) {
+            if let Some(group) = lost.get(place) {
+                told.push(*group)?;
+            }
+        }
+    }
+    Ok(())
+}
+
+// The members of these groups, in their order.
+fn add_members<K>(members: &mut Vec<u64>, groups: &[Group<K>]) -> Result<(), OutOfMemory> {
+    for group in groups {
+        members.extend_from_slice(group.members.as_slice())?;
+    }
+    Ok(())
+}
+
+// These groups, those first with most pairs that write other bytes, and then those with most pairs.
+fn add_overwritten(
+    told: &mut Vec<OverwrittenGroup>,
+    groups: &[OverwrittenGroup],
+) -> Result<(), OutOfMemory> {
+    told.extend_from_slice(groups)?;
+    told.sort_by_key(|group| rank_of(group))
+}
+
+// The least of the group that stands first.
+fn rank_of(group: &OverwrittenGroup) -> (u64, u64) {
+    let differing = group.count.saturating_sub(group.same);
+    (
+        u64::MAX.saturating_sub(differing),
+        u64::MAX.saturating_sub(group.count),
+    )
+}
+
+// The events of these assertions.
+fn add_events(events: &mut Vec<u64>, found: &[Unwritten]) -> Result<(), OutOfMemory> {
+    for assertion in found {
+        events.push(assertion.event)?;
+    }
+    Ok(())
+}
+
+// The fault of words that are not of the trace with so many events.
+fn refused(alloc: Global, refusal: Refusal, events: usize) -> Result<Fault, AllocError> {
+    let message = match refusal {
+        Refusal::PastEnd(number) => format!(in alloc;
+            "event {number} lies past the end: the trace has {events} events"
+        )?,
+        Refusal::NoAssertion(number) => format!(in alloc;
+            "event {number} is no assertion, so '--failure {number}' has nothing to draw"
+        )?,
+        Refusal::Passes(number) => format!(in alloc;
+            "the assertion of event {number} passes, so '--failure {number}' has nothing to draw"
+        )?,
+        Refusal::AbsentLine(address) => format!(in alloc;
+            "no event of the trace speaks of the line of '--line {address:#x}'"
+        )?,
+    };
+    Fault::usage(alloc, message.as_str())
+}
+
+// The text of the picture of what is explained, with these labels.
+fn svg_of(
+    alloc: Global,
+    explanation: &Explanation,
+    view: &View,
+    labels: &Labels,
+) -> Result<String, Fault> {
+    let drawn = picture(alloc, explanation, view)?;
+    let shown = drawn_labels(alloc, &drawn, labels)?;
+    Ok(svg_text(alloc, &drawn, shown.as_slice())?)
+}
+
+// The labels of the events that are drawn.
+fn drawn_labels(
+    alloc: Global,
+    drawn: &Picture,
+    labels: &Labels,
+) -> Result<Vec<Label>, OutOfMemory> {
+    let mut shown = Vec::new(alloc);
+    for column in &drawn.columns {
+        if let Some(text) = labels.get(column.number) {
+            push_label(&mut shown, column.number, text)?;
+        }
+    }
+    Ok(shown)
+}
+
+fn push_label(shown: &mut Vec<Label>, event: u64, text: &String) -> Result<(), OutOfMemory> {
+    let text = text.clone()?;
+    match shown.push(Label { event, text }) {
+        Ok(()) => Ok(()),
+        Err(_) => Err(AllocError),
+    }
+}

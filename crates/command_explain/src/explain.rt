@@ -1,0 +1,189 @@
+//! `explain`: what is wrong in a trace, why, and what to do.
+ghost use Rattle.std.specs.Prelude.{◌≤◌, IfOk};
+
+use command_inputs::{
+    Fault, Opener, STANDARD_INPUT, bytes_of, cut_of, labels_of, no_failure, read_file, read_ranges,
+    taken_fault, write_answer,
+};
+use command_page::page_of;
+use command_requests::{ExplainWords, Form};
+use pmt_explain_json::json_text;
+use pmt_explain_run::explain;
+use pmt_explain_text::{Screen, text};
+use pmt_explanation::{Cut, Explanation, Labels, has_failed};
+use pmt_model::OutOfMemory;
+use pmt_taking::TakeError;
+use pmt_text::{Counted, TextSource};
+use std::alloc::Global;
+use std::io::{Cursor, Read, Write};
+
+// The lines of a text where the words don't say how many entries are shown.
+const ROWS: usize = 60;
+
+/// Explains the trace of the file or of `input`, and writes what is asked for to `out`. The files of ranges and of labels are read and
+/// judged first. The status is 1 where an assertion fails, or a store is never persisted that is not ignored.
+///
+/// # Errors
+/// The fault of a file of ranges, of the labels, of the trace, that no failed assertion is where one was asked for, the fault of the
+/// folder of the source files, that of the write: the first of them. Each names the file and says why.
+pub fn run_explain<O, I, W>(
+    alloc: Global,
+    words: &mut ExplainWords<'_>,
+    files: &O,
+    input: &mut I,
+    out: &mut W,
+) -> Result<u8, Fault>
+where
+    O: Opener,
+    I: Read,
+    W: Write,
+    ensures { IfOk result (λ status. status ≤ 1) }
+{
+    read_ignored(alloc, files, words)?;
+    let labels = labels_of(alloc, files, words.labels)?;
+    let bytes = bytes_of(alloc, words.file, files, input)?;
+    let cut = cut_of(alloc, files, words.file)?;
+    let known = Known { labels, cut };
+    explain_bytes(alloc, files, words, &known, bytes.as_slice(), out)
+}
+
+// Adds the ranges of the files that name bytes which may be lost.
+fn read_ignored<O: Opener>(
+    alloc: Global,
+    files: &O,
+    words: &mut ExplainWords<'_>,
+) -> Result<(), Fault> {
+    for index in 0..words.ignore_files.len() {
+        let name = match words.ignore_files.get(index) {
+            Some(name) => *name,
+            None => break,
+        };
+        let bytes = read_file(alloc, files, name)?;
+        read_ranges(alloc, name, bytes.as_slice(), &mut words.options.ignored)?;
+    }
+    Ok(())
+}
+
+// What stands beside the trace.
+#[derive(Drop)]
+struct Known {
+    // The labels of its events.
+    labels: Labels,
+    // Where and why it was cut, if it was.
+    cut: Option<Cut>,
+}
+
+// Explains the trace with this text. The status is 1 where an assertion fails, or a store is never persisted that is not ignored.
+fn explain_bytes<O: Opener, W: Write>(
+    alloc: Global,
+    files: &O,
+    words: &ExplainWords<'_>,
+    known: &Known,
+    bytes: &[u8],
+    out: &mut W,
+) -> Result<u8, Fault>
+    ensures { IfOk result (λ status. status ≤ 1) }
+{
+    match explained(alloc, words, &known.labels, bytes) {
+        Ok(mut explanation) => tell(alloc, files, words, known, bytes, &mut explanation, out),
+        Err(error) => {
+            let name = words.file.unwrap_or(STANDARD_INPUT);
+            Err(taken_fault(alloc, name, bytes, error)?)
+        }
+    }
+}
+
+// The explanation of the trace with this text.
+fn explained(
+    alloc: Global,
+    words: &ExplainWords<'_>,
+    labels: &Labels,
+    bytes: &[u8],
+) -> Result<Explanation, TakeError> {
+    let mut source = TextSource::new(alloc, Counted::new(Cursor::new(bytes)));
+    explain(alloc, &mut source, labels, &words.options)
+}
+
+// Writes what is asked for of the explained trace with this text.
+fn tell<O: Opener, W: Write>(
+    alloc: Global,
+    files: &O,
+    words: &ExplainWords<'_>,
+    known: &Known,
+    bytes: &[u8],
+    explanation: &mut Explanation,
+    out: &mut W,
+) -> Result<u8, Fault>
+    ensures { IfOk result (λ status. status ≤ 1) }
+{
+    judge_failure(alloc, explanation, words.failure)?;
+    let status = if has_failed(explanation, known.cut.is_some()) {
+        1
+    } else {
+        0
+    };
+    let answer = answer_of(alloc, files, explanation, known, words, bytes)?;
+    write_answer(alloc, answer.as_slice(), out)?;
+    Ok(status)
+}
+
+// That the assertion of this event, if one was asked for, fails.
+fn judge_failure(
+    alloc: Global,
+    explanation: &Explanation,
+    failure: Option<u64>,
+) -> Result<(), Fault> {
+    let Some(number) = failure else {
+        return Ok(());
+    };
+    if explanation.failing.contains(&number) {
+        return Ok(());
+    }
+    Err(no_failure(alloc, number)?)
+}
+
+// What is asked for of the explained trace with this text.
+fn answer_of<O: Opener>(
+    alloc: Global,
+    files: &O,
+    explanation: &mut Explanation,
+    known: &Known,
+    words: &ExplainWords<'_>,
+    bytes: &[u8],
+) -> Result<Vec<u8>, Fault> {
+    let labels = &known.labels;
+    match words.form {
+        Form::Text => Ok(people_text(alloc, explanation, known, words)?),
+        Form::Json => Ok(json_text(alloc, explanation, labels, &words.options.choice)?),
+        Form::Page => {
+            let text = people_text(alloc, explanation, known, words)?;
+            page_of(
+                alloc,
+                files,
+                explanation,
+                labels,
+                words,
+                bytes,
+                text.as_slice(),
+            )
+        }
+    }
+}
+
+// The text for people.
+fn people_text(
+    alloc: Global,
+    explanation: &Explanation,
+    known: &Known,
+    words: &ExplainWords<'_>,
+) -> Result<Vec<u8>, OutOfMemory> {
+    let screen = Screen {
+        rows: if words.is_limited { None } else { Some(ROWS) },
+        choice: &words.options.choice,
+        ignored: words.options.ignored.as_slice(),
+        trace: words.file,
+        labels: words.labels,
+        cut: known.cut.as_ref(),
+    };
+    text(alloc, explanation, &known.labels, &screen)
+}

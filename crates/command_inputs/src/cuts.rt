@@ -1,0 +1,96 @@
+//! The file that a recorder writes beside a trace that is not all of what happened.
+
+use crate::fault::Fault;
+use crate::inputs::{open_fault, read_file};
+use crate::opener::{OpenError, Opener};
+use crate::refused::{Wrong, refused_line, split_line};
+use pmt_explanation::Cut;
+use pmt_text::fields::split_field;
+use pmt_text::number::read_number;
+use std::alloc::{AllocError, Global};
+use std::io::ErrorKind;
+
+// What stands there.
+const ALLOWED: &str =
+    "a trace that was cut has one line 'EVENT WHY' beside it, as '1000000 a trace has at most 1000000 events'";
+
+/// Where and why the trace of the file was cut, if the file FILE.cut stands beside it. Standard input has none.
+///
+/// # Errors
+/// The fault of that file, or of its line; `OutOfMemory`.
+pub fn cut_of<O: Opener>(
+    alloc: Global,
+    files: &O,
+    file: Option<&str>,
+) -> Result<Option<Cut>, Fault> {
+    let Some(file) = file else {
+        return Ok(None);
+    };
+    let name = format!(in alloc; "{file}.cut")?;
+    if !stands(alloc, files, name.as_str())? {
+        return Ok(None);
+    }
+    let bytes = read_file(alloc, files, name.as_str())?;
+    let cut = read_cut(alloc, name.as_str(), bytes.as_slice())?;
+    Ok(Some(cut))
+}
+
+// Whether there is a file with this name.
+fn stands<O: Opener>(alloc: Global, files: &O, name: &str) -> Result<bool, Fault> {
+    match files.size(name) {
+        Ok(size) => Ok(size.is_some()),
+        Err(OpenError::System(error)) if is_absent(error.kind()) => Ok(false),
+        Err(error) => Err(open_fault(alloc, name, error)?),
+    }
+}
+
+// Whether the name is of nothing.
+fn is_absent(kind: ErrorKind) -> bool {
+    kind == ErrorKind::NotFound || kind == ErrorKind::NotADirectory
+}
+
+// Where and why, by the text of the file with this name. An empty one says neither.
+fn read_cut(alloc: Global, name: &str, text: &[u8]) -> Result<Cut, Fault> {
+    if text.is_empty() {
+        return Ok(Cut {
+            event: None,
+            why: String::new(alloc),
+        });
+    }
+    let line = match split_line(text) {
+        Some((line, _)) => line,
+        None => text,
+    };
+    match judged(line) {
+        Some((event, why)) => Ok(Cut {
+            event: Some(event),
+            why: String::from_str(alloc, why)?,
+        }),
+        None => Err(refused(alloc, name, line)?),
+    }
+}
+
+// The event and the text of the line.
+fn judged(line: &[u8]) -> Option<(u64, &str)> {
+    let (field, rest) = split_field(line);
+    let event = read_number(10, field)?;
+    match str::from_utf8(rest?) {
+        Ok(why) if !has_control(why.as_bytes()) => Some((event, why)),
+        _ => None,
+    }
+}
+
+// Whether a control character stands in the text.
+fn has_control(bytes: &[u8]) -> bool {
+    bytes.iter().any(|byte| *byte < b' ' || *byte == 0x7f)
+}
+
+// The fault of the line that is refused.
+fn refused(alloc: Global, name: &str, line: &[u8]) -> Result<Fault, AllocError> {
+    let wrong = Wrong::new(
+        alloc,
+        "the line does not say where the trace was cut",
+        ALLOWED,
+    )?;
+    refused_line(alloc, name, 1, line, &wrong)
+}

@@ -1,0 +1,113 @@
+//! The faults of the program: their lines and statuses.
+ghost use Rattle.std.specs.Prelude.{◌≤◌};
+
+use crate::opener::OpenError;
+use pmt_model::OutOfMemory;
+use pmt_report::{RecordFault, RunError, fault_text};
+use std::alloc::{AllocError, Global};
+use std::io::Write;
+
+/// Why the program did not do what its words ask for.
+#[derive(Drop)]
+pub enum Fault {
+    /// The words are wrong; the text says how, and ends with LF.
+    Usage(String),
+    /// What the words ask for is not there; the text says why, and ends with LF.
+    Absent(String),
+    /// An input is refused; the text says where and why, and ends with LF.
+    Refused(String),
+    /// The system refused something; the text says what and why, and ends with LF.
+    System(String),
+    /// The run told this.
+    Run(RunError),
+    /// The scripts were not recorded.
+    Record(RecordFault),
+    /// A file can't be opened, or the answer can't be written.
+    File,
+    /// A growth was refused.
+    OutOfMemory,
+}
+
+impl From<AllocError> for Fault {
+    fn from(_error: AllocError) -> Fault {
+        Fault::OutOfMemory
+    }
+}
+
+impl From<OpenError> for Fault {
+    fn from(error: OpenError) -> Fault {
+        match error {
+            OpenError::System(_) => Fault::File,
+            OpenError::OutOfMemory => Fault::OutOfMemory,
+        }
+    }
+}
+
+impl Fault {
+    /// A usage fault that says this.
+    pub fn usage(alloc: Global, message: &str) -> Result<Fault, OutOfMemory> {
+        let text = format!(in alloc; "error: {message}\n\nFor more information, try '--help'.\n")?;
+        Ok(Fault::Usage(text))
+    }
+
+    /// The exit status.
+    pub fn status(&self) -> u8
+        ensures { result ≤ 6 }
+    {
+        match self {
+            Fault::Usage(_) | Fault::Absent(_) => 2,
+            Fault::Refused(_) => 3,
+            Fault::System(_) => 4,
+            Fault::Run(error) => error.status(),
+            Fault::Record(fault) => fault.status(),
+            Fault::File => 4,
+            Fault::OutOfMemory => 5,
+        }
+    }
+
+    /// Writes what is wrong, and gives the exit status. A fault that can't be written leaves the status as it is.
+    pub fn tell<W: Write>(self, alloc: Global, faults: &mut W) -> u8
+        ensures { result ≤ 6 }
+    {
+        match self.text(alloc) {
+            Ok(text) => {
+                let _ = faults.write_all(text.as_bytes());
+                self.status()
+            }
+            Err(_) => {
+                let _ = faults.write_all(b"out of memory\n");
+                5
+            }
+        }
+    }
+
+    // The lines that say what is wrong.
+    fn text(&self, alloc: Global) -> Result<String, OutOfMemory> {
+        match self {
+            Fault::Usage(text) | Fault::Absent(text) | Fault::Refused(text) | Fault::System(text) =>
+                { text.clone() }
+            Fault::Run(error) => ended(fault_text(alloc, error)),
+            Fault::Record(fault) => ended(fault.line(alloc)),
+            Fault::File => String::from_str(alloc, "file fault\n"),
+            Fault::OutOfMemory => String::from_str(alloc, "out of memory\n"),
+        }
+    }
+}
+
+// The line with its LF.
+fn ended(line: Result<String, OutOfMemory>) -> Result<String, OutOfMemory> {
+    let mut line = line?;
+    line.push_str("\n")?;
+    Ok(line)
+}
+
+/// The usage fault of `--failure N` where event N is no assertion that a crash can violate.
+///
+/// # Errors
+/// `OutOfMemory`.
+pub fn no_failure(alloc: Global, number: u64) -> Result<Fault, OutOfMemory> {
+    let message = format!(in alloc;
+        "invalid value '{number}' for '--failure <N>': event {number} is no assertion that a crash can violate; explain --only failure shows those that are"
+    )?;
+    Fault::usage(alloc, message.as_str())
+}

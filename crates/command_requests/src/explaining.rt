@@ -1,0 +1,37 @@
+//! What `explain` is asked for.
+
+use pmt_explanation::Options;
+
+/// In which form `explain` tells.
+#[derive(Clone, Copy, PartialEq, Eq)]
+pub enum Form {
+    /// A text for people.
+    Text,
+    /// A JSON object a line.
+    Json,
+    /// A page of HTML.
+    Page,
+}
+
+/// What `explain` is asked for.
+#[derive(Drop)]
+pub struct ExplainWords<'a> {
+    /// The bytes that may be lost, the most entries of a kind that are shown, and which findings are told.
+    pub options: Options,
+    /// The files that name more bytes that may be lost.
+    pub ignore_files: Vec<&'a str>,
+    /// Whether the words say how many entries are shown; the text has the lines of a screen where they don't.
+    pub is_limited: bool,
+    /// The one failed assertion that is asked for, by its event.
+    pub failure: Option<u64>,
+    /// The labels file.
+    pub labels: Option<&'a str>,
+    /// What is written.
+    pub form: Form,
+    /// The folder of the source files whose lines a page shows.
+    pub source: Option<&'a str>,
+    /// The most entries of a kind that a page has.
+    pub page_limit: usize,
+    /// The trace; standard input, if none is given.
+    pub file: Option<&'a str>,
+}

@@ -1,0 +1,17 @@
+//! What the words of `pmtrim` ask for.
+#![tactic(auto)]
+
+mod drawing;
+mod explaining;
+mod imaging;
+mod request;
+mod slicing;
+
+pub use crate::drawing::Drawing;
+pub use crate::explaining::{ExplainWords, Form};
+pub use crate::imaging::{AddressStores, AskedCrash, ImageRequest, ImageWords, ListWords};
+pub use crate::request::{FrontsWords, Request, TraceWords};
+pub use crate::slicing::SliceWords;
+
+/// The version of the program.
+pub const VERSION: &str = "1.0.0";

@@ -1,0 +1,117 @@
+//! `slice`: the events that show a failed assertion, as a trace.
+ghost use Rattle.std.specs.Prelude.{◌≡◌, IfOk};
+
+use crate::outputs::{Output, check_apart, write_outputs};
+use command_inputs::{Fault, Opener, labels_of, no_failure, trace_of, write_answer};
+use command_requests::SliceWords;
+use pmt_explain::failure;
+use pmt_explanation::Labels;
+use pmt_model::{Selection, Trace};
+use pmt_slices::{Slice, sliced};
+use pmt_text::write::{push_number, write_trace};
+use std::alloc::{AllocError, Global};
+use std::io::{Read, Write};
+
+/// Writes the slice of the failed assertion of the trace of the file or of `input`: to the named file, with the numbers and the labels of
+/// its events beside it, or to `out`. The status is 0.
+///
+/// # Errors
+/// The fault of the labels, of the trace, of an assertion that does not fail, or of the write. Files that were written are removed.
+pub fn run_slice<O, I, W>(
+    alloc: Global,
+    words: &SliceWords<'_>,
+    files: &O,
+    input: &mut I,
+    out: &mut W,
+) -> Result<u8, Fault>
+where
+    O: Opener,
+    I: Read,
+    W: Write,
+    ensures { IfOk result (λ status. status ≡ 0) }
+{
+    let labels = labels_of(alloc, files, words.labels)?;
+    let trace = trace_of(alloc, words.file, files, input)?;
+    let slice = slice_of_failure(alloc, &trace, words.failure)?;
+    let text = write_trace(alloc, &slice.trace)?;
+    match words.out {
+        Some(name) => write_beside(alloc, words, files, name, text, &slice.numbers, &labels)?,
+        None => write_answer(alloc, text.as_slice(), out)?,
+    }
+    Ok(0)
+}
+
+// The slice of the assertion of this event, which fails.
+fn slice_of_failure(alloc: Global, trace: &Trace, number: u64) -> Result<Slice, Fault> {
+    if failure(alloc, trace, number)?.is_none() {
+        return Err(no_failure(alloc, number)?);
+    }
+    match sliced(alloc, trace, number)? {
+        Some(slice) => Ok(slice),
+        None => Err(no_failure(alloc, number)?),
+    }
+}
+
+// Writes the slice to the named file, and what tells of its events beside it.
+fn write_beside<O: Opener>(
+    alloc: Global,
+    words: &SliceWords<'_>,
+    files: &O,
+    name: &str,
+    text: Vec<u8>,
+    numbers: &Selection,
+    labels: &Labels,
+) -> Result<(), Fault> {
+    let mut outputs = Vec::with_capacity(alloc, 3)?;
+    add_output(alloc, &mut outputs, name, "", text)?;
+    let told = numbers_text(alloc, numbers)?;
+    add_output(alloc, &mut outputs, name, ".numbers", told)?;
+    if words.labels.is_some() {
+        let named = labels_text(alloc, numbers, labels)?;
+        add_output(alloc, &mut outputs, name, ".labels", named)?;
+    }
+    check_apart(alloc, files, outputs.as_slice(), words.file)?;
+    check_apart(alloc, files, outputs.as_slice(), words.labels)?;
+    write_outputs(alloc, files, outputs.as_slice())
+}
+
+// Adds the file whose name ends so to those that are written.
+fn add_output(
+    alloc: Global,
+    outputs: &mut Vec<Output>,
+    name: &str,
+    ending: &str,
+    text: Vec<u8>,
+) -> Result<(), Fault> {
+    let output = Output::new(alloc, name, ending, text)?;
+    match outputs.push(output) {
+        Ok(()) => Ok(()),
+        Err(_) => Err(Fault::OutOfMemory),
+    }
+}
+
+// The number that each event of the slice has in the whole trace, a line each.
+fn numbers_text(alloc: Global, numbers: &Selection) -> Result<Vec<u8>, AllocError> {
+    let mut text = Vec::new(alloc);
+    for (index, number) in numbers.numbers().iter().enumerate() {
+        push_number(&mut text, 10, index as u64 + 1)?;
+        text.push(b' ')?;
+        push_number(&mut text, 10, *number)?;
+        text.push(b'\n')?;
+    }
+    Ok(text)
+}
+
+// The labels of the events of the slice that have one, a line each.
+fn labels_text(alloc: Global, numbers: &Selection, labels: &Labels) -> Result<Vec<u8>, AllocError> {
+    let mut text = Vec::new(alloc);
+    for (index, number) in numbers.numbers().iter().enumerate() {
+        if let Some(label) = labels.get(*number) {
+            push_number(&mut text, 10, index as u64 + 1)?;
+            text.push(b' ')?;
+            text.extend_from_slice(label.as_bytes())?;
+            text.push(b'\n')?;
+        }
+    }
+    Ok(text)
+}

@@ -1,0 +1,115 @@
+//! The words of the program, by clap.
+use crate::arguments::{Made, flag, trace_file, with};
+use crate::draw_words::draw_command;
+use crate::explain_command::explain_command;
+use crate::image_words::image_command;
+use crate::slice_words::slice_command;
+use clap::{Arg, ArgAction, Command};
+use command_requests::VERSION;
+use std::alloc::Global;
+
+const WORKERS: &[&str] = &["1", "2", "4", "8", "16"];
+
+const BESIDE: &str =
+    "How many threads to use; from 2 on events are read in one thread and judged in another";
+
+const UNUSED: &str =
+    "Accepted as check has it, and changes nothing: trim is one pass in one thread";
+
+/// The words of the program and of its commands.
+pub fn commands<'a>(alloc: Global) -> Made<'a> {
+    let judging = with_command(program(alloc), check(alloc));
+    let explaining = with_command(judging, explain_command(alloc));
+    let trimming = with_command(with_command(explaining, trim(alloc)), fronts(alloc));
+    let drawing = with_command(with_command(trimming, record(alloc)), draw_command(alloc));
+    with_command(
+        with_command(drawing, image_command(alloc)),
+        slice_command(alloc),
+    )
+}
+
+// The command with one of its own.
+fn with_command<'a>(command: Made<'a>, made: Made<'a>) -> Made<'a> {
+    command?.subcommand(made?)
+}
+
+fn program<'a>(alloc: Global) -> Made<'a> {
+    let command = Command::new(alloc, "pmtrim")
+        .version(VERSION)
+        .no_binary_name(true)
+        .bin_name("pmtrim")?;
+    Ok(
+        command
+            .override_usage(
+                "pmtrim < TRACE\n       pmtrim check [--workers N] [FILE]\n       pmtrim explain [--ignore A:N].. [--limit N] [--only KIND] .. [--labels FILE] [--json | --html [--source DIR]] [FILE]\n       pmtrim trim [--workers N] [--stream] [FILE]\n       pmtrim fronts FILE PLACE\n       pmtrim record SCRIPT..\n       pmtrim draw [--failure N | --around I | --from I --to J] [--line A].. [--labels FILE] [FILE]\n       pmtrim image (--failure N | --at PLACE [--all] [--line A:K]..) [--pool BASE --origin A] [--out FILE] [FILE]\n       pmtrim image --list [--at PLACES] [--off K] [FILE]\n       pmtrim slice --failure N [[--labels FILE] --out FILE] [FILE]",
+            )
+            .about(
+                "Checks traces of persistent memory events, and trims the flushes and fences that no crash can show.{n}With no words it trims the trace on standard input.",
+            )
+            .after_help(
+                "A FILE that is not given, or is -, is standard input. The answer goes to standard output, faults to standard error.{n}Statuses: 0 done; 1 check, explain: an assertion fails or a store is never persisted; 2 wrong words; 3 trace or script refused; 4 file fault; 5 out of memory; 6 torn recorder{n}{n}Example: pmtrim < run.trace > trimmed.trace",
+            ),
+    )
+}
+
+fn check<'a>(alloc: Global) -> Made<'a> {
+    let command = Command::new(alloc, "check")
+        .override_usage("pmtrim check [--workers N] [FILE]")
+        .about("Judges the assertions of a trace, and reports findings.")
+        .after_help(
+            "Writes the number of events and lines, an entry for each finding and each assertion, and how many events trim keeps.{n}Statuses: 0 done; 1 an assertion fails or a store is never persisted; 2 wrong words; 3 trace refused; 4 file fault; 5 out of memory{n}Example: pmtrim check --workers 4 run.trace",
+        );
+    with(with(Ok(command), workers(alloc, BESIDE)), trace_file(alloc))
+}
+
+fn trim<'a>(alloc: Global) -> Made<'a> {
+    let command = Command::new(alloc, "trim")
+        .override_usage("pmtrim trim [--workers N] [--stream] [FILE]")
+        .about("Writes the trace without the flushes and fences that no crash can show.")
+        .after_help(
+            "Statuses: 0 done; 2 wrong words; 3 trace refused; 4 file fault; 5 out of memory{n}Example: pmtrim trim run.trace > trimmed.trace",
+        );
+    let stream = flag(alloc, "stream", "Write the trace as it is read");
+    let working = with(Ok(command), workers(alloc, UNUSED));
+    with(with(working, stream), trace_file(alloc))
+}
+
+fn fronts<'a>(alloc: Global) -> Made<'a> {
+    let command = Command::new(alloc, "fronts")
+        .override_usage("pmtrim fronts FILE PLACE")
+        .about(
+            "Writes, for each line of the trace at a place, how many of its stores are persisted for sure, and how many there are.",
+        )
+        .after_help(
+            "Statuses: 0 done; 2 wrong words, or the place lies past the end; 3 trace refused; 4 file fault; 5 out of memory{n}Example: pmtrim fronts run.trace 12",
+        );
+    let file = Arg::new(alloc, "FILE").required(true).help("The trace");
+    let place = Arg::new(alloc, "PLACE")
+        .required(true)
+        .help("After how many events, a decimal number");
+    with(with(Ok(command), file), place)
+}
+
+fn record<'a>(alloc: Global) -> Made<'a> {
+    let scripts = Arg::new(alloc, "SCRIPT")
+        .required(true)
+        .action(ArgAction::Append)
+        .num_args(1..=256)
+        .help("The events of a thread, one a line; 1 to 256 scripts");
+    Command::new(alloc, "record")
+        .override_usage("pmtrim record SCRIPT..")
+        .about("Runs each script in a thread of its own, and writes the trace that they record.")
+        .after_help(
+            "Statuses: 0 done; 2 wrong words; 3 a script refused, or the trace is full; 4 file fault; 5 out of memory; 6 torn recorder{n}Example: pmtrim record first.script second.script > run.trace",
+        )
+        .arg(scripts)
+}
+
+fn workers<'a>(alloc: Global, help: &'a str) -> Arg<'a> {
+    Arg::new(alloc, "workers")
+        .long("workers")
+        .value_name("N")
+        .value_parser(WORKERS)
+        .default_value("1")
+        .help(help)
+}

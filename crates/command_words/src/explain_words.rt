@@ -1,0 +1,122 @@
+//! The words of `explain`.
+
+use crate::arguments::{bad_word, trace_name};
+use crate::explain_choice::choice_of;
+use clap::ArgMatches;
+use command_inputs::{Fault, asked_range};
+use command_requests::{ExplainWords, Form};
+use pmt_explanation::{ByteRange, Choice, Options};
+use pmt_text::number::read_number;
+use std::alloc::Global;
+
+// The most entries of a kind where the words name no number.
+const FEW: usize = 10;
+
+// The most entries of a kind on a page where the words name no number.
+const MANY: usize = 1_000;
+
+// As many entries as there can be: each has an event of its own.
+const ALL: usize = 1_000_000;
+
+/// What these words ask for.
+///
+/// # Errors
+/// A usage fault that names the wrong word and says what is allowed; `OutOfMemory`.
+pub fn explain_words<'a>(alloc: Global, given: &ArgMatches<'a>) -> Result<ExplainWords<'a>, Fault> {
+    let choice = choice_of(alloc, given)?;
+    let failure = match choice.is_one_failure {
+        true => choice.choice.from,
+        false => None,
+    };
+    Ok(ExplainWords {
+        options: options_of(alloc, given, choice.choice)?,
+        ignore_files: files_of(alloc, given)?,
+        is_limited: given.get_str("limit").is_some(),
+        failure,
+        labels: given.get_str("labels"),
+        form: form_of(given),
+        source: source_of(alloc, given)?,
+        page_limit: asked_limit(alloc, given.get_str("limit"), MANY)?,
+        file: trace_name(given),
+    })
+}
+
+// The form that the words ask for: the command takes one of them.
+fn form_of(given: &ArgMatches<'_>) -> Form {
+    if given.get_flag("html") {
+        Form::Page
+    } else if given.get_flag("json") {
+        Form::Json
+    } else {
+        Form::Text
+    }
+}
+
+// The folder of the source files: lines of them stand on a page alone, and labels say which.
+fn source_of<'a>(alloc: Global, given: &ArgMatches<'a>) -> Result<Option<&'a str>, Fault> {
+    let Some(folder) = given.get_str("source") else {
+        return Ok(None);
+    };
+    if !given.get_flag("html") {
+        let message = "'--source' wants '--html', the page that shows lines of source files";
+        return Err(Fault::usage(alloc, message)?);
+    }
+    if given.get_str("labels").is_none() {
+        let message = "'--source' wants '--labels', the file that names the source lines of events";
+        return Err(Fault::usage(alloc, message)?);
+    }
+    Ok(Some(folder))
+}
+
+// The files that name bytes to ignore.
+fn files_of<'a>(alloc: Global, given: &ArgMatches<'a>) -> Result<Vec<&'a str>, Fault> {
+    let mut files = Vec::new(alloc);
+    files.extend_from_slice(given.get_strs("ignore-file").unwrap_or(&[]))?;
+    Ok(files)
+}
+
+fn options_of(alloc: Global, given: &ArgMatches<'_>, choice: Choice) -> Result<Options, Fault> {
+    let ranges = given.get_strs("ignore").unwrap_or(&[]);
+    let ignored = ignored_of(alloc, ranges)?;
+    let limit = asked_limit(alloc, given.get_str("limit"), FEW)?;
+    Ok(Options {
+        ignored,
+        limit,
+        choice,
+    })
+}
+
+// The ranges that these words name.
+fn ignored_of(alloc: Global, ranges: &[&str]) -> Result<Vec<ByteRange>, Fault> {
+    let mut ignored = Vec::new(alloc);
+    for text in ranges {
+        let range = asked_range(alloc, "--ignore <A:N>", text)?;
+        if ignored.push(range).is_err() {
+            return Err(Fault::OutOfMemory);
+        }
+    }
+    Ok(ignored)
+}
+
+// The limit that this word names, or else this one.
+fn asked_limit(alloc: Global, word: Option<&str>, other: usize) -> Result<usize, Fault> {
+    let Some(text) = word else {
+        return Ok(other);
+    };
+    match limit_of(text.as_bytes()) {
+        Some(limit) => Ok(limit),
+        None => {
+            let allowed =
+                "a decimal number without leading zeros, or 'all'; 0 shows the summary alone";
+            Err(bad_word(alloc, text, "--limit <N>", allowed)?)
+        }
+    }
+}
+
+// The number, where the text is decimal without leading zeros, or all.
+fn limit_of(text: &[u8]) -> Option<usize> {
+    if text == b"all".as_slice() {
+        return Some(ALL);
+    }
+    Some(read_number(10, text)? as usize)
+}

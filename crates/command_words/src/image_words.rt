@@ -1,0 +1,194 @@
+//! The words of `image`.
+use crate::arguments::{
+    Made, bad_word, event_of, flag, number_of, trace_file, trace_name, value, values, with,
+};
+use crate::image_list_words::list_words;
+use clap::{ArgMatches, Command};
+use command_inputs::{Fault, read_origin};
+use command_requests::{AddressStores, AskedCrash, ImageRequest, ImageWords};
+use pmt_model::Addr;
+use pmt_text::number::{read_address, read_number};
+use std::alloc::Global;
+
+/// The words of `image`.
+pub fn image_command<'a>(alloc: Global) -> Made<'a> {
+    let command = Command::new(alloc, "image")
+        .override_usage(
+            "pmtrim image (--failure N | --at PLACE [--all] [--line A:K]..) [--pool BASE --origin A] [--out FILE] [FILE]\n       pmtrim image --list [--at PLACES] [--off K] [FILE]",
+        )
+        .about("Writes the pool's file as a crash leaves it, or lists crashes.")
+        .after_help(
+            "A crash at a place leaves each line the stores that no crash can lose, with --all all its stores, and the line of address A its first K. Without --pool and --origin the pool is FILE.base, and FILE.origin has the address of its first byte.{n}The list has the crashes at each place that leave all lines but K the stores that no crash can lose, and those that leave all but K all their stores: a line each, of the words that image takes. Without --at the places are those after a fence or a clflush, and those after a store, or at the beginning, with no store coming next.{n}Statuses: 0 done; 2 wrong words, or no crash leaves so many stores; 3 trace or pool refused; 4 file fault; 5 out of memory{n}Example: pmtrim image --failure 7 --out crashed.pool run.trace",
+        );
+    let listing = with_list(alloc, Ok(command));
+    with_files(alloc, with_crash(alloc, listing))
+}
+
+// Which list.
+fn with_list<'a>(alloc: Global, command: Made<'a>) -> Made<'a> {
+    let list = flag(
+        alloc,
+        "list",
+        "List the crashes near places, and write no pool",
+    );
+    let off = value(
+        alloc,
+        "off",
+        "K",
+        "With --list: how many lines may be off (1)",
+    );
+    with(with(command, list), off)
+}
+
+// Which crash.
+fn with_crash<'a>(alloc: Global, command: Made<'a>) -> Made<'a> {
+    let failure = value(
+        alloc,
+        "failure",
+        "N",
+        "The crash that violates the assertion of event N, as explain tells it",
+    );
+    let at = value(
+        alloc,
+        "at",
+        "PLACE",
+        "A crash after PLACE events; with --list places, as 12,40-60",
+    );
+    let all = flag(alloc, "all", "Leave each line all its stores");
+    let line = values(
+        alloc,
+        "line",
+        "A:K",
+        "Leave the line of address A its first K stores, as 0x1000:2; may be repeated, and the last one of a line counts",
+    );
+    with(with(with(with(command, failure), at), all), line)
+}
+
+// Which files.
+fn with_files<'a>(alloc: Global, command: Made<'a>) -> Made<'a> {
+    let pool = value(
+        alloc,
+        "pool",
+        "BASE",
+        "The pool's file before the trace began; wants --origin",
+    );
+    let origin = value(
+        alloc,
+        "origin",
+        "A",
+        "The address of the pool's first byte (hexadecimal); wants --pool",
+    );
+    let out = value(
+        alloc,
+        "out",
+        "FILE",
+        "The file to write; standard output, if none is given",
+    );
+    with(
+        with(with(with(command, pool), origin), out),
+        trace_file(alloc),
+    )
+}
+
+/// What these words ask for.
+///
+/// # Errors
+/// A usage fault, or `OutOfMemory`.
+pub fn image_request<'a>(alloc: Global, given: &ArgMatches<'a>) -> Result<ImageRequest<'a>, Fault> {
+    if given.get_flag("list") {
+        return Ok(ImageRequest::List(list_words(alloc, given)?));
+    }
+    if given.get_str("off").is_some() {
+        return Err(Fault::usage(alloc, "'--off' stands with '--list'")?);
+    }
+    Ok(ImageRequest::Pool(image_words(alloc, given)?))
+}
+
+// The words of one pool.
+fn image_words<'a>(alloc: Global, given: &ArgMatches<'a>) -> Result<ImageWords<'a>, Fault> {
+    let crash = crash_of(alloc, given)?;
+    let words = ImageWords {
+        crash,
+        pool: given.get_str("pool"),
+        origin: origin_of(alloc, given)?,
+        out: given.get_str("out"),
+        file: trace_name(given),
+    };
+    if words.pool.is_some() != words.origin.is_some() {
+        return Err(Fault::usage(alloc, "'--pool' and '--origin' stand together")?);
+    }
+    if words.pool.is_none() && words.file.is_none() {
+        return Err(Fault::usage(
+            alloc,
+            "a trace from standard input has no pool beside it: name it by '--pool' and '--origin'",
+        )?);
+    }
+    Ok(words)
+}
+
+// Which crash is asked for.
+fn crash_of(alloc: Global, given: &ArgMatches<'_>) -> Result<AskedCrash, Fault> {
+    let failure = event_of(alloc, given, "failure", "--failure <N>")?;
+    let place = number_of(alloc, given, "at", "--at <PLACE>")?;
+    let all = given.get_flag("all");
+    let lines = lines_of(alloc, given)?;
+    match (failure, place) {
+        (Some(number), None) if !all && lines.is_empty() => Ok(AskedCrash::Failure(number)),
+        (Some(_), None) => Err(Fault::usage(alloc, "'--all' and '--line' stand with '--at'")?),
+        (None, Some(place)) => Ok(AskedCrash::At { place, all, lines }),
+        _ => Err(Fault::usage(alloc, "one of '--failure' and '--at' says which crash")?),
+    }
+}
+
+// The lines that are asked for.
+fn lines_of(alloc: Global, given: &ArgMatches<'_>) -> Result<Vec<AddressStores>, Fault> {
+    let words = given.get_strs("line").unwrap_or(&[]);
+    let mut lines = Vec::with_capacity(alloc, words.len())?;
+    for word in words {
+        let line = line_of_word(alloc, word)?;
+        if lines.push(line).is_err() {
+            return Err(Fault::OutOfMemory);
+        }
+    }
+    Ok(lines)
+}
+
+// The line that this word asks for.
+fn line_of_word(alloc: Global, word: &str) -> Result<AddressStores, Fault> {
+    match read_line(word.as_bytes()) {
+        Some(line) => Ok(line),
+        None => Err(bad_word(
+            alloc,
+            word,
+            "--line <A:K>",
+            "an address and how many stores, as 0x1000:2",
+        )?),
+    }
+}
+
+// The line that `A:K` asks for.
+fn read_line(word: &[u8]) -> Option<AddressStores> {
+    let colon = word.iter().position(|byte| *byte == b':')?;
+    let value = read_address(&word[..colon])?;
+    let stores = read_number(10, &word[colon + 1..])?;
+    match Addr::new(value) {
+        Ok(address) => Some(AddressStores { address, stores }),
+        Err(_) => None,
+    }
+}
+
+// The address of the pool's first byte, if it is given.
+fn origin_of(alloc: Global, given: &ArgMatches<'_>) -> Result<Option<u64>, Fault> {
+    let Some(word) = given.get_str("origin") else {
+        return Ok(None);
+    };
+    match read_origin(word.as_bytes()) {
+        Some(origin) => Ok(Some(origin)),
+        None => Err(bad_word(
+            alloc,
+            word,
+            "--origin <A>",
+            "an address as 0x1000, at most 0xffffffffffff",
+        )?),
+    }
+}

@@ -1,0 +1,15 @@
+//! The words of `pmtrim`, by clap: help, and what they ask for.
+#![tactic(auto)]
+
+mod arguments;
+mod command;
+mod draw_words;
+mod explain_choice;
+mod explain_command;
+mod explain_words;
+mod image_list_words;
+mod image_words;
+mod request;
+mod slice_words;
+
+pub use crate::request::request_of;

@@ -1,0 +1,120 @@
+//! What the words ask for.
+use crate::arguments::{bad_word, trace_name};
+use crate::command::commands;
+use crate::draw_words::drawing_of;
+use crate::explain_words::explain_words;
+use crate::image_words::image_request;
+use crate::slice_words::slice_words;
+use clap::error::ErrorKind;
+use clap::{ArgMatches, Error};
+use command_inputs::Fault;
+use command_requests::{FrontsWords, ImageRequest, Request, TraceWords};
+use pmt_text::number::read_number;
+use std::alloc::Global;
+use std::convert::AsStr;
+
+// The greatest place, which `read_number` also gives for greater numbers.
+const GREATEST_PLACE: &str = "18446744073709551615";
+
+/// What these words, which stand after the program's name, ask for.
+///
+/// # Errors
+/// A usage fault, or `OutOfMemory`.
+pub fn request_of<'a, S: AsStr>(alloc: Global, words: &'a [S]) -> Result<Request<'a>, Fault> {
+    match commands(alloc)?.try_get_matches_from(words) {
+        Ok(matches) => asked(alloc, &matches),
+        Err(error) => shown(alloc, &error),
+    }
+}
+
+fn shown<'a>(alloc: Global, error: &Error) -> Result<Request<'a>, Fault> {
+    if error.kind() == ErrorKind::OutOfMemory {
+        return Err(Fault::OutOfMemory);
+    }
+    let text = format!(in alloc; "{error}")?;
+    if error.use_stderr() {
+        Err(Fault::Usage(text))
+    } else {
+        Ok(Request::Show(text))
+    }
+}
+
+fn asked<'a>(alloc: Global, matches: &ArgMatches<'a>) -> Result<Request<'a>, Fault> {
+    match matches.subcommand() {
+        Some(("check", given)) => Ok(Request::Check(trace_words(given))),
+        Some(("explain", given)) => Ok(Request::Explain(explain_words(alloc, given)?)),
+        Some(("fronts", given)) => fronts(alloc, given),
+        Some(("record", given)) => record(alloc, given),
+        Some(("image", given)) => image(alloc, given),
+        Some(("slice", given)) => Ok(Request::Slice(slice_words(alloc, given)?)),
+        Some(("draw", given)) => Ok(Request::Draw(drawing_of(alloc, given)?)),
+        Some((_, given)) => Ok(trim(given)),
+        None => Ok(Request::Trim(TraceWords {
+            workers: 1,
+            file: None,
+        })),
+    }
+}
+
+fn trace_words<'a>(given: &ArgMatches<'a>) -> TraceWords<'a> {
+    TraceWords {
+        workers: workers_of(given),
+        file: trace_name(given),
+    }
+}
+
+fn trim<'a>(given: &ArgMatches<'a>) -> Request<'a> {
+    if given.get_flag("stream") {
+        Request::Stream(trace_name(given))
+    } else {
+        Request::Trim(trace_words(given))
+    }
+}
+
+fn image<'a>(alloc: Global, given: &ArgMatches<'a>) -> Result<Request<'a>, Fault> {
+    match image_request(alloc, given)? {
+        ImageRequest::List(words) => Ok(Request::ImageList(words)),
+        ImageRequest::Pool(words) => Ok(Request::Image(words)),
+    }
+}
+
+// One of the texts 1, 2, 4, 8 and 16: the command takes no other.
+fn workers_of(given: &ArgMatches<'_>) -> usize {
+    match given.get_str("workers") {
+        Some("2") => 2,
+        Some("4") => 4,
+        Some("8") => 8,
+        Some("16") => 16,
+        _ => 1,
+    }
+}
+
+fn fronts<'a>(alloc: Global, given: &ArgMatches<'a>) -> Result<Request<'a>, Fault> {
+    let file = trace_name(given);
+    let text = given.get_str("PLACE").unwrap_or("");
+    match place_of(text) {
+        Some(place) => Ok(Request::Fronts(FrontsWords { file, place })),
+        None => {
+            let allowed = "a decimal number without leading zeros, at most 18446744073709551615";
+            Err(bad_word(alloc, text, "<PLACE>", allowed)?)
+        }
+    }
+}
+
+// The number, where the text is decimal without leading zeros and it is below 2^64.
+fn place_of(text: &str) -> Option<u64> {
+    match read_number(10, text.as_bytes()) {
+        Some(u64::MAX) if text != GREATEST_PLACE => None,
+        place => place,
+    }
+}
+
+fn record<'a>(alloc: Global, given: &ArgMatches<'a>) -> Result<Request<'a>, Fault> {
+    let names = given.get_strs("SCRIPT").unwrap_or(&[]);
+    if names.len() > 256 {
+        return Err(Fault::usage(alloc, "more than 256 scripts")?);
+    }
+    let mut scripts = Vec::new(alloc);
+    scripts.extend_from_slice(names)?;
+    Ok(Request::Record(scripts))
+}

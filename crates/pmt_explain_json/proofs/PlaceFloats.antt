@@ -1,0 +1,18 @@
+-- What places have has no floats.
+use Rattle.std.proofs.Common.{◌≡◌, ℕ, Option, None, Some, false, refl}
+use Rattle.serde_json.specs.Data.{Data, string}
+use Rattle.serde_json.specs.Written.{has_float}
+use Rattle.pmt_model.specs.Traces.{Recording}
+use Rattle.pmt_fates.specs.declared.place_row.PlaceRow.{PlaceRow}
+use Rattle.pmt_explanation.specs.declared.labels.Labels.{Labels}
+use Rattle.pmt_explain_json.specs.Parts.{count_data, event_data, or_null}
+use Rattle.pmt_explain_json.specs.Places.{place_data, place_label, place_thread}
+use Rattle.pmt_explain_json.proofs.NoFloats.{both, count-float, event-float, label-float, or_null-float}
+
+pub place-float : (T : Recording) (labels : Labels) (r : PlaceRow) → has_float (place_data T labels r) ≡ false
+place-float T labels r =
+    both (has_float (event_data T labels r.first)) _ (event-float T labels r.first)
+    (both (has_float (or_null (event_data T labels) r.first_late)) _ (or_null-float (event_data T labels) (event-float T labels) r.first_late)
+    (both (has_float (or_null (event_data T labels) r.first_lost)) _ (or_null-float (event_data T labels) (event-float T labels) r.first_lost)
+    (both (has_float (or_null string (place_label labels r.place))) _ (label-float (place_label labels r.place))
+    (both (has_float (or_null count_data (place_thread r.place))) false (count-float (place_thread r.place)) refl))))

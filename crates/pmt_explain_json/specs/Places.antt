@@ -1,0 +1,43 @@
+-- What becomes of each place of the source, as JSON.
+use Rattle.std.specs.Prelude.{ℕ, List, [], ◌∷◌, Option, None, Some, codes}
+use Rattle.serde_json.specs.Data.{Data, string}
+use Rattle.pmt_model.specs.Traces.{Recording}
+use Rattle.pmt_causes.specs.declared.failure_keys.Origin.{Origin}
+use Rattle.pmt_causes.specs.declared.failure_keys.Origin.TheVariants.{Label, Thread}
+use Rattle.pmt_fates.specs.declared.place_row.PlaceRow.{PlaceRow}
+use Rattle.pmt_explanation.specs.declared.labels.Labels.{Labels}
+use Rattle.pmt_explanation.specs.Framing.{frame_of}
+use Rattle.pmt_explain_json.specs.Parts.{count_data, event_data, json_line, object_of, or_null}
+
+-- The innermost frame of a place whose events have a label.
+abbrev pub place_label : Labels → Origin → Option (List ℕ)
+place_label labels (Label n) = frame_of labels n
+place_label labels (Thread t) = None
+
+-- The thread of a place whose events have none.
+abbrev pub place_thread : Origin → Option ℕ
+place_thread (Label n) = None
+place_thread (Thread t) = Some t
+
+-- What a place has.
+abbrev pub place_data : Recording → Labels → PlaceRow → Data
+place_data T labels r = object_of
+    ((codes "fences", count_data r.fences)
+    ∷ (codes "fences_dropped", count_data r.idle_fences)
+    ∷ (codes "first", event_data T labels r.first)
+    ∷ (codes "first_late", or_null (event_data T labels) r.first_late)
+    ∷ (codes "first_never_persisted", or_null (event_data T labels) r.first_lost)
+    ∷ (codes "flushes", count_data r.flushes)
+    ∷ (codes "flushes_dropped", count_data r.idle_flushes)
+    ∷ (codes "ignored", count_data r.ignored)
+    ∷ (codes "in_time", count_data r.in_time)
+    ∷ (codes "kind", string (codes "place"))
+    ∷ (codes "label", or_null string (place_label labels r.place))
+    ∷ (codes "late", count_data r.late)
+    ∷ (codes "never_persisted", count_data r.lost)
+    ∷ (codes "stores", count_data r.stores)
+    ∷ (codes "thread", or_null count_data (place_thread r.place))
+    ∷ [])
+
+abbrev pub place_line : Recording → Labels → PlaceRow → List ℕ
+place_line T labels r = json_line (place_data T labels r)

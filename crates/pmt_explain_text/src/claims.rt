@@ -1,0 +1,84 @@
+//! Which cache lines the program speaks of: those that it flushes, and those of its assertions.
+
+use crate::telling::Telling;
+use pmt_model::{Op, OutOfMemory, Range, Trace, line_of};
+use std::collections::HashMap;
+
+// The most bytes of an assertion's range.
+const LONGEST: u64 = 4096;
+
+// The lines that are flushed, and the ranges of assertions: of each line with which one begins the last line of the longest one.
+#[derive(Drop)]
+pub(crate) struct Claims {
+    flushed: HashMap<u64, bool>,
+    claimed: HashMap<u64, u64>,
+}
+
+impl Claims {
+    // Whether the trace has no flush, or no assertion.
+    pub(crate) fn is_silent(&self) -> bool {
+        self.flushed.is_empty() || self.claimed.is_empty()
+    }
+
+    // Whether an event flushes the line, or the one before it: a flush of several lines may be one line short.
+    pub(crate) fn is_flushed(&self, line: u64) -> bool {
+        self.flushed.contains_key(&line) || self.flushed.contains_key(&line.saturating_sub(1))
+    }
+
+    // Whether the range of an assertion has a byte of the line.
+    pub(crate) fn is_claimed(&self, trace: &Trace, line: u64) -> bool {
+        let most = LONGEST / trace.format().line_size();
+        for first in line.saturating_sub(most)..line.saturating_add(1) {
+            if let Some(last) = self.claimed.get(&first) {
+                if *last >= line {
+                    return true;
+                }
+            }
+        }
+        false
+    }
+}
+
+// The lines of which the program speaks.
+pub(crate) fn claims_of(told: &Telling<'_>) -> Result<Claims, OutOfMemory> {
+    let mut claims = Claims {
+        flushed: HashMap::new(told.alloc),
+        claimed: HashMap::new(told.alloc),
+    };
+    for event in told.trace.events() {
+        let op = event.op;
+        note(told.trace, &mut claims, op)?;
+    }
+    Ok(claims)
+}
+
+// Notes the lines that the op flushes or names.
+fn note(trace: &Trace, claims: &mut Claims, op: Op) -> Result<(), OutOfMemory> {
+    match op {
+        Op::Clwb(addr) | Op::ClflushOpt(addr) | Op::Clflush(addr) => {
+            claims.flushed.insert(line_of(trace.format(), addr), true)?;
+        }
+        Op::IsPersist(range) => note_range(trace, &mut claims.claimed, range)?,
+        Op::IsOrderedBefore(first, second) => {
+            note_range(trace, &mut claims.claimed, first)?;
+            note_range(trace, &mut claims.claimed, second)?;
+        }
+        Op::Store(_) | Op::Sfence | Op::Mfence => {}
+    }
+    Ok(())
+}
+
+// Notes the lines of the range.
+fn note_range(
+    trace: &Trace,
+    claimed: &mut HashMap<u64, u64>,
+    range: Range,
+) -> Result<(), OutOfMemory> {
+    let size = trace.format().line_size();
+    let start = range.addr().get();
+    let end = start.saturating_add(range.len());
+    let last = end.saturating_sub(1) / size;
+    let before = claimed.get(&(start / size)).copied().unwrap_or(0);
+    claimed.insert(start / size, last.max(before))?;
+    Ok(())
+}

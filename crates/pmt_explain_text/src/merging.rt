@@ -1,0 +1,29 @@
+//! Ranges of bytes that are joined.
+
+use pmt_explanation::ByteRange;
+use pmt_model::OutOfMemory;
+use std::alloc::Global;
+
+// The bytes of these ranges, by rising address: ranges that meet or touch are one.
+pub(crate) fn merged(
+    alloc: Global,
+    mut ranges: Vec<ByteRange>,
+) -> Result<Vec<ByteRange>, OutOfMemory> {
+    ranges.sort_by_key(|range| range.addr)?;
+    let mut joined: Vec<ByteRange> = Vec::new(alloc);
+    for range in ranges.as_slice() {
+        match joined.last_mut() {
+            Some(last) if range.addr <= end_of(*last) => {
+                let end = end_of(*last).max(end_of(*range));
+                last.len = end.saturating_sub(last.addr);
+            }
+            _ => joined.push(*range)?,
+        }
+    }
+    Ok(joined)
+}
+
+// The address of the byte after the range.
+fn end_of(range: ByteRange) -> u64 {
+    range.addr.saturating_add(range.len)
+}

@@ -1,0 +1,10 @@
+//! A trace that is not all of what happened.
+
+/// Where a trace was cut, and why.
+#[derive(Drop)]
+pub struct Cut {
+    /// The number of its last event, 0 where it has none; none where that is not known.
+    pub event: Option<u64>,
+    /// Why it has no more; empty where that is not known.
+    pub why: String,
+}

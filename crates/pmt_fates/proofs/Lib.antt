@@ -1,0 +1,6 @@
+pub mod FindLemmas
+pub mod FateLemmas
+pub mod ItemLemmas
+pub mod MarkLemmas
+pub mod OrderLemmas
+pub mod PlaceLemmas

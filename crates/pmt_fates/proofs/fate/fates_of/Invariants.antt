@@ -1,0 +1,5 @@
+use Rattle.pmt_fates.proofs.FateLemmas.{AreSoFar}
+use Rattle.pmt_fates.proofs.fate.fates_of.Given as goal
+
+abbrev pub invariant-loop-index : goal.invariant-loop-index
+invariant-loop-index l = AreSoFar l.trace l.told l.dropped l.safe l.waited l.index l.fates.items

@@ -1,0 +1,4 @@
+pub mod Fates
+pub mod Marks
+pub mod Places
+pub mod Standings

@@ -1,0 +1,15 @@
+//! What becomes of each place of a program's source: how many of its stores are never persisted, saved late or in time, and how many of
+//! its flushes and fences do nothing.
+//!
+//! The definitions stand in `specs/`.
+#![tactic(auto)]
+
+mod fate;
+mod marking;
+pub mod place_row;
+pub mod places;
+pub mod standing;
+
+pub use crate::place_row::PlaceRow;
+pub use crate::places::place_table;
+pub use crate::standing::{Standing, standing_of};

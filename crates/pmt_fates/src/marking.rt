@@ -1,0 +1,31 @@
+//! Which numbers stand in a list.
+
+ghost use Rattle.std.specs.Prelude.{◌≡◌, ◌<◌, ℕ, suc, length, IfOk, slice_index_or, false};
+ghost use Rattle.pmt_fates.specs.Fates.{is_listed};
+ghost use Rattle.pmt_fates.specs.Marks.{AreMarks, with_mark};
+
+use pmt_model::OutOfMemory;
+use std::alloc::Global;
+
+// Of each number from 1 to `count` whether it stands in the list.
+pub(crate) fn marks(alloc: Global, count: usize, list: &[u64]) -> Result<Vec<bool>, OutOfMemory>
+    ensures { IfOk result (λ marks. AreMarks count list.now marks.items) }
+{
+    let mut marks = vec![in alloc; false; count]?;
+    for number in list {
+        mark(&mut marks, *number);
+    }
+    Ok(marks)
+}
+
+// Marks the number, if it is one of those from 1 on that the marks are of.
+fn mark(marks: &mut Vec<bool>, number: u64)
+    ensures { marks.new.items ≡ with_mark number marks.old.items }
+{
+    let Some(index) = number.checked_sub(1) else {
+        return;
+    };
+    if index < marks.len() as u64 {
+        marks[index as usize] = true;
+    }
+}

@@ -1,0 +1,12 @@
+pub mod CuttingLemmas
+pub mod CoverLemmas
+pub mod VerdictLemmas
+pub mod TellLemmas
+pub mod SliceLemmas
+pub mod CauseLemmas
+pub mod FailureLemmas
+pub mod ComingLemmas
+pub mod ScanLemmas
+pub mod TakenLemmas
+pub mod ChosenLemmas
+pub mod GoingLemmas

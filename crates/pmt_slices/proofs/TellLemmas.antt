@@ -1,0 +1,92 @@
+-- Where a store is safe first, and what completes a flush there.
+use Rattle.std.proofs.Common.{◌≡◌, ℕ, zero, suc, ◌<◌, ◌≤◌, ◌⊎◌, inl, inr, subst, subst₂, arith}
+use Rattle.std.specs.Prelude.{◌↔◌}
+use Rattle.std.proofs.lemmas.Bool.{cases_lt, cases_eq}
+use Rattle.pmt_model.specs.Values.{Written}
+use Rattle.pmt_model.specs.Machine.{Act, Stores, Flushes, Clflushes, Fences, Asserts}
+use Rattle.pmt_model.specs.Traces.{Recording, IsAct}
+use Rattle.pmt_model.specs.Findings.{IsSafe}
+use Rattle.pmt_laws.proofs.Histories.{act-unique, act-within, history-step}
+use Rattle.pmt_safety.specs.Safety.{IsSafeFrom}
+use Rattle.pmt_safety.proofs.SafetyLemmas.{safe-up_to}
+use Rattle.pmt_explain.specs.Following.{ByFence, ByItself, IsCompletedAfter}
+use Rattle.pmt_slices.specs.Slices.{IsFirstFlushBy}
+use Rattle.pmt_slices.proofs.CoverLemmas.{completed-safe}
+
+-- a store is safe exactly where a flush of its line after it is complete
+pub completed-is_safe : (T : Recording) (l j n : ℕ) (w : Written) → IsAct T j (Stores l w) → IsCompletedAfter T l j n ↔ IsSafe T l n j
+completed-is_safe T l j n w is = (
+  λ it. (safe-up_to T l n j w is).1 ((completed-safe T l j n w is).0 it),
+  λ safe. (completed-safe T l j n w is).1 ((safe-up_to T l n j w is).0 safe),
+)
+
+-- What first completes a flush of line l after event j: a fence, whose thread flushed the line, or a clflush of it.
+pub data IsFirstCompletion (T : Recording) (l j p : ℕ) : Type 0 where
+  AFence : (t flush : ℕ) → IsAct T p (Fences t) → IsAct T flush (Flushes t l) → j < flush → flush < p → IsFirstCompletion T l j p
+  AClflush : IsAct T p (Clflushes l) → j < p → IsFirstCompletion T l j p
+
+-- where a store is safe first, a flush is completed first
+pub first-completion : (T : Recording) (l j p : ℕ) (w : Written) → IsAct T j (Stores l w) → IsSafeFrom T l j p → IsFirstCompletion T l j p
+first-completion T l j p w is from = go ((completed-is_safe T l j p w is).1 from.safe)
+  where
+    early : (q : ℕ) → q < p → IsCompletedAfter T l j q → ⊥
+    early q before it = from.first q before ((completed-is_safe T l j q w is).0 it)
+
+    go : IsCompletedAfter T l j p → IsFirstCompletion T l j p
+    go (i, after, ByFence t fence flush f later by_now) = elim (cases_lt fence p) [
+      | inl before ↦ absurd (early fence before (i, after, ByFence t fence flush f later (omega arith)))
+      | inr here ↦ let e : fence ≡ p = omega arith in AFence t i (subst (λ k. IsAct T k (Fences t)) e f) flush after (omega arith)
+    ]
+    go (i, after, ByItself flush by_now) = elim (cases_lt i p) [
+      | inl before ↦ absurd (early i before (i, after, ByItself flush (omega arith)))
+      | inr here ↦ let e : i ≡ p = omega arith in AClflush (subst (λ k. IsAct T k (Clflushes l)) e flush) (omega arith)
+    ]
+
+-- an event is a flush of the line by the thread, or is not
+flush-dec : (T : Recording) (t l n : ℕ) → IsAct T n (Flushes t l) ⊎ (IsAct T n (Flushes t l) → ⊥)
+flush-dec T t l zero = inr (λ is. absurd (omega (arith, (act-within T 0 (Flushes t l) is).0)))
+flush-dec T t l (suc n) = elim (history-step T n) [
+  | inl x ↦ go x.0 x.1
+  | inr x ↦ inr (λ is. absurd (omega (arith, x.0, (act-within T (suc n) (Flushes t l) is).1)))
+]
+  where
+    go : (a : Act) → IsAct T (suc n) a → IsAct T (suc n) (Flushes t l) ⊎ (IsAct T (suc n) (Flushes t l) → ⊥)
+    go (Stores k w) is = inr (λ f. let e = act-unique T (suc n) (Stores k w) (Flushes t l) is f in cc)
+    go (Flushes u k) is = elim (cases_eq u t) [
+      | inl thread ↦ elim (cases_eq k l) [
+        | inl line ↦ inl (subst₂ (λ v j. IsAct T (suc n) (Flushes v j)) thread line is)
+        | inr apart ↦ inr (λ f. let e = act-unique T (suc n) (Flushes u k) (Flushes t l) is f in let same : k ≡ l = cc in apart same)
+      ]
+      | inr apart ↦ inr (λ f. let e = act-unique T (suc n) (Flushes u k) (Flushes t l) is f in let same : u ≡ t = cc in apart same)
+    ]
+    go (Clflushes k) is = inr (λ f. let e = act-unique T (suc n) (Clflushes k) (Flushes t l) is f in cc)
+    go (Fences u) is = inr (λ f. let e = act-unique T (suc n) (Fences u) (Flushes t l) is f in cc)
+    go Asserts is = inr (λ f. let e = act-unique T (suc n) Asserts (Flushes t l) is f in cc)
+
+-- the first flush of a line by a thread, up to a place, if there is one
+first-flush-or : (T : Recording) (t l j n : ℕ) → ((f : ℕ) × (f ≤ n) × IsFirstFlushBy T t l j f) ⊎ ((k : ℕ) → j < k → k ≤ n → ¬ IsAct T k (Flushes t l))
+first-flush-or T t l j zero = inr (λ k after by is. absurd (omega arith))
+first-flush-or T t l j (suc n) = elim (first-flush-or T t l j n) [
+  | inl x ↦ inl (x.0, omega (arith, x.1), x.2)
+  | inr none ↦ elim (cases_lt j (suc n)) [
+    | inl after ↦ elim (flush-dec T t l (suc n)) [
+      | inl here ↦ inl (suc n, omega arith, record { is_flush = here; after = after; first = λ k later before. none k later (omega arith) })
+      | inr other ↦ inr (λ k later by. elim (cases_lt k (suc n)) [
+        | inl sooner ↦ none k later (omega arith)
+        | inr last ↦ let e : suc n ≡ k = omega arith in subst (λ i. ¬ IsAct T i (Flushes t l)) e other
+      ])
+    ]
+    | inr before ↦ inr (λ k later by is. absurd (omega arith))
+  ]
+]
+
+-- there is one no later than any
+pub first-flush : (T : Recording) (t l j i : ℕ) → IsAct T i (Flushes t l) → j < i → (f : ℕ) × (f ≤ i) × IsFirstFlushBy T t l j f
+first-flush T t l j i is after = elim (first-flush-or T t l j i) [ inl x ↦ x | inr none ↦ absurd (none i after (omega arith) is) ]
+
+-- and no other
+pub first-flush-unique : (T : Recording) (t l j f g : ℕ) → IsFirstFlushBy T t l j f → IsFirstFlushBy T t l j g → f ≡ g
+first-flush-unique T t l j f g x y = elim (cases_lt f g) [
+  | inl less ↦ absurd (y.first f x.after less x.is_flush)
+  | inr more ↦ elim (cases_lt g f) [ inl less ↦ absurd (x.first g y.after less y.is_flush) | inr equal ↦ omega arith ]
+]

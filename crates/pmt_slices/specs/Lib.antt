@@ -1,0 +1,4 @@
+pub mod Slices
+pub mod Scanning
+pub mod Taking
+pub mod Choosing

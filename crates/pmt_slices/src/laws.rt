@@ -1,0 +1,25 @@
+//! What holds of slices: each function has an empty body, and its contract states a law.
+
+ghost use Rattle.pmt_slices.specs.Slices.{SliceFails, SliceJudges, SliceTells, VerdictBySelection};
+
+/// An assertion has the same verdict in the trace and in the trace cut to some of its events, if these are the last stores to the bytes
+/// of its ranges and what made each of these stores safe first.
+pub fn verdict_by_selection()
+    ensures { VerdictBySelection }
+{}
+
+/// The slice of an assertion gives it the same verdict.
+pub fn slice_judges()
+    ensures { SliceJudges }
+{}
+
+/// In the slice of an assertion each last store to a byte of its ranges is safe where it is safe in the trace, and else pending for the
+/// same cause.
+pub fn slice_tells()
+    ensures { SliceTells }
+{}
+
+/// The crash that violates a failed assertion of the trace is the one of its slice: it keeps and loses the same stores, at the same bytes.
+pub fn slice_fails()
+    ensures { SliceFails }
+{}

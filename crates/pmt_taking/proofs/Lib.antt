@@ -1,0 +1,3 @@
+pub mod AppearLemmas
+pub mod GrownLemmas
+pub mod SourceRunLemmas

@@ -1,0 +1,2 @@
+pub mod Sourcing
+pub mod Blocks

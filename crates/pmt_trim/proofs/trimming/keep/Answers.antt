@@ -1,7 +1,0 @@
-use Rattle.pmt_trim.proofs.TrimmingLemmas.{keep-flagged}
-use Rattle.pmt_trim.proofs.trimming.keep.Goals as goal
-
-pub returns : goal.returns
-returns c =
-    let just = rw c.as_slice.ensures.value at c.in_ok-selection.ensures.just in
-    keep-flagged c.args.trace.now c.in_ok-kept.kept.items c.in_ok-selection.selection c.in_ok-kept.ensures c.in_ok-selection.ensures.rising just

@@ -1,8 +1,0 @@
-//! What is out while events come, and what will be.
-
-ghost use Rattle.pmt_trim.specs.Streaming.{OutComesFirst};
-
-/// Whatever comes later, the trimmed text of all of it begins with what is out.
-pub fn out_comes_first()
-    ensures { OutComesFirst }
-{}

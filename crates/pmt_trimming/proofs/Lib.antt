@@ -1,0 +1,13 @@
+pub mod HeadlineLemmas
+pub mod TrimmingLemmas
+pub mod AllEvents
+pub mod PassingLemmas
+pub mod FencingLemmas
+pub mod SettlingLemmas
+pub mod QueueLemmas
+pub mod StreamLemmas
+pub mod FlowLemmas
+pub mod FlowEnds
+pub mod WholeTextLemmas
+pub mod Listings
+pub mod CountingLemmas

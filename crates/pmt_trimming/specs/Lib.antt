@@ -1,0 +1,9 @@
+pub mod Headline
+pub mod AllEvents
+pub mod Passing
+pub mod Fencing
+pub mod Streaming
+pub mod LineQueues
+pub mod Leaving
+pub mod WholeTexts
+pub mod Counting

@@ -1,0 +1,19 @@
+//! What the kept events of a trace are good for.
+
+ghost use Rattle.std.specs.Prelude.{ℕ, List};
+ghost use Rattle.pmt_model.specs.Traces.{Recording};
+ghost use Rattle.pmt_model.specs.Selections.{cut};
+ghost use Rattle.pmt_model.specs.Keeping.{IsKeep};
+ghost use Rattle.pmt_trimming.specs.Counting.{KeepIsCounted};
+ghost use Rattle.pmt_trimming.specs.Headline.{IsTrimmed};
+
+/// A trace that is cut to its kept events is trimmed.
+pub fn keep_is_trimmed()
+    ensures { (T : Recording) (K : List ℕ) → IsKeep T K → IsTrimmed T K (cut T K) }
+{}
+
+/// So many events are kept: the stores and assertions, the fences and clflushes that raise a front, and one flush for each pair of a line
+/// and a fence that raises its front. No selection with the same counts of persisted stores at every place has fewer.
+pub fn keep_is_counted()
+    ensures { KeepIsCounted }
+{}

@@ -1,0 +1,217 @@
+//! The pass forward over the events of a trace, which decides what is kept.
+
+ghost use Rattle.std.specs.Prelude.{◌≡◌, ℕ, ◌+◌, ◌<◌, ◌≤◌, length, map, IfOk, OnOk};
+ghost use Rattle.pmt_model.specs.Machine.{Stores, Flushes, Clflushes, Fences, Asserts};
+ghost use Rattle.pmt_model.specs.Pushing.{empty, with_event};
+ghost use Rattle.pmt_model.specs.Traces.{Recording, act, event_limit};
+ghost use Rattle.pmt_model.specs.Values.{Written};
+ghost use Rattle.pmt_model.specs.declared.event.Event.{Event};
+ghost use Rattle.pmt_live.specs.Fencing.{number_of};
+ghost use Rattle.pmt_trimming.specs.Passing.{IsPassOf, IsPassing, taken, Settles, AreFlags, AreMarks, mark_from, decision_by, flag_by};
+ghost use Rattle.pmt_trimming.specs.Fencing.{HaveMarks, AreDecided};
+
+use pmt_live::{LiveLines, OpenFlush};
+use pmt_model::{Event, Format, Op, OutOfMemory, line_of};
+use std::alloc::Global;
+use std::collections::VecDeque;
+
+/// What is known of an event.
+#[derive(Clone, Copy, Debug, PartialEq, Eq)]
+pub(crate) enum Mark {
+    /// It is a flush whose thread has not fenced since.
+    Open,
+    /// It is kept.
+    Kept,
+    /// It is not kept.
+    Dropped,
+}
+
+/// A pass forward over the events of a trace, which decides of each event whether it is kept: of a flush when its thread fences,
+/// of any other event when it comes. Decisions are given out in the order of the events.
+///
+/// It holds the lines of the trace under way, and a byte for each event that was not given out. An event takes at most one look-up, and each flush one step more at its fence.
+#[derive(Drop)]
+pub(crate) struct Pass {
+    format: Format,
+    live: LiveLines,
+    marks: VecDeque<Mark>,
+    settled: u64,
+}
+
+impl Pass {
+    /// A pass of this format, before the first event.
+    ///
+    /// # Errors
+    /// Where memory was refused.
+    pub(crate) fn new(alloc: Global, format: Format) -> Result<Self, OutOfMemory>
+        ensures { IfOk result (IsPassOf (empty format)) }
+    {
+        Ok(Pass {
+            format,
+            live: LiveLines::new(alloc),
+            marks: VecDeque::new(alloc),
+            settled: 0,
+        })
+    }
+
+    /// Takes the next event.
+    ///
+    /// # Errors
+    /// Where memory was refused. What the pass holds then is not told.
+    #[inline(always)]
+    pub(crate) fn take(&mut self, event: &Event) -> Result<(), OutOfMemory>
+        requires passing { IsPassing self.old }
+        requires room { taken self.old < event_limit }
+        ensures follows { (T : Recording) → IsPassOf T self.old → OnOk result (IsPassOf (with_event T event.now) self.new) }
+        ensures settled { self.new.settled ≡ self.old.settled }
+    {
+        let thread = event.thread;
+        let op = event.op;
+        match op {
+            Op::Store(store) => self.take_store(line_of(self.format, store.addr())),
+            Op::Clwb(addr) => self.take_flush(thread, line_of(self.format, addr)),
+            Op::ClflushOpt(addr) => self.take_flush(thread, line_of(self.format, addr)),
+            Op::Clflush(addr) => self.take_clflush(line_of(self.format, addr)),
+            Op::Sfence => self.take_fence(thread),
+            Op::Mfence => self.take_fence(thread),
+            Op::IsPersist(_) => self.take_assertion(),
+            Op::IsOrderedBefore(_, _) => self.take_assertion(),
+        }
+    }
+
+    // A store to the line.
+    #[inline(always)]
+    fn take_store(&mut self, line: u64) -> Result<(), OutOfMemory>
+        requires passing { IsPassing self.old }
+        requires room { taken self.old < event_limit }
+        ensures follows { (T : Recording) (e : Event) (w : Written) → act T.format e ≡ Stores line w → IsPassOf T self.old → OnOk result (IsPassOf (with_event T e) self.new) }
+        ensures settled { self.new.settled ≡ self.old.settled }
+    {
+        let place = self.live.place_of(line)?;
+        self.live.store(place);
+        self.marks.push_back(Mark::Kept)?;
+        Ok(())
+    }
+
+    // A flush of the line by the thread.
+    fn take_flush(&mut self, thread: u8, line: u64) -> Result<(), OutOfMemory>
+        requires passing { IsPassing self.old }
+        requires room { taken self.old < event_limit }
+        ensures follows { (T : Recording) (e : Event) → act T.format e ≡ Flushes thread line → IsPassOf T self.old → OnOk result (IsPassOf (with_event T e) self.new) }
+        ensures settled { self.new.settled ≡ self.old.settled }
+    {
+        let place = self.live.place_of(line)?;
+        let number = (self.settled + self.marks.len() as u64 + 1) as u32;
+        self.live.flush(thread, place, number)?;
+        self.marks.push_back(Mark::Open)?;
+        Ok(())
+    }
+
+    // A clflush of the line.
+    fn take_clflush(&mut self, line: u64) -> Result<(), OutOfMemory>
+        requires passing { IsPassing self.old }
+        ensures follows { (T : Recording) (e : Event) → act T.format e ≡ Clflushes line → IsPassOf T self.old → OnOk result (IsPassOf (with_event T e) self.new) }
+        ensures settled { self.new.settled ≡ self.old.settled }
+    {
+        let place = self.live.place_of(line)?;
+        let rises = self.live.clflush(place);
+        self.marks.push_back(mark_of(rises))?;
+        Ok(())
+    }
+
+    // A fence by the thread.
+    fn take_fence(&mut self, thread: u8) -> Result<(), OutOfMemory>
+        requires passing { IsPassing self.old }
+        ensures follows { (T : Recording) (e : Event) → act T.format e ≡ Fences thread → IsPassOf T self.old → OnOk result (IsPassOf (with_event T e) self.new) }
+        ensures settled { self.new.settled ≡ self.old.settled }
+    {
+        let rises = self.live.fence(thread);
+        mark_decided(&mut self.marks, self.settled, self.live.decided());
+        self.marks.push_back(mark_of(rises))?;
+        Ok(())
+    }
+
+    // An assertion.
+    fn take_assertion(&mut self) -> Result<(), OutOfMemory>
+        requires passing { IsPassing self.old }
+        ensures follows { (T : Recording) (e : Event) → act T.format e ≡ Asserts → IsPassOf T self.old → OnOk result (IsPassOf (with_event T e) self.new) }
+        ensures settled { self.new.settled ≡ self.old.settled }
+    {
+        self.marks.push_back(Mark::Kept)?;
+        Ok(())
+    }
+
+    /// Gives out the oldest event that was not given out, if it is decided: whether it is kept. Where it is not, it is a flush
+    /// whose thread has not fenced since.
+    pub(crate) fn next_settled(&mut self) -> Option<bool>
+        requires passing { IsPassing self.old }
+        requires room { taken self.old ≤ event_limit }
+        ensures passing { (T : Recording) → IsPassOf T self.old → IsPassOf T self.new }
+        ensures settles { (T : Recording) → IsPassOf T self.old → Settles T self.old.settled result self.new.settled }
+    {
+        match decision(*self.marks.front()?) {
+            Some(kept) => {
+                let _ = self.marks.pop_front();
+                self.settled += 1;
+                Some(kept)
+            }
+            None => None,
+        }
+    }
+
+    /// Of each event that was not given out, the oldest first, whether it is kept if the trace ends here: open flushes are not.
+    ///
+    /// # Errors
+    /// Where memory was refused.
+    pub(crate) fn finish(self, alloc: Global) -> Result<Vec<bool>, OutOfMemory>
+        ensures { IfOk result (λ flags. (T : Recording) → IsPassOf T self → AreFlags T self.settled flags.items) }
+    {
+        flags(alloc, &self.marks)
+    }
+}
+
+// The mark of an event that is kept, or not.
+fn mark_of(kept: bool) -> Mark
+    ensures { result ≡ mark_from kept }
+{
+    if kept { Mark::Kept } else { Mark::Dropped }
+}
+
+// Whether an event with this mark is kept, if that is decided.
+fn decision(mark: Mark) -> Option<bool>
+    ensures { result ≡ decision_by mark }
+{
+    match mark {
+        Mark::Open => None,
+        Mark::Kept => Some(true),
+        Mark::Dropped => Some(false),
+    }
+}
+
+// Of each mark whether it is that of a kept event.
+fn flags(alloc: Global, marks: &VecDeque<Mark>) -> Result<Vec<bool>, OutOfMemory>
+    ensures { IfOk result (λ flags. flags.items ≡ map (λ m. flag_by m) marks.now.items) }
+{
+    marks.iter().map(|mark| flag(*mark)).collect(alloc)
+}
+
+// Whether the mark is that of a kept event.
+fn flag(mark: Mark) -> bool
+    ensures { result ≡ flag_by mark }
+{
+    match mark {
+        Mark::Kept => true,
+        Mark::Open | Mark::Dropped => false,
+    }
+}
+
+// Marks the flushes that a fence has decided.
+fn mark_decided(marks: &mut VecDeque<Mark>, settled: u64, flushes: &[OpenFlush])
+    requires { HaveMarks settled marks.old.items (map number_of flushes.now) }
+    ensures size { length marks.new.items ≡ length marks.old.items }
+    ensures marks { (T : Recording) → AreDecided T settled marks.old.items flushes.now → AreMarks T settled marks.new.items }
+{
+    for flush in flushes {
+        marks[(flush.number as u64 - settled - 1) as usize] = mark_of(flush.is_kept());
+    }
+}

@@ -1,0 +1,5 @@
+mod LineLemmas
+mod EntryLemmas
+mod LatestLemmas
+mod OrderLemmas
+mod PlacedLemmas

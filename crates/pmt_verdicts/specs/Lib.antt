@@ -1,0 +1,4 @@
+pub mod Latest
+pub mod Placed
+pub mod Lines
+pub mod Verdicts

@@ -1,0 +1,127 @@
+"""What becomes of each place of a program's source, by the definitions: its stores by what becomes of them, its flushes and fences, and
+the order in which places are told.
+
+The findings are those of explained.py, and what a run can reach is that of machine.py.
+"""
+import functools
+
+from grouped import ANY_FLUSH, fences_waited
+from machine import FENCES, is_kept
+
+CALLER = " < "
+COUNTS = ("stores", "never_persisted", "ignored", "late", "in_time", "flushes", "flushes_dropped", "fences", "fences_dropped")
+LABELLED = "places: what becomes of what each one stores; those that lose or delay a part come first:"
+THREADS = "places: what becomes of what each thread stores; with labels (--labels FILE) a place is a line of source:"
+MOST = 8
+
+
+def place(explained, number):
+    """The innermost frame of the event's label, or without a label its thread."""
+    label = explained.labels.get(number)
+    return ("thread", explained.trace.event(number)[1]) if label is None else ("label", label.partition(CALLER)[0])
+
+
+def fates(explained, lost, number):
+    """What the event counts as."""
+    trace, word = explained.trace, explained.trace.event(number)[0]
+    if word == "store":
+        yield "stores"
+        if number in lost:
+            yield "ignored" if explained.is_ignored(number) else "never_persisted"
+        else:
+            yield "late" if fences_waited(trace, number) >= 2 else "in_time"
+    for kind, words in (("flushes", ANY_FLUSH), ("fences", FENCES)):
+        if word in words:
+            yield kind
+            if not is_kept(trace, number):
+                yield f"{kind}_dropped"
+
+
+def standing(row):
+    """How the place is told: first those that lose a part, the smallest share first; then those that save a part late, or all, most
+    first; then those that lose all, most first; then the others, those first of whose flushes and fences most do nothing."""
+    judged, lost, late = row["stores"] - row["ignored"], row["never_persisted"], row["late"]
+    if lost:
+        return (0, lost * 1_000_000 // judged) if lost < judged else (3, -lost)
+    if late:
+        return (1 if late < judged else 2, -late)
+    return 4, -row["flushes_dropped"] - row["fences_dropped"]
+
+
+@functools.lru_cache(maxsize=1)
+def rows(explained):
+    """Each place with what it has, in the order in which they are told."""
+    lost, found = set(explained.lost_stores()), {}
+    for number in explained.trace.numbers:
+        row = found.setdefault(place(explained, number), {**dict.fromkeys(COUNTS, 0), "first": number, "first_never_persisted": None, "first_late": None})
+        for fate in fates(explained, lost, number):
+            row[fate] += 1
+            if f"first_{fate}" in row and row[f"first_{fate}"] is None:
+                row[f"first_{fate}"] = number
+    return sorted(found.items(), key=lambda item: (standing(item[1]), item[1]["first"]))
+
+
+def entries(explained):
+    """What the JSON has of them."""
+    for (kind, name), row in rows(explained):
+        firsts = {member: row[member] and explained.event(row[member]) for member in ("first", "first_never_persisted", "first_late")}
+        yield {**row, **firsts, "kind": "place", "label": None, "thread": None, kind: name}
+
+
+def name_of(key):
+    return f"thread {key[1]}" if key[0] == "thread" else key[1]
+
+
+def stores_in_words(count):
+    return f"{count} store" if count == 1 else f"{count} stores"
+
+
+def heads(explained):
+    """Of each place that loses or delays stores the line that tells it, and the event that stands below."""
+    if not explained.is_whole():
+        return
+    for key, row in rows(explained):
+        if standing(row)[0] < 4:
+            lost, late = row["never_persisted"], row["late"]
+            ignored = f", {row['ignored']} ignored" if row["ignored"] else ""
+            kind = "error" if lost else "note"
+            told = f"{kind}: {name_of(key)}: {stores_in_words(row['stores'])}: {lost} never persisted, {late} saved late, {row['in_time']} in time{ignored}"
+            yield told, ("store", row["first_never_persisted"]) if lost else ("late", row["first_late"])
+
+
+def spoken_of(explained):
+    """The lines that are flushed, the lines behind them, and those of the ranges of assertions."""
+    trace = explained.trace
+    for number in trace.numbers:
+        if trace.event(number)[0] != "store" and trace.event(number)[0] not in FENCES:
+            yield from {byte // trace.size for byte in explained.bytes_of(number)}
+        if trace.event(number)[0] in ANY_FLUSH:
+            yield trace.line(number) + 1
+
+
+def guess_lines(explained):
+    """The line that guesses at places which lose all that they store, to lines of which nothing else speaks. Nothing is guessed of a trace
+    without a flush or without an assertion."""
+    trace = explained.trace
+    words = {trace.event(number)[0] for number in trace.numbers}
+    if not explained.is_whole() or not words.intersection(ANY_FLUSH) or not words.intersection(("isPersist", "isOrderedBefore")):
+        return []
+    losing = {key: row["never_persisted"] for key, row in rows(explained) if standing(row)[0] == 3}
+    lost = [store for store in explained.lost_stores() if not explained.is_ignored(store)]
+    loud = {*spoken_of(explained), *(trace.line(store) for store in lost if place(explained, store) not in losing)}
+    out = {place(explained, store) for store in lost if trace.line(store) in loud}
+    quiet = [key for key in losing if key not in out]
+    if not quiet:
+        return []
+    written = {byte for store in lost if place(explained, store) in quiet for byte in explained.bytes_of(store)}
+    starts = sorted(byte for byte in written if byte - 1 not in written)
+    ranges = [(start, next(end for end in range(start, start + len(written) + 1) if end not in written) - start) for start in starts]
+    names = ", ".join(name_of(key) for key in quiet[:MOST]) + (f" and {len(quiet) - MOST} more" if len(quiet) > MOST else "")
+    options = "".join(f" --ignore {start:#x}:{length}" for start, length in ranges[:MOST])
+    more = f" and {len(ranges) - MOST} more ranges" if len(ranges) > MOST else ""
+    what = "1 place loses all that it stores" if len(quiet) == 1 else f"{len(quiet)} places lose all that they store"
+    count = stores_in_words(sum(losing[key] for key in quiet))
+    return [
+        f"guess: {what} ({count}), to cache lines that nothing flushes and no assertion names: {names}."
+        f" If a crash may lose that, as locks or statistics, leave it out by{options}{more}"
+    ]

@@ -1,0 +1,65 @@
+"""The worked rows by name, and where each is run.
+
+docs/PROOFS.md lists the names. A trace is a file under examples/ or tests/traces/, which tests/test_examples.py runs. A test is a
+function of a crate of tests, by its module. A file is a script or a module of tests, or one that such a file runs. Each has the row's name in it.
+"""
+
+ANSWERS = "tests/test_answers.py"
+REFUSED = "tests/lib/refused_texts.py"
+DEVICES = "tests/test_devices.py"
+REFUSALS = "tests/test_refusals.py"
+WORDS = "tests/words.sh"
+
+
+def trace(name):
+    return f"{name}.trace"
+
+
+# The rows that are a trace of their name, and nothing besides.
+TRACES = (
+    "empty_trace", "one_persist", "double_flush", "fence_of_another_thread", "two_rounds", "store_after_flush", "ordered_by_fence",
+    "ordered_fence_too_late", "order_within_a_line", "overwritten_twice", "ranges_never_stored", "same_byte_twice", "flushed_again",
+    "flush_by_an_unfenced_thread", "six_flushers", "clflush_beats_clwb", "clflush_twice", "mfence_as_fence", "sfence_after_clflush",
+    "ordered_by_clflush", "narrow_line",
+)
+
+ROWS = {name: [trace(name)] for name in TRACES} | {
+    "flushed_by_two_threads": [trace("flushed_by_two_threads"), REFUSALS],
+    "refused_events": [ANSWERS],
+    "widest_address": [trace("widest_address"), REFUSED],
+    "truncated_and_bad_headers": [REFUSED],
+    "forty_lines": [trace("forty_lines"), "library_tests::workers::workers_meet"],
+    "two_recorders": ["recorder_tests::recorder::two_recorders", "crates/refused_calls/src/recording.rt", ANSWERS],
+    "split_and_selection": ["text_tests::model::split_and_selection"],
+    "scripts": ["recorder_tests::recorder::scripts::scripts", WORDS],
+    "reading_in_pieces": ["text_tests::text::text_source::reading_in_pieces"],
+    "failing_writer": ["text_tests::text::write_all::failing_writer", DEVICES],
+    "stream": [ANSWERS, REFUSALS],
+    "million_events": [
+        "recorder_tests::book::million_events", "recorder_tests::recorder::million_events",
+        "recorder_tests::recorder::scripts::million_events", WORDS,
+    ],
+    "clflush_in_version_1": [REFUSED],
+    "wide_line": [trace("wide_line"), ANSWERS],
+    "bad_line_size": [REFUSED, "text_tests::model::bad_line_size"],
+    "not_in_format": [
+        "text_tests::model::not_in_format", "recorder_tests::book::not_in_format", "recorder_tests::recorder::not_in_format",
+        "recorder_tests::recorder::scripts::not_in_format",
+    ],
+    "steps_of_a_job": ["library_tests::workers::steps_of_a_job"],
+    "one_byte_per_read": [DEVICES],
+    "stream_before_a_fault": [ANSWERS],
+    "stream_as_it_goes": ["library_tests::trim::streaming::stream_holds_all_back"],
+    "read_fault_and_then_failed": ["library_tests::workers::analyse::read_fault_and_then_failed"],
+    "every_cut": [DEVICES],
+    "every_read": [DEVICES],
+    "every_write": [DEVICES],
+    "endless_readers": [DEVICES],
+    "the_bound": ["text_tests::text::text_source::the_bound"],
+    "hostile_bytes": [DEVICES, REFUSED],
+    "stream_header_then_failing_read": [DEVICES],
+    "ordered_over_32_and_64": [trace("ordered_over_32"), trace("ordered_over_64")],
+    "wide_fronts": [ANSWERS],
+    "session_of_128": ["recorder_tests::recorder::session_of_128"],
+    "trimmed_again": [ANSWERS],
+}

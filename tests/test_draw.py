@@ -1,0 +1,332 @@
+"""Compares the pictures that `draw` makes of traces with a literal enumeration of the machine of docs/MODEL.md."""
+import random
+import re
+import subprocess
+
+from checks import Checks
+from drawn import SVG, Picture, of_class, title_of
+from drawn_rules import (
+    COLUMNS,
+    CRASHES,
+    bars_are_told,
+    crashes_are_apart,
+    crashes_are_right,
+    earlier_are_counted,
+    events_are_right,
+    extent,
+    flushes_are_right,
+    is_on_page,
+    lanes_of,
+    legend_is_right,
+    losses_are_marked,
+    range_is_shown,
+    rows_are_named,
+    stores_are_right,
+    story_is_right,
+)
+from machine import FLUSHES, random_trace, spelled, text_of, verdict
+from program import TOP, find
+
+TRACES = 150
+ROWS = 30
+
+
+# Traces of which explain tells no error, and the headline of the picture of what it tells first; the answers are written by hand.
+SAVED = ["clwb 0 0x1000", "sfence 0"]
+FIRST = [
+    (["isPersist 0 0x1000 1", "store 0 0x1000 01", *SAVED, *["isPersist 1 0x1000 1"] * 2], "The assertion of event 1 speaks of bytes that no store has written"),
+    (["store 0 0x1040 01", "store 0 0x1000 01", *SAVED, "store 0 0x1000 02", *SAVED, "clwb 0 0x1040", "sfence 0"], "Store 1 is saved late"),
+    (["store 0 0x1000 01", *SAVED, "clwb 0 0x1040", "sfence 1", "sfence 1", "sfence 0"], "Event 5 has no effect"),
+    (["store 0 0x1000 01", "store 0 0x1000 01", "store 0 0x1040 01", "store 0 0x1040 02", *SAVED, "clwb 0 0x1040", "sfence 0"], "Store 3 is written over by store 4 before any flush"),
+    (["store 0 0x1000 01", *SAVED], "Events 1 to 3"),
+]
+
+
+def told_words(picture):
+    return " ".join(text.text for text in picture.of_class("text", "told"))
+
+
+def marks_are_apart(picture):
+    """The names of the flushes' threads, and the labels of the columns, do not meet."""
+    for band in picture.bands:
+        texts = [text for row in band.rows for text in of_class(row, "text", "small") if text.text.startswith("T")]
+        texts += [text for event in of_class(band.root, "g", "event") for text in of_class(event, "text", "label")]
+        places = sorted((base, left, right) for left, right, base in map(extent, texts))
+        if any(base == other and left < right + 1 for (base, _, right), (other, left, _) in zip(places, places[1:])):
+            return False
+    return True
+
+
+def setUpModule():
+    find()
+
+
+class Drawing(Checks):
+    """Pictures of the trace in a file."""
+
+    def setUp(self):
+        self.file = self.new_folder() / "trace"
+
+    def run_draw(self, *words):
+        return subprocess.run([self.program, "draw", *map(str, words)], capture_output=True, timeout=120)
+
+    def judge(self, name, right):
+        self.expect(name, right, f"not so of\n{self.file.read_text()[:2000] if self.file.exists() else ''}")
+
+    def drawn(self, *words):
+        """The picture of the file's trace; the same bytes come twice."""
+        done, again = self.run_draw(*words, self.file), self.run_draw(*words, self.file)
+        self.judge(f"status of {words}: {done.stderr}", done.returncode == 0 and not done.stderr)
+        self.judge(f"the same bytes: {words}", done.stdout == again.stdout)
+        return Picture(done.stdout)
+
+    def refused(self, part, *words):
+        """Words that are not of the file's trace: they are named, and nothing is drawn."""
+        done = self.run_draw(*words, self.file)
+        self.judge(f"refused {words}: {done.stderr}, wanted {part}", done.returncode == 2 and part in done.stderr.decode() and not done.stdout)
+
+    def judge_page(self, words, picture):
+        """What holds of each picture's page."""
+        self.judge(f"crashes apart {words}", crashes_are_apart(picture))
+        self.judge(f"names {words}", rows_are_named(picture))
+        self.judge(f"legend {words}", legend_is_right(picture))
+        self.judge(f"page {words}", is_on_page(picture))
+
+
+class Random(Drawing):
+    """Small random traces, each drawn as a story, in part, and around an event."""
+
+    def test_random_traces(self):
+        choose = random.Random(9)
+        for _ in range(TRACES):
+            self.judge_random(choose)
+
+    def judge_random(self, choose):
+        head, trace = random_trace(choose)
+        self.file.write_bytes(text_of([head, *map(spelled, trace.events)]))
+        story = self.drawn()
+        self.judge("the story", story_is_right(story, trace))
+        first = choose.choice(trace.numbers)
+        last = choose.choice(range(first, len(trace.events) + 1))
+        around = choose.choice(trace.numbers)
+        whole = list(trace.numbers)
+        for words, picture, numbers in (
+            ("the story", story, story.numbers),
+            (f"from {first} to {last}", self.drawn("--from", first, "--to", last), range(first, last + 1)),
+            (f"around {around}", self.drawn("--around", around), whole),
+        ):
+            self.judge(f"events {words}", events_are_right(picture, trace, numbers))
+            self.judge(f"flushes {words}", flushes_are_right(picture, trace))
+            self.judge(f"stores {words}", stores_are_right(picture, trace))
+            self.judge(f"titles of bars {words}", bars_are_told(picture, trace))
+            self.judge(f"crashes {words}", crashes_are_right(picture, trace))
+            self.judge(f"losses {words}", losses_are_marked(picture, trace))
+            self.judge(f"ranges {words}", range_is_shown(picture, trace))
+            self.judge(f"line size {words}", f"cache lines of {trace.size} bytes" in picture.words())
+            self.judge_page(words, picture)
+            if words.startswith("from"):
+                self.judge(f"earlier stores {words}", earlier_are_counted(picture, trace, first))
+        self.judge_line(trace, choose)
+        self.judge_failure(trace, choose)
+
+    def judge_line(self, trace, choose):
+        """One line: its stores and flushes, and no other's; one that no event speaks of is refused."""
+        line = choose.choice([trace.line(n) for n in trace.numbers if trace.event(n)[0] in ("store", "clflush", *FLUSHES)] or [0])
+        numbers = [n for n in trace.numbers if trace.event(n)[0] in ("store", "clflush", *FLUSHES) and trace.line(n) == line]
+        words = ["--line", f"{line * trace.size + 3:#x}", "--from", 1, "--to", len(trace.events)]
+        if not numbers:
+            self.refused("--line", *words)
+            return
+        picture = self.drawn(*words)
+        shown = [n for n in picture.numbers if trace.event(n)[0] in ("store", "clflush", *FLUSHES)]
+        self.judge(f"line {line:#x}", shown == numbers and picture.lines == [line * trace.size] and stores_are_right(picture, trace))
+
+    def judge_failure(self, trace, choose):
+        """An event by its number: the failure that it is, or a word that it is none."""
+        number = choose.choice(trace.numbers)
+        if not trace.event(number)[0].startswith("is"):
+            self.refused("is no assertion", "--failure", number)
+        elif verdict(trace, number).endswith("pass"):
+            self.refused("passes", "--failure", number)
+        else:
+            picture = self.drawn("--failure", number)
+            self.judge(f"failure {number}", title_of(picture.root).endswith(f" {number} fails.") and losses_are_marked(picture, trace))
+
+
+class Worked(Drawing):
+    """Traces and words by hand."""
+
+    def test_limits(self):
+        """256 threads, more lines than rows and more events than columns: the picture says what is left out."""
+        stores = [f"store {n} {0x1000 + 64 * n:#x} 01" for n in range(256)]
+        self.file.write_bytes(text_of(["pmtrace 1", *stores, *(f"sfence {n}" for n in range(256))]))
+        picture = self.drawn("--from", 1, "--to", 9737)
+        self.judge("columns", picture.numbers == list(range(1, COLUMNS + 1)))
+        self.judge("rows", len(picture.lines) == ROWS)
+        self.judge("what is left out", "392 events" in picture.words() and f"{COLUMNS - ROWS} more lines" in picture.words())
+        self.judge("what was asked for", "Of the events 1 to 9737 that were asked for, 392 have no room." in told_words(picture))
+        self.judge("the end", "the trace ends at event 512" in told_words(picture))
+        self.judge_page("256 threads", picture)
+        picture = self.drawn("--around", 300)
+        self.judge("around the middle", len(picture.numbers) == COLUMNS and {300 - 50, 300, 300 + 50} <= set(picture.numbers))
+        self.judge("marks apart", marks_are_apart(picture))
+        picture = self.drawn("--line=0x4200", "--around", 201)
+        self.judge("one line", picture.numbers == [201, 457] and picture.lines == [0x4200])
+        lines = [f"--line={0x1000 + 64 * n:#x}" for n in (7, 200)]
+        picture = self.drawn("--from", 1, "--to", 512, *lines)
+        self.judge("no crash left out", "has no room" not in picture.words())
+        self.judge("two lines", picture.numbers == [8, 201, 264, 457] and picture.lines == [0x11c0, 0x4200])
+        self.refused("event 513 lies past the end", "--around", 513)
+        self.refused("event 513 lies past the end", "--from", 513, "--to", 600)
+        self.refused("event 513 lies past the end", "--failure", 513)
+        self.refused("'--line 0x9000'", "--line", "0x1000", "--line", "0x9000")
+
+    def test_threads(self):
+        """The thread of the failing assertion has a row of its own among many; marks of threads with three digits stand apart."""
+        stores = [f"store {n} {0x1000 + n % 4:#x} 01" for n in range(100, 140)]
+        flushes = [f"clwb {n} 0x1000" for n in range(100, 140)]
+        self.file.write_bytes(text_of(["pmtrace 1", *stores, *flushes, "isPersist 255 0x1000 1"]))
+        picture = self.drawn()
+        names = {text.text for text in picture.band(81).root.iter(SVG + "text")}
+        self.judge("the assertion's thread", "thread 255" in names and "other threads" in names)
+        self.judge("three digits", marks_are_apart(picture))
+        self.judge_page("three digits", picture)
+
+    def test_range(self):
+        """A range of 40 lines whose last is never flushed, as by a wrong mask: its first, its last and its lost line are drawn, with the last
+        flushes and the fence before the assertion."""
+        first, last = 0x10000, 0x10000 + 39 * 64
+        stores = [f"store 0 {address + at:#x} 0102030405060708" for address in range(first, last + 64, 64) for at in (0, 8, 16)]
+        flushes = [f"clwb 0 {address:#x}" for address in range(first, last, 64)]
+        events = [*stores, *flushes, "sfence 0", f"isPersist 0 {first:#x} {40 * 64 - 40}"]
+        self.file.write_bytes(text_of(["pmtrace 1", *events]))
+        picture = self.drawn()
+        end = len(events)
+        rows = {line for band in picture.bands for line in band.lines}
+        self.judge("lines of a range", {first, last, last - 64} <= rows)
+        self.judge("flushes before the assertion", set(range(end - 9, end + 1)) <= set(picture.numbers))
+        marks = [int(mark.get("data-store")) for band in picture.bands for mark in of_class(band.root, "path", "lost-store")]
+        self.judge("lost stores of a range", marks == [118, 119, 120] and picture.crashes[0].get("data-losses") == "3")
+        texts = {text.text for text in picture.of_class("text", "asserted")}
+        self.judge("bytes of a range", texts == {"claimed +0 to +63", "claimed +0 to +23"})
+        self.judge_page("a range", picture)
+
+    def test_crowd(self):
+        """More bars than a row has room for: those of the stores that the crash loses or keeps are there all the same."""
+        sizes = {"isPersist 0 0x1000 64": 8, "isOrderedBefore 0 0x1018 8 0x1000 8": 1}
+        for claim, count in sizes.items():
+            events = [event for n in range(20) for event in (f"store {n} {0x1000 + 8 * (n % 8):#x} 0102030405060708", f"clwb {n} 0x1000")]
+            self.file.write_bytes(text_of(["pmtrace 1", *events, claim]))
+            picture = self.drawn()
+            crash = next(crash for crash in picture.crashes if crash.get("data-event") == "41")
+            told = {int(mark.get("data-store")) for band in picture.bands for mark in of_class(band.root, "path", "lost-store")}
+            kept = {int(crash.get("data-kept"))} if crash.get("data-kept") else set()
+            self.judge(f"lost stores of a crowd, {claim}", len(told) == count and "Bars that have no room in their rows" in told_words(picture))
+            self.judge(f"their bars, {claim}", all(lanes_of(picture.band(store), store, 0x1000) for store in told | kept))
+            self.judge_page(f"a crowd, {claim}", picture)
+
+    def test_fold(self):
+        """Stores that share their states share a bar, with a tick for each; a long history is folded into bands, and stays small."""
+        stores = [f"store 0 {0x1000 + n % 8:#x} 01" for n in range(100)]
+        self.file.write_bytes(text_of(["pmtrace 1", *stores, "clwb 0 0x1000", "sfence 0", "isPersist 0 0x1000 8"]))
+        picture = self.drawn("--from", 1, "--to", 103)
+        self.judge("one bar", {(bar.get("data-event"), bar.get("data-drawn")) for band in picture.bands for bar in band.bars} == {("1", "100")})
+        ticks = sorted(int(tick.get("data-store")) for band in picture.bands for tick in of_class(band.root, "path", "stored"))
+        self.judge("ticks", ticks == list(range(2, 101)))
+        self.judge("bands", len(picture.bands) > 1 and int(picture.root.get("height")) < 300 * len(picture.bands) + 200)
+        sizes = [len(band.middle) for band in picture.bands]
+        self.judge(f"bands alike: {sizes}", max(sizes) - min(sizes) < len(sizes))
+        self.judge_page("one bar", picture)
+        steps = [f"{word} {n % 3} {0x1000 + 64 * (n % 40):#x}{' 01' * (word == 'store')}" for n in range(300) for word in ("store", "clwb")]
+        self.file.write_bytes(text_of(["pmtrace 1", *steps]))
+        for words in ([], ["--around", 300], ["--line=0x1000", "--line=0x1040"]):
+            self.judge_page(f"a long history {words}", self.drawn(*words))
+
+    def test_first(self):
+        """What is told first is drawn: of failed assertions the cause with most members, and where there is no error the first note."""
+        for events, headline in FIRST:
+            self.file.write_bytes(text_of(["pmtrace 1", *events]))
+            picture = self.drawn()
+            self.judge(f"told first: {title_of(picture.root)}", title_of(picture.root) == headline)
+            self.judge_page(headline, picture)
+        several = ["store 0 0x1000 01", "isPersist 0 0x1000 1", "store 1 0x1000 01", "clwb 1 0x1000", "isPersist 0 0x1000 1", "isPersist 0 0x1000 1"]
+        self.file.write_bytes(text_of(["pmtrace 1", *several]))
+        self.judge("the cause with most members", title_of(self.drawn().root) == "isPersist 5 fails.")
+        labels = self.file.with_name("labels")
+        labels.write_text("2 a.c:1\n5 a.c:2\n6 a.c:3\n")
+        self.judge("the causes by label", title_of(self.drawn("--labels", labels).root) == "isPersist 2 fails.")
+
+    def test_crashes(self):
+        """Crashes in narrow columns, some at one place, stand apart; what has no room is told."""
+        spread = [f"store 0 {0x1000 + 64 * n:#x} 01" for n in range(30)]
+        pairs = [f"isOrderedBefore 0 {first:#x} 1 {second:#x} 1" for first in (0x1000, 0x1040) for second in (0x1080, 0x10c0)]
+        self.file.write_bytes(text_of(["pmtrace 1", *spread, *pairs, *["isPersist 0 0x1000 1"] * 12, *["clwb 1 0x1000"] * 40]))
+        for words in (["--from", 1, "--to", 60], ["--from", 20, "--to", 60], []):
+            picture = self.drawn(*words)
+            self.judge_page(f"crashes {words}", picture)
+            if words:
+                self.judge(f"crashes drawn {words}", len(picture.crashes) == CRASHES)
+                self.judge(f"crashes left out {words}", "crash has no room: 4 (12 are drawn)." in told_words(picture))
+
+    def test_labels(self):
+        """Labels stand at their events, spelled so that the picture stays one; those with no room end in dots."""
+        self.file.write_bytes(text_of(["pmtrace 1", "store 0 0x1000 01", "isPersist 0 0x1000 1"]))
+        labels = self.file.with_name("labels")
+        labels.write_text("1 a<b> & 'c' \"d\"\n2 list.c:57 insert\n")
+        picture = self.drawn("--labels", labels)
+        told = [title_of(event) for event in picture.events]
+        self.judge("labels", told == ["event 1: store 0 0x1000 01 (a<b> & 'c' \"d\")", "event 2: isPersist 0 0x1000 1 (list.c:57 insert): fails"])
+        for long, shown in (
+            ("src/engine/recovery.c:57 insert", "ry.c:57 insert"),
+            ("Ждать_записи_всех", "ть_записи_всех"),
+            ("记录先写入内存然后", "先写入内存然后"),
+            ("redo.c:118 redo_commit < list_add redo.c:215 < main redo.c:463", " redo_commit …"),
+        ):
+            labels.write_text(f"1 {long}\n2 {long}\n", encoding="utf-8")
+            picture = self.drawn("--labels", labels)
+            texts = [text.text for text in picture.of_class("text", "label")]
+            self.judge(f"cut labels {texts}", texts == ["…" + shown] * 2 and marks_are_apart(picture))
+        labels.write_text("1 redo.c:118 < main redo.c:463\n2 a.c:1 < b.c:2\n", encoding="utf-8")
+        texts = [text.text for text in self.drawn("--labels", labels).of_class("text", "label")]
+        self.judge(f"callers left out: {texts}", texts == ["redo.c:118 …", "a.c:1 < b.c:2"])
+        labels.write_text("1 \u202eevil\ufffe\u0085\n2 fifteen letters\n", encoding="utf-8")
+        picture = self.drawn("--labels", labels)
+        self.judge("odd letters", [text.text for text in picture.of_class("text", "label")] == ["?evil??", "fifteen letters"])
+        labels.write_text("2 late\n1 early\n")
+        self.judge("labels that fall", self.run_draw("--labels", labels, self.file).returncode == 3)
+        self.judge("no labels file", self.run_draw("--labels", labels.with_name("none"), self.file).returncode == 4)
+
+    def test_words(self):
+        """Statuses of wrong words and files."""
+        self.file.write_bytes(b"pmtrace 1\n")
+        for status, part, words in (
+            (2, b"'0'", ["--around", "0"]),
+            (2, b"'x'", ["--around", "x"]),
+            (2, b"'01'", ["--from", "01", "--to", "2"]),
+            (2, b"--to", ["--from", "3", "--to", "2"]),
+            (2, b"--to", ["--from", "3"]),
+            (2, b"--around", ["--around", "3", "--from", "1", "--to", "2"]),
+            (2, b"--failure", ["--failure", "3", "--around", "1"]),
+            (2, b"'0'", ["--failure", "0"]),
+            (2, b"'1000'", ["--line", "1000"]),
+            (2, b"'0x1000000000000'", ["--line", "0x1000000000000"]),
+        ):
+            done = self.run_draw(*words, self.file)
+            self.judge(f"{words}: {done}", done.returncode == status and part in done.stderr and not done.stdout)
+        self.judge("no events", self.drawn().numbers == [])
+        self.refused("event 7 lies past the end", "--around", 7)
+        self.refused("event 1 lies past the end", "--from", 1, "--to", 2)
+        self.judge("no file", self.run_draw(self.file.with_name("none")).returncode == 4)
+        self.file.write_bytes(b"pmtrace 1\nfoo\n")
+        done = self.run_draw(self.file)
+        wanted = f"{self.file}:2: ".encode()
+        self.judge(f"a refused trace: {done}", done.returncode == 3 and done.stderr.startswith(wanted) and b"\n    foo\n" in done.stderr)
+
+    def test_documents(self):
+        """The pictures of the documents are what the program draws."""
+        for picture in sorted(TOP.joinpath("docs", "pictures").glob("*.svg")):
+            done = self.run_draw(TOP / "examples" / f"{picture.stem}.trace")
+            self.judge(f"docs/pictures/{picture.name}", done.stdout == picture.read_bytes())
+        page = TOP.joinpath("docs", "DRAW.md").read_text()
+        shown = re.findall(r"\]\(pictures/(\w+)\.svg\)", page)
+        self.judge("pictures of docs/DRAW.md", sorted(shown) == sorted(path.stem for path in TOP.joinpath("docs", "pictures").glob("*.svg")))

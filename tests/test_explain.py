@@ -1,0 +1,233 @@
+"""What `explain` says: the JSON and the texts of small random traces against explained.py, and texts, entries and faults by hand."""
+import json
+import os
+import random
+import subprocess
+
+from checks import Checks, add_tests
+from crowded import random_trace
+from explain_faults import BAD_LABELS, BAD_RANGES, BAD_WORDS, HEADER, REFUSED, SAVED
+from explained import KINDS, Explained, judged
+from explained_text import SCREEN, wrong_screen, wrong_text
+from machine import spelled, text_of
+from program import TOP, find
+
+TEXTS = TOP / "examples/explain"
+PLACES = (TOP / "examples", TOP / "tests/traces")
+TRACES = 400
+
+
+def setUpModule():
+    find()
+
+
+def random_words(choose, trace):
+    """Ranges to ignore, labels and a limit."""
+    addresses = [event[2] for event in trace.events if event[0] == "store"]
+    ignored = [(choose.choice(addresses) + choose.choice((-1, 0)), choose.choice((1, 2, 8, 300))) for _ in range(choose.randrange(3)) if addresses]
+    lines = choose.choice((3, 99))
+    callers = ("", " < main file.c:9", " < other file.c:7 < main file.c:9", " <")
+    labels = {number: f"file.c:{choose.randrange(1, 1 + lines)} call{choose.choice(callers)}" for number in trace.numbers if choose.random() < 0.5}
+    return ignored, labels, choose.choice((0, 1, 2, 10, 10))
+
+
+def random_choice(choose, trace, labels):
+    """Which findings are asked for, and the words for that."""
+    asked = {}
+    if choose.random() < 0.3:
+        asked["only"] = choose.choice(KINDS)
+    if choose.random() < 0.3:
+        asked["thread"] = choose.randrange(3)
+    if choose.random() < 0.2:
+        asked["range"] = {"address": 0x1000 + choose.choice((-1, 0, 1, trace.size - 1, trace.size)), "length": choose.choice((1, 2, trace.size))}
+    if choose.random() < 0.2:
+        asked["from"] = choose.randrange(1, len(trace.events) + 2)
+    if choose.random() < 0.2:
+        asked["to"] = choose.randrange(asked.get("from", 1), len(trace.events) + 3)
+    if labels and choose.random() < 0.2:
+        asked["label"] = choose.choice(("1", "c:2", "call", "file.c:3"))
+    spelled_range = {"range": "{address:#x}:{length}".format(**asked["range"])} if "range" in asked else {}
+    words = [word for name, value in {**asked, **spelled_range}.items() for word in (f"--{name}", str(value))]
+    return asked, words
+
+
+def compare(program, folder, choose):
+    """What is wrong with the answer to one random trace, if anything, and that trace."""
+    head, trace = random_trace(choose)
+    ignored, labels, limit = random_words(choose, trace)
+    file, names = folder / "trace", folder / "labels"
+    file.write_bytes(text_of([head, *map(spelled, trace.events)]))
+    names.write_bytes(text_of(f"{number} {label}" for number, label in labels.items()))
+    asked, chosen = random_choice(choose, trace, labels) if choose.random() < 0.5 else ({}, [])
+    explained = Explained(trace, ignored, labels, asked)
+    words = [word for start, length in ignored for word in ("--ignore", f"{start:#x}:{length}")]
+    words += ["--limit", str(limit)] * (limit != 10) + ["--labels", names] * bool(labels) + chosen
+    done = subprocess.run([program, "explain", *words, "--json", file], capture_output=True, timeout=120)
+    status = int(bool(explained.failing()) or any(not explained.is_ignored(store) for store in explained.lost_stores()))
+    wrong = None
+    if (done.returncode, done.stderr) != (status, b""):
+        wrong = f"status {done.returncode}, wanted {status}: {done.stderr.decode()}"
+    wrong = wrong or judged(explained, done.stdout, limit)
+    return wrong or compare_texts(program, explained, words, file, status), f"{' '.join(map(str, words))}\n{file.read_text()}"
+
+
+def compare_texts(program, explained, words, file, status):
+    """What is wrong with the text, if anything: all of it, and as much as a screen has."""
+    unlimited = [word for at, word in enumerate(words) if word != "--limit" and words[at - 1 : at] != ["--limit"]]
+    for more, judge in ((["--limit", "all"], wrong_text), ([], wrong_screen)):
+        done = subprocess.run([program, "explain", *unlimited, *more, file], capture_output=True, timeout=120)
+        if (done.returncode, done.stderr) != (status, b""):
+            return f"the text: status {done.returncode}: {done.stderr.decode()}"
+        wrong = judge(explained, done.stdout)
+        if wrong:
+            return f"the text: {wrong}"
+    return None
+
+
+TWO_LOST = "pmtrace 1\nstore 0 0x1000 0102\nstore 3 0x1002 0304\n"
+NEVER_STORED = (
+    "pmtrace 1\nisPersist 0 0x1000 8\nstore 0 0x1007 01\nisPersist 0 0x1000 7\nisPersist 0 0x1000 8\n"
+    "isOrderedBefore 0 0x2000 4096 0x1007 1\nclflushopt 0 0x1007\nsfence 0\n"
+)
+ALL_IN_PARTS = ["--ignore", "0x1003:281474976706557", "--ignore", "0xfff:3", "--ignore", "0x1001:2"]
+
+TABLES = ("place", "thread", "label")
+
+# A trace, words, the status, how many stores are ignored, and the kinds of what is told, each with the numbers of the events in it.
+WORKED = (
+    (TWO_LOST, [], 1, 0, [("never_persisted", [1, 2])]),
+    (TWO_LOST, ["--ignore", "0x1000:3"], 1, 1, [("never_persisted", [2, 2])]),
+    (TWO_LOST, ALL_IN_PARTS, 0, 2, []),
+    (NEVER_STORED, [], 1, 0, [("cause", [4]), ("failure", [4]), ("unwritten", [1]), ("unwritten", [3]), ("unwritten", [5])]),
+    (NEVER_STORED, ["--limit", "0"], 1, 0, []),
+)
+
+
+def events_of(entry):
+    """The numbers of the events that an entry of the JSON is about."""
+    return entry["events"] if "events" in entry else [entry[word]["event"] for word in ("event", "first", "last") if word in entry]
+
+
+# Assertions that fail for one cause, and two lines that the text has of them.
+LOOP = "pmtrace 1\nstore 0 0x1000 01\n" + 13 * "isPersist 0 0x1000 1\n"
+LOOP_HEAD = "error: a crash can violate the assertion of event 2; 13 assertions fail for this cause"
+LOOP_OTHERS = "  also:   events 3 4 5 6 7 8 9 10 11 12 and 2 more"
+
+
+def many_failures():
+    """A trace with 300 assertions that fail, of 4096 bytes each, whose 512 stores are never flushed."""
+    stores = "".join(f"store 0 {0x1000 + 8 * word:#x} 0102030405060708\n" for word in range(512))
+    claims = "".join(f"isPersist {thread} 0x1000 4096\n" for thread in range(100)) * 3
+    return f"pmtrace 1\n{stores}{claims}"
+
+
+class Explain(Checks):
+    """What is told, as text and as JSON."""
+
+    def test_random_traces(self):
+        choose, folder = random.Random(17), self.new_folder()
+        for number in range(TRACES):
+            wrong, trace = compare(self.program, folder, choose)
+            self.expect(f"random trace {number}", wrong is None, f"{wrong}\nof {trace}")
+
+    def check_text(self, path):
+        """A text NAME.text is what is said of the trace NAME.trace; a first line '$ WORD ..' has further words."""
+        first, _, rest = path.read_text().partition("\n")
+        words, wanted = (first[2:].split(" "), rest) if first.startswith("$ ") else ([], f"{first}\n{rest}")
+        trace = next(folder / f"{path.stem}.trace" for folder in PLACES if (folder / f"{path.stem}.trace").exists())
+        done = self.explain(*words, os.path.relpath(trace, path.parent), folder=path.parent)
+        told = done.stdout.decode() + done.stderr.decode()
+        self.expect(f"the text of {path.stem}", told == wanted and done.returncode in (0, 1), f"it wrote\n{told}\nwanted\n{wanted}")
+
+    def explain(self, *words, folder=None):
+        return subprocess.run([self.program, "explain", *words], capture_output=True, timeout=120, cwd=folder)
+
+    def test_worked(self):
+        """Stores of which all bytes are ignored, and assertions on bytes that were never stored; the answers are written by hand."""
+        file = self.new_folder() / "worked"
+        for text, words, status, ignored, wanted in WORKED:
+            file.write_text(text)
+            done = self.explain(*words, "--json", file)
+            summary, *entries = map(json.loads, done.stdout.splitlines())
+            told = [(entry["kind"], events_of(entry)) for entry in entries if entry["kind"] not in TABLES]
+            right = (done.returncode, summary["ignored_never_persisted"], told) == (status, ignored, wanted)
+            self.expect(f"{words} of\n{text}", right, f"status {done.returncode}, {done.stdout.decode()}, wanted {status} {ignored} {wanted}")
+
+    def told(self, text, *words):
+        """What is told of a trace."""
+        file = self.new_folder() / "groups"
+        file.write_text(text)
+        return self.explain(*words, file).stdout.decode()
+
+    def test_loop(self):
+        """A cause with more members than are named."""
+        lines = self.told(LOOP).splitlines()
+        found = [line for line in lines if line in (LOOP_HEAD, LOOP_OTHERS)]
+        self.expect("a loop", found == [LOOP_HEAD, LOOP_OTHERS], "\n".join(lines))
+
+    def test_many_failures(self):
+        """How much is told where much fails."""
+        count = len(self.told(many_failures()).splitlines())
+        self.expect("the text of 300 failures", count <= SCREEN, f"{count} lines, wanted at most {SCREEN}")
+        size = len(self.told(many_failures(), "--json"))
+        self.expect("the JSON of 300 failures", size < 2_000_000, f"{size} bytes, wanted less than 2000000")
+
+
+add_tests(Explain, Explain.check_text, {f"text_of_{path.stem}": path for path in sorted(TEXTS.glob("*.text"))})
+
+
+class Faults(Checks):
+    """Each is told on standard error alone, with its status."""
+
+    def setUp(self):
+        self.folder = self.new_folder()
+        self.trace, self.labels = self.folder / "t", self.folder / "l"
+
+    def told(self, words, **options):
+        options.setdefault("stdin", subprocess.DEVNULL)
+        streams = {"capture_output": "stdout" not in options, "cwd": self.folder, "timeout": 120}
+        done = subprocess.run([self.program, "explain", *words], **streams, **options)
+        return done.returncode, done.stdout or b"", done.stderr.decode()
+
+    def expect_fault(self, name, answer, status, fault):
+        self.expect_equal(name, answer, (status, b"", fault))
+
+    def test_refused_traces(self):
+        for text, fault in REFUSED:
+            self.trace.write_bytes(text)
+            self.expect_fault(f"the trace {text[:40]}", self.told(["t"]), 3, fault)
+        told = self.told([], stdin=None, input=b"pmtrace 3\n")
+        self.expect_fault("standard input", told, 3, f"standard input:1: this is no header of a trace\n    pmtrace 3\n{HEADER}")
+
+    def test_bad_labels(self):
+        self.trace.write_bytes(SAVED)
+        for text, fault in BAD_LABELS:
+            self.labels.write_bytes(text)
+            self.expect_fault(f"the labels {text[:40]}", self.told(["--labels", "l", "t"]), 3, fault)
+
+    def test_bad_ranges(self):
+        self.trace.write_bytes(SAVED)
+        for text, fault in BAD_RANGES:
+            (self.folder / "r").write_bytes(text)
+            self.expect_fault(f"the ranges {text[:40]}", self.told(["--ignore-file", "r", "t"]), 3, fault)
+
+    def test_bad_words(self):
+        self.trace.write_bytes(SAVED)
+        self.labels.write_text("1 a\n")
+        for words, part in BAD_WORDS:
+            status, out, fault = self.told(words)
+            self.expect(f"the words {words}", (status, out) == (2, b"") and part in fault, f"{status} {out} {fault}, wanted 2 and {part!r}")
+
+    def test_files(self):
+        self.trace.write_bytes(SAVED)
+        (self.folder / "d").mkdir()
+        missing = "No such file or directory\n"
+        self.expect_fault("no trace", self.told(["none"]), 4, f"cannot open none: {missing}")
+        self.expect_fault("no labels", self.told(["--labels", "none", "t"]), 4, f"cannot open none: {missing}")
+        self.expect_fault("no ranges", self.told(["--ignore-file", "none", "t"]), 4, f"cannot open none: {missing}")
+        told = self.told(["--labels", "none.labels", "none"])
+        self.expect_fault("labels before the trace", told, 4, f"cannot open none.labels: {missing}")
+        self.expect_fault("a folder", self.told(["d"]), 4, "cannot read d: Is a directory\n")
+        with open("/dev/full", "wb") as full:
+            told = self.told(["t"], stdout=full, stderr=subprocess.PIPE)
+        self.expect_fault("a full device", told, 4, "cannot write the answer: No space left on device\n")
