@@ -1,6 +1,6 @@
 #!/usr/bin/env bash
-# The first call of ./pmtrim, tried on a stand-in that is quick to prove: the script and packaging/ as they are, over a tiny program of
-# the same name and a library below it. Last line: 'N passed, M failed'.
+# The first call of ./pmtrim, tried on a stand-in that is quick to prove: the script as it is, over a tiny program of the same name and
+# a library below it. Last line: 'N passed, M failed'.
 set -u
 cd "$(dirname "$0")/.." || exit 1
 . tests/lib/cases.sh
@@ -29,10 +29,10 @@ tells() { grep -qF -- "$1" "$folder/told"; }
 tells_nothing() { ! [ -s "$folder/told" ]; }
 ends_with() { [ "$status" -eq "$1" ]; }
 
-# Nothing is half built: no program, no tree of a proof, and no process that still works there.
+# Nothing is half built: no program, and no process that still works there.
 is_clean() {
   local left link
-  left=$(find "$top" -maxdepth 1 -name '.proving*' -o -maxdepth 1 -name 'pmtrim.build*')
+  left=$(find "$top" -maxdepth 1 -name 'pmtrim.build*')
   [ -z "$left" ] && ! [ -e "$top/crates/pmtrim/out/pmtrim" ] || return 1
   for link in /proc/[0-9]*/cwd; do
     [[ $(readlink "$link" 2> /dev/null) != "$top"* ]] || return 1
@@ -40,7 +40,7 @@ is_clean() {
 }
 
 mkdir -p "$top"/crates/{low,pmtrim}/src
-cp -r pmtrim packaging "$top"
+cp pmtrim "$top"
 echo 'Handles allowed: none.' > "$top/HANDLES"
 printf 'low:\npmtrim: low\n' > "$top/crates.txt"
 cp tests/lib/first_call/low.rt.txt "$top/crates/low/src/lib.rt"
@@ -51,7 +51,7 @@ printf abcde > "$folder/five"
 # An interrupt while the proof works: as from a terminal, all that stands in the foreground gets it.
 setsid "$top/pmtrim" "$folder/five" < /dev/null > "$folder/out" 2> "$folder/told" &
 caller=$!
-until compgen -G "$top/.proving*/*" > /dev/null || ! kill -0 "$caller" 2> /dev/null; do sleep 0.1; done
+until grep -q 'every function is being proved' "$folder/told" || ! kill -0 "$caller" 2> /dev/null; do sleep 0.1; done
 kill -TERM -- "-$caller"
 wait "$caller"
 status=$?
