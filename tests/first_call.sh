@@ -29,14 +29,23 @@ tells() { grep -qF -- "$1" "$folder/told"; }
 tells_nothing() { ! [ -s "$folder/told" ]; }
 ends_with() { [ "$status" -eq "$1" ]; }
 
-# Nothing is half built: no program, and no process that still works there.
-is_clean() {
-  local left link
-  left=$(find "$top" -maxdepth 1 -name 'pmtrim.build*')
-  [ -z "$left" ] && ! [ -e "$top/crates/pmtrim/out/pmtrim" ] || return 1
+# The processes that work below the stand-in.
+workers() {
+  local link
   for link in /proc/[0-9]*/cwd; do
-    [[ $(readlink "$link" 2> /dev/null) != "$top"* ]] || return 1
+    [[ $(readlink "$link" 2> /dev/null) != "$top"* ]] || echo "$link"
   done
+}
+
+# Nothing is half built: no program, and no process that still works there ten seconds after it was ended.
+is_clean() {
+  local left
+  for _ in {1..100}; do
+    [ -n "$(workers)" ] || break
+    sleep 0.1
+  done
+  left=$(find "$top" -maxdepth 1 -name 'pmtrim.build*')
+  [ -z "$left" ] && ! [ -e "$top/crates/pmtrim/out/pmtrim" ] && [ -z "$(workers)" ]
 }
 
 mkdir -p "$top"/crates/{low,pmtrim}/src
