@@ -1,11 +1,13 @@
 """Compares claims of the documents with the sources.
 
-docs/DECISIONS.md lists each public call that is not of the fixed surface, whose calls stand in tests/lib/surface; its decision on what
-is public names those that no other crate calls. docs/PROOFS.md names edits, and the public functions whose body no must-fail edit turns, nor that of a
-function of the same crate that they call. Laws have no body. A call is known by its name, and where a type stands before it, by its type.
-It names the worked rows too; rows.py says what runs each.
+Each public call is of the fixed surface, whose calls stand in tests/lib/surface, or another crate calls it, or docs/DECISIONS.md names it
+in its decision on what is public. Each public function with a contract has a must-fail edit that turns its body, or that of a function of
+the same crate that it calls, or docs/PROOFS.md lists it under "Functions without an edit", which lists no other. Laws have no body. A call
+is known by its name, and if a type stands before it, by its type. rows.py names the worked rows, and what runs each. docs/ARCHITECTURE.md
+lists each crate once, and the files that documents for contributors name are there.
 """
 import re
+import subprocess
 from collections import defaultdict
 
 from checks import Checks
@@ -13,14 +15,10 @@ from rows import ROWS
 from sources import TOP, items_of
 from traces import all_traces
 
+# What is for contributors alone.
+GUIDES = ("CONTRIBUTING.md", "docs/ARCHITECTURE.md", "docs/DECISIONS.md", "docs/PROOFS.md", "docs/PROVING.md", "docs/PAGE.md")
 # Methods of std's types have these names too, so a call of one of them tells nothing.
 COMMON = {"len", "get", "push", "is_empty", "new", "next", "iter", "take", "insert"}
-# The crates of `explain`, `draw` and `image`, of which the list has none.
-OWN = {
-    "pmt_reasons", "pmt_explain", "pmt_explanation", "pmt_explain_json", "pmt_explain_text", "pmt_explain_run",
-    "pmt_causes", "pmt_image", "pmt_page", "pmt_pen", "pmt_draw", "pmt_slices", "pmt_fates",
-}
-OWN |= {"command_inputs", "command_requests", "command_words", "command_draw", "command_page", "command_explain", "command_image", "command_slice"}
 
 
 def library_crates():
@@ -50,29 +48,27 @@ def sources_beside(crate):
     return "\n".join(re.sub(r"//.*", "", path.read_text()) for path in files)
 
 
-def unlisted(crates):
-    """Complaints: public calls that no list has, or no other crate calls, and listed ones that are not public."""
+def fixed_calls():
+    """The calls of the fixed surface, with and without the types that they are given."""
     surface = "\n".join(path.read_text() for path in TOP.glob("tests/lib/surface/*.rt.txt"))
-    pinned = set(re.findall(r"\w+(?:::<[^;()]*?>)?::\w+|\w+", surface))
-    pinned |= {re.sub(r"::<[^;()]*?>", "", name) for name in pinned}
-    decisions, section = (TOP / "docs/DECISIONS.md").read_text().split("## Public calls besides")
-    kept = set(re.findall(r"`(\w+)`", re.search(r"^- \*\*What is public besides .*?(?=^- |^#)", decisions, re.M | re.S)[0]))
-    used = {crate: sources_beside(crate) for crate in crates}
-    lists = dict(re.findall(r"^- `(pmt_\w+)`: (.*?)(?=^- |\Z)", section, re.M | re.S))
+    found = set(re.findall(r"\w+(?:::<[^;()]*?>)?::\w+|\w+", surface))
+    return found | {re.sub(r"::<[^;()]*?>", "", name) for name in found}
+
+
+def uncalled(crates):
+    """Complaints: public calls besides the fixed surface that no other crate makes and no decision names; and named ones that are none."""
+    decision = re.search(r"^- \*\*What is public besides .*?(?=^- |^#)", (TOP / "docs/DECISIONS.md").read_text(), re.M | re.S)[0]
+    fixed, named, unused = fixed_calls(), set(re.findall(r"`(\w+)`", decision)), set()
     for crate, items in crates.items():
-        shown = [item for item in shown_by(crate, items) if not item.is_law()]
-        words = set(re.findall(r"`([\w:]+)`", lists.get(crate, "")))
-        for item in shown:
-            if crate in OWN or item.trait or item.label() in pinned:
+        used = sources_beside(crate)
+        for item in shown_by(crate, [item for item in items if not item.is_law()]):
+            if item.kind != "fn" or item.trait or item.label() in fixed or re.search(rf"\b{item.name}\b", used):
                 continue
-            if not {item.name, item.label(), item.owner} & words:
-                yield f"{crate}: {item.label()} is public, and no list has it"
-            if item.name not in kept and not re.search(rf"\b{item.name}\b", used[crate]):
+            unused.add(item.name)
+            if item.name not in named:
                 yield f"{crate}: {item.label()} is public, and no other crate calls it"
-        known = {name for item in items for name in (item.name, item.label())} | set(re.findall(r"\w+", (TOP / "crates" / crate / "src/lib.rt").read_text()))
-        for word in sorted(words - known):
-            if word.split("::")[-1] not in known:
-                yield f"{crate}: {word} is listed, and there is none"
+    for name in sorted(named - unused):
+        yield f"docs/DECISIONS.md: {name} is named as a call that no other crate makes, and is none"
 
 
 def edited(crate, items):
@@ -101,9 +97,9 @@ def calls_of(item, by_name):
 
 
 def unedited(crates):
-    """Complaints: public functions with a contract that no edit turns and that no document names, and named ones that an edit turns."""
-    section = (TOP / "docs/PROOFS.md").read_text().split("## Wrong bodies that were planted")[1]
-    named = set(re.findall(r"`([\w:]+)`", section))
+    """Complaints: public functions with a contract that no edit turns and that are not listed, and listed ones that are none."""
+    section = (TOP / "docs/PROOFS.md").read_text().split("## Functions without an edit")[1].split("\n## ")[0]
+    listed, missing = set(re.findall(r"`([\w:]+)`", " ".join(re.findall(r"^- (.*?`): ", section, re.M | re.S)))), set()
     contracted = {(item.owner, item.name) for items in crates.values() for item in items if item.trait and item.trait == item.owner and "ensures" in item.text}
     contracted |= {("Read", "read"), ("Write", "write"), ("Write", "flush")}
     for crate, items in crates.items():
@@ -113,27 +109,51 @@ def unedited(crates):
             by_name[item.name].append(item)
         turned = set(edited(crate, items))
         for item in shown_by(crate, functions + [item for item in items if item.kind != "fn"]):
-            if not item.has_contract(contracted) or {item.name, item.label()} & named:
+            if not item.has_contract(contracted) or turned & reached_from(item, by_name):
                 continue
-            reached, front = {item}, [item]
-            while front:
-                front = [other for one in front for other in calls_of(one, by_name) if other not in reached]
-                reached.update(front)
-            if not reached & turned:
+            missing.add(item.label())
+            if item.label() not in listed:
                 yield f"{crate}: no edit turns {item.label()}"
+    for name in sorted(listed - missing):
+        yield f"docs/PROOFS.md: {name} is listed as a function without an edit, and is none"
+
+
+def reached_from(item, by_name):
+    """The function, those of its crate that it calls, those that they call, and so on."""
+    reached, front = {item}, [item]
+    while front:
+        front = [other for one in front for other in calls_of(one, by_name) if other not in reached]
+        reached.update(front)
+    return reached
 
 
 def stale():
-    """Complaints: long names in docs/PROOFS.md that are neither those of edits nor words of the sources, and a count of edits that is not theirs."""
+    """Complaints: long names in docs/PROOFS.md that are neither those of edits nor words of the sources."""
     proofs = (TOP / "docs/PROOFS.md").read_text()
     edits = {path.stem for path in TOP.glob("crates/*/must-fail/*.edit")}
     sources = [path for kind in ("src/**/*.rt", "specs/*.antt", "proofs/*.antt") for path in TOP.glob(f"crates/*/{kind}")]
     words = {word for path in sources for word in re.findall(r"\w+", path.read_text())}
     for name in sorted(set(re.findall(r"`([a-z0-9]+(?:_[a-z0-9]+){2,})`", proofs)) - edits - words - set(ROWS)):
         yield f"docs/PROOFS.md names {name}, and there is none"
-    count = len(list(TOP.glob("crates/*/must-fail/*.edit")))
-    if f"There are {count} edits now" not in proofs:
-        yield f"docs/PROOFS.md does not say that there are {count} edits"
+
+
+def unlisted_crates():
+    """Complaints: crates that docs/ARCHITECTURE.md does not list, or lists twice, and listed ones that are not there."""
+    section = (TOP / "docs/ARCHITECTURE.md").read_text().split("## The crates")[1].split("\n## ")[0]
+    listed = [name for names in re.findall(r"^  - ((?:`\w+`(?:, )?)+):", section, re.M) for name in re.findall(r"\w+", names)]
+    known = re.findall(r"^(\w+)[^:#]*:", (TOP / "crates.txt").read_text(), re.M)
+    for name in sorted({*listed, *known}):
+        if listed.count(name) != 1 or name not in known:
+            yield f"{name}: docs/ARCHITECTURE.md lists it {listed.count(name)} times, crates.txt {known.count(name)} times"
+
+
+def missing_files():
+    """Complaints: files that documents for contributors name, and that are not there; NAME and PATH stand for any."""
+    tracked = subprocess.run(["git", "ls-files"], cwd=TOP, capture_output=True, text=True, check=True).stdout.splitlines()
+    for document in GUIDES:
+        for name in sorted(set(re.findall(r"`([\w./-]+\.(?:rt|antt|py|sh|js|css|html|h|c))`", (TOP / document).read_text()))):
+            if not re.search("NAME|PATH", name) and not any(path == name or path.endswith(f"/{name}") for path in tracked):
+                yield f"{document} names {name}, and there is no such file"
 
 
 def scripts_run():
@@ -172,11 +192,7 @@ def not_run(name, place, scripts):
 
 
 def rows_not_run():
-    """Complaints: worked rows that docs/PROOFS.md or rows.py alone names, that nothing is said to run, or that is not run where it is said."""
-    section = (TOP / "docs/PROOFS.md").read_text().split("## Worked rows")[1].split("\n## ")[0]
-    named = set(re.findall(r"`(\w+)`", section))
-    for name in sorted(named ^ set(ROWS)):
-        yield f"{name}: a worked row of {'docs/PROOFS.md' if name in named else 'tests/lib/rows.py'} alone"
+    """Complaints: worked rows that nothing is said to run, or that are not run where it is said."""
     scripts = scripts_run()
     for name, places in ROWS.items():
         if not places:
@@ -198,13 +214,19 @@ class Claims(Checks):
             self.expect(complaint, not complaint, "the documents and the sources differ")
 
     def test_public_calls(self):
-        self.expect_none(unlisted(self.crates))
+        self.expect_none(uncalled(self.crates))
 
     def test_edits(self):
         self.expect_none(unedited(self.crates))
 
     def test_names_of_proofs(self):
         self.expect_none(stale())
+
+    def test_crates(self):
+        self.expect_none(unlisted_crates())
+
+    def test_files(self):
+        self.expect_none(missing_files())
 
     def test_worked_rows(self):
         self.expect_none(rows_not_run())

@@ -1,6 +1,6 @@
 """The worked rows by name, and where each is run.
 
-docs/PROOFS.md lists the names. A trace is a file under examples/ or tests/traces/, which tests/test_examples.py runs. A test is a
+This is their only list. A trace is a file under examples/ or tests/traces/, which tests/test_examples.py runs. A test is a
 function of a crate of tests, by its module. A file is a script or a module of tests, or one that such a file runs. Each has the row's name in it.
 """
 
