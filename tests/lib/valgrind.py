@@ -440,7 +440,7 @@ class Tests:
 
     def yes_or_no(self):
         shown = re.findall(r"^  (--[a-z-]+)(\[=yes\|no\]| yes\|no)", run([RECORD, "--help"])[1], re.M)
-        self.expect("options that take yes or no", len(shown) == 7, shown)
+        self.expect("options that take yes or no", len(shown) == 8, shown)
         for name, word in shown:
             bare = word.startswith("[")
             for words, wanted, fault in (

@@ -41,6 +41,7 @@ static bool pmtrace_wait_for_calls_(void) {
  * Another one meanwhile waits too. */
 static void pmtrace_on_death_(int number) {
     __atomic_store_n(&pmtrace_dying_, 1, __ATOMIC_SEQ_CST);
+    pmtrace_write_how_("signal ", (unsigned)number);
     if (pmtrace_get_state_() == PMTRACE_OPEN_ && pmtrace_wait_for_calls_()) {
         pmtrace_cut_(&pmtrace_.trace);
         if (pmtrace_.labeled)

@@ -109,8 +109,10 @@ static bool pmtrace_begin_trace_(const char *label, const char *file, unsigned l
     if (!pmtrace_read_number_("PMTRACE_START", &start) || !pmtrace_read_number_("PMTRACE_STOP", &stop))
         return false;
     free(pmtrace_.name);
-    pmtrace_.name = strdup(file);
-    if (pmtrace_.name == NULL || !pmtrace_begin_cut_() || !pmtrace_make_files_(line_size, label != NULL))
+    free(pmtrace_.asked);
+    pmtrace_.name = pmtrace_trace_path_(file);
+    pmtrace_.asked = strdup(file);
+    if (pmtrace_.name == NULL || pmtrace_.asked == NULL || !pmtrace_begin_cut_() || !pmtrace_make_files_(line_size, label != NULL))
         return false;
     pmtrace_set_up_(line_size, label != NULL);
     pmtrace_set_up_bases_();
@@ -132,8 +134,8 @@ static void pmtrace_close_files_(void) {
 /* Adds a pool to the trace that is open. */
 static int pmtrace_open_more_(const char *file, const void *base, size_t length, unsigned line_size) {
     const char *refusal = NULL;
-    if (file != NULL && strcmp(file, pmtrace_.name) != 0) {
-        pmtrace_tell_("%s: another trace is open: %s; nothing is recorded here", file, pmtrace_.name);
+    if (file != NULL && strcmp(file, pmtrace_.asked) != 0) {
+        pmtrace_tell_("%s: another trace is open: %s; nothing is recorded here", file, pmtrace_.asked);
         return -1;
     }
     if (line_size != pmtrace_.line_size)

@@ -25,6 +25,8 @@
 
 #include "telling.h"
 
+#include "folder.h"
+
 #include "output.h"
 
 #include "threads.h"

@@ -109,6 +109,7 @@ static struct {
     bool stored;   /* a store is in the trace */
     bool prepared; /* what happens once did */
     char *name;
+    char *asked;    /* the name that the program gave: another one where the environment names a folder */
     char *cut_name; /* of the file that says where the trace was cut, from the root on */
     unsigned line_size;
     unsigned opened;    /* how often a trace was opened */

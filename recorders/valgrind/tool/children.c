@@ -3,6 +3,7 @@
 #include "calls.h"
 #include "events.h"
 #include "options.h"
+#include "outcome.h"
 #include "output.h"
 #include "pools.h"
 #include "processes.h"
@@ -86,6 +87,7 @@ void before_execution(const HChar *path) {
     else
         VG_(printf)("pmtrim-record: the program becomes another one, which is not recorded; --trace-children yes records it\n");
     print_summary();
+    write_becoming();
 }
 
 void in_parent(ThreadId thread) {

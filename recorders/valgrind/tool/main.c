@@ -7,6 +7,7 @@
 #include "events.h"
 #include "instrument.h"
 #include "options.h"
+#include "outcome.h"
 #include "output.h"
 #include "processes.h"
 #include "requests.h"
@@ -45,6 +46,7 @@ static void finish(Int status) {
         print_summary();
     else
         print_summary_of_process();
+    write_outcome();
     give_up_process_turn();
 }
 

@@ -66,6 +66,7 @@ Bool take_option(const HChar *word) {
     } else if VG_BOOL_CLO (word, "--locked-fences", options.locked_fences) {
     } else if VG_BOOL_CLO (word, "--pmdk", options.pmdk) {
     } else if VG_BOOL_CLO (word, "--record-children", options.children) {
+    } else if VG_BOOL_CLO (word, "--process", options.process) {
     } else if VG_BOOL_CLO (word, "--one-trace", options.one_trace) {
     } else if VG_BINT_CLO (word, "--first-process", options.first_process, 0, 2147483647) {
     } else if VG_BINT_CLO (word, "--switch-every", options.switch_every, 0, 1000000) {

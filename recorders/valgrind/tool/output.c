@@ -3,6 +3,7 @@
 #include "common.h"
 #include "cut.h"
 #include "options.h"
+#include "outcome.h"
 #include "threads.h"
 
 /* pmtrim reads no more of a labels file. */
@@ -89,6 +90,7 @@ static void open_files(const HChar *path, Int flags) {
 void open_trace(const HChar *path) {
     open_files(path, VKI_O_CREAT | VKI_O_TRUNC);
     begin_cut(place_of_trace);
+    begin_outcome(place_of_trace);
     put(TRACE_FILE, HEAD);
     keep_progress();
 }
@@ -221,6 +223,7 @@ void write_trace(void) {
 }
 
 void leave_trace(void) {
+    leave_outcome();
     recording = OFF;
     common->trace.now = (Progress){0};
     common->trace.ended = common->trace.labels_ended = False;

@@ -5,6 +5,7 @@
 #include "emptied.h"
 #include "events.h"
 #include "file_writes.h"
+#include "outcome.h"
 #include "output.h"
 #include "pools.h"
 #include "lock.h"
@@ -26,8 +27,10 @@ void before_call(ThreadId thread, UInt call, UWord *arguments, UInt count) {
     before_file_call(thread, call, arguments);
     if (call == __NR_exit)
         note_robust_locks(thread);
-    else if (call == __NR_exit_group)
+    else if (call == __NR_exit_group) {
+        note_exit((UInt)arguments[0]);
         note_all_robust_locks();
+    }
     if (call == __NR_execve || call == __NR_execveat)
         before_execution(call == __NR_execve ? (const HChar *)arguments[0] : NULL);
     lock_enters_system(call, arguments);
