@@ -2,7 +2,7 @@
 """Runs what documents show, and compares: documents.py PROGRAM FILE.md ..  The last line is 'N passed, M failed'.
 
 A block fenced as `console` holds commands, each after `$ `, and under each what it writes to both streams. It runs in a folder with
-`pmtrim`, `examples`, `crates`, `recorders` and `replay`. A block fenced with two words, as `c recorder.c`, is written to a file of
+`pmtrim`, `examples`, `crates`, `recorders`, `replay` and `suite`. A block fenced with two words, as `c recorder.c`, is written to a file of
 that name in that folder first.
 """
 import os
@@ -14,7 +14,7 @@ import tempfile
 
 from program import TOP
 
-SHOWN = ("examples", "crates", "recorders", "replay")
+SHOWN = ("examples", "crates", "recorders", "replay", "suite")
 BLOCK = re.compile(r"^```(\S+)(?: (\S+))?\n(.*?)^```$", re.M | re.S)
 
 

@@ -1,0 +1,86 @@
+"""Causes: what is wrong, by an id that lasts; and how those of several runs become one."""
+import dataclasses
+import hashlib
+from typing import Optional
+
+FAILURE, NEVER_PERSISTED, LATE, DROPPED, OVERWRITTEN, UNWRITTEN, CUT, EMPTY = KINDS = (
+    "failure",
+    "never_persisted",
+    "late",
+    "dropped",
+    "overwritten",
+    "unwritten",
+    "cut",
+    "empty",
+)
+FAILING = (FAILURE, NEVER_PERSISTED)  # those that fail, unless others are named
+ID_DIGITS = 12
+
+
+def id_of(kind, reason, names):
+    """The id of a cause: of its kind, its reason, and the files and functions of its places."""
+    return hashlib.sha256("\n".join([kind, reason, *names]).encode("utf-8", "surrogateescape")).hexdigest()[:ID_DIGITS]
+
+
+@dataclasses.dataclass
+class Example:
+    """One event that shows a cause, in one run: the places with their lines, and what is told of it."""
+
+    run: str
+    events: int  # how many events the run has
+    event: Optional[int]
+    places: list  # of [file, function, line]: the first is the place of the cause
+    told: list  # of [role, text, place or null]
+    show: str  # the command that shows it
+
+    @property
+    def order(self):
+        return (self.events, self.run, self.event or 0)
+
+
+@dataclasses.dataclass
+class Cause:
+    """A cause, over all runs that have it."""
+
+    kind: str
+    reason: str
+    names: list  # of its places, which last; the first is the place of the cause
+    count: int  # how often it came
+    of: Optional[int]  # of how many stores of that place
+    runs: dict  # by the name of the run, how often it came there
+    example: Example
+
+    @property
+    def id(self):
+        return id_of(self.kind, self.reason, self.names)
+
+    @property
+    def place(self):
+        """The name of the place that the cause is told of."""
+        return self.names[0]
+
+    @property
+    def what(self):
+        """Its kind, and its reason where that says more."""
+        return self.kind if self.reason == self.kind else f"{self.kind} ({self.reason})"
+
+    @property
+    def order(self):
+        """Failed assertions first, then what is lost for good; what comes in most runs before others."""
+        return (KINDS.index(self.kind), -len(self.runs), -self.count, self.names, self.reason)
+
+    def join(self, other):
+        """Takes what another part of the runs has of the same cause."""
+        self.count += other.count
+        self.of = None if self.of is None else self.of + (other.of or 0)
+        for run, count in other.runs.items():
+            self.runs[run] = self.runs.get(run, 0) + count
+        self.example = min(self.example, other.example, key=lambda example: example.order)
+
+
+def add_cause(causes, cause):
+    """Adds a cause to those of other runs, or of the same one."""
+    if cause.id in causes:
+        causes[cause.id].join(cause)
+    else:
+        causes[cause.id] = cause

@@ -1,0 +1,76 @@
+"""The programs that this one runs: pmtrim, and pmtrim-record."""
+import os
+import shutil
+import signal
+import subprocess
+import tempfile
+import threading
+
+from faults import FILE_FAULT, NO_MEMORY, WRONG_WORDS, Fault
+
+SIGNALS = {number.value: number.name for number in signal.Signals}
+
+
+def signal_name(number):
+    """The name of a signal, or its number where it has none."""
+    return SIGNALS.get(number, str(number))
+
+
+def find_program(here, name, beside, made_by):
+    """The program that the environment names, or that stands beside this one, in its repository, or on the way of commands."""
+    word = name.upper().replace("-", "_")
+    named = os.environ.get(word)
+    for path in [named] if named else [here / name, here.parent / beside, shutil.which(name)]:
+        if path and os.access(path, os.X_OK) and not os.path.isdir(path):
+            return str(path)
+    raise Fault(FILE_FAULT, f"{named or name}: there is no such program: {word} in the environment names it, or {made_by}")
+
+
+def find_pmtrim(here):
+    return find_program(here, "pmtrim", "crates/pmtrim/out/pmtrim", "./pmtrim --version builds it")
+
+
+def find_recorder(here):
+    return find_program(here, "pmtrim-record", "recorders/valgrind/pmtrim-record", "./install puts it beside this one")
+
+
+class Pmtrim:
+    """Runs pmtrim, side by side, until it is stopped."""
+
+    def __init__(self, program):
+        self.program = program
+        self.lock = threading.Lock()
+        self.running = set()
+        self.stopped = False
+
+    def lines(self, words):
+        """The lines of an answer, one after another. Fault after the last one: in pmtrim's own words, with its status."""
+        with tempfile.TemporaryFile() as told:
+            with self.lock:
+                if self.stopped:
+                    return
+                process = subprocess.Popen([self.program, *words], stdin=subprocess.DEVNULL, stdout=subprocess.PIPE, stderr=told, text=True, errors="replace")
+                self.running.add(process)
+            try:
+                yield from process.stdout
+            finally:
+                process.stdout.close()
+                process.wait()
+                with self.lock:
+                    self.running.discard(process)
+            if process.returncode not in (0, 1):
+                told.seek(0)
+                raise self.fault(process.returncode, told.read(4096).decode(errors="replace").split("\n"))
+
+    def fault(self, code, told):
+        """What it said, in one line."""
+        status = code if code in range(WRONG_WORDS, NO_MEMORY + 1) else FILE_FAULT
+        ended = f"pmtrim died by {signal_name(-code)}" if code < 0 else f"pmtrim ended with status {code}"
+        return Fault(status, " ".join(line.strip() for line in told if line.strip()) or ended)
+
+    def stop(self):
+        """Ends what runs, and lets none begin."""
+        with self.lock:
+            self.stopped = True
+            for process in self.running:
+                process.kill()

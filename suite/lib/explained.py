@@ -1,0 +1,163 @@
+"""What `pmtrim explain --json` says of one run, as causes."""
+import json
+import sys
+from typing import NamedTuple, Optional
+
+from causes import CUT, DROPPED, EMPTY, FAILURE, LATE, NEVER_PERSISTED, OVERWRITTEN, UNWRITTEN, Cause, Example, add_cause
+from faults import REFUSED, Fault
+
+SCHEMA = 3  # of the JSON, docs/EXPLAIN.md
+LINE_SIZES = (32, 64, 128, 256)
+WHY = {
+    "unflushed": "no flush of the cache line follows the store by then",
+    "unfenced": "the cache line is flushed after the store, but the thread that flushes makes no fence after it by then",
+    "later": "the store comes only after the crash",
+}
+
+
+def told_mend(mend):
+    """What mends a loss, in words."""
+    before = f", before event {mend['before']}" if mend.get("before") else ""
+    if mend["mend"] == "fence":
+        return f"Fence by thread {mend['thread']} after event {mend['after']}{before}."
+    if mend["mend"] == "flush_and_fence":
+        return f"Flush cache line {mend['cache_line']} after event {mend['after']}, and fence by the thread that flushes it{before}."
+    return f"Do the store of event {mend['store']} first, before event {mend['before']}."
+
+
+def told_event(event):
+    return f"event {event['event']}: {event['words']}"
+
+
+class Why(NamedTuple):
+    """Why a store is lost: its cause, the flush that no fence follows, if that is it, and what mends it."""
+
+    cause: str
+    flush: Optional[str]
+    label: Optional[str]
+    fix: str
+
+    def told(self):
+        flush = [["flush", self.flush, self.label]] if self.flush else []
+        return [["why", WHY[self.cause], None], *flush, ["fix", self.fix, None]]
+
+
+def why_of(value):
+    """Why what a line of JSON tells is lost."""
+    cause, fix = value["cause"], told_mend(value["mend"])
+    if cause["cause"] == "unfenced":
+        return Why(sys.intern(cause["cause"]), told_event(cause["flush"]), cause["flush"]["label"], fix)
+    return Why(sys.intern(cause["cause"]), None, None, fix)
+
+
+class RunReader:
+    """Takes the lines of JSON of one run, one after another."""
+
+    def __init__(self, run, places, cut, show):
+        self.run = run
+        self.places = places
+        self.cut = cut
+        self.show = show  # the command that shows a finding, by words for `explain`
+        self.causes = {}
+        self.summary = None
+        self.groups, self.failures, self.lost, self.tallies = [], 0, {}, {}
+
+    def take(self, line):
+        """Takes a line. Fault: it is none of JSON of this form."""
+        try:
+            value = json.loads(line)
+            kind = value["kind"]
+            if self.summary is None and (kind != "summary" or value["schema"] != SCHEMA):
+                raise Fault(REFUSED, f"{self.run.trace}: pmtrim explain answers in schema {value.get('schema')}, and this reads {SCHEMA}; are they of one version?")
+            getattr(self, f"take_{kind}", lambda _: None)(value)
+        except (ValueError, KeyError, TypeError, AttributeError, IndexError, StopIteration) as error:
+            raise Fault(REFUSED, f"{self.run.trace}: pmtrim explain --json answers what this can't read: {error}; are they of one version?") from error
+
+    def take_summary(self, value):
+        self.summary = value
+
+    def take_cause(self, value):
+        self.groups.append((value["assertion"], value["count"]))
+
+    def take_failure(self, value):
+        """The failures stand in the order of their groups."""
+        assertion, count = self.groups[self.failures]
+        self.failures += 1
+        stores = [("loses", value["lost"])] if value["kept"] is None else [("keeps", value["kept"]), ("loses", value["lost"])]
+        event, why = value["event"], why_of(value)
+        told = [["claim", told_event(event), event["label"]]]
+        told += [[role, f"byte {found['byte']} of {told_event(found['store'])}", found["store"]["label"]] for role, found in stores]
+        labels = [event["label"], *(found["store"]["label"] for _, found in reversed(stores))]
+        self.add(FAILURE, f"{assertion} {why.cause}", labels, count, None, event["event"], [*told, *why.told()], ["--failure", str(event["event"])])
+
+    def take_never_persisted(self, value):
+        """There may be as many as stores, so no more is kept than what tells a place why."""
+        kept = (value["first"]["event"], value["last"]["event"], why_of(value))
+        self.lost.setdefault(int(value["cache_line"], 16), []).append(kept)
+
+    def why_lost(self, event):
+        """Why a store is never persisted: by the losses of the nearest cache line that may hold it."""
+        address = int(event["address"], 16)
+        losses = next(self.lost[line] for line in (address // size * size for size in LINE_SIZES) if line in self.lost)
+        return next(why for first, last, why in losses if first <= event["event"] <= last)
+
+    def take_place(self, value):
+        if value["never_persisted"]:
+            event = value["first_never_persisted"]
+            why = self.why_lost(event)
+            told = [["store", told_event(event), event["label"]], *why.told()]
+            self.add(NEVER_PERSISTED, why.cause, [event["label"]], value["never_persisted"], value["stores"], event["event"], told)
+        if value["late"]:
+            event = value["first_late"]
+            told = [["store", told_event(event), event["label"]], ["why", "it is not safe when its thread has made two more fences", None]]
+            self.add(LATE, "late", [event["label"]], value["late"], value["stores"], event["event"], told)
+
+    def take_dropped(self, value):
+        event = value["event"]
+        what = f"{event['words'].split(' ')[0]} {value['reason']['reason']}"
+        self.tally(DROPPED, what, 1, (("does nothing", event),))
+
+    def take_overwritten(self, value):
+        self.tally(OVERWRITTEN, "overwritten", value["count"], (("store", value["earlier"]), ("overwritten by", value["later"])))
+
+    def take_unwritten(self, value):
+        self.tally(UNWRITTEN, value["event"]["words"].split(" ")[0], 1, (("claim on bytes never stored", value["event"]),))
+
+    def tally(self, kind, reason, count, events):
+        """Counts a finding, of which there may be as many as events; the first with these labels is told."""
+        key = (kind, reason, *(event["label"] for _, event in events))
+        self.tallies.setdefault(key, [0, events])[0] += count
+
+    def add_tallies(self):
+        for (kind, reason, *labels), (count, events) in self.tallies.items():
+            told = [[role, told_event(event), event["label"]] for role, event in events]
+            self.add(kind, reason, labels, count, None, events[0][1]["event"], told)
+
+    def add(self, kind, reason, labels, count, of, event, told, words=None):
+        """Adds a finding to its cause. A trace that was cut does not tell what is lost for good."""
+        if kind == NEVER_PERSISTED and self.cut:
+            return
+        places = [self.places.of(label) for label in labels]
+        words = ["--only", kind, "--from", str(event), "--to", str(event)] if words is None else words
+        told = [[role, text, list(self.places.of(label)) if label else None] for role, text, label in told]
+        example = Example(self.run.name, self.summary["events"], event, [list(place) for place in places], told, self.show(words))
+        add_cause(self.causes, Cause(kind, reason, [place.name for place in places], count, of, {self.run.name: count}, example))
+
+    def finish(self):
+        """All causes of the run, once the last line was taken."""
+        if self.summary is None:
+            raise Fault(REFUSED, f"{self.run.trace}: pmtrim explain --json did not answer")
+        self.add_tallies()
+        if self.note:
+            kind, event = (CUT, self.cut[0]) if self.summary["events"] else (EMPTY, None)
+            self.add(kind, kind, [None], 1, None, event, [["why", self.note, None]], [])
+        return list(self.causes.values())
+
+    @property
+    def note(self):
+        """Why the trace is not all of what happened; None where it is."""
+        if not self.summary["events"]:
+            return self.cut[1] if self.cut else "the trace has no event"
+        if not self.cut:
+            return None
+        return f"the trace was cut after event {self.cut[0]}: {self.cut[1]}" if self.cut[0] is not None else f"the trace was cut: {self.cut[1]}"
