@@ -1,4 +1,4 @@
-"""What four programs say by --help, and the man pages and completions that packaging/pages makes of it, in the shells themselves."""
+"""What five programs say by --help, and the man pages and completions that packaging/pages makes of it, in the shells themselves."""
 import pathlib
 import re
 import tempfile
@@ -22,6 +22,9 @@ OFFERED = {
     ("pmtrim", "draw", "--la"): ["--labels"],
     ("pmtrim", "image", "--po"): ["--pool"],
     ("pmtrim-replay", "--of"): ["--off"],
+    ("pmtrim-suite", "re"): ["record", "report"],
+    ("pmtrim-suite", "report", "--fail-on", "o"): ["overwritten"],
+    ("pmtrim-suite", "merge", "--ba"): ["--baseline"],
     ("pmtrim-record", "--labels", "y"): ["yes"],
     ("pmtrim-record", "--switch"): ["--switch-every"],
     ("pmtrim-lines", "--v"): ["--version"],

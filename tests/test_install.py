@@ -53,6 +53,8 @@ class Installed(Checks):
         self.expect("pmtrim", told.status == 0 and "kept" in told.out, told)
         told = run([*bare, self.prefix / "bin/pmtrim-replay", "undo_log.trace", "--", "test", "-s", "{}"], cwd=folder)
         self.expect("pmtrim-replay", told.status == 0, told)
+        told = run([*bare, self.prefix / "bin/pmtrim-suite", "report", folder], cwd=folder)
+        self.expect("pmtrim-suite", told.status == 0 and told.out.startswith("1 run of 1 program"), told)
         told = run([*bare, self.prefix / "bin/pmtrim-record", "--trace", "true.trace", "true"], cwd=folder)
         self.expect("pmtrim-record", told.status == 0 and (folder / "true.trace").exists(), told)
 

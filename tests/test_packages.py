@@ -94,6 +94,8 @@ class Packages(Checks):
         self.expect("pmtrim runs", told.status == 0 and "kept" in told.out, told)
         told = run([*bare, root / "usr/bin/pmtrim-replay", "undo_log.trace", "--", "test", "-s", "{}"], cwd=folder)
         self.expect("pmtrim-replay runs", told.status == 0, told)
+        told = run([*bare, root / "usr/bin/pmtrim-suite", "report", folder], cwd=folder)
+        self.expect("pmtrim-suite runs", told.status == 0 and told.out.startswith("1 run of 1 program"), told)
         told = run([*bare, root / "usr/bin/pmtrim-record", "--trace", "true.trace", "true"], cwd=folder)
         self.expect("pmtrim-record runs", told.status == 0, told)
         for name in NAMES:

@@ -1,4 +1,4 @@
-"""The four programs, and what is made of their help or put in place by ./install."""
+"""The five programs, and what is made of their help or put in place by ./install."""
 import os
 import pathlib
 import re
@@ -11,6 +11,7 @@ from program import TOP
 OTHERS = {
     "pmtrim-record": TOP / "recorders/valgrind/pmtrim-record",
     "pmtrim-replay": TOP / "replay/pmtrim-replay",
+    "pmtrim-suite": TOP / "suite/pmtrim-suite",
     "pmtrim-lines": TOP / "recorders/libpmem/pmtrim-lines",
 }
 # Recorders are built in their place, by one script at a time.
@@ -37,7 +38,7 @@ def run_alone(words, known=None):
 
 
 def programs():
-    """The paths of all four, pmtrim first."""
+    """The paths of all, pmtrim first."""
     return [pathlib.Path(os.environ["PMTRIM"]), *OTHERS.values()]
 
 
