@@ -4,9 +4,15 @@ import signal
 import subprocess
 import threading
 
+ENDING = (signal.SIGINT, signal.SIGTERM, signal.SIGHUP)
+
 
 class Stopped(Exception):
     """Nothing is begun any more."""
+
+
+class Ended(Exception):
+    """A signal asks for the end."""
 
 
 class Processes:
@@ -16,8 +22,35 @@ class Processes:
         self.lock = threading.Lock()
         self.running = {}
         self.stopped = False
+        self.beginning = False
+        self.asked = None
+
+    def end_by_signals(self):
+        """From now on these signals ask for the end, but those that are ignored."""
+        for number in ENDING:
+            if signal.getsignal(number) != signal.SIG_IGN:
+                signal.signal(number, self._end)
+
+    def _end(self, number, _frame):
+        for each in ENDING:
+            signal.signal(each, signal.SIG_IGN)
+        self.asked = number
+        if not self.beginning:
+            raise Ended(number)
 
     def begin(self, words, **options):
+        """Begins a program. Signals come to the main thread: one that comes while it begins a program waits until that can be ended."""
+        if threading.current_thread() is not threading.main_thread():
+            return self._begin(words, options)
+        self.beginning = True
+        try:
+            return self._begin(words, options)
+        finally:
+            self.beginning = False
+            if self.asked is not None:
+                raise Ended(self.asked)
+
+    def _begin(self, words, options):
         with self.lock:
             if self.stopped:
                 raise Stopped

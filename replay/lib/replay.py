@@ -15,19 +15,14 @@ from commands import Commands, ImageMaker, find_program
 from faults import DISAGREEMENT, FILE_FAULT, WRONG_WORDS, Fault, of_file
 from foreseen import Memory
 from pools import check_stores, find_pools
-from processes import Processes, Stopped
+from processes import Ended, Processes, Stopped
 from results import KeptResults, Results, identity_of, remove_tree
 from telling import MOST_STORES, Progress, Texts, next_words, summary, table
 from trace import Trace
 from words import HELP, take_words
 
 VERSION = "pmtrim-replay 1.0.0"
-ENDING = (signal.SIGINT, signal.SIGTERM, signal.SIGHUP)
 KEPT_IMAGES = 20
-
-
-class Ended(Exception):
-    """A signal asks for the end."""
 
 
 class Counts:
@@ -48,10 +43,10 @@ def check_is_there(path):
 class Replay:
     """A run over all images."""
 
-    def __init__(self, options, here, folder):
+    def __init__(self, options, here, folder, processes):
         self.options = options
         self.folder = folder
-        self.processes = Processes()
+        self.processes = processes
         self.commands = Commands(find_program(here), options.trace, self.processes)
         check_is_there(options.trace)
         self.commands.fronts(0, 1)
@@ -221,7 +216,6 @@ class Replay:
         print("\n".join(lines), flush=True)
 
     def clean_up(self):
-        self.processes.stop()
         self.results.close()
         remove_tree(self.folder)
 
@@ -236,24 +230,16 @@ def room_is_whole(room, size):
     return taken == size
 
 
-def end(_number, _frame):
-    for number in ENDING:
-        signal.signal(number, signal.SIG_IGN)
-    raise Ended(_number)
-
-
 def run(options, here):
     """Runs all, and answers the status."""
     if shutil.which(options.checker[0]) is None:
         raise Fault(WRONG_WORDS, f"{options.checker[0]}: there is no such program")
     begun = time.monotonic()
     folder = pathlib.Path(tempfile.mkdtemp(prefix="pmtrim-replay-"))
-    replay = None
+    replay, processes = None, Processes()
     try:
-        for number in ENDING:
-            if signal.getsignal(number) != signal.SIG_IGN:
-                signal.signal(number, end)
-        replay = Replay(options, here, folder)
+        processes.end_by_signals()
+        replay = Replay(options, here, folder, processes)
         replay.prepare()
         replay.run()
         replay.tell(time.monotonic() - begun)
@@ -262,11 +248,12 @@ def run(options, here):
         if replay is None:
             print(f"{options.trace}: stopped before the first image", flush=True)
         else:
-            replay.processes.stop()
+            processes.stop()
             replay.tell(time.monotonic() - begun, stopped=True)
             print(f"pmtrim-replay: {replay.stopped_words()}", file=sys.stderr)
         raise
     finally:
+        processes.stop()
         if replay is not None:
             replay.clean_up()
         remove_tree(folder)

@@ -1,5 +1,6 @@
 """Checkers that hang, die or write without end, bases that are missing or short, runs that are stopped, and large pools."""
 import functools
+import os
 import pathlib
 import re
 import signal
@@ -11,21 +12,40 @@ from replay_runs import REPLAY, Runs, counts_of
 TWO_LINES = ["store 0 0x0 01", "store 0 0x40 02", "clwb 0 0x0", "sfence 0"]
 IMAGES = {bytes([one] + 63 * [0] + [two] + 63 * [0]) for one, two in ((0, 0), (0, 2), (1, 0), (1, 2))}
 LARGE = 1 << 30
+# How long one sleeps who is to be found asleep: by this word, which no other run of these tests has.
+ASLEEP = f"1234.{os.getpid()}1"
 
 
 def of_shell(script, *more):
     return ["--", "sh", "-c", script, "x", "{}", *more]
 
 
-def is_running(word):
-    """Whether a process has this word."""
+def is_asleep():
+    """Whether a process has the word of those that sleep."""
     for path in pathlib.Path("/proc").glob("[0-9]*/cmdline"):
         try:
-            if word.encode() in path.read_bytes().split(b"\0"):
+            if ASLEEP.encode() in path.read_bytes().split(b"\0"):
                 return True
         except OSError:
             pass
     return False
+
+
+def has_child(process):
+    return pathlib.Path(f"/proc/{process.pid}/task/{process.pid}/children").read_text() != ""
+
+
+def within(seconds, holds, pause=0.05):
+    """Whether it holds at some time within so many seconds."""
+    until = time.monotonic() + seconds
+    while not (held := holds()) and time.monotonic() < until:
+        time.sleep(pause)
+    return held
+
+
+def nobody_is_asleep():
+    """Whether who was ended is gone, which takes the kernel a while on a machine with much else to do."""
+    return within(60, lambda: not is_asleep())
 
 
 def rows_of(told):
@@ -47,12 +67,12 @@ class FaultTests(Runs):
         """Each fails in its own way, and the others go on."""
         trace = self.small()
         for script, words, said in (
-            ("sleep 1234.5 & echo begun; wait", ["--seconds", "1"], "checker: no end within 1 s"),
+            (f"sleep {ASLEEP} & echo begun; wait", ["--seconds", "1"], "checker: no end within 1 s"),
             ("yes", ["--seconds", "1"], "checker: no end within 1 s"),
             ("kill -SEGV $$", [], "checker: died by SIGSEGV"),
             ("exit 3", [], "checker: status 3"),
             ("mkdir $TMPDIR/closed; touch $TMPDIR/closed/file; chmod 0 $TMPDIR/closed; false", [], "checker: status 1"),
-            ("sleep 1234.5 & exit 4", [], "checker: status 4"),
+            (f"sleep {ASLEEP} & exit 4", [], "checker: status 4"),
             ("printf 'a\\033[2Jb\\n'; false", [], "| a?[2Jb"),
             ("head -c 300000 /dev/zero | tr '\\0' 'z'; echo; echo last; false", [], "| last"),
         ):
@@ -60,8 +80,8 @@ class FaultTests(Runs):
             status, told, faults = self.replay([*words, trace, *of_shell(script)])
             self.expect(f"{script}: status", (status, faults, counts_of(told)) == (1, "", (6, 4, 4, 0)), told + faults)
             self.expect(f"{script}: told", told.count(said) == 4 and len(told) < 6000, told[:3000])
-            self.expect(f"{script}: time", time.monotonic() - begun < 60, time.monotonic() - begun)
-            self.expect(f"{script}: nothing runs on", not is_running("1234.5"), "a child of the checker")
+            self.expect(f"{script}: time", time.monotonic() - begun < 300, time.monotonic() - begun)
+            self.expect(f"{script}: nothing runs on", nobody_is_asleep(), "a child of the checker")
 
     def texts(self):
         """What checkers write that fail on no image: told where it differs, but for paths, which always do."""
@@ -183,50 +203,55 @@ class FaultTests(Runs):
     def stopped(self):
         """A run that is stopped leaves no process and no image, and the same words go on."""
         lines = [line for at in range(8) for line in (f"store 0 {8 * at:#x} 01", "clwb 0 0x0", "sfence 0")]
-        trace, script = self.small("long.trace", lines), 'sleep 0.3; echo seen; [ "$(od -An -tu1 -j40 -N1 "$1")" -eq 0 ]'
+        trace, gate = self.small("long.trace", lines), self.empty_folder("gate")
+        # three checkers go on, and the others when the gate is open
+        go_on = f'until [ -e {gate}/open ] || mkdir {gate}/1 || mkdir {gate}/2 || mkdir {gate}/3; do sleep 0.1; done 2> /dev/null'
+        script = f'{go_on}; echo seen; [ "$(od -An -tu1 -j40 -N1 "$1")" -eq 0 ]'
+        (gate / "open").touch()
         _, told, _ = self.replay(["--jobs", "2", trace, *of_shell(script)])
         wanted = rows_of(told)
         for number in (signal.SIGINT, signal.SIGTERM):
-            kept = self.folder / f"stopped{number}"
+            kept, gate = self.folder / f"stopped{number}", self.empty_folder("gate")
             words = [REPLAY, "--jobs", "2", "--keep", kept, trace, *of_shell(script)]
             streams = {"stdout": subprocess.PIPE, "stderr": subprocess.PIPE, "text": True}
             # what runs in the background may have been told to ignore signals
             unignore = functools.partial(signal.signal, number, signal.SIG_DFL)
             process = subprocess.Popen([str(word) for word in words], cwd=self.folder, env=self.environment, preexec_fn=unignore, **streams)
             state = kept / "state.jsonl"
-            until = time.monotonic() + 300
-            while time.monotonic() < until and not (state.exists() and state.read_text().count("\n") >= 4):
-                time.sleep(0.05)
+            within(300, lambda: state.exists() and state.read_text().count("\n") >= 4)
             process.send_signal(number)
-            told, faults = process.communicate(timeout=60)
+            told, faults = process.communicate(timeout=300)
             self.expect(f"{number.name}: status", process.returncode == -number and "stopped" in faults, (process.returncode, told, faults))
             first = re.match(r"long\.trace: stopped at place \d+ of 24; the same words go on; this is of the images until then\n", told)
             self.expect(f"{number.name}: said in the answer", first is not None and counts_of(told) is not None, told)
             self.expect(f"{number.name}: what is left", not (kept / "work").exists() and not list(self.temporary.iterdir()), list(kept.iterdir()))
             with open(state, "a") as file:
                 file.write('{"image": "half')
+            (gate / "open").touch()
             status, told, faults = self.replay(words[1:])
             counts = counts_of(told)
-            self.expect(f"{number.name}: it goes on", (status, faults) == (1, "") and counts[:3] == (24, 9, 3) and 3 <= counts[3] < 9, told + faults)
+            self.expect(f"{number.name}: it goes on", (status, faults, counts) == (1, "", (24, 9, 3, 3)), told + faults)
             self.expect(f"{number.name}: the same table", rows_of(told) == wanted, told)
 
     def stopped_at_once(self):
-        """A run that is stopped before there is an image says so too: here pmtrim does not answer."""
+        """A run that is stopped before there is an image says so too: here pmtrim does not answer. In most runs it is begun just then."""
+        for number in range(10):
+            self.stop_at_once("as pmtrim begins" if number else "as pmtrim runs", has_child if number else lambda _: is_asleep())
+
+    def stop_at_once(self, when, is_time):
         slow = self.folder / "slow"
-        slow.write_text("#!/bin/sh\nexec sleep 1234.5\n")
+        slow.write_text(f"#!/bin/sh\nexec sleep {ASLEEP}\n")
         slow.chmod(0o755)
         words = [str(word) for word in (REPLAY, self.small(), *of_shell("true"))]
         environment = {**self.environment, "PMTRIM": str(slow)}
         streams = {"stdout": subprocess.PIPE, "stderr": subprocess.PIPE, "text": True}
         process = subprocess.Popen(words, cwd=self.folder, env=environment, **streams)
-        until = time.monotonic() + 60
-        while time.monotonic() < until and not is_running("1234.5"):
-            time.sleep(0.05)
+        within(300, lambda: is_time(process), 0)
         process.send_signal(signal.SIGTERM)
-        told, faults = process.communicate(timeout=60)
+        told, faults = process.communicate(timeout=300)
         wanted = (-signal.SIGTERM, "small.trace: stopped before the first image\n", "")
-        self.expect("stopped at once", (process.returncode, told, faults) == wanted, (process.returncode, told, faults))
-        self.expect("stopped at once: what is left", not is_running("1234.5") and not list(self.temporary.iterdir()), "something")
+        self.expect(f"stopped {when}", (process.returncode, told, faults) == wanted, (process.returncode, told, faults))
+        self.expect(f"stopped {when}: what is left", nobody_is_asleep() and not list(self.temporary.iterdir()), "something")
 
     def others_results(self):
         """Results of another run are not taken for this one's."""

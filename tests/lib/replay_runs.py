@@ -47,7 +47,7 @@ class Runs(Counts):
 
     def run(self, words, **options):
         """The status, standard output and standard error."""
-        options = {"cwd": self.folder, "stdin": subprocess.DEVNULL, "env": self.environment, "timeout": 600, **options}
+        options = {"cwd": self.folder, "stdin": subprocess.DEVNULL, "env": self.environment, "timeout": 1200, **options}
         done = subprocess.run([str(word) for word in words], capture_output=True, **options)
         return done.returncode, done.stdout.decode(errors="replace"), done.stderr.decode(errors="replace")
 
