@@ -37,10 +37,11 @@ workers() {
   done
 }
 
-# Nothing is half built: no program, and no process that still works there ten seconds after it was ended.
+# Nothing is half built: no program, and no process that still works there a minute after it was ended. A proof that was not ended would make
+# the program by then.
 is_clean() {
   local left
-  for _ in {1..100}; do
+  for _ in {1..600}; do
     [ -n "$(workers)" ] || break
     sleep 0.1
   done

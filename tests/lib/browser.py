@@ -31,7 +31,7 @@ class Fault(Exception):
 class Browser:
     """A browser of its own, with a folder of its own; one page at a time."""
 
-    def __init__(self, limit=60):
+    def __init__(self, limit=300):
         self.limit = limit
         self.folder = tempfile.TemporaryDirectory()
         to_browser, self.writer = os.pipe()

@@ -2,8 +2,8 @@
 """Runs what documents show, and compares: documents.py PROGRAM FILE.md ..  The last line is 'N passed, M failed'.
 
 A block fenced as `console` holds commands, each after `$ `, and under each what it writes to both streams. It runs in a folder with
-`pmtrim`, `examples`, `crates`, `recorders`, `replay` and `suite`. A block fenced with two words, as `c recorder.c`, is written to a file of
-that name in that folder first.
+`pmtrim`, `examples`, `crates`, `recorders`, `replay` and `suite`; `make` while no other script builds there. A block fenced with two
+words, as `c recorder.c`, is written to a file of that name in that folder first.
 """
 import os
 import pathlib
@@ -49,7 +49,8 @@ def outputs_of(path, program):
 def written_by(command, folder, program):
     streams = {"stdin": subprocess.DEVNULL, "stdout": subprocess.PIPE, "stderr": subprocess.STDOUT}
     known = {**os.environ, "PMTRIM": str(program)}
-    done = subprocess.run(["bash", "-c", command], cwd=folder, env=known, timeout=300, **streams)
+    alone = ["flock", TOP / "tests"] if command.startswith("make ") else []
+    done = subprocess.run([*alone, "bash", "-c", command], cwd=folder, env=known, timeout=1200, **streams)
     return done.stdout.decode(errors="replace")
 
 

@@ -28,7 +28,7 @@ class Told(NamedTuple):
 
 def run(words, known=None, **options):
     """Runs a program, with names for its environment besides those that there are."""
-    options = {"cwd": TOP, "stdin": subprocess.DEVNULL, "timeout": 600, **options}
+    options = {"cwd": TOP, "stdin": subprocess.DEVNULL, "timeout": 1800, **options}
     done = subprocess.run([str(word) for word in words], capture_output=True, env={**os.environ, **(known or {})}, **options)
     return Told(done.returncode, done.stdout.decode(errors="replace"), done.stderr.decode(errors="replace"))
 

@@ -36,7 +36,7 @@ def run(words, **options):
     options["env"] = {**os.environ, **options.pop("set", {})}
     streams = {"stdin": subprocess.DEVNULL, "stdout": subprocess.PIPE, "stderr": subprocess.STDOUT}
     try:
-        done = subprocess.run([str(word) for word in words], timeout=100, check=False, **streams, **options)
+        done = subprocess.run([str(word) for word in words], timeout=1200, check=False, **streams, **options)
     except (OSError, subprocess.TimeoutExpired) as error:
         return None, str(error)
     return done.returncode, done.stdout.decode(errors="replace")

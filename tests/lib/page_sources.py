@@ -8,13 +8,13 @@ TRACE = b"pmtrace 1\n" + b"".join(b"store 0 0x%x 01\n" % (0x1000 + 64 * at) for 
 LABELS = ("near.c:8 < caller.c:2", "../outside.c:1", "/etc/passwd:1", "link.c:1", "binary.c:1", "gone.c:1", "near.c:99")
 
 
-# What is shown of the sources once it is written: a browser tells later that they were opened, so there are two seconds for it.
+# What is shown of the sources once it is written: a browser tells later that they were opened, so there are thirty seconds for it.
 SHOWN = """new Promise((done) => {
   const look = (left) => {
     const text = document.getElementById('source').textContent;
     if (left === 0 || text.includes('line 8')) done(text); else setTimeout(look, 10, left - 1);
   };
-  look(200);
+  look(3000);
 })"""
 
 
@@ -59,6 +59,6 @@ def cases(pages):
     yield "source lines in sight", "" if "line 8" in shown and "</script>" in shown else shown[:200]
     yield "no faults", "; ".join(pages.faults(page))
     for words in (["--source", sources], ["--html", "--source", sources], ["--html", "--labels", labels, "--source", pages.folder / "none"]):
-        done = subprocess.run([pages.program, "explain", *words, trace], capture_output=True, timeout=60)
+        done = subprocess.run([pages.program, "explain", *words, trace], capture_output=True, timeout=300)
         wanted = 4 if "none" in str(words[-1]) else 2
         yield f"refused {words[:-1]}", "" if done.returncode == wanted and done.stdout == b"" else f"{done.returncode} {done.stderr[:200]}"

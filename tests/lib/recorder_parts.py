@@ -72,7 +72,7 @@ class PartTests(Tests):
     def verdicts(self, program, name, calls, *words):
         trace = self.folder / f"{name}.trace"
         text = "".join(" ".join(map(str, call)) + "\n" for call in calls)
-        done = subprocess.run([program, trace, *words], input=text, capture_output=True, text=True, timeout=60, check=False)
+        done = subprocess.run([program, trace, *words], input=text, capture_output=True, text=True, timeout=600, check=False)
         self.expect(f"{name} runs", done.returncode in (0, 1) and text_of(trace) != "", done.stderr)
         report = run([self.program, "check", trace])[1]
         return re.findall(r"^(?:persist|ordered) \d+ (\w+)$", report, re.M), done.stderr

@@ -34,7 +34,7 @@ def run(words, **options):
     """The status and what it wrote, both streams."""
     options.setdefault("cwd", TOP)
     streams = {"stdin": subprocess.DEVNULL, "stdout": subprocess.PIPE, "stderr": subprocess.STDOUT}
-    done = subprocess.run([str(word) for word in words], timeout=300, **streams, **options)
+    done = subprocess.run([str(word) for word in words], timeout=1200, **streams, **options)
     return done.returncode, done.stdout.decode(errors="replace")
 
 
@@ -91,7 +91,7 @@ def has_compiler(command, flags=()):
             if shutil.which(command) and run([command, *flags, probe, "-o", made])[0] == 0 and run([made])[0] == 0:
                 return True
             if attempt == 0:
-                run(["bash", "-c", f"apt-get update && apt-get install -y {PACKAGES.get(command, 'gcc g++')}"])
+                run(["bash", "-c", f". tests/lib/shared.sh && alone install_packages {PACKAGES.get(command, 'gcc g++')}"])
     return False
 
 

@@ -9,9 +9,9 @@ alone() {
   return "$status"
 }
 
-# Installs packages of Debian.
+# Installs packages of Debian, while no other script of this machine does.
 install_packages() {
-  { apt-get update && apt-get install -y --no-install-recommends "$@"; } > /dev/null 2>&1
+  { flock 9 && apt-get update && apt-get -o DPkg::Lock::Timeout=600 install -y --no-install-recommends "$@"; } > /dev/null 2>&1 9< /var/lib/apt
 }
 
 # Builds pmtrim-record against the package valgrind, which is installed where it may be.

@@ -10,7 +10,7 @@ import sys
 import termios
 import time
 
-LINES, COLUMNS, SECONDS = 400, 200, 10
+LINES, COLUMNS, SECONDS = 400, 200, 120
 
 
 class Terminal:

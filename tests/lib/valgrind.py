@@ -13,11 +13,10 @@ import signal
 import subprocess
 import sys
 import tempfile
-import time
 
 from counts import Counts
 from valgrind_processes import Processes
-from valgrind_runs import events_of, rebuilt, run, stores_of, text_of
+from valgrind_runs import drawn, events_of, rebuilt, run, stores_of, text_of, wait_until
 from valgrind_threads import Threads
 from valgrind_windows import Windows
 
@@ -171,7 +170,8 @@ class Tests:
         """Every kind of store: the replayed trace is the file, byte for byte."""
         program, pool = self.build("stores", "-mavx2"), self.folder / "stores.pool"
         for threads in (1, 4):
-            trace, status, told, faults = self.record(f"stores{threads}", [program, pool, threads], "--pool", pool)
+            words = [program, pool, threads]
+            trace, status, told, faults = drawn(lambda: self.record(f"stores{threads}", words, "--pool", pool))
             self.expect(f"stores of {threads}", status == 0 and "not recorded" not in faults, faults)
             kinds, size, head = map(int, re.findall(r"\d+", told) or (0, 1, 0))
             self.each_kind(f"stores of {threads}", trace, pool.read_bytes(), kinds * threads, size, head)
@@ -210,7 +210,7 @@ class Tests:
         """A seed reproduces the run, another seed gives another one, and threads take turns."""
         texts = []
         for number, seed in enumerate((5, 5, 5, 6)):
-            trace = self.record(f"seed{number}", [program, pool, 4], "--seed", seed, "--pool", pool)[0]
+            trace = drawn(lambda: self.record(f"seed{number}", [program, pool, 4], "--seed", seed, "--pool", pool))[0]
             texts.append(text_of(trace))
         self.expect("one seed, one trace", texts[0] == texts[1] == texts[2] and len(texts[0]) > 100000, "they differ")
         self.expect("another seed, another trace", texts[3] != texts[0], "they are the same")
@@ -317,12 +317,11 @@ class Tests:
             # what runs in the background may have been told to ignore signals
             unignore = functools.partial(signal.signal, signal.SIGINT, signal.SIG_DFL)
             with subprocess.Popen(words, preexec_fn=unignore, stdout=subprocess.PIPE, stderr=subprocess.DEVNULL) as running:
-                running.stdout.readline()
-                while not any(pool.read_bytes()[8 * 1000 : 8 * 1008]):
-                    time.sleep(0.01)
+                begun = running.stdout.readline() != b"" and wait_until(lambda: any(pool.read_bytes()[8 * 1000 : 8 * 1008]))
+                self.expect(f"killed by {death.name}: it stores", begun, "it does not")
                 running.send_signal(death)
                 try:
-                    status = running.wait(timeout=60)
+                    status = running.wait(timeout=300)
                 except subprocess.TimeoutExpired:
                     running.kill()
                     status = "it does not end"

@@ -1,12 +1,34 @@
-"""For the tests of pmtrim-record: running programs, and reading their traces."""
+"""For the tests of pmtrim-record: running programs, and reading their traces. The machine may have much else to do, so that what is waited
+for may take long."""
 import subprocess
+import time
+
+UNDRAWN = "turns that were drawn without the seed"
 
 
 def run(words, **options):
     """The status, standard output and standard error."""
-    options.setdefault("timeout", 300)
+    options.setdefault("timeout", 1200)
     done = subprocess.run([str(word) for word in words], stdin=subprocess.DEVNULL, capture_output=True, **options)
     return done.returncode, done.stdout.decode(errors="replace"), done.stderr.decode(errors="replace")
+
+
+def wait_until(holds, seconds=300):
+    """Whether it holds within so many seconds."""
+    until = time.monotonic() + seconds
+    while not (held := holds()) and time.monotonic() < until:
+        time.sleep(0.01)
+    return held
+
+
+def drawn(record):
+    """What a recorded run gives, its standard error last, of the first run of some in which the seed drew each turn. Where a thread gets no
+    processor for ten seconds it is told that the seed did not."""
+    for _ in range(5):
+        found = record()
+        if UNDRAWN not in found[-1]:
+            break
+    return found
 
 
 def text_of(path):

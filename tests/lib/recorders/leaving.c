@@ -33,11 +33,15 @@ static void *store_for_ever(void *asynchronous) {
     return NULL;
 }
 
-/* A thread is cancelled fifty times; its calls are whole, and the lock is free. */
+/* A thread is cancelled fifty times, each time after it has stored; its calls are whole, and the lock is free. */
 static int cancel(void *asynchronous) {
+    volatile uint64_t *stored = &((uint64_t *)(void *)pool)[1];
     for (int round = 0; round < 50; round++) {
         pthread_t thread;
+        uint64_t before = *stored;
         pthread_create(&thread, NULL, store_for_ever, asynchronous);
+        while (*stored == before)
+            usleep(100);
         usleep(1000);
         pthread_cancel(thread);
         pthread_join(thread, NULL);

@@ -3,6 +3,7 @@
 #include <errno.h>
 #include <fcntl.h>
 #include <pthread.h>
+#include <stdio.h>
 #include <stdlib.h>
 #include <sys/mman.h>
 #include <sys/socket.h>
@@ -24,9 +25,11 @@ static socklen_t *next_length(socklen_t length) {
     return next;
 }
 
-/* Lengths of names and of options, which are shorter than the room for them. */
+/* Lengths of names and of options, which are shorter than the room for them. The names are the machine's, so they have the process's
+ * number in them. */
 static void ask_for_lengths(void) {
-    struct sockaddr_un name = {.sun_family = AF_UNIX, .sun_path = "\0answers"}, other;
+    struct sockaddr_un name = {.sun_family = AF_UNIX}, other;
+    snprintf(name.sun_path + 1, 8, "%06xs", (unsigned)getpid() & 0xffffff);
     int listening = socket(AF_UNIX, SOCK_STREAM, 0), calling = socket(AF_UNIX, SOCK_STREAM, 0), size;
     must(bind(listening, (struct sockaddr *)&name, 10) == 0 && listen(listening, 1) == 0);
     must(connect(calling, (struct sockaddr *)&name, 10) == 0);

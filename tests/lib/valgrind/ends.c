@@ -58,8 +58,9 @@ int main(int count, char **words) {
     if (strcmp(what, "waits") == 0) {
         puts("waits");
         fflush(stdout);
-        for (unsigned long number = 1;; number++)
+        for (unsigned long number = 1; number <= 300000; number++)
             save_value((int)(number % 4000) + 1, number);
+        pause();
     }
     if (strcmp(what, "avx512") == 0)
         __asm__ volatile(".byte 0x62, 0xf1, 0x7c, 0x48, 0x11, 0x07" : : "D"(pool) : "memory");
