@@ -125,12 +125,15 @@ class FileTests(Tests):
     def holes(self):
         """A hole takes little memory, and what is stored behind the end of a file is in no trace."""
         program, pool = self.build("holes"), self.folder / "holes.pool"
-        trace = self.record("holes", [program, pool, 1], "--base")[0]
-        last = pool.read_bytes()
-        base = trace.with_name(f"{trace.name}.base").read_bytes()
-        self.expect("holes: the file", rebuilt(trace, base)[:-2] == last and len(base) == (1 << 20) + 7, f"{len(base)} {len(last)}")
-        behind = [address for address, data in stores_of(trace) if address + len(data) > len(base)]
-        self.expect("holes: behind the end", behind == [], behind)
+        for how in ([], ["advice"]):
+            trace, status, _, faults = self.record("holes", [program, pool, 1, *how], "--base")
+            last = pool.read_bytes()
+            base = trace.with_name(f"{trace.name}.base").read_bytes()
+            right = status == 0 and not any(last[: 1 << 20]) and rebuilt(trace, base)[:-2] == last and len(base) == (1 << 20) + 7
+            self.expect(f"holes {how}: the file", right, f"{status} {len(base)} {len(last)}")
+            self.expect(f"holes {how}: nothing is missing", "emptied" not in faults, faults)
+            behind = [address for address, data in stores_of(trace) if address + len(data) > len(base)]
+            self.expect(f"holes {how}: behind the end", behind == [], behind)
         words = [RECORD, "--trace", self.folder / "large.trace", program, self.folder / "large.pool", 64]
         with subprocess.Popen([str(word) for word in words], stdout=subprocess.DEVNULL, stderr=subprocess.PIPE) as running:
             faults = running.stderr.read().decode()

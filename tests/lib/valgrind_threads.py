@@ -1,7 +1,10 @@
 """Threads under pmtrim-record: that they meet by the seed, at what cost, and their numbers. The programs are the kinds of threads.c."""
 import re
+import resource
 import subprocess
 import time
+
+from valgrind_runs import drawn
 
 SAVE_EVENTS = 3
 
@@ -49,7 +52,7 @@ class Threads:
             self.expect(f"{kind}: threads meet", found > 40, found)
             self.expect(f"{kind}: it is told", told_switches(faults) == (threads, found), faults)
             self.expect(f"{kind}: no warning", "ran one after another" not in faults, faults)
-        again = [self.record("locked", 4, 150, "--seed", seed)[0] for seed in (7, 7, 8)]
+        again = [drawn(lambda: self.record("locked", 4, 150, "--seed", seed))[0] for seed in (7, 7, 8)]
         self.expect("a lock: one seed, one run", again[0] == again[1] != again[2], "they differ, or not")
 
     def log(self):
@@ -59,7 +62,7 @@ class Threads:
 
     def piped(self):
         """Whom a call has woken counts among those that may be next, whenever it comes: one seed, one run."""
-        texts = [self.record("piped", 12, 60, "--seed", 3)[0] for _ in range(6)]
+        texts = [drawn(lambda: self.record("piped", 12, 60, "--seed", 3))[0] for _ in range(6)]
         self.expect("threads that wake each other: one seed, one run", all(text == texts[0] for text in texts), "they differ")
         self.expect("threads that wake each other: all is recorded", len(texts[0]) == SAVE_EVENTS * 12 * 60, len(texts[0]))
 
@@ -74,20 +77,33 @@ class Threads:
         self.expect("threads before the window: told", "events before the window: 900" in faults, faults)
 
     def seconds(self, words):
-        start = time.monotonic()
+        """How long a run takes: by the clock, and of the processor."""
+        start, before = time.monotonic(), resource.getrusage(resource.RUSAGE_CHILDREN)
         subprocess.run([str(word) for word in words], check=True, capture_output=True)
-        return time.monotonic() - start
+        after = resource.getrusage(resource.RUSAGE_CHILDREN)
+        return time.monotonic() - start, after.ru_utime + after.ru_stime - before.ru_utime - before.ru_stime
+
+    def costs_less(self, name, words, other, times):
+        """A run takes less than so many times as long as the other one, by both measures. Programs beside these slow one of two runs as well
+        as the other, so one of five pairs is enough."""
+        found = []
+        for _ in range(5):
+            plain, took = self.seconds(other), self.seconds(words)
+            found.append(max(one / of for one, of in zip(took, plain)))
+            if found[-1] < times:
+                break
+        self.expect(name, min(found) < times, found)
 
     def cost(self):
-        """Many threads that could all run cost no more than five times what Valgrind takes for them."""
+        """Many threads that could all run, a line that is never safe and many that are saved at once cost about what is to be expected."""
         record = [self.tests.recorder, "--trace", self.tests.folder / "many.trace"]
         words = [self.program, "barrier", self.pool, 128, 1]
-        plain = self.seconds(["valgrind", "--tool=none", "-q", "--fair-sched=yes", *words])
-        took = self.seconds([*record, *words])
-        self.expect("128 threads at a barrier", took < 5 * plain, f"{took:.1f} seconds, Valgrind alone {plain:.1f}")
+        self.costs_less("128 threads at a barrier", [*record, *words], ["valgrind", "--tool=none", "-q", "--fair-sched=yes", *words], 5)
         words = [self.program, "free", self.pool, 64, 125]
-        plain, took = self.seconds([*record, "--switch-every", 0, *words]), self.seconds([*record, *words])
-        self.expect("64 threads without a lock", took < 5 * plain, f"{took:.1f} seconds, without switches {plain:.1f}")
+        self.costs_less("64 threads without a lock", [*record, *words], [*record, "--switch-every", 0, *words], 5)
+        saves = lambda events: [*record, self.program, "free", self.pool, 1, events // SAVE_EVENTS]
         for options in ([], ["--events", "1000000-"]):
-            took = self.seconds([*record, *options, self.program, "hot", self.pool, 1, 100000])
-            self.expect(f"a line that is never safe {options}", took < 10, f"{took:.1f} seconds")
+            words = [*record, *options, self.program, "hot", self.pool, 1, 100000]
+            self.costs_less(f"a line that is never safe {options}, against as many events of lines that are", words, saves(200000), 5)
+        words = [*record, self.program, "synced", self.pool, 1, 32000]
+        self.costs_less("32,000 lines that one call saves, against as many events of single saves", words, saves(64000), 3)

@@ -1,53 +1,32 @@
 #include "dirty.h"
+#include "chunks.h"
 #include "common.h"
 #include "options.h"
 
-/* A chunk has a bit for each line of 2 MiB: a page of bits. The chunks of a pool are found by their number. Those of one trace of several
- * processes are in common. */
+/* A chunk has a bit for each line of 2 MiB: a page of bits. Those of one trace of several processes are in common. */
 enum { CHUNK_BITS = 21, CHUNK_LINES = (1 << CHUNK_BITS) / LINE_BYTES };
 
 typedef struct {
     ULong words[CHUNK_LINES / 64];
 } Chunk;
 
-typedef struct {
-    Chunk **chunks;
-    SizeT count;
-} Chunks;
-
-static Chunks pools_chunks[MOST_POOLS];
+static Chunks own = {.bits = CHUNK_BITS, .bytes = sizeof(Chunk), .name = "dirty.chunk"};
 
 static SizeT chunk_count(Int pool) {
-    return options.one_trace ? common_pages(pool) : pools_chunks[pool].count;
-}
-
-/* A chunk of this process alone. */
-static Chunk *own_chunk(Int pool, SizeT number, Bool made) {
-    Chunks *all = &pools_chunks[pool];
-    if (number >= all->count) {
-        SizeT count = number + number / 2 + 8;
-        if (!made)
-            return NULL;
-        all->chunks = VG_(realloc)("dirty.chunks", all->chunks, count * sizeof *all->chunks);
-        VG_(memset)(all->chunks + all->count, 0, (count - all->count) * sizeof *all->chunks);
-        all->count = count;
-    }
-    if (all->chunks[number] == NULL && made)
-        all->chunks[number] = VG_(calloc)("dirty.chunk", 1, sizeof(Chunk));
-    return all->chunks[number];
+    return options.one_trace ? common_pages(pool) : own.of_pools[pool].count;
 }
 
 /* NULL where there is none and it is not to be made, or can't be. */
-static Chunk *chunk_at(ULong address, Bool made) {
-    Int pool = (Int)(address / POOL_SPAN);
-    SizeT number = (address % POOL_SPAN) >> CHUNK_BITS;
+static Chunk *lines_at(ULong address, Bool made) {
     tl_assert(sizeof(Chunk) == COMMON_PAGE);
-    return options.one_trace ? common_page(pool, number, made) : own_chunk(pool, number, made);
+    if (!options.one_trace)
+        return chunk_at(&own, address, made);
+    return common_page((Int)(address / POOL_SPAN), (address % POOL_SPAN) >> CHUNK_BITS, made);
 }
 
 void mark_dirty(ULong address) {
     SizeT line = (address % (1 << CHUNK_BITS)) / LINE_BYTES;
-    Chunk *chunk = chunk_at(address, True);
+    Chunk *chunk = lines_at(address, True);
     if (chunk != NULL)
         chunk->words[line / 64] |= 1ULL << (line % 64);
     else
@@ -72,7 +51,7 @@ ULong take_dirty(ULong from, ULong end) {
     SizeT count = chunk_count((Int)(from / POOL_SPAN));
     ULong base = from / POOL_SPAN * POOL_SPAN, at = from - base;
     for (; base + at < end && at >> CHUNK_BITS < count; at = ((at >> CHUNK_BITS) + 1) << CHUNK_BITS) {
-        Chunk *chunk = chunk_at(base + at, False);
+        Chunk *chunk = lines_at(base + at, False);
         if (chunk == NULL)
             continue;
         SizeT line = (at % (1 << CHUNK_BITS)) / LINE_BYTES, found = take_bit(chunk, line);

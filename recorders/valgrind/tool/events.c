@@ -33,17 +33,17 @@ static ThreadId running(void) {
     return thread == VG_INVALID_THREADID ? 1 : thread;
 }
 
-static void write_store(FollowedStore store, const HChar *label) {
-    store.written = begin_event("store", store.thread);
-    if (store.written) {
-        put_address(store.address);
-        put_bytes(store.bytes, store.length);
+static void write_store(FollowedStore *store, const HChar *label) {
+    store->written = begin_event("store", store->thread);
+    if (store->written) {
+        put_address(store->address);
+        put_bytes(store->bytes, store->length);
         end_event(label);
     }
-    follow_store(&store);
-    mark_stored(store.address, store.length);
-    event_passed(store.thread);
-    give_way_at_line(store.address / LINE_BYTES, store.thread);
+    follow_store(store);
+    mark_stored(store->address, store->length);
+    event_passed(store->thread);
+    give_way_at_line(store->address / LINE_BYTES, store->thread);
 }
 
 static void write_line_flush(FlushKind kind, ThreadId thread, ULong address, Addr instruction, const HChar *label) {
@@ -61,16 +61,20 @@ static void write_line_flush(FlushKind kind, ThreadId thread, ULong address, Add
     event_passed(thread);
 }
 
-void settle_events(void) {
+static void write_waiting(void) {
     Int kind = waiting.kind;
     waiting.kind = NOTHING;
-    if (kind == STEPS)
-        write_store((FollowedStore){.thread = waiting.thread, .address = waiting.address, .bytes = waiting.bytes,
-                                    .old = waiting.has_old ? waiting.old : NULL, .length = waiting.length,
-                                    .instruction = waiting.instruction},
-                    waiting.label);
-    else if (kind == FLUSH)
+    if (kind == STEPS) {
+        FollowedStore store = {.thread = waiting.thread, .address = waiting.address, .bytes = waiting.bytes,
+                               .old = waiting.has_old ? waiting.old : NULL, .length = waiting.length, .instruction = waiting.instruction};
+        write_store(&store, waiting.label);
+    } else if (kind == FLUSH)
         write_line_flush(CLFLUSHOPT, waiting.thread, waiting.address, waiting.instruction, waiting.label);
+}
+
+void settle_events(void) {
+    if (waiting.kind != NOTHING)
+        write_waiting();
 }
 
 void forget_events(void) {
@@ -128,9 +132,9 @@ void note_store(Addr start, SizeT length, Addr instruction) {
         if (label == NULL)
             label = label_of_running(instruction);
         mark_dirty(address);
-        write_store((FollowedStore){.thread = running(), .address = address, .bytes = (const UChar *)start,
-                                    .old = find_old(start, piece), .length = piece, .instruction = instruction},
-                    label);
+        FollowedStore store = {.thread = running(), .address = address, .bytes = (const UChar *)start, .old = find_old(start, piece),
+                               .length = piece, .instruction = instruction};
+        write_store(&store, label);
     }
 }
 
@@ -255,9 +259,8 @@ void note_bytes(ThreadId thread, ULong address, const UChar *bytes, SizeT length
     while (length > 0) {
         SizeT piece = to_end_of_word(address, length);
         mark_dirty(address);
-        write_store((FollowedStore){.thread = thread, .address = address, .bytes = bytes, .length = piece,
-                                    .instruction = VG_(get_IP)(thread)},
-                    label);
+        FollowedStore store = {.thread = thread, .address = address, .bytes = bytes, .length = piece, .instruction = VG_(get_IP)(thread)};
+        write_store(&store, label);
         address += piece;
         bytes += piece;
         length -= piece;

@@ -6,7 +6,7 @@
 #include "syscalls.h"
 
 enum { PIECE = 4096, PATH_BYTES = 4200, PUNCHES = 2, COLLAPSES = 8, ZEROES = 16, INSERTS = 32 };
-enum { WRITE_THROUGH = 0x1000 /* O_DSYNC, a part of O_SYNC */ };
+enum { WRITE_THROUGH = 0x1000 /* O_DSYNC, a part of O_SYNC */, REMOVES = 9 /* MADV_REMOVE */ };
 /* The flags of pwritev2. */
 enum { THROUGH = 2 | 4 /* RWF_DSYNC, RWF_SYNC */, APPENDS = 16 /* RWF_APPEND */, NEVER_APPENDS = 32 /* RWF_NOAPPEND */ };
 
@@ -92,6 +92,29 @@ static void before_cutting(ThreadId thread, UInt call, const UWord *arguments) {
         find_emptied(thread, pool, from, pool_bytes(pool));
 }
 
+/* Of madvise: whether it makes a hole in the file of one mapping, and where. */
+static Bool makes_hole(const UWord *arguments, ULong *address, SizeT *length) {
+    SizeT room;
+    *length = VG_PGROUNDUP(arguments[1]);
+    return arguments[2] == REMOVES && find_in_pools(arguments[0], address, &room) && *length <= room;
+}
+
+static void before_advice(ThreadId thread, const UWord *arguments) {
+    ULong address;
+    SizeT length;
+    if (makes_hole(arguments, &address, &length))
+        find_emptied(thread, pool_numbered((Int)(address / POOL_SPAN)), address % POOL_SPAN, address % POOL_SPAN + length);
+}
+
+static void after_advice(ThreadId thread, const UWord *arguments) {
+    ULong address;
+    SizeT length;
+    if (makes_hole(arguments, &address, &length))
+        note_emptied(thread);
+    else if (arguments[2] == REMOVES && arguments[0] - pools_begin < pools_span)
+        system_counts.cut_files++;
+}
+
 /* Whether a call writes to the file of its first argument, or of its third. */
 static Bool writes_to(UInt call, const UWord *arguments, Int *descriptor) {
     *descriptor = (Int)arguments[call == __NR_copy_file_range || call == __NR_splice ? 2 : 0];
@@ -117,6 +140,9 @@ void before_file_call(ThreadId thread, UInt call, const UWord *arguments) {
     case __NR_fallocate:
         if ((arguments[1] & (PUNCHES | ZEROES)) && pool_of(descriptor) != NULL)
             find_emptied(thread, pool_of(descriptor), arguments[2], arguments[2] + arguments[3]);
+        break;
+    case __NR_madvise:
+        before_advice(thread, arguments);
         break;
     default:
         break;
@@ -169,6 +195,9 @@ void after_file_call(ThreadId thread, UInt call, const UWord *arguments, ULong r
     case __NR_truncate:
     case __NR_fallocate:
         after_shaping(thread, call, arguments, result);
+        break;
+    case __NR_madvise:
+        after_advice(thread, arguments);
         break;
     default:
         break;

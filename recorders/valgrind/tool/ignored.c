@@ -1,6 +1,7 @@
 #include "ignored.h"
 #include "options.h"
 #include "pools.h"
+#include "sorting.h"
 
 /* A range of bytes, in memory or in the trace. */
 typedef struct {
@@ -24,18 +25,6 @@ static void add_span(XArray **list, ULong start, ULong length) {
         VG_(addToXA)(spans(list), &added);
 }
 
-static void ignore(Addr start, SizeT length) {
-    ULong address;
-    SizeT room, piece;
-    for (; length > 0; start += piece, length -= piece) {
-        piece = 1;
-        if (find_in_pools(start, &address, &room)) {
-            piece = room < length ? room : length;
-            add_span(&ignored, address, piece);
-        }
-    }
-}
-
 /* Takes a range out of a list; how many bytes of it were there. */
 static SizeT take_out(XArray **of, ULong start, ULong length) {
     XArray *list = spans(of);
@@ -57,34 +46,43 @@ static SizeT take_out(XArray **of, ULong start, ULong length) {
     return taken;
 }
 
-/* Memory that was ignored is freed, or used again: what comes there now is not to be hidden. */
-static void end_ignoring(Addr start, SizeT length) {
+/* The parts of a range that are in pools. */
+static void each_in_pools(Addr start, SizeT length, void (*act)(ULong address, SizeT length)) {
     ULong address;
     SizeT room, piece;
     for (; length > 0; start += piece, length -= piece) {
         piece = 1;
         if (find_in_pools(start, &address, &room)) {
             piece = room < length ? room : length;
-            ended_ignoring += take_out(&ignored, address, piece) > 0;
+            act(address, piece);
         }
     }
+}
+
+static void ignore(ULong address, SizeT length) {
+    add_span(&ignored, address, length);
+}
+
+/* Memory that was ignored is freed, or used again: what comes there now is not to be hidden. */
+static void end_ignoring(ULong address, SizeT length) {
+    ended_ignoring += take_out(&ignored, address, length) > 0;
 }
 
 void persistent(Addr start, SizeT length) {
     take_out(&registered, start, length);
     add_span(&registered, start, length);
     if (!covers_mapping(start, length))
-        end_ignoring(start, length);
+        each_in_pools(start, length, end_ignoring);
 }
 
 void not_persistent(Addr start, SizeT length) {
     take_out(&registered, start, length);
     if (!covers_mapping(start, length))
-        ignore(start, length);
+        each_in_pools(start, length, ignore);
 }
 
 void declared_clean(Addr start, SizeT length) {
-    ignore(start, length);
+    each_in_pools(start, length, ignore);
 }
 
 Int how_persistent(Addr start, SizeT length) {
@@ -133,7 +131,6 @@ static ULong write_spans(const HChar *path, const XArray *sorted) {
 ULong write_ignored(const HChar *path) {
     if (ignored == NULL || VG_(sizeXA)(ignored) == 0)
         return 0;
-    VG_(setCmpFnXA)(ignored, by_start);
-    VG_(sortXA)(ignored);
+    sort(VG_(indexXA)(ignored, 0), (SizeT)VG_(sizeXA)(ignored), sizeof(Span), by_start);
     return write_spans(path, ignored);
 }

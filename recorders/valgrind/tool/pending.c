@@ -1,10 +1,12 @@
 #include "pending.h"
+#include "chunks.h"
 #include "options.h"
 #include "output.h"
 #include "pools.h"
+#include "sorting.h"
 #include "threads.h"
 
-/* A chunk has the lines of 1 MiB. The chunks of a pool are found by their number. */
+/* A chunk has the lines of 1 MiB. */
 enum { CHUNK_BITS = 20, CHUNK_LINES = (1 << CHUNK_BITS) / LINE_BYTES, WORD_BYTES = 8, MOST_OF_LINE = 256, MOST_STORES = 4000000 };
 
 typedef struct Store Store;
@@ -34,11 +36,6 @@ typedef struct {
 } Chunk;
 
 typedef struct {
-    Chunk **chunks;
-    SizeT count;
-} Chunks;
-
-typedef struct {
     ULong line, sequence;
     Addr instruction;
     Bool written;
@@ -58,7 +55,7 @@ typedef struct {
 
 ULong unfollowed_stores;
 
-static Chunks pools_chunks[MOST_POOLS];
+static Chunks all_lines = {.bits = CHUNK_BITS, .bytes = sizeof(Chunk), .name = "pending.chunk"};
 static Store *free_stores;
 static Line *free_lines;
 static ULong sequence, store_count;
@@ -76,25 +73,13 @@ void begin_pending(void) {
 /* Places of lines, stores and the room for them */
 
 static Line **place_of_line(ULong address) {
-    Chunks *all = &pools_chunks[address / POOL_SPAN];
-    SizeT number = (address % POOL_SPAN) >> CHUNK_BITS;
-    if (number >= all->count) {
-        SizeT count = number + number / 2 + 8;
-        all->chunks = VG_(realloc)("pending.chunks", all->chunks, count * sizeof *all->chunks);
-        VG_(memset)(all->chunks + all->count, 0, (count - all->count) * sizeof *all->chunks);
-        all->count = count;
-    }
-    if (all->chunks[number] == NULL)
-        all->chunks[number] = VG_(calloc)("pending.chunk", 1, sizeof(Chunk));
-    return &all->chunks[number]->lines[address % (1 << CHUNK_BITS) / LINE_BYTES];
+    Chunk *chunk = chunk_at(&all_lines, address, True);
+    return &chunk->lines[address % (1 << CHUNK_BITS) / LINE_BYTES];
 }
 
 static Line *line_at(ULong address) {
-    const Chunks *all = &pools_chunks[address / POOL_SPAN];
-    SizeT number = (address % POOL_SPAN) >> CHUNK_BITS;
-    if (number >= all->count || all->chunks[number] == NULL)
-        return NULL;
-    return all->chunks[number]->lines[address % (1 << CHUNK_BITS) / LINE_BYTES];
+    const Chunk *chunk = chunk_at(&all_lines, address, False);
+    return chunk == NULL ? NULL : chunk->lines[address % (1 << CHUNK_BITS) / LINE_BYTES];
 }
 
 static Line *new_line(void) {
@@ -301,7 +286,7 @@ static Int by_line(const void *one, const void *other) {
 /* Makes room for a flush of a thread. A later flush of a line does all that an earlier one of the thread does. */
 static void make_room(OpenFlushes *own) {
     UInt at, kept = 0;
-    VG_(ssort)(own->all, own->count, sizeof *own->all, by_line);
+    sort(own->all, own->count, sizeof *own->all, by_line);
     for (at = 0; at < own->count; at++)
         if (at + 1 == own->count || own->all[at].line != own->all[at + 1].line || own->all[at].written != own->all[at + 1].written)
             own->all[kept++] = own->all[at];
@@ -354,16 +339,19 @@ Bool leave_flushes_open(ThreadId thread, Int number) {
 
 /* All lines, each by its place */
 
+static void (*act_on_line)(ULong address, Line **place);
+
+static void each_line_of(ULong address, void *chunk) {
+    Line **places = ((Chunk *)chunk)->lines;
+    ULong at;
+    for (at = 0; at < CHUNK_LINES; at++)
+        if (places[at] != NULL)
+            act_on_line(address + at * LINE_BYTES, &places[at]);
+}
+
 static void each_line(void (*act)(ULong address, Line **place)) {
-    ULong number, at;
-    SizeT chunk;
-    for (number = 0; number < MOST_POOLS; number++)
-        for (chunk = 0; chunk < pools_chunks[number].count; chunk++)
-            for (at = 0; pools_chunks[number].chunks[chunk] != NULL && at < CHUNK_LINES; at++) {
-                Line **place = &pools_chunks[number].chunks[chunk]->lines[at];
-                if (*place != NULL)
-                    act(number * POOL_SPAN + ((ULong)chunk << CHUNK_BITS) + at * LINE_BYTES, place);
-            }
+    act_on_line = act;
+    each_chunk(&all_lines, each_line_of);
 }
 
 static void forget_line(ULong address, Line **place) {
@@ -473,7 +461,7 @@ Carried *take_carried(SizeT *count, SizeT most) {
         VG_(free)(carried);
         return NULL;
     }
-    VG_(ssort)(carried, carried_count, sizeof *carried, by_sequence);
+    sort(carried, carried_count, sizeof *carried, by_sequence);
     return carried;
 }
 

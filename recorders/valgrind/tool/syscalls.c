@@ -134,8 +134,6 @@ static void count_unseen(UInt call, const UWord *arguments) {
         return;
     if (call == __NR_io_submit || call == 426 /* io_uring_enter */ || call == __NR_process_vm_writev)
         system_counts.unseen_writes++;
-    else if (call == __NR_madvise && arguments[2] == 9 /* MADV_REMOVE */ && arguments[0] - pools_begin < pools_span)
-        system_counts.cut_files++;
 }
 
 void after_call(ThreadId thread, UInt call, UWord *arguments, UInt count, SysRes result) {

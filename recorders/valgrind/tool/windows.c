@@ -1,5 +1,6 @@
 #include "windows.h"
 #include "bases.h"
+#include "chunks.h"
 #include "events.h"
 #include "labels.h"
 #include "options.h"
@@ -150,27 +151,11 @@ void event_passed(ThreadId thread) {
 
 enum { CHUNK_BITS = 20, CHUNK_WORDS = 2 * (1 << CHUNK_BITS) / 64 };
 
-typedef struct {
-    ULong **chunks;
-    SizeT count;
-} Chunks;
-
-static Chunks pools_chunks[MOST_POOLS];
+static Chunks stored = {.bits = CHUNK_BITS, .bytes = CHUNK_WORDS * sizeof(ULong), .name = "windows.chunk"};
 
 static ULong *words_of(ULong address, Bool made) {
-    Chunks *all = &pools_chunks[address / POOL_SPAN];
-    SizeT number = (address % POOL_SPAN) >> CHUNK_BITS;
-    if (number >= all->count) {
-        SizeT count = number + number / 2 + 8;
-        if (!made)
-            return NULL;
-        all->chunks = VG_(realloc)("windows.chunks", all->chunks, count * sizeof *all->chunks);
-        VG_(memset)(all->chunks + all->count, 0, (count - all->count) * sizeof *all->chunks);
-        all->count = count;
-    }
-    if (all->chunks[number] == NULL && made)
-        all->chunks[number] = VG_(calloc)("windows.chunk", CHUNK_WORDS, sizeof(ULong));
-    return all->chunks[number] == NULL ? NULL : all->chunks[number] + 2 * (address % (1 << CHUNK_BITS) / 64);
+    ULong *chunk = chunk_at(&stored, address, made);
+    return chunk == NULL ? NULL : chunk + 2 * (address % (1 << CHUNK_BITS) / 64);
 }
 
 void mark_stored(ULong address, SizeT length) {
@@ -184,13 +169,14 @@ void mark_stored(ULong address, SizeT length) {
         words[1] &= ~mask;
 }
 
+static void was_outside(ULong address, void *chunk) {
+    SizeT at;
+    for (at = 1; at < CHUNK_WORDS; at += 2)
+        ((ULong *)chunk)[at] = 0;
+}
+
 static void all_was_outside(void) {
-    ULong number, at;
-    SizeT chunk;
-    for (number = 0; number < MOST_POOLS; number++)
-        for (chunk = 0; chunk < pools_chunks[number].count; chunk++)
-            for (at = 1; pools_chunks[number].chunks[chunk] != NULL && at < CHUNK_WORDS; at += 2)
-                pools_chunks[number].chunks[chunk][at] = 0;
+    each_chunk(&stored, was_outside);
 }
 
 Bool was_stored_outside(ULong address, SizeT length) {

@@ -1,4 +1,5 @@
-/* A hole is made in a file that was full, of so many megabytes: holes POOL MEGABYTES. The file ends in the middle of its last page. */
+/* A hole is made in a file that was full, of so many megabytes: holes POOL MEGABYTES [advice], by fallocate or by madvise. The file ends in the
+ * middle of its last page. */
 #define _GNU_SOURCE
 #include <fcntl.h>
 #include <stdlib.h>
@@ -8,7 +9,7 @@
 
 int main(int argc, char **argv) {
     static char full[1 << 20];
-    size_t length = argc == 3 ? (size_t)atoi(argv[2]) << 20 : 0;
+    size_t length = argc > 2 ? (size_t)atoi(argv[2]) << 20 : 0;
     int file = length > 0 ? open(argv[1], O_RDWR | O_CREAT | O_TRUNC, 0666) : -1;
     if (file < 0)
         return 1;
@@ -27,5 +28,7 @@ int main(int argc, char **argv) {
     if (ftruncate(file, (off_t)length + 5) != 0)
         return 1;
     pool[length + 5] = 'y';
+    if (argc > 3)
+        return madvise(pool, length, MADV_REMOVE);
     return fallocate(file, FALLOC_FL_PUNCH_HOLE | FALLOC_FL_KEEP_SIZE, 0, (off_t)length);
 }

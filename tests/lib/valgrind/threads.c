@@ -6,6 +6,7 @@
  *     barrier  all of them wait for each other, and save once
  *     piped    threads in pairs, one of which waits for each byte of the other, and comes late, as it has a processor when no other wants
  *              it; the first two have no pair
+ *     synced   stores to TIMES lines, and asks the system to save them all
  *     hot      flushes two lines in turn without a fence, then stores to one word; nothing becomes safe
  *     short    one after another; the last one forgets its fence
  *     window   like short, then the window opens, and one thread more saves */
@@ -99,6 +100,13 @@ static void leave_unsafe(volatile long *words) {
         words[0] = at;
 }
 
+static void synchronize(char *start) {
+    for (long at = 0; at < times; at++)
+        start[64 * at] = 1;
+    if (msync(start, 64 * (size_t)times, MS_SYNC) != 0)
+        abort();
+}
+
 static void *run(void *given) {
     long number = (long)(intptr_t)given, at, before = -1;
     if (is("barrier"))
@@ -107,7 +115,9 @@ static void *run(void *given) {
         come_late();
     if (is("hot"))
         leave_unsafe(pool);
-    for (at = 0; at < times && !is("hot"); at++) {
+    else if (is("synced"))
+        synchronize((char *)pool);
+    for (at = 0; at < times && !is("hot") && !is("synced"); at++) {
         if (is("piped") && number > 1)
             do_byte(number);
         if (is("log"))
