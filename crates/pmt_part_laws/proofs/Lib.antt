@@ -1,0 +1,14 @@
+pub mod StepLemmas
+pub mod FrontLemmas
+pub mod BoxLemmas
+pub mod ByteLemmas
+pub mod PersistLemmas
+pub mod OriginLemmas
+pub mod OverwriteLemmas
+pub mod RedundantLemmas
+pub mod FenceLemmas
+pub mod KeepLemmas
+pub mod NeverLemmas
+pub mod CarryLemmas
+pub mod ImageLemmas
+pub mod MakingLemmas
