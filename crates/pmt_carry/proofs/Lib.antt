@@ -1,0 +1,2 @@
+pub mod LaterLemmas
+pub mod CarryLemmas
