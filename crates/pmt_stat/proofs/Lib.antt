@@ -1,0 +1,4 @@
+pub mod CountingLemmas
+pub mod FencingLemmas
+pub mod OrderLemmas
+pub mod TallyLemmas

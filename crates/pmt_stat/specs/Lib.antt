@@ -1,0 +1,6 @@
+pub mod Budgets
+pub mod Costs
+pub mod Counting
+pub mod Fencing
+pub mod Figures
+pub mod Tallying
