@@ -21,6 +21,7 @@ OFFERED = {
     ("pmtrim", "explain", "--only", "d"): ["dropped"],
     ("pmtrim", "draw", "--la"): ["--labels"],
     ("pmtrim", "image", "--po"): ["--pool"],
+    ("pmtrim", "stat", "--comp"): ["--compare", "--compare-labels"],
     ("pmtrim-replay", "--of"): ["--off"],
     ("pmtrim-suite", "re"): ["record", "report"],
     ("pmtrim-suite", "report", "--fail-on", "o"): ["overwritten"],

@@ -109,7 +109,7 @@ fn judged(line: &[u8], before: u64) -> Result<(u64, &str), LabelError<'_>> {
 }
 
 // Whether a control character stands in the text.
-fn has_control(bytes: &[u8]) -> bool {
+pub(crate) fn has_control(bytes: &[u8]) -> bool {
     bytes.iter().any(|byte| *byte < b' ' || *byte == 0x7f)
 }
 

@@ -1,6 +1,7 @@
 //! What the commands of `pmtrim` read and write: named files, texts, labels and ranges, and the faults that they tell.
 #![tactic(auto)]
 
+mod budgets;
 mod cuts;
 mod diagnosis;
 mod fault;
@@ -13,6 +14,7 @@ mod reading;
 mod refused;
 mod writing;
 
+pub use crate::budgets::budget_of;
 pub use crate::cuts::cut_of;
 pub use crate::fault::{Fault, no_failure};
 pub use crate::inputs::{

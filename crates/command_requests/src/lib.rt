@@ -4,12 +4,14 @@
 mod drawing;
 mod explaining;
 mod imaging;
+mod measuring;
 mod request;
 mod slicing;
 
 pub use crate::drawing::Drawing;
 pub use crate::explaining::{ExplainWords, Form};
 pub use crate::imaging::{AddressStores, AskedCrash, ImageRequest, ImageWords, ListWords};
+pub use crate::measuring::{StatForm, StatWords};
 pub use crate::request::{FrontsWords, Request, TraceWords};
 pub use crate::slicing::SliceWords;
 

@@ -3,6 +3,7 @@
 use crate::drawing::Drawing;
 use crate::explaining::ExplainWords;
 use crate::imaging::{ImageWords, ListWords};
+use crate::measuring::StatWords;
 use crate::slicing::SliceWords;
 
 /// What the words ask for.
@@ -28,6 +29,8 @@ pub enum Request<'a> {
     ImageList(ListWords<'a>),
     /// The events that show a failed assertion.
     Slice(SliceWords<'a>),
+    /// The figures of a trace.
+    Stat(StatWords<'a>),
     /// The trace that these scripts record.
     Record(Vec<&'a str>),
 }
@@ -62,6 +65,7 @@ impl Request<'_> {
             Request::Image(words) => words.file.is_none(),
             Request::ImageList(words) => words.file.is_none(),
             Request::Slice(words) => words.file.is_none(),
+            Request::Stat(words) => words.file.is_none(),
             Request::Show(_) | Request::Record(_) => false,
         }
     }

@@ -4,6 +4,7 @@ use crate::draw_words::draw_command;
 use crate::explain_command::explain_command;
 use crate::image_words::image_command;
 use crate::slice_words::slice_command;
+use crate::stat_words::stat_command;
 use clap::{Arg, ArgAction, Command};
 use command_requests::VERSION;
 use std::alloc::Global;
@@ -22,9 +23,10 @@ pub fn commands<'a>(alloc: Global) -> Made<'a> {
     let explaining = with_command(judging, explain_command(alloc));
     let trimming = with_command(with_command(explaining, trim(alloc)), fronts(alloc));
     let drawing = with_command(with_command(trimming, record(alloc)), draw_command(alloc));
+    let imaging = with_command(drawing, image_command(alloc));
     with_command(
-        with_command(drawing, image_command(alloc)),
-        slice_command(alloc),
+        with_command(imaging, slice_command(alloc)),
+        stat_command(alloc),
     )
 }
 
@@ -41,13 +43,13 @@ fn program<'a>(alloc: Global) -> Made<'a> {
     Ok(
         command
             .override_usage(
-                "pmtrim < TRACE\n       pmtrim check [--workers N] [FILE]\n       pmtrim explain [--ignore A:N].. [--limit N] [--only KIND] .. [--labels FILE] [--json | --html [--source DIR]] [FILE]\n       pmtrim trim [--workers N] [--stream] [FILE]\n       pmtrim fronts FILE PLACE\n       pmtrim record SCRIPT..\n       pmtrim draw [--failure N | --around I | --from I --to J] [--line A].. [--labels FILE] [FILE]\n       pmtrim image (--failure N | --at PLACE [--all] [--line A:K]..) [--pool BASE --origin A] [--out FILE] [FILE]\n       pmtrim image --list [--at PLACES] [--off K] [FILE]\n       pmtrim slice --failure N [[--labels FILE] --out FILE] [FILE]",
+                "pmtrim < TRACE\n       pmtrim check [--workers N] [FILE]\n       pmtrim explain [--ignore A:N].. [--limit N] [--only KIND] .. [--labels FILE] [--json | --html [--source DIR]] [FILE]\n       pmtrim trim [--workers N] [--stream] [FILE]\n       pmtrim fronts FILE PLACE\n       pmtrim record SCRIPT..\n       pmtrim draw [--failure N | --around I | --from I --to J] [--line A].. [--labels FILE] [FILE]\n       pmtrim image (--failure N | --at PLACE [--all] [--line A:K]..) [--pool BASE --origin A] [--out FILE] [FILE]\n       pmtrim image --list [--at PLACES] [--off K] [FILE]\n       pmtrim slice --failure N [[--labels FILE] --out FILE] [FILE]\n       pmtrim stat [--labels FILE] [--compare OTHER] [--budget FILE] [--json | --write-budget] [FILE]",
             )
             .about(
                 "Checks traces of persistent memory events, and trims the flushes and fences that no crash can show.{n}With no words it trims the trace on standard input.",
             )
             .after_help(
-                "A FILE that is not given, or is -, is standard input. The answer goes to standard output, faults to standard error.{n}Statuses: 0 done; 1 check, explain: an assertion fails or a store is never persisted; 2 wrong words; 3 trace or script refused; 4 file fault; 5 out of memory; 6 torn recorder{n}{n}Example: pmtrim < run.trace > trimmed.trace",
+                "A FILE that is not given, or is -, is standard input. The answer goes to standard output, faults to standard error.{n}Statuses: 0 done; 1 check, explain: an assertion fails or a store is never persisted, stat: a place is over the budget; 2 wrong words; 3 trace or script refused; 4 file fault; 5 out of memory; 6 torn recorder{n}{n}Example: pmtrim < run.trace > trimmed.trace",
             ),
     )
 }

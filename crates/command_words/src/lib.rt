@@ -11,5 +11,6 @@ mod image_list_words;
 mod image_words;
 mod request;
 mod slice_words;
+mod stat_words;
 
 pub use crate::request::request_of;

@@ -5,6 +5,7 @@ use crate::draw_words::drawing_of;
 use crate::explain_words::explain_words;
 use crate::image_words::image_request;
 use crate::slice_words::slice_words;
+use crate::stat_words::stat_words;
 use clap::error::ErrorKind;
 use clap::{ArgMatches, Error};
 use command_inputs::Fault;
@@ -47,6 +48,7 @@ fn asked<'a>(alloc: Global, matches: &ArgMatches<'a>) -> Result<Request<'a>, Fau
         Some(("record", given)) => record(alloc, given),
         Some(("image", given)) => image(alloc, given),
         Some(("slice", given)) => Ok(Request::Slice(slice_words(alloc, given)?)),
+        Some(("stat", given)) => Ok(Request::Stat(stat_words(alloc, given)?)),
         Some(("draw", given)) => Ok(Request::Draw(drawing_of(alloc, given)?)),
         Some((_, given)) => Ok(trim(given)),
         None => Ok(Request::Trim(TraceWords {

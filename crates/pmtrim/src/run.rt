@@ -8,6 +8,7 @@ use command_image::{run_image, run_list};
 use command_inputs::{Fault, Opener};
 use command_requests::{FrontsWords, Request, TraceWords};
 use command_slice::run_slice;
+use command_stat::run_stat;
 use command_words::request_of;
 use pmt_report::{RunError, run_check, run_error, run_fronts, run_trim};
 use pmt_text::{Counted, TextSource};
@@ -74,6 +75,7 @@ where
         Request::Image(words) => run_image(rt.alloc(), words, files, input, out),
         Request::ImageList(words) => run_list(rt.alloc(), words, files, input, out),
         Request::Slice(words) => run_slice(rt.alloc(), words, files, input, out),
+        Request::Stat(words) => run_stat(rt.alloc(), words, files, input, out),
         Request::Record(scripts) => record(rt, files, scripts.as_slice(), out),
     }
 }

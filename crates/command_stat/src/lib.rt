@@ -1,0 +1,16 @@
+//! The command `stat`: figures of a trace.
+#![tactic(auto)]
+
+mod budget;
+mod changes;
+mod columns;
+mod comparing;
+mod judging;
+mod measured;
+mod objects;
+mod stat;
+mod tables;
+mod text;
+mod values;
+
+pub use crate::stat::run_stat;

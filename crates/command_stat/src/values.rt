@@ -1,0 +1,184 @@
+//! Figures as JSON values.
+
+use crate::changes::Changed;
+use crate::judging::Excess;
+use crate::measured::Measured;
+use crate::tables::unfenced;
+use pmt_model::OutOfMemory;
+use pmt_stat::{Cost, Counts, Limits, PlaceCost, ThreadCounts};
+use serde_json::{Map, Value, put};
+use std::alloc::Global;
+
+// The fields of an object.
+type Fields = Vec<(&'static str, Value)>;
+
+// The object with these fields.
+fn object_of(alloc: Global, fields: Fields) -> Result<Value, OutOfMemory> {
+    let mut members = Map::new(alloc);
+    for (key, value) in fields {
+        put(&mut members, alloc, key, value)?;
+    }
+    Ok(Value::Object(members))
+}
+
+// The figures of a whole trace.
+pub(crate) fn summary_value(
+    alloc: Global,
+    own: &Measured,
+    kind: &str,
+) -> Result<Value, OutOfMemory> {
+    let counts = &own.summary;
+    let kind = Value::try_from_str(alloc, kind)?;
+    let events = counts_value(alloc, &own.figures.all)?;
+    object_of(
+        alloc,
+        vec![in alloc;
+            ("cache_lines", Value::from(counts.cache_lines)),
+            ("events", events),
+            ("fences", Value::from(counts.fences)),
+            ("fences_dropped", Value::from(counts.fences_dropped)),
+            ("flushes", Value::from(counts.flushes)),
+            ("flushes_dropped", Value::from(counts.flushes_dropped)),
+            ("kind", kind),
+            ("line_size", Value::from(own.line_size)),
+            ("schema", Value::from(1u64)),
+            ("threads", Value::from(counts.threads)),
+        ]?,
+    )
+}
+
+// The events of each kind, and the bytes that are stored.
+fn counts_value(alloc: Global, counts: &Counts) -> Result<Value, OutOfMemory> {
+    object_of(
+        alloc,
+        vec![in alloc;
+            ("all", Value::from(counts.events)),
+            ("bytes", Value::from(counts.bytes)),
+            ("clflush", Value::from(counts.clflushes)),
+            ("clflushopt", Value::from(counts.clflushopts)),
+            ("clwb", Value::from(counts.clwbs)),
+            ("isOrderedBefore", Value::from(counts.orders)),
+            ("isPersist", Value::from(counts.persists)),
+            ("mfence", Value::from(counts.mfences)),
+            ("sfence", Value::from(counts.sfences)),
+            ("store", Value::from(counts.stores)),
+        ]?,
+    )
+}
+
+// How full fences are.
+pub(crate) fn fences_value(alloc: Global, own: &Measured) -> Result<Value, OutOfMemory> {
+    let sizes = &own.figures.fences;
+    let bars = bars_value(alloc, &sizes.bars)?;
+    let kind = Value::try_from_str(alloc, "fences")?;
+    object_of(
+        alloc,
+        vec![in alloc;
+            ("bars", bars),
+            ("flushes", Value::from(sizes.flushes)),
+            ("kind", kind),
+            ("most", Value::from(sizes.most)),
+            ("unfenced", Value::from(unfenced(&own.figures.all, sizes))),
+        ]?,
+    )
+}
+
+// How many fences wait for 0, 1, 2, 3 to 4, 5 to 8, 9 to 16, and more flushes.
+fn bars_value(alloc: Global, bars: &[u64]) -> Result<Value, OutOfMemory> {
+    let mut values = Vec::new(alloc);
+    for bar in bars {
+        values.push(Value::from(*bar))?;
+    }
+    Ok(Value::Array(values))
+}
+
+// What a thread has.
+pub(crate) fn thread_value(alloc: Global, row: &ThreadCounts) -> Result<Value, OutOfMemory> {
+    let events = counts_value(alloc, &row.counts)?;
+    let kind = Value::try_from_str(alloc, "thread")?;
+    object_of(
+        alloc,
+        vec![in alloc;
+            ("events", events),
+            ("kind", kind),
+            ("thread", Value::from(row.thread)),
+        ]?,
+    )
+}
+
+// What a place pays.
+pub(crate) fn place_value(alloc: Global, place: &PlaceCost) -> Result<Value, OutOfMemory> {
+    let cost = cost_value(alloc, &place.cost)?;
+    named_value(alloc, "place", place.name.as_str(), "pays", cost)
+}
+
+// A place that pays more than it may.
+pub(crate) fn excess_value(alloc: Global, excess: &Excess<'_>) -> Result<Value, OutOfMemory> {
+    let limits = limits_value(alloc, &excess.limits)?;
+    named_value(alloc, "over", excess.place.name.as_str(), "may_pay", limits)
+}
+
+// An object of a place with one more field.
+fn named_value(
+    alloc: Global,
+    kind: &str,
+    name: &str,
+    key: &'static str,
+    value: Value,
+) -> Result<Value, OutOfMemory> {
+    let kind = Value::try_from_str(alloc, kind)?;
+    let name = Value::try_from_str(alloc, name)?;
+    object_of(
+        alloc,
+        vec![in alloc; ("kind", kind), (key, value), ("place", name)]?,
+    )
+}
+
+// A place that pays more or less than in the other trace.
+pub(crate) fn changed_value(alloc: Global, place: &Changed) -> Result<Value, OutOfMemory> {
+    let other = cost_value(alloc, &place.other)?;
+    let own = cost_value(alloc, &place.own)?;
+    let kind = Value::try_from_str(alloc, "changed")?;
+    let name = Value::try_from_str(alloc, place.name.as_str())?;
+    object_of(
+        alloc,
+        vec![in alloc;
+            ("kind", kind),
+            ("other", other),
+            ("pays", own),
+            ("place", name),
+        ]?,
+    )
+}
+
+fn cost_value(alloc: Global, cost: &Cost) -> Result<Value, OutOfMemory> {
+    object_of(
+        alloc,
+        vec![in alloc;
+            ("fences", Value::from(cost.fences)),
+            ("fences_dropped", Value::from(cost.idle_fences)),
+            ("flushes", Value::from(cost.flushes)),
+            ("flushes_dropped", Value::from(cost.idle_flushes)),
+        ]?,
+    )
+}
+
+fn limits_value(alloc: Global, limits: &Limits) -> Result<Value, OutOfMemory> {
+    object_of(
+        alloc,
+        vec![in alloc;
+            ("fences", limit_value(limits.fences)),
+            ("fences_dropped", limit_value(limits.idle_fences)),
+            ("flushes", limit_value(limits.flushes)),
+            ("flushes_dropped", limit_value(limits.idle_flushes)),
+        ]?,
+    )
+}
+
+// The limit; null where there is none.
+fn limit_value(limit: Option<u64>) -> Value {
+    match limit {
+        Some(count) => Value::from(count),
+        None => Value::Null,
+    }
+}
