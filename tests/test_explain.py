@@ -110,8 +110,8 @@ def events_of(entry):
 
 # Assertions that fail for one cause, and two lines that the text has of them.
 LOOP = "pmtrace 1\nstore 0 0x1000 01\n" + 13 * "isPersist 0 0x1000 1\n"
-LOOP_HEAD = "error: a crash can violate the assertion of event 2; 13 assertions fail for this cause"
-LOOP_OTHERS = "  also:   events 3 4 5 6 7 8 9 10 11 12 and 2 more"
+LOOP_HEAD = "error: a crash can lose what is claimed to be saved: isPersist of event 2, line 3 (13 times)"
+LOOP_OTHERS = "  also: events 3 4 5 6 7 8 9 10 11 12 and 2 more"
 
 
 def many_failures():
@@ -164,6 +164,20 @@ class Explain(Checks):
         lines = self.told(LOOP).splitlines()
         found = [line for line in lines if line in (LOOP_HEAD, LOOP_OTHERS)]
         self.expect("a loop", found == [LOOP_HEAD, LOOP_OTHERS], "\n".join(lines))
+
+    def test_long_labels(self):
+        """A label that is wider than a row, of letters that take two columns: no row of the story is wider than the screen."""
+        folder = self.new_folder()
+        (folder / "t").write_text("pmtrace 1\nstore 0 0x7f0000001000 0102030405060708\nisPersist 0 0x7f0000001000 8\n")
+        (folder / "l").write_text("1 " + 60 * "\u6587" + "\n2 claim.c:7 check < main.c:9\n")
+        lines = self.explain("--labels", folder / "l", folder / "t").stdout.decode().splitlines()
+        start = lines.index("error: a crash can lose what is claimed to be saved: isPersist at claim.c:7 check")
+        wanted = ["    1  " + 11 * "\u6587" + "\u2026   store 0x...000 0102030405060708  lost", f"    2  {'claim.c:7 check':24}  isPersist 0x...000 8"]
+        self.expect_equal("a long label", lines[start + 1 : start + 3], wanted)
+        (folder / "l").write_text("2 " + 300 * "x" + "\n")
+        lines = self.explain("--labels", folder / "l", folder / "t").stdout.decode().splitlines()
+        cut = [line for line in lines if line.endswith("\u2026")]
+        self.expect("cut lines", [len(line) for line in cut[:1]] == [100] and cut[0].startswith("error: "), "\n".join(lines))
 
     def test_many_failures(self):
         """How much is told where much fails."""

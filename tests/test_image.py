@@ -14,7 +14,7 @@ import machine
 from checks import Checks, add_tests
 from faulty import Answer
 from program import find
-from told_crashes import failing_traces, read_told, told, told_entries, words_of_entry, words_of_text
+from told_crashes import failing_traces, read_told, told, told_entries, words_of_entry, words_of_text, wrong_story
 from traces import EXAMPLES
 
 TRACES = 24
@@ -185,7 +185,9 @@ def every_told_crash(program, case):
     for number in failing:
         (entry,) = told_entries(program, case, "failure", "--failure", str(number))
         right = case.after(entry["place"], {int(line["cache_line"], 16) // case.size: line["persisted"] for line in entry["lines"]})
-        asked = [["--failure", str(number)], words_of_entry(entry), words_of_text(told(program, case, "--failure", str(number)))]
+        text = told(program, case, "--failure", str(number))
+        complaints += filter(None, [wrong_story(case, entry, text)])
+        asked = [["--failure", str(number)], words_of_entry(entry), words_of_text(text)]
         for words in filter(None, asked):
             compare(complaints, words, run(program, *words, *case.words), Answer(0, right))
         for told_range in entry["ranges"]:

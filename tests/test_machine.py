@@ -7,7 +7,7 @@ from checks import Checks
 from explained import Explained, judged
 from explained_text import wrong_text
 from machine import FENCES, FLUSHES, Trace, entries_at, is_faithful, is_kept, least, none_can_go, random_trace, spelled, text_of
-from planted import JSON, TEXT, in_json, in_text
+from planted import ALONE, JSON, TEXT, in_json, in_text
 from program import find
 
 # As many entries as `--limit all` stands for.
@@ -94,7 +94,7 @@ class Explaining:
 
     def __init__(self, program, file, choose):
         self.program, self.file, self.choose = program, file, choose
-        self.noticed = {("text", name): 0 for name in TEXT} | {("JSON", name): 0 for name in JSON}
+        self.noticed = {(form, name): 0 for form, names in (("text", TEXT), ("failure", ALONE), ("JSON", JSON)) for name in names}
         self.missed = []
 
     def told(self, *words):
@@ -108,19 +108,28 @@ class Explaining:
         names.write_bytes(text_of(f"{number} {label}" for number, label in labels.items()))
         explained = Explained(trace, [], labels)
         words = ["--labels", names] * bool(labels) + ["--limit", "all", self.file]
-        text, entries = self.told(*words), self.told("--json", *words)
-        wrong = wrong_text(explained, text) or judged(explained, entries, ALL)
+        told = {"text": (explained, self.told(*words)), "JSON": (explained, self.told("--json", *words))}
+        if explained.causes:
+            number = explained.causes[-1][1][0]
+            alone = Explained(trace, [], labels, {"only": "failure", "from": number, "to": number})
+            told["failure"] = (alone, self.told("--failure", str(number), *words))
+        wrong = next(filter(None, (self.judge(form, *told[form]) for form in told)), None)
         if wrong:
             return f"{labels}: {wrong}"
-        self.spoil(explained, text, entries)
+        self.spoil(told)
         return None
 
-    def spoil(self, explained, text, entries):
+    @staticmethod
+    def judge(form, explained, told):
+        return judged(explained, told, ALL) if form == "JSON" else wrong_text(explained, told)
+
+    def spoil(self, told):
         """Plants of the faults that have room the one that was noticed least often."""
         for form, name in sorted(self.noticed, key=self.noticed.get):
-            bad = in_text(name, text) if form == "text" else in_json(name, entries)
+            explained, right_one = told.get(form, (None, b""))
+            bad = in_json(name, right_one) if form == "JSON" and right_one else in_text(name, right_one) if right_one else None
             if bad:
-                right = wrong_text(explained, bad) if form == "text" else judged(explained, bad, ALL)
+                right = self.judge(form, explained, bad)
                 self.noticed[form, name] += 1
                 if right is None:
                     self.missed.append(f"{form}: {name}, in\n{bad.decode()}")

@@ -12,8 +12,8 @@ import faulty
 import machine
 from checks import Checks, add_tests
 from faulty import Answer
-from machine import FENCES, FLUSHES
 from program import find
+from stories import told_by
 from traces import EXAMPLES, all_traces
 
 TRACES = 150
@@ -22,27 +22,6 @@ TRACES = 150
 def run(program, *words, text=b""):
     done = subprocess.run([program, *words], input=text, capture_output=True, timeout=60)
     return Answer(done.returncode, done.stdout, done.stderr)
-
-
-def first(numbers, wanted):
-    return next(filter(wanted, numbers), None)
-
-
-def told_by(trace, store, place):
-    """The events up to the place that tell what becomes of a store, by the states of all runs."""
-    line = trace.line(store)
-    safe = first(range(place + 1), lambda at: trace.is_safe(store, at))
-    after = range(store + 1, place + 1)
-    found = {store, safe}
-    if safe is not None and trace.event(safe)[0] in FENCES:
-        thread = trace.event(safe)[1]
-        found.add(first(after, lambda at: trace.event(at)[1] == thread and trace.is_flush_of(at, line, FLUSHES)))
-    flush = first(after, lambda at: trace.is_flush_of(at, line, (*FLUSHES, "clflush")))
-    found.add(flush)
-    if flush is not None:
-        fence = first(range(flush + 1, place + 1), lambda at: trace.event(at)[0] in FENCES)
-        found |= {fence} if fence is not None and (safe is None or fence <= safe) else set()
-    return found - {None}
 
 
 def slice_of(trace, number):

@@ -40,6 +40,7 @@ GROUPS = {
     (9, 1): "pmtraceRefused",
     (10, 1): "pmtraceRefused",
 }
+UNORDERED = "a crash can keep the mark without its record: isOrderedBefore"
 LISTED = "map(getqflist(), {_, it -> [bufname(it.bufnr), it.lnum, it.type, it.text]})"
 
 
@@ -89,8 +90,8 @@ class Vim(Checks):
         shutil.copy(TOP / "examples/mark_too_early.trace", folder)
         shutil.copy(TOP / "examples/explain/mark_too_early.labels", folder / "mark_too_early.trace.labels")
         found = self.made(folder, "mark_too_early.trace")
-        self.expect_equal("the error", found[:1], [["save.c", 19, "E", "a crash can violate the assertion of event 7"]])
-        self.expect_equal("what it names", [entry[:3] for entry in found[1:3]], [["save.c", 13, "I"], ["save.c", 12, "I"]])
+        self.expect_equal("the error", found[:1], [["save.c", 19, "E", UNORDERED]])
+        self.expect_equal("its story", [entry[:3] for entry in found[1:4]], [["save.c", 12, "I"], ["save.c", 13, "I"], ["save.c", 19, "I"]])
 
     def test_lines_of_the_trace(self):
         """Without labels they are those of the trace; event I stands on line I + 1."""
@@ -99,7 +100,7 @@ class Vim(Checks):
         found = self.made(folder, "fence_of_another_thread.trace")
         errors = [entry for entry in found if entry[2] == "E"]
         wanted = [
-            ["fence_of_another_thread.trace", 5, "E", "a crash can violate the assertion of event 4"],
+            ["fence_of_another_thread.trace", 5, "E", "a crash can lose what is claimed to be saved: isPersist"],
             ["fence_of_another_thread.trace", 2, "E", "thread 0: 1 store: 1 never persisted, 0 saved late, 0 in time"],
         ]
         self.expect_equal("the errors", errors, wanted)
@@ -117,4 +118,4 @@ class Vim(Checks):
         told = run([self.program, "explain", "--labels", TOP / "examples/explain/mark_too_early.labels", TOP / "examples/mark_too_early.trace"])
         (folder / "told").write_text(told.out)
         found = self.vim(folder, "told", [line, "cgetfile told"], LISTED)
-        self.expect_equal("the error", found, [["save.c", 19, "E", "a crash can violate the assertion of event 7"]])
+        self.expect_equal("the error", found, [["save.c", 19, "E", UNORDERED]])

@@ -9,8 +9,9 @@ import grouped
 import placed as by_place
 from explained import NOTHING
 from machine import FENCES, FLUSHES, spelled
+from stories import HEADING, rows, wrong_story
 
-SCREEN = 60
+SCREEN = 40
 MOST = 8
 DROPPED = "note: flushes and fences that do nothing, most first:"
 OVERWRITTEN = "note: stores overwritten before any flush of their cache line, those with other bytes first:"
@@ -184,17 +185,38 @@ def named(explained, number):
     return f"event {number} (line {event['line']}, thread {event['thread']}){label}: {event['words']}"
 
 
-def cause_lines(explained, key, members):
-    """Of the entry of a cause those lines that tell the group and what its members have in common."""
-    first, *others = members
-    size = f"; {len(members)} assertions fail for this cause" if others else ""
-    yield f"error: a crash can violate the assertion of event {first}{size}"
-    yield f"  claim:  {named(explained, first)}"
-    if others:
-        more = f" and {len(others) - 10} more" if len(others) > 10 else ""
-        yield f"  also:   event{'s' if len(others) > 1 else ''} {' '.join(map(str, others[:10]))}{more}"
-    store, byte = explained.violation(first)[3]
+def others_lines(members):
+    """The events of the other members of a cause."""
+    others = members[1:]
+    more = f" and {len(others) - 10} more" if len(others) > 10 else ""
+    return [f"  also: event{'s' if len(others) > 1 else ''} {' '.join(map(str, others[:10]))}{more}"] if others else []
+
+
+def is_alone(explained):
+    """Whether one failed assertion is asked for, and nothing else."""
+    asked = explained.asked
+    return asked["from"] is not None and asked == {**NOTHING, "only": "failure", "from": asked["from"], "to": asked["from"]}
+
+
+def full_lines(explained, key, number):
+    """Of what is told of a failed assertion alone the lines that name its claim and its lost store, and those of the range."""
+    store, byte = explained.violation(number)[3]
+    yield f"  claim:  {named(explained, number)}"
     yield f"  loses:  byte {byte:#x}, in the {key[2]} cache line of its range, of {named(explained, store)}"
+    yield from range_block(explained, explained.failure(number))
+
+
+def wrong_failure(explained, key, members, entry):
+    """What is wrong with the entry of a cause: its story, the other members, and all of the first one, where it is told alone."""
+    wrong = wrong_story(explained, members, entry)
+    if wrong:
+        return wrong
+    rest = entry[len(rows(explained, members[0])) + 2 : -1]
+    if not is_alone(explained):
+        return None if rest == others_lines(members) else f"the others: wanted {others_lines(members)}, in {entry}"
+    wanted = list(full_lines(explained, key, members[0]))
+    told = [line for line in rest if line.startswith(("  claim: ", "  loses: "))] + told_of_range(entry)
+    return None if told == wanted and any(", lost: event " in row for row in wanted) else f"all of a failure: wanted {wanted}, in {entry}"
 
 
 def lost_lines(explained, group):
@@ -259,16 +281,16 @@ def errors_of(lines):
 
 
 def told_of_range(entry):
-    """Of the entry of a failed assertion the lines of its range and of its lost bytes."""
+    """Of the entry of a failed assertion that is told alone the lines of its range and of its lost bytes."""
     first = next(at for at, line in enumerate(entry) if line.endswith(" on, by cache line, at the crash:"))
     return entry[first : next(at for at, line in enumerate(entry) if line.startswith("  kept:  "))]
 
 
 def wrong_draws(explained, entries):
     """Each error ends with the command of its picture."""
-    failing = [(f"--failure {members[0]}", members[0]) for _, members in explained.causes]
-    lost = [(f"--line {group[0]['cache_line']}", group[0]["last"]["event"]) for group in lost_groups(explained)]
-    wanted = [(f"  draw:   pmtrim draw {option} ", f" > event{number}.svg") for option, number in (*failing, *lost)]
+    failing = [("  draw: ", f"--failure {members[0]}", members[0]) for _, members in explained.causes]
+    lost = [("  draw:   ", f"--line {group[0]['cache_line']}", group[0]["last"]["event"]) for group in lost_groups(explained)]
+    wanted = [(f"{name}pmtrim draw {option} ", f" > event{number}.svg") for name, option, number in (*failing, *lost)]
     ends = [entry[-1] for entry in entries]
     if len(ends) != len(wanted) or not all(end.startswith(first) and end.endswith(last) for end, (first, last) in zip(ends, wanted)):
         return f"pictures: wanted {wanted}, in {ends}"
@@ -278,7 +300,7 @@ def wrong_draws(explained, entries):
 def asked_lines(explained):
     """What the summary says of what is asked for."""
     asked, span = explained.asked, explained.asked["range"] or {"length": 0, "address": 0}
-    if asked == {**NOTHING, "only": "failure", "from": asked["from"], "to": asked["from"]} and asked["from"]:
+    if is_alone(explained):
         return [f"  told below: the failed assertion of event {asked['from']} alone (--failure)"]
     words = {
         "only": f"{asked['only']} alone",
@@ -324,15 +346,12 @@ def wrong_text(explained, told):
     if wrong:
         return wrong
     causes, entries = explained.causes, errors_of(lines)
-    failures = [line for entry in entries[: len(causes)] for line in entry]
-    heads = [line for line in failures if line.startswith(("error: ", "  claim: ", "  also: ", "  loses: "))]
-    wanted = [line for key, members in causes for line in cause_lines(explained, key, members)]
-    if heads != wanted:
-        return f"causes: wanted {wanted}, in\n{told.decode()}"
-    for (_, members), entry in zip(causes, entries):
-        wanted = list(range_block(explained, explained.failure(members[0])))
-        if told_of_range(entry) != wanted or not any(", lost: event " in row for row in wanted):
-            return f"the range: wanted {wanted}, in\n{told.decode()}"
+    if len(entries) < len(causes) or lines.count(HEADING) != int(bool(causes) and not is_alone(explained)):
+        return f"causes: wanted {causes}, in\n{told.decode()}"
+    for (key, members), entry in zip(causes, entries):
+        wrong = wrong_failure(explained, key, members, entry)
+        if wrong:
+            return f"{wrong}\nin\n{told.decode()}"
     return wrong_losses(explained, entries[len(causes) :]) or wrong_draws(explained, entries)
 
 

@@ -2,7 +2,7 @@
 import json
 import re
 
-from explained_text import LABELS, PLACE, THREADS, errors_of, told_of_range
+from explained_text import LABELS, PLACE, THREADS
 
 
 def first_at(lines, part):
@@ -29,13 +29,18 @@ def below_place(lines, part):
 
 
 def range_at(lines):
-    """Where the first cache line of the range of the last failed assertion stands."""
-    failing = [entry for entry in errors_of(lines) if first_at(entry, ", by cache line, at the crash:") is not None]
-    if not failing:
-        return None
-    entry = failing[-1]
-    start = max(at for at in range(len(lines)) if lines[at : at + len(entry)] == entry)
-    return start + entry.index(told_of_range(entry)[0]) + 1
+    """Where the first cache line of the range of the failed assertion stands."""
+    return below_at(lines, ", by cache line, at the crash:", 1)
+
+
+def named_at(lines, name):
+    """Where the first line of this name stands in a story: its text comes after one space."""
+    return next((at for at, line in enumerate(lines) if re.match(rf"  {name}: \S", line)), None)
+
+
+def story_at(lines):
+    """Where the first event of the first story stands."""
+    return below_at(lines, "error: a crash can ", 1)
 
 
 def raised(pattern):
@@ -51,7 +56,15 @@ def turned(line):
 # What is changed in the text: which line, and to what; None leaves it out.
 TEXT = {
     "a member of a group": (lambda lines: first_at(lines, "  also: "), raised(r"\d+(?= and |$)")),
-    "the size of a group": (lambda lines: first_at(lines, " assertions fail for this cause"), raised(r"\d+(?= assertions)")),
+    "the size of a group": (lambda lines: first_at(lines, " times)"), raised(r"\d+(?= times)")),
+    "an event of a story": (story_at, raised(r"\d+")),
+    "an event of a story left out": (story_at, None),
+    "what a story says is kept": (lambda lines: first_at(lines, "  kept"), lambda line: line.replace("  kept", "  lost")),
+    "how many stores are lost beside": (lambda lines: first_at(lines, "  lost, with "), raised(r"\d+(?= more store)")),
+    "the flush of a story": (lambda lines: first_at(lines, "  its thread makes no fence"), None),
+    "the crash of a story": (lambda lines: first_at(lines, "--  crash"), None),
+    "what mends a failure": (lambda lines: named_at(lines, "fix"), raised(r"(?<=event )\d+")),
+    "the picture of a failure": (lambda lines: named_at(lines, "draw"), raised(r"(?<=event)\d+(?=\.svg)")),
     "a place left out": (place_at, None),
     "how many stores a place has": (place_at, raised(r"\d+(?= stores?: \d+ never)")),
     "how many of them are never persisted": (place_at, raised(r"\d+(?= never persisted,)")),
@@ -61,14 +74,18 @@ TEXT = {
     "for how many fences it is late": (lambda lines: place_at(lines, "note: ", 2), raised(r"\d+(?= fences of its thread)")),
     "what mends a place": (lambda lines: below_place(lines, "  fix:    "), None),
     "the picture of a place": (lambda lines: below_place(lines, "  draw:   "), raised(r"(?<=event)\d+(?=\.svg)")),
+    "a thread's row": (lambda lines: below_at(lines, THREADS, 2), raised(r"\d+(?=  thread)")),
+    "a thread's row left out": (lambda lines: below_at(lines, THREADS, 2), None),
+    "a label's row": (lambda lines: below_at(lines, LABELS, 2), raised(r"\d+(?=  at )")),
+}
+
+# The same of the text of one failed assertion.
+ALONE = {
     "where the lost line lies": (lambda lines: first_at(lines, "in the last cache line"), lambda line: line.replace("the last", "the inner")),
     "a line of a range": (range_at, turned),
     "a line of a range left out": (range_at, None),
     "the flush of a line": (range_at, raised(r"(?<=last flush event )\d+")),
     "the fence of a line": (range_at, raised(r"(?<=, fence event )\d+")),
-    "a thread's row": (lambda lines: below_at(lines, THREADS, 2), raised(r"\d+(?=  thread)")),
-    "a thread's row left out": (lambda lines: below_at(lines, THREADS, 2), None),
-    "a label's row": (lambda lines: below_at(lines, LABELS, 2), raised(r"\d+(?=  at )")),
 }
 
 
@@ -113,7 +130,7 @@ JSON = {
 def in_text(name, told):
     """The text with the fault; none where it has no room."""
     lines = told.decode().splitlines()
-    find, change = TEXT[name]
+    find, change = {**TEXT, **ALONE}[name]
     at = find(lines)
     if at is None:
         return None

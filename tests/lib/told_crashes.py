@@ -70,3 +70,49 @@ def words_of_text(text):
     kept = re.search(r"^  kept:  (.*)$", text, re.M)[1]
     lines = re.findall(r" (\d+) of \d+ in (0x[0-9a-f]+);", kept)
     return None if "--json" in kept else ["--at", place, "--all", *itertools.chain(*(("--line", f"{address}:{stores}") for stores, address in lines))]
+
+
+ROW = re.compile(r" {4,}(?P<event>\d+)  .*?(?:  (?P<note>kept|lost(?:, with (?P<beside>\d+) more stores? of the range)?))?$")
+
+
+def last_in(case, span, number):
+    """The last store to each byte of the range up to the event."""
+    found = {}
+    for store, address, data in case.stores:
+        if store <= number:
+            found.update({byte: store for byte in range(address, address + len(data)) if 0 <= byte - int(span["address"], 16) < span["length"]})
+    return set(found.values())
+
+
+def is_persisted(case, entry, store):
+    """Whether the crash leaves the store persisted."""
+    line = {number: address // case.size for number, address, _ in case.stores}
+    if store > entry["place"]:
+        return False
+    counts = {int(told["cache_line"], 16) // case.size: told["persisted"] for told in entry["lines"]}
+    rank = sum(line[other] == line[store] for other in line if other <= store)
+    return rank <= counts.get(line[store], rank)
+
+
+def wrong_story(case, entry, text):
+    """What is wrong with the story of a failure: its events rise, and by the crash that is told the lost one is lost, and the kept one kept."""
+    lines = text.splitlines()
+    start = next(at for at, line in enumerate(lines) if line.startswith("error: a crash can "))
+    story = lines[start + 1 : next(at for at, line in enumerate(lines) if line.startswith("  fix: "))]
+    rows = [(int(found["event"]), found) for found in map(ROW.match, story) if found]
+    events, notes = [event for event, _ in rows], {found["note"].split(",")[0]: (event, found) for event, found in rows if found["note"]}
+    crash = next(at for at, line in enumerate(story) if re.match(r" +-+  crash", line))
+    lost, found = notes["lost"]
+    losing = [store for store in last_in(case, entry["ranges"][0], entry["event"]["event"]) if not is_persisted(case, entry, store)]
+    right = (
+        events == sorted(set(events))
+        and len(rows) == len(story) - 1
+        and all((event <= entry["place"]) == (at < crash) for at, event in enumerate(events))
+        and entry["event"]["event"] in events
+        and lost in losing
+        and int(found["beside"] or 0) == len(losing) - 1
+        and (entry["kept"] is None) == ("kept" not in notes)
+        and ("kept" not in notes or is_persisted(case, entry, notes["kept"][0]))
+        and max(map(len, story)) <= 100
+    )
+    return None if right else f"{case.file.name}: the story of {entry['event']['event']} is {story}"

@@ -18,7 +18,7 @@ use std::alloc::Global;
 use std::io::{Cursor, Read, Write};
 
 // The lines of a text where the words don't say how many entries are shown.
-const ROWS: usize = 60;
+const ROWS: usize = 40;
 
 /// Explains the trace of the file or of `input`, and writes what is asked for to `out`. The files of ranges and of labels are read and
 /// judged first. The status is 1 where an assertion fails, or a store is never persisted that is not ignored.

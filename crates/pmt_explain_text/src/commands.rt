@@ -5,7 +5,7 @@ use pmt_pen::Pen;
 
 // Adds the command that draws what the words of draw and the number name; the picture is named by the event.
 pub(crate) fn push_draw(pen: &mut Pen, told: &Telling<'_>, words: &str, named: u64, event: u64) {
-    pen.put("  draw:   pmtrim draw ");
+    pen.put("pmtrim draw ");
     pen.fill(words, &[named]);
     if let Some(labels) = told.screen.labels {
         pen.put(" --labels ");

@@ -1,11 +1,13 @@
-//! Failed assertions in words.
+//! Failed assertions in words: each by its story, and one that is asked for in full.
 
 use crate::causes::{part_word, push_head, push_others};
 use crate::commands::push_draw;
-use crate::parts::{plural, push_event, push_named, push_remedy};
+use crate::fixes::push_fix;
+use crate::parts::{plural, push_cause, push_event, push_mend, push_named};
 use crate::ranges::push_range;
 use crate::screen::Section;
-use crate::telling::{Telling, line_address};
+use crate::story::push_story;
+use crate::telling::{Telling, failure_of, line_address};
 use pmt_causes::{FailureKey, Group};
 use pmt_explanation::ShownFailure;
 use pmt_pen::Pen;
@@ -13,20 +15,35 @@ use pmt_pen::Pen;
 // The most cache lines that are named.
 const FEW: usize = 3;
 
+const HEADING: &str =
+    "assertions that fail, by cause, most first; --failure N tells one in full:\n";
+
 // The failed assertions, each cause once.
 pub(crate) fn failures_section(told: &Telling<'_>) -> Section {
     let failures = told.explanation.failures.as_slice();
     let causes = told.explanation.causes.as_slice();
     let mut section = Section::new(
         told.alloc,
-        "",
+        if failure_of(told.screen.choice).is_some() {
+            ""
+        } else {
+            HEADING
+        },
         causes.len(),
         "causes of failed assertions",
         "--only failure --limit all",
     );
     for (shown, group) in failures.iter().zip(causes.iter()) {
         let mut pen = Pen::new(told.alloc);
-        push_failure(&mut pen, told, shown, group);
+        push_head(&mut pen, told, group, shown.event);
+        push_story(&mut pen, told, shown);
+        push_fix(&mut pen, told, shown);
+        push_others(&mut pen, group);
+        if failure_of(told.screen.choice).is_some() {
+            push_failure(&mut pen, told, shown, group);
+        }
+        pen.put("  draw: ");
+        push_draw(&mut pen, told, "--failure #", shown.event, shown.event);
         section.add(pen);
     }
     section
@@ -39,15 +56,14 @@ fn push_failure(
     shown: &ShownFailure,
     group: &Group<FailureKey>,
 ) {
-    push_head(pen, group, shown.event);
     push_named(pen, told, "  claim:  ", shown.event);
-    push_others(pen, group);
     push_crash(pen, told, shown, group);
     let line = shown.failure.lost.byte / told.trace.format().line_size();
-    push_remedy(pen, told, shown.cause, line, shown.mend);
+    push_cause(pen, told, shown.cause, line);
+    pen.put("  mend:   ");
+    push_mend(pen, told, shown.mend);
     push_range(pen, told, shown);
     push_lines(pen, told, shown);
-    push_draw(pen, told, "--failure #", shown.event, shown.event);
 }
 
 // Adds the crash: where it comes, and which store it keeps, if that is told, and which it loses.

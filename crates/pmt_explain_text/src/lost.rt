@@ -53,6 +53,7 @@ fn push_lost(pen: &mut Pen, told: &Telling<'_>, members: &[u64]) {
     let mend = mend_for(group.cause, group.line, group.last, None, false);
     push_remedy(pen, told, group.cause, group.line, mend);
     let line = line_address(told.trace, group.line);
+    pen.put("  draw:   ");
     push_draw(pen, told, "--line @", line, group.last);
 }
 

@@ -102,14 +102,14 @@ pub(crate) fn push_place_name(pen: &mut Pen, told: &Telling<'_>, place: Origin) 
 
 // Adds why the store is not safe by then, and what mends it.
 pub(crate) fn push_remedy(pen: &mut Pen, told: &Telling<'_>, cause: Cause, line: u64, mend: Mend) {
-    pen.put("  why:    ");
     push_cause(pen, told, cause, line);
     pen.put("  fix:    ");
     push_mend(pen, told, mend);
 }
 
 // Adds why the store is not safe by then, with the fence of another thread that came in the place of the one that is wanted.
-fn push_cause(pen: &mut Pen, told: &Telling<'_>, cause: Cause, line: u64) {
+pub(crate) fn push_cause(pen: &mut Pen, told: &Telling<'_>, cause: Cause, line: u64) {
+    pen.put("  why:    ");
     let line = line_address(told.trace, line);
     match cause {
         Cause::Later => pen.put("the store comes later than the crash\n"),
@@ -138,7 +138,7 @@ const OTHER: &str =
     "  note:   a fence completes the flushes of its own thread alone, so this one does not help: ";
 
 // Adds what mends the store.
-fn push_mend(pen: &mut Pen, told: &Telling<'_>, mend: Mend) {
+pub(crate) fn push_mend(pen: &mut Pen, told: &Telling<'_>, mend: Mend) {
     match mend {
         Mend::Fence {
             thread,
@@ -183,7 +183,12 @@ const BETWEEN: &str =
 const NEAR: u64 = 10_000;
 
 // The next fence of the thread after the event and before the other one, if it comes soon.
-fn next_fence(told: &Telling<'_>, thread: u8, after: u64, before: Option<u64>) -> Option<u64> {
+pub(crate) fn next_fence(
+    told: &Telling<'_>,
+    thread: u8,
+    after: u64,
+    before: Option<u64>,
+) -> Option<u64> {
     let last = after.saturating_add(NEAR);
     let end = before.unwrap_or(u64::MAX).min(last);
     for number in after.saturating_add(1)..end {

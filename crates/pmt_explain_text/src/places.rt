@@ -96,6 +96,7 @@ fn push_lost(pen: &mut Pen, told: &Telling<'_>, members: &Members, store: u64) {
         let mend = mend_for(group.cause, group.line, store, None, false);
         push_remedy(pen, told, group.cause, group.line, mend);
         let line = line_address(told.trace, group.line);
+        pen.put("  draw:   ");
         push_draw(pen, told, "--line @", line, store);
     }
 }
@@ -115,6 +116,7 @@ fn push_late(pen: &mut Pen, told: &Telling<'_>, store: u64) {
     if let Op::Store(written) = op {
         let line = line_of(told.trace.format(), written.addr());
         push_own_flush(pen, told, line, thread, store);
+        pen.put("  draw:   ");
         push_draw(pen, told, "--line @", line_address(told.trace, line), store);
     }
 }

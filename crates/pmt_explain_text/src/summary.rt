@@ -2,9 +2,9 @@
 
 use crate::ignored::push_ignored;
 use crate::parts::{is_unflushed, push_count};
-use crate::telling::Telling;
+use crate::telling::{Telling, failure_of};
 use crate::unknown::{push_cut, push_unknown};
-use pmt_explanation::{Choice, Kind, Summary, per_cent, summary_of};
+use pmt_explanation::{Choice, Summary, per_cent, summary_of};
 use pmt_pen::Pen;
 
 // Adds the counts, and what the words mean.
@@ -72,7 +72,7 @@ needs no fence. Before that a crash may keep it or lose it. Event N stands on li
 
 const CLAIMS: &str =
     "isPersist THREAD A N claims that a crash now keeps the last stores to the N bytes at A; isOrderedBefore THREAD A N B M, that
-no crash up to now keeps one of those to the M bytes at B without all of those to the N bytes at A.
+no crash up to now keeps one of those to the M bytes at B, the mark, without all of those to the N bytes at A, its record.
 ";
 
 // Adds which findings are told, if not all are.
@@ -120,15 +120,4 @@ fn push_told(pen: &mut Pen, before: &str, name: &str, after: &str) {
     pen.put(before);
     pen.put(name);
     pen.put(after);
-}
-
-// The event of the failed assertion that is told alone, if one is.
-fn failure_of(choice: &Choice) -> Option<u64> {
-    let is_failure = matches!(choice.only, Some(Kind::Failure));
-    let is_all = choice.thread.is_none() && choice.range.is_none() && choice.label.is_none();
-    if is_failure && is_all && choice.from == choice.to {
-        choice.from
-    } else {
-        None
-    }
 }

@@ -1,6 +1,6 @@
 //! What each part of the text for people is told of.
 
-use pmt_explanation::{ByteRange, Choice, Cut, Explanation, Labels};
+use pmt_explanation::{ByteRange, Choice, Cut, Explanation, Kind, Labels};
 use pmt_model::Trace;
 use std::alloc::Global;
 
@@ -39,6 +39,17 @@ pub(crate) fn tells_all(choice: &Choice) -> bool {
         && choice.from.is_none()
         && choice.to.is_none()
         && choice.label.is_none()
+}
+
+// The event of the failed assertion that is told alone, if one is.
+pub(crate) fn failure_of(choice: &Choice) -> Option<u64> {
+    let is_failure = matches!(choice.only, Some(Kind::Failure));
+    let is_all = choice.thread.is_none() && choice.range.is_none() && choice.label.is_none();
+    if is_failure && is_all && choice.from == choice.to {
+        choice.from
+    } else {
+        None
+    }
 }
 
 // The address of the line's first byte.

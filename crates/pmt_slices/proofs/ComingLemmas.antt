@@ -151,7 +151,7 @@ safe-told T l j n p w c is coming within from =
     first-unique (IsCompletedAfter T l j) (suc n) c.safe p coming.safe ((completed-is_safe T l j p w is).1 from.safe) (omega arith) (λ m before it. from.first m before ((completed-is_safe T l j m w is).0 it))
 
 -- and what is told is so
-told-safe : (T : Recording) (l j n : ℕ) (w : Written) (c : Coming) → IsAct T j (Stores l w) → IsComing T l j (suc n) c → c.safe ≤ n → IsSafeFrom T l j c.safe
+pub told-safe : (T : Recording) (l j n : ℕ) (w : Written) (c : Coming) → IsAct T j (Stores l w) → IsComing T l j (suc n) c → c.safe ≤ n → IsSafeFrom T l j c.safe
 told-safe T l j n w c is coming within = record {
   safe = (completed-is_safe T l j c.safe w is).0 (coming.safe.has (omega arith));
   first = λ m before safe. coming.safe.none_before m before ((completed-is_safe T l j m w is).1 safe);

@@ -26,7 +26,7 @@ use Rattle.pmt_slices.proofs.VerdictLemmas.{grounds-safe}
 use Rattle.pmt_slices.proofs.SliceLemmas.{range-within, slice-subsequence, slice-grounds, persist-range, first-range, second-range}
 
 -- a last store to a byte of the range, by its line
-line-last : (T : Recording) (n : ℕ) (A : Span) (x : ByteStore) → IsLastIn T n A x → (l : ℕ) × IsLast T n A l x.store
+pub line-last : (T : Recording) (n : ℕ) (A : Span) (x : ByteStore) → IsLastIn T n A x → (l : ℕ) × IsLast T n A l x.store
 line-last T n A x it =
     let writer = last_store_number-is T x.byte n x.store it.last in
     (writer.line, record { what = writer.what; is_store = writer.is_store; byte = x.byte; within = it.inside; last = it.last })

@@ -10,3 +10,4 @@ pub mod ScanLemmas
 pub mod TakenLemmas
 pub mod ChosenLemmas
 pub mod GoingLemmas
+pub mod StoryLemmas

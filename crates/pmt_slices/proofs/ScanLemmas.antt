@@ -1,12 +1,15 @@
 -- What comes after a place of all lines of a range, going back event by event.
-use Rattle.std.proofs.Common.{◌≡◌, ◌≢◌, ℕ, suc, ◌+◌, ◌*◌, ◌^◌, ◌<◌, ◌≤◌, ◌⊎◌, inl, inr, List, length, Some, get_or, set, get_or-set_same, get_or-set_other, refl, sym, ap, subst, ◌∙◌, arith}
+use Rattle.std.proofs.Common.{◌≡◌, ◌≢◌, ℕ, zero, suc, ◌+◌, ◌*◌, ◌^◌, ◌<◌, ◌≤◌, ◌⊎◌, inl, inr, List, [], ◌∷◌, length, Some, get_or, set, get_or-set_same, get_or-set_other, refl, sym, ap, subst, ◌∙◌, arith}
 use Rattle.std.specs.Prelude.{slice_get, replicate}
 use Rattle.std.proofs.lemmas.Bool.{cases_eq}
 use Rattle.std.proofs.lemmas.List.{length-set, get_or-replicate, length-replicate}
-use Rattle.std.proofs.lemmas.Option.{slice_get-get_or, get_or_from_slice_get, slice_get_within}
-use Rattle.pmt_model.specs.Values.{Span, Layout}
-use Rattle.pmt_model.specs.Machine.{Act, Flushes, Clflushes, Fences}
-use Rattle.pmt_model.specs.Traces.{Recording, IsAct}
+use Rattle.std.proofs.lemmas.Option.{none-some, same_Some, slice_get-get_or, get_or_from_slice_get, slice_get_within}
+use Rattle.pmt_model.specs.Values.{Span, Layout, Written, line_of}
+use Rattle.pmt_model.specs.declared.event.Op.{Op}
+use Rattle.pmt_model.specs.declared.event.Op.TheVariants.{Store}
+use Rattle.pmt_model.specs.Machine.{Act, Stores, Flushes, Clflushes, Fences}
+use Rattle.pmt_model.specs.Traces.{Recording, IsAct, act_of}
+use Rattle.pmt_model.specs.Assertions.{InSpan}
 use Rattle.pmt_laws.proofs.Histories.{act-unique}
 use Rattle.pmt_spans.specs.declared.spanned.Spanned.{Spanned}
 use Rattle.pmt_spans.specs.Spans.{IsSpanned, LinesAreMet}
@@ -37,6 +40,11 @@ scan-over T A m past s a is no_flush no_clflush no_fence old = record {
   where
     none : (u : ℕ) → ¬ IsAct T (suc m) (Fences u)
     none u fence = no_fence u (act-unique T (suc m) a (Fences u) is fence)
+
+-- over a store
+pub scan-store : (T : Recording) (A : Span) (m past : ℕ) (s : Scan) (f : Layout) (t : ℕ) (op : Op) (w : Written) → op ≡ Store w → IsAct T (suc m) (act_of f t op) → IsScan T A (suc m) past s → IsScan T A m past s
+scan-store T A m past s f t op w e is old =
+    scan-over T A m past s (Stores (line_of f w.addr) w) (subst (λ o. IsAct T (suc m) (act_of f t o)) e is) (λ u l x. cc) (λ l x. cc) (λ u x. cc) old
 
 -- one line is changed, and no fence
 one-line : (T : Recording) (A : Span) (m past place : ℕ) (s : Scan) (new : Coming) → ((u : ℕ) → ¬ IsAct T (suc m) (Fences u)) → place < length s.lines.items →
@@ -136,11 +144,11 @@ scan-fence T A m past t number s r is same early small first lines fences fence 
         subst (IsFirst (IsFenceAfter T u m) past) (sym (get_or-set_other s.fences t u number 0 apart))
         (first-over (λ k. IsAct T k (Fences u)) past m _ (λ f. let e = act-unique T (suc m) (Fences t) (Fences u) is f in apart (cc)) (old.fences u below))
 
--- before any event is met
-pub scan-new : LinesAreMet → (T : Recording) (A : Span) (n past : ℕ) (spanned : Spanned) (s : Scan) → IsSpanned T.format A spanned → past ≡ suc n → s.first ≡ spanned.first → spanned.first + length s.lines.items ≡ suc spanned.last →
+-- before any event is met, of lines that the range meets
+pub scan-start : (T : Recording) (A : Span) (n past : ℕ) (s : Scan) → past ≡ suc n → ((b : ℕ) → InSpan A b → (s.first ≤ line_of T.format b) × (line_of T.format b < s.first + length s.lines.items)) →
     ((k : ℕ) (c : Coming) → slice_get s.lines.items k ≡ Some c → (c.flush ≡ past) × (c.fence ≡ past) × (c.safe ≡ past)) → s.fences ≡ replicate 256 past → s.fence ≡ past → IsScan T A n past s
-scan-new lines-met T A n past spanned s is same first size each fences fence = record {
-  meets = λ b inside. let x = lines-met T.format A spanned b is inside in (omega (arith, x.0, first), omega (arith, x.1, first, size));
+scan-start T A n past s same meets each fences fence = record {
+  meets = meets;
   lines = λ k c at.
       let x = each k c at in
       subst (λ p. IsComing T (s.first + k) n p c) (sym same) (coming-none T (s.first + k) n c (x.0 ∙ same) (x.1 ∙ same) (x.2 ∙ same));
@@ -150,6 +158,21 @@ scan-new lines-met T A n past spanned s is same first size each fences fence = r
       record { within = omega (arith, value); has = λ h. absurd (omega (arith, value, h)); none_before = λ k below x. omega (arith, value, below, x.0, same) };
   fence = record { within = omega (arith, fence); has = λ h. absurd (omega (arith, fence, h)); none_before = λ k below x. omega (arith, fence, below, x.0, same) };
 }
+
+pub scan-new : LinesAreMet → (T : Recording) (A : Span) (n past : ℕ) (spanned : Spanned) (s : Scan) → IsSpanned T.format A spanned → past ≡ suc n → s.first ≡ spanned.first → spanned.first + length s.lines.items ≡ suc spanned.last →
+    ((k : ℕ) (c : Coming) → slice_get s.lines.items k ≡ Some c → (c.flush ≡ past) × (c.fence ≡ past) × (c.safe ≡ past)) → s.fences ≡ replicate 256 past → s.fence ≡ past → IsScan T A n past s
+scan-new lines-met T A n past spanned s is same first size each fences fence =
+    scan-start T A n past s same (λ b inside. let x = lines-met T.format A spanned b is inside in (omega (arith, x.0, first), omega (arith, x.1, first, size))) each fences fence
+
+-- of one line
+pub scan-line : (T : Recording) (A : Span) (n past line : ℕ) (c : Coming) (s : Scan) → past ≡ suc n → ((b : ℕ) → InSpan A b → line_of T.format b ≡ line) → s.first ≡ line → s.lines.items ≡ c ∷ [] → c.flush ≡ past → c.fence ≡ past → c.safe ≡ past →
+    s.fences ≡ replicate 256 past → s.fence ≡ past → IsScan T A n past s
+scan-line T A n past line c s same inside first items flush fence safe fences fence' =
+    scan-start T A n past s same (λ b own. let e = inside b own in (omega (arith, e, first), omega (arith, e, first, ap (λ xs. length xs) items))) (λ k d at. each k d (subst (λ xs. slice_get xs k ≡ Some d) items at)) fences fence'
+  where
+    each : (k : ℕ) (d : Coming) → slice_get (c ∷ []) k ≡ Some d → (d.flush ≡ past) × (d.fence ≡ past) × (d.safe ≡ past)
+    each zero d at = let e : c ≡ d = same_Some c d at in subst (λ x. (x.flush ≡ past) × (x.fence ≡ past) × (x.safe ≡ past)) e (flush, fence, safe)
+    each (suc k) d at = absurd (none-some d at)
 
 -- the first line is no later than the last one, and there are not too many
 pub spanned-few : LinesAreMet → (f : Layout) (A : Span) (s : Spanned) → IsSpanned f A s → (s.first ≤ s.last) × (s.last < 2 ^ 48)
@@ -162,3 +185,15 @@ spanned-few lines-met f A s is =
     small (Bytes64 e) = let high : s.last * 64 + s.high ≡ A.addr + A.len = subst (λ size. s.last * size + s.high ≡ A.addr + A.len) e is.high in omega (arith, high, is.range.within, is.range.some)
     small (Bytes128 e) = let high : s.last * 128 + s.high ≡ A.addr + A.len = subst (λ size. s.last * size + s.high ≡ A.addr + A.len) e is.high in omega (arith, high, is.range.within, is.range.some)
     small (Bytes256 e) = let high : s.last * 256 + s.high ≡ A.addr + A.len = subst (λ size. s.last * size + s.high ≡ A.addr + A.len) e is.high in omega (arith, high, is.range.within, is.range.some)
+
+-- the byte at an address, as a range
+abbrev pub byte-span : ℕ → Span
+byte-span addr = record { addr = addr; len = 1 }
+
+pub byte-inside : (addr : ℕ) → InSpan (byte-span addr) addr
+byte-inside addr = (omega arith, omega arith)
+
+pub byte-of : (f : Layout) (addr line : ℕ) → line ≡ line_of f addr → (b : ℕ) → InSpan (byte-span addr) b → line_of f b ≡ line
+byte-of f addr line is b own =
+    let e : b ≡ addr = omega (arith, own.0, own.1) in
+    ap (line_of f) e ∙ sym is

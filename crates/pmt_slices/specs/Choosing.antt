@@ -1,5 +1,7 @@
 -- Events that are chosen besides others.
-use Rattle.std.specs.Prelude.{◌≡◌, ℕ, ◌≤◌, ◌⊎◌, Bool, List, length}
+use Rattle.std.specs.Prelude.{◌≡◌, ℕ, ◌≤◌, ◌⊎◌, Bool, List, length, Some}
+use Rattle.pmt_reasons.specs.declared.failure.ByteStore.{ByteStore}
+use Rattle.pmt_reasons.specs.declared.failure.Failure.{Failure}
 use Rattle.pmt_slices.specs.declared.coming.Coming.{Coming}
 use Rattle.pmt_slices.specs.Scanning.{IsChosen}
 
@@ -17,3 +19,7 @@ pub data IsOfStore (number : ℕ) (c : Coming) (n k : ℕ) : Type 0 where
   TheCompletion : c.safe ≤ n → k ≡ c.safe → IsOfStore number c n k
   TheCover : c.safe ≤ n → k ≡ c.cover → IsOfStore number c n k
   TheFence : c.fence ≤ c.safe → c.flush ≤ n → k ≡ c.fence → IsOfStore number c n k
+
+-- Number k is that of the store that the crash keeps, or of what tells of the store that it loses.
+abbrev pub IsOfFailure : Failure → Coming → ℕ → ℕ → Type 0
+IsOfFailure f c n k = ((y : ByteStore) × (f.kept ≡ Some y) × (k ≡ y.store)) ⊎ IsOfStore f.lost.store c n k

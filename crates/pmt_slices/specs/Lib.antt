@@ -2,3 +2,4 @@ pub mod Slices
 pub mod Scanning
 pub mod Taking
 pub mod Choosing
+pub mod Stories

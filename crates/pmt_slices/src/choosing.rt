@@ -20,7 +20,7 @@ pub(crate) fn only(alloc: Global, number: u64) -> Result<Vec<bool>, OutOfMemory>
 }
 
 // Chooses the event with this number, if it has a flag.
-fn choose(chosen: &mut [bool], number: u64)
+pub(crate) fn choose(chosen: &mut [bool], number: u64)
     ensures size { length chosen.new ≡ length chosen.old }
     ensures stays { (k : ℕ) → IsChosen chosen.old k → IsChosen chosen.new k }
     ensures own { 1 ≤ number → number ≤ length chosen.old → IsChosen chosen.new number }

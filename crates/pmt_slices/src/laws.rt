@@ -1,6 +1,7 @@
 //! What holds of slices: each function has an empty body, and its contract states a law.
 
 ghost use Rattle.pmt_slices.specs.Slices.{SliceFails, SliceJudges, SliceTells, VerdictBySelection};
+ghost use Rattle.pmt_slices.specs.Stories.{StoryTells};
 
 /// An assertion has the same verdict in the trace and in the trace cut to some of its events, if these are the last stores to the bytes
 /// of its ranges and what made each of these stores safe first.
@@ -22,4 +23,10 @@ pub fn slice_tells()
 /// The crash that violates a failed assertion of the trace is the one of its slice: it keeps and loses the same stores, at the same bytes.
 pub fn slice_fails()
     ensures { SliceFails }
+{}
+
+/// The story of a failed assertion has events of the assertion's slice alone, among them the store that its crash loses, the one that it
+/// keeps, and the assertion.
+pub fn story_tells()
+    ensures { StoryTells }
 {}

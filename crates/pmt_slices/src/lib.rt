@@ -3,13 +3,16 @@
 //! The definitions stand in `specs/`.
 #![tactic(auto)]
 
+mod after;
 mod choosing;
 mod coming;
 pub mod cutting;
 pub mod laws;
 mod scan;
 pub mod slicing;
+pub mod story;
 mod unwritten;
 
 pub use crate::cutting::{Slice, sliced};
 pub use crate::slicing::slice_of;
+pub use crate::story::{Part, Story, story_of};

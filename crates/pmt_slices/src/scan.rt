@@ -46,6 +46,19 @@ impl Scan {
         })
     }
 
+    // The same of one line, for a range that lies in it.
+    pub(crate) fn of_line(alloc: Global, line: u64, past: u64) -> Result<Self, OutOfMemory>
+        ensures { IfOk result (λ s. (T : Recording) (A : Span) (n : ℕ) → past ≡ suc n → ((b : ℕ) → InSpan A b → line_in T.format b ≡ line) → IsScan T A n past s) }
+    {
+        let lines = vec![in alloc; Coming::nothing(past)]?;
+        Ok(Scan {
+            first: line,
+            lines,
+            fences: [past; 256],
+            fence: past,
+        })
+    }
+
     // The place of the line among those that the range meets, if it is one of them.
     fn place_of(&self, line: u64) -> Option<usize>
         ensures { MatchOption result ((line < self.now.first) ⊎ (self.now.first + length self.now.lines.items ≤ line)) (λ k. (self.now.first + k ≡ line) × (k < length self.now.lines.items)) }

@@ -15,10 +15,12 @@ endif
 " Where an event is told, with a label and without one.
 let s:labelled = 'event %*\d (line %*\d\, thread %*\d) at %f:%l%.%#'
 let s:plain = 'event %*\d (line %l\, thread %*\d):%.%#'
-let s:formats = ['%-Ptrace %f', '%Eerror: %m']
-for s:word in ['claim', 'store', 'first']
+let s:formats = ['%-Ptrace %f', '%Eerror: %m at %f:%l%.%#', '%Eerror: %m of event %*\d\, line %l%.%#', '%Eerror: %m']
+for s:word in ['store', 'first']
   let s:formats += ['%Z  ' . s:word . ':  ' . s:labelled, '%Z  ' . s:word . ':  ' . s:plain]
 endfor
+" The rows of a story.
+let s:formats += ['%I    %#%*\d  %f:%l %m']
 let s:formats += ['%I  %m' . s:labelled, '%I  %m' . s:plain, '%-G  %.%#', '%f:%l: %m', '%-G%.%#']
 
 execute 'CompilerSet makeprg=' . escape(s:make, ' \|"')

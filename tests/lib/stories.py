@@ -1,0 +1,200 @@
+"""What the story of a failed assertion must say: which events it has and what each is, by the states of all runs; how a row is spelled; and
+that what stands behind `fix:` mends the loss where it is put into the trace.
+"""
+import re
+
+from explained import failure_is_mended, with_events
+from machine import FENCES, FLUSHES
+
+ANY_FLUSH = ("clflush", *FLUSHES)
+WIDTH, PLACE = 100, 24
+MOST_ROWS = 14
+HEADING = "assertions that fail, by cause, most first; --failure N tells one in full:"
+VIOLATIONS = {"isPersist": "a crash can lose what is claimed to be saved", "isOrderedBefore": "a crash can keep the mark without its record"}
+UNFENCED, LATE = "its thread makes no fence by the crash", "flushed only after the crash"
+OTHER, SAVES = "of another thread: does not help", "safe only from here on"
+CRASHES = {"later": "crash, before the lost store", "unflushed": "crash, with no flush of the lost store's line by then", "unfenced": "crash"}
+
+
+def first(numbers, wanted):
+    return next(filter(wanted, numbers), None)
+
+
+def told_by(trace, store, place):
+    """The events up to the place that tell what becomes of a store, by the states of all runs."""
+    line = trace.line(store)
+    safe = first(range(place + 1), lambda at: trace.is_safe(store, at))
+    after = range(store + 1, place + 1)
+    found = {store, safe}
+    if safe is not None and trace.event(safe)[0] in FENCES:
+        thread = trace.event(safe)[1]
+        found.add(first(after, lambda at: trace.event(at)[1] == thread and trace.is_flush_of(at, line, FLUSHES)))
+    flush = first(after, lambda at: trace.is_flush_of(at, line, ANY_FLUSH))
+    found.add(flush)
+    if flush is not None:
+        fence = first(range(flush + 1, place + 1), lambda at: trace.event(at)[0] in FENCES)
+        found |= {fence} if fence is not None and (safe is None or fence <= safe) else set()
+    return found - {None}
+
+
+def lost_note(explained, number):
+    """The note at the lost store: how many others of the range that is to be kept the crash loses too."""
+    spans, place, _, _, state = explained.violation(number)
+    last = explained.trace.last_stores(*spans[0], number)
+    lost = [store for store in last if store > place or not explained.trace.is_persisted(state, store)]
+    more = f", with {len(lost) - 1} more store{'s' if len(lost) > 2 else ''} of the range" if len(lost) > 1 else ""
+    return f"lost{more}"
+
+
+def note(explained, number, event):
+    """What an event of the story is, which is neither the lost store, the kept one nor the assertion."""
+    trace, place, lost = explained.trace, explained.violation(number)[1], explained.violation(number)[3][0]
+    if trace.is_safe(lost, event):
+        if event <= place or trace.is_safe(lost, event - 1):
+            raise ValueError(f"event {event} does not make store {lost} safe after the crash")
+        return SAVES
+    thread = trace.event(event)[1]
+    if trace.event(event)[0] in FENCES:
+        return OTHER
+    fenced = any(trace.event(at)[0] in FENCES and trace.event(at)[1] == thread for at in range(event + 1, place + 1))
+    if event <= place and fenced:
+        raise ValueError(f"flush {event} is fenced by the crash of {number}")
+    return LATE if event > place else UNFENCED
+
+
+def events_of(explained, number):
+    """The events of the story, in order, each with its note."""
+    _, _, kept, lost, _ = explained.violation(number)
+    named = {number: "", lost[0]: lost_note(explained, number), **({kept[0]: "kept"} if kept else {})}
+    events = sorted(told_by(explained.trace, lost[0], number) | set(named))
+    return [(event, named.get(event) if event in named else note(explained, number, event)) for event in events]
+
+
+# How events are spelled
+
+
+def addresses_of(event):
+    """The addresses of an event."""
+    return event[2:6:2] if event[0] == "isOrderedBefore" else event[2:3]
+
+
+def digits_of(events):
+    """How many digits tell the addresses apart, where that leaves out four or more; else none."""
+    found = [address for event in events for address in addresses_of(event)]
+    digits = next(digits for digits in range(3, 16) if len({address >> 4 * digits for address in found}) == 1)
+    return digits if found[0] >> 4 * digits >= 0x1000 else None
+
+
+def words_of(event, digits, with_thread):
+    """An event as a story spells it."""
+    word, thread, *fields = event
+
+    def address(value):
+        return f"{value:#x}" if digits is None else f"0x...{value % 16**digits:0{digits}x}"
+
+    spelled = [address(field) if at % 2 == 0 else str(field) for at, field in enumerate(fields)]
+    if word == "store":
+        spelled = [address(fields[0]), fields[1].hex()]
+    return " ".join([word, *([str(thread)] if with_thread else []), *spelled])
+
+
+def cut(text, most):
+    return text if len(text) <= most else text[: most - 1] + "…"
+
+
+def place_name(explained, event):
+    """The innermost frame of its label, or its thread."""
+    label = explained.labels.get(event)
+    return f"thread {explained.trace.event(event)[1]}" if label is None else label.split(" < ")[0]
+
+
+def rows(explained, number):
+    """The rows of the story, with the crash between them."""
+    trace, place = explained.trace, explained.violation(number)[1]
+    found = events_of(explained, number)
+    events = [trace.event(event) for event, _ in found]
+    digits, with_thread = digits_of(events), len({event[1] for event in events}) > 1
+    words = [words_of(event, digits, with_thread) for event in events]
+    named = [place_name(explained, event) for event, _ in found]
+    at, wide = len(str(found[-1][0])), min(PLACE, max(map(len, named)))
+    noted = max(len(spelled) for spelled, (_, told) in zip(words, found) if told)
+    crash = f"{'':{at + 6}}{'-' * wide}  {CRASHES[explained.cause(explained.violation(number)[3][0], place)['cause']]}"
+    told = []
+    for (event, what), name, spelled in zip(found, named, words):
+        if event > place and crash not in told:
+            told.append(crash)
+        ending = f"{spelled:{noted}}  {what}" if what else spelled
+        told.append(cut(f"{event:{at + 4}}  {cut(name, wide):{wide}}  {ending}", WIDTH))
+    return told if crash in told else [*told, crash]
+
+
+def head(explained, members):
+    """The line above the story, of a cause with these members."""
+    number, count = members[0], f" ({len(members)} times)" if len(members) > 1 else ""
+    word = explained.trace.event(number)[0]
+    spot = f"at {place_name(explained, number)}" if number in explained.labels else f"of event {number}, line {number + 1}"
+    return cut(f"error: {VIOLATIONS[word]}: {word} {spot}{count}", WIDTH)
+
+
+# What mends it
+
+FENCE = re.compile(r"  fix: sfence by thread (\d+) right after event (\d+), the (last flush of the range|flush of the lost store's line)$")
+FLUSH = re.compile(r"  fix: clwb (0x[0-9a-f]+) and sfence by one thread, after event (\d+) and before event (\d+)$")
+OWN_FLUSH = re.compile(r"  fix: clwb (0x[0-9a-f]+) by thread (\d+) after event (\d+), before its ([ms]fence), event (\d+)$")
+ORDER = re.compile(r"  fix: make the store of event (\d+) before event (\d+)(; clwb and sfence between, by one thread)?$")
+
+
+def is_saved(explained, entry, changed, more):
+    """Whether the lost store is safe by the crash in the trace with so many more events before it."""
+    return changed.is_safe(entry["lost"]["store"]["event"], entry["place"] - 1 + more)
+
+
+def is_fenced(explained, entry, thread, after, what):
+    """The fence saves the store, and stands after the last flush of the range by its thread before the crash."""
+    trace, part = explained.trace, entry["ranges"][0]
+    start, end = int(part["address"], 16), int(part["address"], 16) + part["length"]
+    lines = range(start // trace.size, (end - 1) // trace.size + 1)
+    flushes = [at for at in range(1, entry["place"]) if trace.event(at)[1] == thread and any(trace.is_flush_of(at, line, FLUSHES) for line in lines)]
+    is_first = entry["cause"]["flush"]["event"] == after
+    told = "flush of the lost store's line" if is_first else "last flush of the range"
+    return (after, what) == (flushes[-1], told) and is_saved(explained, entry, with_events(trace, after, [("sfence", thread)]), 1)
+
+
+def is_flushed(explained, entry, address, thread, after, word, fence):
+    """The flush saves the store by the fence that stands, wherever it comes between the two."""
+    trace = explained.trace
+    if trace.event(fence)[:2] != (word, thread) or not entry["lost"]["store"]["event"] == after < fence < entry["place"]:
+        return False
+    return all(is_saved(explained, entry, with_events(trace, at, [("clwb", thread, address)]), 1) for at in (after, fence - 1))
+
+
+def has_own_fence(explained, entry):
+    """Whether the thread of the lost store fences between it and the crash."""
+    trace, lost = explained.trace, entry["lost"]["store"]
+    return any(trace.event(at)[0] in FENCES and trace.event(at)[1] == lost["thread"] for at in range(lost["event"] + 1, entry["place"]))
+
+
+def mends(explained, entry, line):
+    """Whether the line tells what mends the failure."""
+    if found := FENCE.match(line):
+        return entry["cause"]["cause"] == "unfenced" and is_fenced(explained, entry, int(found[1]), int(found[2]), found[3])
+    if found := OWN_FLUSH.match(line):
+        return is_flushed(explained, entry, int(found[1], 16), int(found[2]), int(found[3]), found[4], int(found[5]))
+    if found := FLUSH.match(line):
+        mend = {"mend": "flush_and_fence", "cache_line": found[1], "after": int(found[2]), "before": int(found[3])}
+        return mend["after"] == entry["lost"]["store"]["event"] and not has_own_fence(explained, entry) and failure_is_mended(explained, entry, mend)
+    if found := ORDER.match(line):
+        mend = {"mend": "store_first", "store": int(found[1]), "before": int(found[2]), "same_line": found[3] is None}
+        return failure_is_mended(explained, entry, mend)
+    return False
+
+
+def wrong_story(explained, members, entry):
+    """What is wrong with the story of a cause."""
+    number = members[0]
+    wanted = [head(explained, members), *rows(explained, number)]
+    if len(wanted) > MOST_ROWS + 1 or entry[: len(wanted)] != wanted:
+        return f"the story of {number}: wanted {wanted}, in {entry}"
+    if not mends(explained, explained.failure(number), entry[len(wanted)]):
+        return f"the fix of {number} does not mend it: {entry}"
+    return None
