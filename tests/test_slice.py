@@ -12,6 +12,7 @@ import faulty
 import machine
 from checks import Checks, add_tests
 from faulty import Answer
+from machine import FENCES
 from program import find
 from stories import told_by
 from traces import EXAMPLES, all_traces
@@ -31,14 +32,28 @@ def slice_of(trace, number):
     return sorted({number}.union(*(told_by(trace, store, number) for store in stores)))
 
 
-class Sliced:
-    """A failed assertion of a trace, and the files of its slice."""
+def own_fences(trace, store):
+    """The first two fences of its own thread after a store, where it is not safe."""
+    thread = trace.event(store)[1]
+    fences = [at for at in range(store + 1, len(trace.events) + 1) if trace.event(at)[0] in FENCES and trace.event(at)[1] == thread]
+    return [at for at in fences[:2] if not trace.is_safe(store, at)]
 
-    def __init__(self, program, folder, file, number, labels=None):
-        self.program, self.file, self.number = program, file, number
-        self.out = folder / f"{file.stem}.{number}.trace"
+
+def standing_of(trace, store):
+    """Whether a store is lost, and whether it is late, by the states of all runs; none of another event."""
+    if trace.event(store)[0] != "store":
+        return None
+    return not trace.is_safe(store, len(trace.events)), len(own_fences(trace, store)) == 2
+
+
+class Sliced:
+    """A failed assertion of a trace, or a store of it, and the files of its slice."""
+
+    def __init__(self, program, folder, file, number, labels=None, what="failure"):
+        self.program, self.file, self.number, self.what = program, file, number, what
+        self.out = folder / f"{file.stem}.{what}{number}.trace"
         named = [] if labels is None else ["--labels", str(labels)]
-        self.answer = run(program, "slice", "--failure", str(number), *named, "--out", str(self.out), str(file))
+        self.answer = run(program, "slice", f"--{what}", str(number), *named, "--out", str(self.out), str(file))
         if self.answer.status == 0:
             self.text = self.out.read_bytes()
             self.lines = self.text.decode().splitlines()
@@ -104,7 +119,7 @@ def accepted(program, sliced):
         answer = run(program, *words, str(sliced.out))
         if answer.status not in (0, 1) or answer.faults:
             yield f"{sliced.out.name} {words}: {faulty.short(answer)}"
-    again = run(program, "slice", "--failure", str(len(sliced.numbers)), str(sliced.out))
+    again = run(program, "slice", f"--{sliced.what}", str(sliced.matching(sliced.number)), str(sliced.out))
     if again != Answer(0, sliced.text):
         yield f"{sliced.out.name}: its slice is {faulty.short(again)}"
 
@@ -123,6 +138,46 @@ def random_slices(program, folder, number, kind):
                 complaints.append(f"{file.name} {event}: {sliced.numbers}, wanted {slice_of(trace, event)}")
         elif sliced.answer.status != 2 or sliced.answer.out or not sliced.answer.faults.startswith(b"error: ") or sliced.out.exists():
             complaints.append(f"{file.name} {event}: {faulty.short(sliced.answer)}, and it is no failed assertion")
+    return complaints
+
+
+def lost_word(program, file, number):
+    """What `check` says of a store that is never persisted; none of another."""
+    report = run(program, "check", str(file)).out.decode().splitlines()
+    return next((line.split()[2] for line in report if line.startswith(f"never-persisted {number} ")), None)
+
+
+def wrong_store_slice(program, sliced, header, trace):
+    """Complaints: the slice of a store is not the one of the definition, or the store is not as lost and as late in it as in the whole."""
+    number, name = sliced.number, f"{sliced.file.name} store {sliced.number}"
+    if sliced.answer != Answer(0, b""):
+        return [f"{name}: {faulty.short(sliced.answer)}"]
+    wanted = sorted({*told_by(trace, number, len(trace.events)), *own_fences(trace, number)})
+    part = machine.Trace(trace.size, [trace.event(at) for at in wanted])
+    if sliced.numbers != wanted or sliced.text != machine.text_of([header, *map(machine.spelled, part.events)]):
+        return [f"{name}: {sliced.numbers}, wanted {wanted}"]
+    here = sliced.matching(number)
+    complaints = []
+    if standing_of(part, here) != standing_of(trace, number):
+        complaints.append(f"{name}: {standing_of(part, here)} in the slice, {standing_of(trace, number)} in the whole")
+    if lost_word(program, sliced.out, here) != lost_word(program, sliced.file, number):
+        complaints.append(f"{name}: check says {lost_word(program, sliced.out, here)} of the slice")
+    return complaints
+
+
+def random_store_slices(program, folder, number, kind):
+    """Of a random trace: each store that is lost or late has the slice of the definition; other events have none."""
+    complaints = []
+    header, trace = kind(random.Random(number))
+    file = folder / f"{kind.__module__}{number}.store.trace"
+    file.write_bytes(machine.text_of([header, *map(machine.spelled, trace.events)]))
+    for event in range(len(trace.events) + 2):
+        sliced = Sliced(program, folder, file, event, what="store")
+        if event in trace.numbers and any(standing_of(trace, event) or ()):
+            wrong = wrong_store_slice(program, sliced, header, trace)
+            complaints += wrong or accepted(program, sliced)
+        elif sliced.answer.status != 2 or sliced.answer.out or not sliced.answer.faults.startswith(b"error: ") or sliced.out.exists():
+            complaints.append(f"{file.name} {event}: {faulty.short(sliced.answer)}, and it is no store that is lost or late")
     return complaints
 
 
@@ -177,6 +232,19 @@ class Slices(Checks):
         kinds = (machine.random_trace, crowded.random_trace)
         self.expect_of_all([(f"{kind.__module__} {number}", partial(random_slices, self.program, folder, number, kind)) for kind in kinds for number in range(TRACES)])
 
+    def test_random_store_slices(self):
+        folder = self.new_folder()
+        kinds = (machine.random_trace, crowded.random_trace)
+        self.expect_of_all([(f"{kind.__module__} {number}", partial(random_store_slices, self.program, folder, number, kind)) for kind in kinds for number in range(TRACES)])
+
+    def test_a_late_store_by_hand(self):
+        """It is safe by another flush, after two fences of its thread of four; and a store of another line, which is lost."""
+        text = "pmtrace 1\nstore 0 0x1000 01\nstore 0 0x1040 02\nsfence 0\nsfence 1\nsfence 0\nsfence 0\nclwb 1 0x1000\nsfence 0\nsfence 1\nisPersist 0 0x1000 1\n"
+        late = "pmtrace 1\nstore 0 0x1000 01\nsfence 0\nsfence 0\nclwb 1 0x1000\nsfence 0\nsfence 1\n"
+        lost = "pmtrace 1\nstore 0 0x1040 02\nsfence 0\nsfence 0\n"
+        for number, wanted in ((1, late), (2, lost)):
+            self.expect_equal(f"store {number}", run(self.program, "slice", "--store", str(number), text=text.encode()), Answer(0, wanted.encode()))
+
     def check_slices_of(self, file):
         folder = self.new_folder()
         labels = pathlib.Path(f"{file}.labels")
@@ -216,7 +284,10 @@ class Slices(Checks):
         missing, bad = str(folder / "none"), folder / "bad"
         bad.write_text("pmtrace 1\nstore 0\n")
         for name, words, status, told in (
-            ("no failure", [trace], 2, "error: "),
+            ("no failure and no store", [trace], 2, "name one of them"),
+            ("a failure and a store", ["--failure", "9", "--store", "5", trace], 2, "name one of them"),
+            ("a store that is safe", ["--store", "1", "--out", out, trace], 2, "event 1 is no store that is never persisted or late"),
+            ("no store", ["--store", "9", "--out", out, trace], 2, "event 9 is no store"),
             ("a bad number", ["--failure", "09", trace], 2, "an event's number"),
             ("event 0", ["--failure", "0", trace], 2, "an event's number"),
             ("an event that passes none", ["--failure", "1", "--out", out, trace], 2, "event 1 is no assertion that a crash can violate"),

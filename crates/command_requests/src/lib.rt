@@ -13,7 +13,7 @@ pub use crate::explaining::{ExplainWords, Form};
 pub use crate::imaging::{AddressStores, AskedCrash, ImageRequest, ImageWords, ListWords};
 pub use crate::measuring::{StatForm, StatWords};
 pub use crate::request::{FrontsWords, Request, TraceWords};
-pub use crate::slicing::SliceWords;
+pub use crate::slicing::{SliceSubject, SliceWords};
 
 /// The version of the program.
 pub const VERSION: &str = "1.0.0";

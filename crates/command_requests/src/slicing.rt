@@ -1,10 +1,19 @@
 //! What `slice` is asked for.
 
+/// Of what the slice is, by its event.
+#[derive(Clone, Copy)]
+pub enum SliceSubject {
+    /// An assertion that fails.
+    Failure(u64),
+    /// A store that is never persisted, or late.
+    Store(u64),
+}
+
 /// What `slice` is asked for.
 #[derive(Clone, Copy)]
 pub struct SliceWords<'a> {
-    /// The failed assertion, by its event.
-    pub failure: u64,
+    /// Of what the slice is.
+    pub subject: SliceSubject,
     /// The labels file; it stands with `out`.
     pub labels: Option<&'a str>,
     /// The file that is written, with those beside it; none for standard output.

@@ -1,22 +1,22 @@
-//! `slice`: the events that show a failed assertion, as a trace.
+//! `slice`: the events that show a failed assertion or a lost store, as a trace.
 ghost use Rattle.std.specs.Prelude.{◌≡◌, IfOk};
 
 use crate::outputs::{Output, check_apart, write_outputs};
 use command_inputs::{Fault, Opener, labels_of, no_failure, trace_of, write_answer};
-use command_requests::SliceWords;
+use command_requests::{SliceSubject, SliceWords};
 use pmt_explain::failure;
 use pmt_explanation::Labels;
 use pmt_model::{Selection, Trace};
-use pmt_slices::{Slice, sliced};
+use pmt_slices::{Slice, sliced, store_sliced};
 use pmt_text::write::{push_number, write_trace};
 use std::alloc::{AllocError, Global};
 use std::io::{Read, Write};
 
-/// Writes the slice of the failed assertion of the trace of the file or of `input`: to the named file, with the numbers and the labels of
+/// Writes the slice of the failed assertion or the lost store of the trace of the file or of `input`: to the named file, with the numbers and the labels of
 /// its events beside it, or to `out`. The status is 0.
 ///
 /// # Errors
-/// The fault of the labels, of the trace, of an assertion that does not fail, or of the write. Files that were written are removed.
+/// The fault of the labels, of the trace, of an assertion that does not fail or a store that is safe in time, or of the write. Files that were written are removed.
 pub fn run_slice<O, I, W>(
     alloc: Global,
     words: &SliceWords<'_>,
@@ -32,7 +32,10 @@ where
 {
     let labels = labels_of(alloc, files, words.labels)?;
     let trace = trace_of(alloc, words.file, files, input)?;
-    let slice = slice_of_failure(alloc, &trace, words.failure)?;
+    let slice = match words.subject {
+        SliceSubject::Failure(number) => slice_of_failure(alloc, &trace, number)?,
+        SliceSubject::Store(number) => slice_of_store(alloc, &trace, number)?,
+    };
     let text = write_trace(alloc, &slice.trace)?;
     match words.out {
         Some(name) => write_beside(alloc, words, files, name, text, &slice.numbers, &labels)?,
@@ -49,6 +52,19 @@ fn slice_of_failure(alloc: Global, trace: &Trace, number: u64) -> Result<Slice, 
     match sliced(alloc, trace, number)? {
         Some(slice) => Ok(slice),
         None => Err(no_failure(alloc, number)?),
+    }
+}
+
+// The slice of the store of this event, which is never persisted, or late.
+fn slice_of_store(alloc: Global, trace: &Trace, number: u64) -> Result<Slice, Fault> {
+    match store_sliced(alloc, trace, number)? {
+        Some(slice) => Ok(slice),
+        None => {
+            let message = format!(in alloc;
+                "invalid value '{number}' for '--store <N>': event {number} is no store that is never persisted or late; explain --only never_persisted and --only late show those that are"
+            )?;
+            Err(Fault::usage(alloc, message.as_str())?)
+        }
     }
 }
 

@@ -2,22 +2,30 @@
 use crate::arguments::{Made, event_of, trace_file, trace_name, value, with};
 use clap::{ArgMatches, Command};
 use command_inputs::Fault;
-use command_requests::SliceWords;
+use command_requests::{SliceSubject, SliceWords};
 use std::alloc::Global;
 
 /// The words of `slice`.
 pub fn slice_command<'a>(alloc: Global) -> Made<'a> {
     let command = Command::new(alloc, "slice")
-        .override_usage("pmtrim slice --failure N [[--labels FILE] --out FILE] [FILE]")
-        .about("Writes the few events that show a failed assertion, as a trace.")
+        .override_usage(
+            "pmtrim slice (--failure N | --store N) [[--labels FILE] --out FILE] [FILE]",
+        )
+        .about("Writes the few events that show a failed assertion or a lost store, as a trace.")
         .after_help(
-            "The events are the assertion, the last store to each byte of its ranges, and what tells whether and why each of these stores is safe. The trace of these events alone gives the assertion the same verdict.{n}With --out FILE the number that each event has in the whole trace goes to FILE.numbers, and with --labels what the events are called to FILE.labels.{n}Statuses: 0 done; 2 wrong words, or the assertion does not fail; 3 trace or labels refused; 4 file fault; 5 out of memory{n}Example: pmtrim slice --failure 7 --labels run.trace.labels --out slice.trace run.trace",
+            "Of an assertion the events are itself, the last store to each byte of its ranges, and what tells whether and why each of these stores is safe; their trace alone gives the assertion the same verdict. Of a store that is never persisted or late they are itself, what tells whether and why it is safe, and the first two fences of its thread that leave it unsafe; it is as lost and as late in their trace.{n}With --out FILE the number that each event has in the whole trace goes to FILE.numbers, and with --labels what the events are called to FILE.labels.{n}Statuses: 0 done; 2 wrong words, or the assertion does not fail, or the store is safe in time; 3 trace or labels refused; 4 file fault; 5 out of memory{n}Example: pmtrim slice --failure 7 --labels run.trace.labels --out slice.trace run.trace",
         );
     let failure = value(
         alloc,
         "failure",
         "N",
         "The assertion of event N, which fails",
+    );
+    let store = value(
+        alloc,
+        "store",
+        "N",
+        "The store of event N, which is never persisted, or late",
     );
     let labels = value(
         alloc,
@@ -32,7 +40,7 @@ pub fn slice_command<'a>(alloc: Global) -> Made<'a> {
         "The file to write; standard output, if none is given",
     );
     with(
-        with(with(with(Ok(command), failure.required(true)), labels), out),
+        with(with(with(with(Ok(command), failure), store), labels), out),
         trace_file(alloc),
     )
 }
@@ -43,7 +51,7 @@ pub fn slice_command<'a>(alloc: Global) -> Made<'a> {
 /// A usage fault, or `OutOfMemory`.
 pub fn slice_words<'a>(alloc: Global, given: &ArgMatches<'a>) -> Result<SliceWords<'a>, Fault> {
     let words = SliceWords {
-        failure: event_of(alloc, given, "failure", "--failure <N>")?.unwrap_or(0),
+        subject: slice_subject(alloc, given)?,
         labels: given.get_str("labels"),
         out: given.get_str("out"),
         file: trace_name(given),
@@ -55,4 +63,18 @@ pub fn slice_words<'a>(alloc: Global, given: &ArgMatches<'a>) -> Result<SliceWor
         )?);
     }
     Ok(words)
+}
+
+// Of what the slice is.
+fn slice_subject<'a>(alloc: Global, given: &ArgMatches<'a>) -> Result<SliceSubject, Fault> {
+    let failure = event_of(alloc, given, "failure", "--failure <N>")?;
+    let store = event_of(alloc, given, "store", "--store <N>")?;
+    match (failure, store) {
+        (Some(number), None) => Ok(SliceSubject::Failure(number)),
+        (None, Some(number)) => Ok(SliceSubject::Store(number)),
+        (None, None) | (Some(_), Some(_)) => Err(Fault::usage(
+            alloc,
+            "a slice is of '--failure <N>' or of '--store <N>': name one of them",
+        )?),
+    }
 }

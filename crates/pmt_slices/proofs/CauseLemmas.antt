@@ -2,7 +2,7 @@
 use Rattle.std.proofs.Common.{◌≡◌, ℕ, ◌≤◌, List, Option, Some, None, refl, arith}
 use Rattle.std.specs.Prelude.{◌↔◌}
 use Rattle.std.specs.Option.{option_map}
-use Rattle.pmt_model.specs.Values.{Written, Span}
+use Rattle.pmt_model.specs.Values.{Written}
 use Rattle.pmt_model.specs.Machine.{Stores, Flushes, Clflushes, Fences}
 use Rattle.pmt_model.specs.Traces.{Recording, IsAct}
 use Rattle.pmt_model.specs.Findings.{IsFlushOf, ByFlush, ByClflush, IsSafe}
@@ -12,12 +12,11 @@ use Rattle.pmt_reasons.specs.declared.cause.Cause.{Cause}
 use Rattle.pmt_reasons.specs.declared.cause.Cause.TheVariants.{Later, Unflushed, Unfenced}
 use Rattle.pmt_reasons.specs.Causes.{IsUnfenced, IsFirstFenceAt, IsFirstFence, IsCause}
 use Rattle.pmt_reasons.proofs.CauseLemmas.{cause-unsafe}
-use Rattle.pmt_safety.specs.Closed.{IsLastIn}
 use Rattle.pmt_safety.proofs.SafetyLemmas.{front-covers, safe-up_to, safe-later}
-use Rattle.pmt_slices.specs.Slices.{IsSubsequence, IsFirstFlush, Itself, FirstFlush, FirstFence, IsRangeOf, IsSlice, cause_in, SliceTells}
+use Rattle.pmt_slices.specs.Slices.{IsSubsequence, IsFirstFlush, Tells, Itself, FirstFlush, FirstFence, cause_in, SliceTells}
 use Rattle.pmt_slices.proofs.CuttingLemmas.{kept-act, act-origin, placed-later, later-origin, placed-by}
-use Rattle.pmt_slices.proofs.VerdictLemmas.{grounds-safe}
-use Rattle.pmt_slices.proofs.SliceLemmas.{range-within, slice-subsequence, slice-has, slice-grounds}
+use Rattle.pmt_slices.proofs.CoverLemmas.{safe-stays}
+use Rattle.pmt_slices.proofs.SliceLemmas.{range-within, slice-subsequence, slice-has, tells-cover}
 
 -- A flush of line l in the cut is that of this chosen event.
 record IsFlushOrigin (T : Recording) (K : List ℕ) (l i : ℕ) : Type 0 where
@@ -34,18 +33,16 @@ flush-origin T K l i s (ByClflush is) = let o = act-origin T K i (Clflushes l) s
 pending-unsafe : (T : Recording) (l q j : ℕ) (w : Written) (c : Cause) → IsAct T j (Stores l w) → IsCause T l q j c → IsSafe T l q j → ⊥
 pending-unsafe T l q j w c is why safe = omega (arith, cause-unsafe T l q j w c is why, (front-covers T l q j w is).1 ((safe-up_to T l q j w is).0 safe))
 
-module _ (T : Recording) (n : ℕ) (K : List ℕ) (A : Span) (l j q : ℕ) (slice : IsSlice T n K) (range : IsRangeOf T n A) (it : IsLastIn T n A l j) (by : q ≤ n) where
-  s : IsSubsequence T K
-  s = slice-subsequence T n K slice (range-within T n A range)
-
+-- of a store of which all that tells up to place n is chosen
+module _ (T : Recording) (n : ℕ) (K : List ℕ) (l j q : ℕ) (w : Written) (s : IsSubsequence T K) (is : IsAct T j (Stores l w)) (has : (k : ℕ) → Tells T n l j k → Has K k) (by : q ≤ n) where
   has-store : Has K j
-  has-store = slice-has T n K A l j j slice range it (Itself refl)
+  has-store = has j (Itself refl)
 
-  safe-same : IsSafe T l q j ↔ IsSafe (cut T K) l (matching_place K q) (matching_place K j)
+  pub safe-same : IsSafe T l q j ↔ IsSafe (cut T K) l (matching_place K q) (matching_place K j)
   safe-same =
-      let same = grounds-safe T K n q A l j s (slice-grounds T n K A slice range) by it in
-      let own = safe-up_to T l q j it.what it.is_store in
-      let there = safe-up_to (cut T K) l (matching_place K q) (matching_place K j) it.what (kept-act T K j (Stores l it.what) s has-store it.is_store) in
+      let same = safe-stays T K l j q w s has-store is (λ p within from. tells-cover T n K l j p w is has (omega (arith, within, by)) from) in
+      let own = safe-up_to T l q j w is in
+      let there = safe-up_to (cut T K) l (matching_place K q) (matching_place K j) w (kept-act T K j (Stores l w) s has-store is) in
       (λ safe. there.1 (same.0 (own.0 safe)), λ safe. own.1 (same.1 (there.0 safe)))
 
   module _ (flush thread : ℕ) (other : Option ℕ) (why : (j ≤ q) × IsUnfenced T l j q flush thread other) where
@@ -53,12 +50,12 @@ module _ (T : Recording) (n : ℕ) (K : List ℕ) (A : Span) (l j q : ℕ) (slic
     first = record { is_flush = ByFlush thread why.1.is_flush; after = why.1.after; first = why.1.first }
 
     has-flush : Has K flush
-    has-flush = slice-has T n K A l j flush slice range it (FirstFlush (omega (arith, why.1.by_now)) first)
+    has-flush = has flush (FirstFlush (omega (arith, why.1.by_now)) first)
 
     has-fence : (g : ℕ) → IsFirstFenceAt T flush q g → Has K g
-    has-fence g fence = slice-has T n K A l j g slice range it (FirstFence flush first (record
+    has-fence g fence = has g (FirstFence flush first (record
         { thread = fence.thread; is_fence = fence.is_fence; after = fence.after; by_now = omega (arith, fence.by_now); none_before = fence.none_before })
-        (λ p before safe. pending-unsafe T l q j it.what (Unfenced flush thread other) it.is_store why (safe-later T l p q j (omega (arith, fence.by_now)) safe)))
+        (λ p before safe. pending-unsafe T l q j w (Unfenced flush thread other) is why (safe-later T l p q j (omega (arith, fence.by_now)) safe)))
 
     fence-same : (o : Option ℕ) → IsFirstFence T flush q o → IsFirstFence (cut T K) (matching_place K flush) (matching_place K q) (option_map (matching_place K) o)
     fence-same None none = λ k t after within is.
@@ -92,7 +89,7 @@ module _ (T : Recording) (n : ℕ) (K : List ℕ) (A : Span) (l j q : ℕ) (slic
       first_fence = fence-same other why.1.first_fence;
     }
 
-  cause-same : (c : Cause) → IsCause T l q j c → IsCause (cut T K) l (matching_place K q) (matching_place K j) (cause_in K c)
+  pub cause-same : (c : Cause) → IsCause T l q j c → IsCause (cut T K) l (matching_place K q) (matching_place K j) (cause_in K c)
   cause-same Later before = placed-later T K q j s has-store before
   cause-same Unflushed why = (
     place-mono K j q why.0,
@@ -103,4 +100,8 @@ module _ (T : Recording) (n : ℕ) (K : List ℕ) (A : Span) (l j q : ℕ) (slic
   cause-same (Unfenced flush thread other) why = (place-mono K j q why.0, unfenced-same flush thread other why)
 
 pub slice_tells : SliceTells
-slice_tells = record { safe = safe-same; cause = λ T n K A l j q c slice range it by why. cause-same T n K A l j q slice range it by c why }
+slice_tells = record {
+  safe = λ T n K A l j q slice range it by. safe-same T n K l j q it.what (slice-subsequence T n K slice (range-within T n A range)) it.is_store (λ k tells. slice-has T n K A l j k slice range it tells) by;
+  cause = λ T n K A l j q c slice range it by why.
+      cause-same T n K l j q it.what (slice-subsequence T n K slice (range-within T n A range)) it.is_store (λ k tells. slice-has T n K A l j k slice range it tells) by c why;
+}

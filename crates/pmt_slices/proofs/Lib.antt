@@ -11,3 +11,4 @@ pub mod TakenLemmas
 pub mod ChosenLemmas
 pub mod GoingLemmas
 pub mod StoryLemmas
+pub mod StoreSliceLemmas

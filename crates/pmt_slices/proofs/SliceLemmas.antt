@@ -62,18 +62,21 @@ slice-subsequence T n K slice within = record { rising = slice.rising; within = 
 pub slice-has : (T : Recording) (n : ℕ) (K : List ℕ) (A : Span) (l j k : ℕ) → IsSlice T n K → IsRangeOf T n A → IsLastIn T n A l j → Tells T n l j k → Has K k
 slice-has T n K A l j k slice range it tells = (slice.just k).1 (OfStore A l j range it tells)
 
+-- what tells of a store has what makes it safe first
+pub tells-cover : (T : Recording) (n : ℕ) (K : List ℕ) (l j p : ℕ) (w : Written) → IsAct T j (Stores l w) → ((k : ℕ) → Tells T n l j k → Has K k) → p ≤ n → IsSafeFrom T l j p → HasCover T (Has K) l j p
+tells-cover T n K l j p w is has within from = go (first-completion T l j p w is from)
+  where
+    go : IsFirstCompletion T l j p → HasCover T (Has K) l j p
+    go (AFence t flush fence is_flush after before) =
+        let first = first-flush T t l j flush is_flush after in
+        ByFlushAndFence t first.0 first.2.is_flush fence first.2.after (omega (arith, first.1, before)) (has first.0 (Covers t p within from fence first.2)) (has p (Completes within from))
+    go (AClflush clflush after) = ByOneClflush clflush after (has p (Completes within from))
+
 pub slice-grounds : (T : Recording) (n : ℕ) (K : List ℕ) (A : Span) → IsSlice T n K → IsRangeOf T n A → HasGrounds T (Has K) n A
 slice-grounds T n K A slice range = record {
   stores = λ l j it. slice-has T n K A l j j slice range it (Itself refl);
-  covers = λ l j p it within from. cover l j p it within from (first-completion T l j p it.what it.is_store from);
+  covers = λ l j p it within from. tells-cover T n K l j p it.what it.is_store (λ k tells. slice-has T n K A l j k slice range it tells) within from;
 }
-  where
-    cover : (l j p : ℕ) → (it : IsLastIn T n A l j) → p ≤ n → IsSafeFrom T l j p → IsFirstCompletion T l j p → HasCover T (Has K) l j p
-    cover l j p it within from (AFence t flush fence is_flush after before) =
-        let first = first-flush T t l j flush is_flush after in
-        ByFlushAndFence t first.0 first.2.is_flush fence first.2.after (omega (arith, first.1, before))
-        (slice-has T n K A l j first.0 slice range it (Covers t p within from fence first.2)) (slice-has T n K A l j p slice range it (Completes within from))
-    cover l j p it within from (AClflush clflush after) = ByOneClflush clflush after (slice-has T n K A l j p slice range it (Completes within from))
 
 -- the ranges of an assertion
 pub persist-range : (T : Recording) (n : ℕ) (e : Event) (A : Span) → event T n ≡ Some e → e.op ≡ IsPersist A → IsRangeOf T n A

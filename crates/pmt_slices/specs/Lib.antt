@@ -3,3 +3,5 @@ pub mod Scanning
 pub mod Taking
 pub mod Choosing
 pub mod Stories
+pub mod StoreSlices
+pub mod Fates

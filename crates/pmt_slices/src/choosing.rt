@@ -19,6 +19,14 @@ pub(crate) fn only(alloc: Global, number: u64) -> Result<Vec<bool>, OutOfMemory>
     Ok(chosen)
 }
 
+// A flag for each of the first events, none of which is chosen.
+pub(crate) fn nothing(alloc: Global, count: usize) -> Result<Vec<bool>, OutOfMemory>
+    ensures size { IfOk result (λ chosen. length chosen.items ≡ count) }
+    ensures none { IfOk result (λ chosen. (k : ℕ) → IsChosen chosen.items k → ⊥) }
+{
+    Ok(vec![in alloc; false; count]?)
+}
+
 // Chooses the event with this number, if it has a flag.
 pub(crate) fn choose(chosen: &mut [bool], number: u64)
     ensures size { length chosen.new ≡ length chosen.old }

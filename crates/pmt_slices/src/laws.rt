@@ -1,6 +1,7 @@
 //! What holds of slices: each function has an empty body, and its contract states a law.
 
 ghost use Rattle.pmt_slices.specs.Slices.{SliceFails, SliceJudges, SliceTells, VerdictBySelection};
+ghost use Rattle.pmt_slices.specs.StoreSlices.{StoreSliceTells};
 ghost use Rattle.pmt_slices.specs.Stories.{StoryTells};
 
 /// An assertion has the same verdict in the trace and in the trace cut to some of its events, if these are the last stores to the bytes
@@ -29,4 +30,10 @@ pub fn slice_fails()
 /// keeps, and the assertion.
 pub fn story_tells()
     ensures { StoryTells }
+{}
+
+/// A store is as lost and as late in its slice as in the trace: safe at the same places, and else pending for the same cause; and late in the
+/// one exactly if it is in the other.
+pub fn store_slice_tells()
+    ensures { StoreSliceTells }
 {}
