@@ -1,0 +1,6 @@
+pub mod FlagLemmas
+pub mod OpenAtLemmas
+pub mod SplitLemmas
+pub mod StepLemmas
+pub mod StoredAfterLemmas
+pub mod TellingLemmas

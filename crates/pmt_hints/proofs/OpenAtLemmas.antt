@@ -1,0 +1,176 @@
+-- Flushes that are open at a store to another line.
+use Rattle.std.proofs.Common.{◌≡◌, ◌≢◌, ℕ, suc, ◌<◌, ◌≤◌, ◌⊎◌, inl, inr, Bool, true, false, List, [], ◌∷◌, length, Some, refl, sym, ap, subst, ◌∙◌, arith}
+use Rattle.std.specs.Prelude.{◌↔◌, nat_lt}
+use Rattle.std.specs.List.{filter}
+use Rattle.std.proofs.lemmas.Bool.{cases_lt, cases_eq, eq-eqb, ne_eqb, lt-ltb, le-ltb, false≢true}
+use Rattle.pmt_model.specs.declared.event.Event.{Event}
+use Rattle.pmt_model.specs.declared.event.Op.{Op}
+use Rattle.pmt_model.specs.declared.event.Op.TheVariants.{Store, Clwb, ClflushOpt, Clflush, Sfence, Mfence, IsPersist, IsOrderedBefore}
+use Rattle.pmt_model.specs.Values.{Layout}
+use Rattle.pmt_model.specs.Machine.{Act, Stores, Flushes, Clflushes, Fences, Asserts}
+use Rattle.pmt_model.specs.Traces.{Recording, IsAct, act, act_of, event}
+use Rattle.pmt_model.specs.Selections.{IsRising, Has}
+use Rattle.pmt_model.specs.Keeping.{IsKeep}
+use Rattle.pmt_laws.proofs.Histories.{act-unique, act-within}
+use Rattle.pmt_flags.specs.Flags.{is_kept_at}
+use Rattle.pmt_explain.specs.Following.{IsFirst, past_of}
+use Rattle.pmt_explain.proofs.FirstLemmas.{first-none}
+use Rattle.pmt_hints.specs.declared.next_stores.NextStores.{NextStores}
+use Rattle.pmt_hints.specs.declared.per_thread.PerThread.{PerThread}
+use Rattle.pmt_hints.specs.Hints.{AreThose, FencesBetween, IsOpenAtStore, IsOpenFlush, IsStoreBy}
+use Rattle.pmt_hints.specs.Numbers.{elsewhere_at, of_thread}
+use Rattle.pmt_hints.specs.Flagging.{AreFlags}
+use Rattle.pmt_hints.specs.Stepping.{open_so, store_by}
+use Rattle.pmt_hints.proofs.FlagLemmas.{flag-so}
+use Rattle.pmt_hints.proofs.StepLemmas.{Decides, next-step}
+use Rattle.pmt_hints.proofs.StoredAfterLemmas.{FencesFrom, own-store, store-act}
+
+-- event k is a store by thread t to another line than l
+abbrev pub StoresElsewhere : Recording → ℕ → ℕ → ℕ → Type 0
+StoresElsewhere T t l k = (m : ℕ) × (m ≢ l) × IsStoreBy T t m k
+
+-- the next ones after place n
+abbrev pub StoresFrom : Recording → ℕ → NextStores → Type 0
+StoresFrom T n next = (t l : ℕ) → t < 256 → IsFirst (λ k. (n < k) × StoresElsewhere T t l k) (past_of T) (elsewhere_at next t l)
+
+elsewhere-act : (T : Recording) (t l k : ℕ) → (s : StoresElsewhere T t l k) → IsAct T k (Stores s.0 (s.2).1)
+elsewhere-act T t l k s = store-act T t s.0 k s.2
+
+-- whether an event is one
+store-decides : (T : Recording) (n number t l x : ℕ) (e : Event) (a : Act) → number ≡ suc n → event T (suc n) ≡ Some e → act T.format e ≡ a → Decides (StoresElsewhere T t l) (suc n) x (store_by a e.thread number t l x)
+store-decides T n number t l x e (Flushes u k) same here is = inr (λ s. let x = act-unique T (suc n) (Flushes u k) (Stores s.0 (s.2).1) (e, here, is) (elsewhere-act T t l (suc n) s) in cc, refl)
+store-decides T n number t l x e (Clflushes k) same here is = inr (λ s. let x = act-unique T (suc n) (Clflushes k) (Stores s.0 (s.2).1) (e, here, is) (elsewhere-act T t l (suc n) s) in cc, refl)
+store-decides T n number t l x e (Fences u) same here is = inr (λ s. let x = act-unique T (suc n) (Fences u) (Stores s.0 (s.2).1) (e, here, is) (elsewhere-act T t l (suc n) s) in cc, refl)
+store-decides T n number t l x e Asserts same here is = inr (λ s. let x = act-unique T (suc n) Asserts (Stores s.0 (s.2).1) (e, here, is) (elsewhere-act T t l (suc n) s) in cc, refl)
+store-decides T n number t l x e (Stores k w) same here is = go (cases_eq e.thread t) (cases_eq k l)
+  where
+    go : (e.thread ≡ t) ⊎ (e.thread ≢ t) → (k ≡ l) ⊎ (k ≢ l) → Decides (StoresElsewhere T t l) (suc n) x (store_by (Stores k w) e.thread number t l x)
+    go (inl own) (inr apart) = inl ((k, apart, (e, w, here, own, is)), rw (eq-eqb e.thread t own, ne_eqb k l apart) same)
+    go (inl own) (inl line) =
+        inr (λ s. let both = act-unique T (suc n) (Stores k w) (Stores s.0 (s.2).1) (e, here, is) (elsewhere-act T t l (suc n) s) in s.1 (let f : k ≡ s.0 = cc in sym f ∙ line), rw (eq-eqb e.thread t own, eq-eqb k l line) refl)
+    go (inr apart) either = inr (λ s. apart (own-store T (suc n) t s.0 e here s.2).0, rw (ne_eqb e.thread t apart) refl)
+
+pub stores-down : (T : Recording) (n number : ℕ) (e : Event) (a : Act) (old new : NextStores) → number ≡ suc n → event T (suc n) ≡ Some e → act T.format e ≡ a →
+    ((t l : ℕ) → t < 256 → elsewhere_at new t l ≡ store_by a e.thread number t l (elsewhere_at old t l)) → StoresFrom T (suc n) old → StoresFrom T n new
+stores-down T n number e a old new same here is noted x = λ t l small.
+    subst (IsFirst (λ k. (n < k) × StoresElsewhere T t l k) (past_of T)) (sym (noted t l small))
+    (next-step (StoresElsewhere T t l) (past_of T) n _ _ (omega (arith, (act-within T (suc n) a (e, here, is)).1)) (store-decides T n number t l (elsewhere_at old t l) e a same here is) (x t l small))
+
+pub stores-end : (T : Recording) (next : NextStores) → ((t l : ℕ) → t < 256 → elsewhere_at next t l ≡ past_of T) → StoresFrom T (length T.events) next
+stores-end T next all = λ t l small.
+    subst (IsFirst (λ k. (length T.events < k) × StoresElsewhere T t l k) (past_of T)) (sym (all t l small))
+    (first-none (λ k. (length T.events < k) × StoresElsewhere T t l k) (past_of T)
+    (λ k s. absurd (omega (arith, s.0, (act-within T k (Stores (s.1).0 ((s.1).2).1) (elsewhere-act T t l k s.1)).1))))
+
+-- of an act that is no flush
+none-open : (T : Recording) (i : ℕ) (a : Act) (b : Bool) → IsAct T i a → ((t l : ℕ) → a ≢ Flushes t l) → b ≡ false → (b ≡ true) ↔ IsOpenFlush T i
+none-open T i a b is other off = (λ so. absurd (false≢true (sym off ∙ so)), λ h. absurd (other h.thread h.line (act-unique T i a (Flushes h.thread h.line) is h.is_flush)))
+
+-- by the next fence and the next store to another line
+pub open-told : (T : Recording) (n : ℕ) (e : Event) (fences : PerThread) (next : NextStores) (b : Bool) (u : ℕ) (a : Act) → IsAct T (suc n) a → u < 256 → ((t l : ℕ) → a ≡ Flushes t l → t ≡ u) →
+    b ≡ open_so fences next a → FencesFrom T (suc n) fences → StoresFrom T (suc n) next → (b ≡ true) ↔ IsOpenFlush T (suc n)
+open-told T n e fences next b u (Stores l w) is small by tells f g = none-open T (suc n) (Stores l w) b is (λ t k x. cc) tells
+open-told T n e fences next b u (Clflushes l) is small by tells f g = none-open T (suc n) (Clflushes l) b is (λ t k x. cc) tells
+open-told T n e fences next b u (Fences v) is small by tells f g = none-open T (suc n) (Fences v) b is (λ t k x. cc) tells
+open-told T n e fences next b u Asserts is small by tells f g = none-open T (suc n) Asserts b is (λ t k x. cc) tells
+open-told T n e fences next b u (Flushes t l) is small by tells f g = rw tells (go (cases_lt x y))
+  where
+    below : t < 256
+    below = let own : t ≡ u = by t l refl in omega (arith, own, small)
+
+    x : ℕ
+    x = elsewhere_at next t l
+
+    y : ℕ
+    y = of_thread fences t
+
+    next_store : IsFirst (λ k. (suc n < k) × StoresElsewhere T t l k) (past_of T) x
+    next_store = g t l below
+
+    next_fence : IsFirst (λ k. (suc n < k) × IsAct T k (Fences t)) (past_of T) y
+    next_fence = f t below
+
+    go : (x < y) ⊎ (y ≤ x) → (nat_lt x y ≡ true) ↔ IsOpenFlush T (suc n)
+    go (inl before) =
+        let store = next_store.has (omega (arith, next_fence.within)) in (
+          λ _. record {
+            thread = t;
+            line = l;
+            store = x;
+            elsewhere = (store.1).0;
+            is_flush = is;
+            is_store = (store.1).2;
+            other = (store.1).1;
+            later = store.0;
+            still_open = λ k. next_fence.none_before k.0 (omega (arith, k.2)) (k.1, k.3);
+          },
+          λ _. lt-ltb x y before,
+        )
+    go (inr from) = (λ so. absurd (false≢true (sym (le-ltb x y from) ∙ so)), λ h. absurd (other h))
+      where
+        clash : (store m : ℕ) → suc n < store → m ≢ l → (s : IsStoreBy T t m store) → ¬ FencesBetween T t (suc n) store → ⊥
+        clash store m later apart s still_open = by_first (cases_lt store x)
+          where
+            stores : IsAct T store (Stores m s.1)
+            stores = store-act T t m store s
+
+            by_first : (store < x) ⊎ (x ≤ store) → ⊥
+            by_first (inl early) = next_store.none_before store early (later, (m, apart, s))
+            by_first (inr upto) =
+                let fence = next_fence.has (omega (arith, (act-within T store (Stores m s.1) stores).1)) in
+                let differ : store ≢ y = λ same. (let e = act-unique T y (Fences t) (Stores m s.1) fence.1 (subst (λ i. IsAct T i (Stores m s.1)) same stores) in cc) in
+                still_open (y, fence.0, omega (arith, differ), fence.1)
+
+        other : IsOpenFlush T (suc n) → ⊥
+        other h =
+            let both = act-unique T (suc n) (Flushes t l) (Flushes h.thread h.line) is h.is_flush in
+            let thread : h.thread ≡ t = cc in
+            let line : h.line ≡ l = cc in
+            clash h.store h.elsewhere h.later (subst (λ m. h.elsewhere ≢ m) line h.other) (subst (λ v. IsStoreBy T v h.elsewhere h.store) thread h.is_store)
+            (subst (λ v. ¬ FencesBetween T v (suc n) h.store) thread h.still_open)
+
+-- those of rising numbers that pass
+rising-lower : (m j : ℕ) (xs : List ℕ) → m < j → IsRising j xs → IsRising m xs
+rising-lower m j [] below x = tt
+rising-lower m j (i ∷ xs) below x = (omega (arith, x.0), x.1)
+
+pub filter-rising : (P : ℕ → Bool) (low : ℕ) (ks : List ℕ) → IsRising low ks → IsRising low (filter P ks)
+filter-rising P low [] r = tt
+filter-rising P low (k ∷ ks) r = go (P k) refl (filter-rising P k ks r.1)
+  where
+    go : (b : Bool) → P k ≡ b → IsRising k (filter P ks) → IsRising low (filter P (k ∷ ks))
+    go true e rest = rw e (r.0, rest)
+    go false e rest = rw e (rising-lower low k (filter P ks) r.0 rest)
+
+pub filter-has : (P : ℕ → Bool) (ks : List ℕ) (i : ℕ) → Has (filter P ks) i ↔ (Has ks i × (P i ≡ true))
+filter-has P [] i = (λ h. absurd h, λ h. absurd h.0)
+filter-has P (k ∷ ks) i = go (P k) refl (filter-has P ks i)
+  where
+    go : (b : Bool) → P k ≡ b → Has (filter P ks) i ↔ (Has ks i × (P i ≡ true)) → Has (filter P (k ∷ ks)) i ↔ (Has (k ∷ ks) i × (P i ≡ true))
+    go true e rest =
+        rw e (λ h. elim h [ inl same ↦ (inl same, ap P (sym same) ∙ e) | inr more ↦ (inr (rest.0 more).0, (rest.0 more).1) ], λ h. elim h.0 [ inl same ↦ inl same | inr more ↦ inr (rest.1 (more, h.1)) ])
+    go false e rest = rw e (λ h. (inr (rest.0 h).0, (rest.0 h).1), λ h. elim h.0 [ inl same ↦ absurd (false≢true (sym e ∙ ap P same ∙ h.1)) | inr more ↦ rest.1 (more, h.1) ])
+
+pub open-bound : (T : Recording) (i : ℕ) → IsOpenFlush T i → (1 ≤ i) × (i ≤ length T.events)
+open-bound T i h = act-within T i (Flushes h.thread h.line) h.is_flush
+
+-- those of what is kept that are open
+pub open-those : (T : Recording) (kept numbers : List ℕ) (flags slice : List Bool) → IsKeep T kept → AreFlags (IsOpenFlush T) (length T.events) flags → slice ≡ flags → numbers ≡ filter (is_kept_at slice) kept → AreThose (IsOpenAtStore T) numbers
+open-those T kept numbers flags slice keep x same is = rw (is, same) (record {
+  rising = filter-rising (is_kept_at flags) 0 kept keep.rising;
+  just = λ i. (
+    λ h. let both = (filter-has (is_kept_at flags) kept i).0 h in ((keep.just i).0 both.0, (flag-so (IsOpenFlush T) (length T.events) flags (open-bound T) x i).0 both.1),
+    λ h. (filter-has (is_kept_at flags) kept i).1 ((keep.just i).1 h.0, (flag-so (IsOpenFlush T) (length T.events) flags (open-bound T) x i).1 h.1),
+  );
+})
+
+-- a flush is that of its event's thread
+pub flush-thread : (f : Layout) (u : ℕ) (o : Op) (t l : ℕ) → act_of f u o ≡ Flushes t l → t ≡ u
+flush-thread f u (Store w) t l e = absurd (cc)
+flush-thread f u (Clwb a) t l e = cc
+flush-thread f u (ClflushOpt a) t l e = cc
+flush-thread f u (Clflush a) t l e = absurd (cc)
+flush-thread f u Sfence t l e = absurd (cc)
+flush-thread f u Mfence t l e = absurd (cc)
+flush-thread f u (IsPersist r) t l e = absurd (cc)
+flush-thread f u (IsOrderedBefore r q) t l e = absurd (cc)

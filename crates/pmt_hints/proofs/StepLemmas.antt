@@ -1,0 +1,79 @@
+-- What came last before a place, and what comes next after it, event by event.
+use Rattle.std.proofs.Common.{◌≡◌, ◌≢◌, ℕ, suc, ◌<◌, ◌≤◌, ◌⊎◌, inl, inr, refl, ap, subst, ◌∙◌, arith}
+use Rattle.std.specs.Prelude.{if◌then◌else◌}
+use Rattle.std.proofs.lemmas.Bool.{cases_lt, cases_eq, eq-eqb, ne_eqb}
+use Rattle.pmt_model.specs.Machine.{Act, Stores, Flushes, Clflushes, Fences, Asserts}
+use Rattle.pmt_model.specs.Traces.{Recording, IsAct}
+use Rattle.pmt_model.specs.Findings.{IsFlushOf, ByFlush, ByClflush}
+use Rattle.pmt_laws.proofs.Histories.{act-unique}
+use Rattle.pmt_explain.specs.Following.{IsFirst}
+use Rattle.pmt_causes.specs.Flushing.{next_before}
+use Rattle.pmt_explain.proofs.FirstLemmas.{first-here, first-over}
+use Rattle.pmt_hints.specs.Stepping.{fence_by, flush_by}
+
+-- the last number up to n that has the property, or 0 where none has it
+pub record IsLast (P : ℕ → Type 0) (n last : ℕ) : Type 0 where
+  pub within : last ≤ n
+  pub has : 0 < last → P last
+  pub none_after : (k : ℕ) → last < k → k ≤ n → P k → ⊥
+
+-- number i has the property, and is told in place of the old one; or it has not, and the old one stays
+abbrev pub Decides : (ℕ → Type 0) → ℕ → ℕ → ℕ → Type 0
+Decides P i old new = (P i × (new ≡ i)) ⊎ ((P i → ⊥) × (new ≡ old))
+
+pub last-none : (P : ℕ → Type 0) → IsLast P 0 0
+last-none P = record { within = omega arith; has = λ some. absurd (omega arith); none_after = λ k above upto p. absurd (omega arith) }
+
+pub last-step : (P : ℕ → Type 0) (n x y : ℕ) → Decides P (suc n) x y → IsLast P n x → IsLast P (suc n) y
+last-step P n x y (inl here) old = rw here.1 (record { within = omega arith; has = λ some. here.0; none_after = λ k above upto p. absurd (omega arith) })
+last-step P n x y (inr over) old = rw over.1 (record { within = omega (arith, old.within); has = old.has; none_after = λ k above upto p. go k above upto p (cases_lt n k) })
+  where
+    go : (k : ℕ) → x < k → k ≤ suc n → P k → (n < k) ⊎ (k ≤ n) → ⊥
+    go k above upto p (inl past) = let e : k ≡ suc n = omega arith in over.0 (subst P e p)
+    go k above upto p (inr early) = old.none_after k above early p
+
+pub next-step : (P : ℕ → Type 0) (past n x y : ℕ) → suc n ≤ past → Decides P (suc n) x y → IsFirst (λ k. (suc n < k) × P k) past x → IsFirst (λ k. (n < k) × P k) past y
+next-step P past n x y within (inl here) old = rw here.1 (first-here P past n within here.0)
+next-step P past n x y within (inr over) old = rw over.1 (first-over P past n x over.0 old)
+
+-- the fences of a thread
+pub fence-decides : (T : Recording) (n number t x : ℕ) (a : Act) → number ≡ suc n → IsAct T (suc n) a → Decides (λ k. IsAct T k (Fences t)) (suc n) x (fence_by a number t x)
+fence-decides T n number t x (Stores l w) same is = inr (λ f. let e = act-unique T (suc n) (Stores l w) (Fences t) is f in cc, refl)
+fence-decides T n number t x (Flushes u l) same is = inr (λ f. let e = act-unique T (suc n) (Flushes u l) (Fences t) is f in cc, refl)
+fence-decides T n number t x (Clflushes l) same is = inr (λ f. let e = act-unique T (suc n) (Clflushes l) (Fences t) is f in cc, refl)
+fence-decides T n number t x Asserts same is = inr (λ f. let e = act-unique T (suc n) Asserts (Fences t) is f in cc, refl)
+fence-decides T n number t x (Fences u) same is = elim (cases_eq u t) [
+  | inl e ↦ inl (subst (λ v. IsAct T (suc n) (Fences v)) e is, ap (λ b. if b then number else x) (eq-eqb u t e) ∙ same)
+  | inr apart ↦ inr (λ f. let e = act-unique T (suc n) (Fences u) (Fences t) is f in apart (cc), ap (λ b. if b then number else x) (ne_eqb u t apart))
+]
+
+-- the flushes of a line by a thread
+pub flush-decides : (T : Recording) (n number t l x : ℕ) (a : Act) → number ≡ suc n → IsAct T (suc n) a → Decides (λ k. IsAct T k (Flushes t l)) (suc n) x (flush_by a number t l x)
+flush-decides T n number t l x (Stores k w) same is = inr (λ f. let e = act-unique T (suc n) (Stores k w) (Flushes t l) is f in cc, refl)
+flush-decides T n number t l x (Clflushes k) same is = inr (λ f. let e = act-unique T (suc n) (Clflushes k) (Flushes t l) is f in cc, refl)
+flush-decides T n number t l x (Fences u) same is = inr (λ f. let e = act-unique T (suc n) (Fences u) (Flushes t l) is f in cc, refl)
+flush-decides T n number t l x Asserts same is = inr (λ f. let e = act-unique T (suc n) Asserts (Flushes t l) is f in cc, refl)
+flush-decides T n number t l x (Flushes u k) same is = go (cases_eq u t) (cases_eq k l)
+  where
+    go : (u ≡ t) ⊎ (u ≢ t) → (k ≡ l) ⊎ (k ≢ l) → Decides (λ i. IsAct T i (Flushes t l)) (suc n) x (flush_by (Flushes u k) number t l x)
+    go (inl e) (inl f) = inl (subst (λ m. IsAct T (suc n) (Flushes t m)) f (subst (λ v. IsAct T (suc n) (Flushes v k)) e is), rw (eq-eqb u t e, eq-eqb k l f) same)
+    go (inl e) (inr apart) = inr (λ f. let both = act-unique T (suc n) (Flushes u k) (Flushes t l) is f in apart (cc), rw (eq-eqb u t e, ne_eqb k l apart) refl)
+    go (inr apart) either = inr (λ f. let both = act-unique T (suc n) (Flushes u k) (Flushes t l) is f in apart (cc), rw (ne_eqb u t apart) refl)
+
+-- those of a line by any thread
+no-flush : (T : Recording) (i l : ℕ) (a : Act) → IsAct T i a → ((t : ℕ) → a ≢ Flushes t l) → a ≢ Clflushes l → ¬ IsFlushOf T l i
+no-flush T i l a is no_flush no_clflush (ByFlush t flush) = no_flush t (act-unique T i a (Flushes t l) is flush)
+no-flush T i l a is no_flush no_clflush (ByClflush flush) = no_clflush (act-unique T i a (Clflushes l) is flush)
+
+pub line-decides : (T : Recording) (n number l x : ℕ) (a : Act) → number ≡ suc n → IsAct T (suc n) a → Decides (IsFlushOf T l) (suc n) x (next_before a number l x)
+line-decides T n number l x (Stores k w) same is = inr (no-flush T (suc n) l (Stores k w) is (λ t e. cc) (λ e. cc), refl)
+line-decides T n number l x (Fences u) same is = inr (no-flush T (suc n) l (Fences u) is (λ t e. cc) (λ e. cc), refl)
+line-decides T n number l x Asserts same is = inr (no-flush T (suc n) l Asserts is (λ t e. cc) (λ e. cc), refl)
+line-decides T n number l x (Flushes u k) same is = elim (cases_eq k l) [
+  | inl e ↦ inl (ByFlush u (subst (λ m. IsAct T (suc n) (Flushes u m)) e is), ap (λ b. if b then number else x) (eq-eqb k l e) ∙ same)
+  | inr apart ↦ inr (no-flush T (suc n) l (Flushes u k) is (λ t e. apart (cc)) (λ e. cc), ap (λ b. if b then number else x) (ne_eqb k l apart))
+]
+line-decides T n number l x (Clflushes k) same is = elim (cases_eq k l) [
+  | inl e ↦ inl (ByClflush (subst (λ m. IsAct T (suc n) (Clflushes m)) e is), ap (λ b. if b then number else x) (eq-eqb k l e) ∙ same)
+  | inr apart ↦ inr (no-flush T (suc n) l (Clflushes k) is (λ t e. cc) (λ e. apart (cc)), ap (λ b. if b then number else x) (ne_eqb k l apart))
+]

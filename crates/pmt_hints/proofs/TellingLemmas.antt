@@ -1,0 +1,151 @@
+-- Of which places flushes are told as open at a store.
+use Rattle.std.proofs.Common.{◌≡◌, ◌≢◌, ℕ, inl, inr, Bool, true, false, List, [], ◌∷◌, length, Option, None, Some, refl, sym, ap, ◌∙◌}
+use Rattle.std.specs.Prelude.{◌↔◌, ◌||◌, not}
+use Rattle.std.specs.List.{filter, list_any}
+use Rattle.std.proofs.lemmas.Bool.{and_parts, false≢true}
+use Rattle.std.proofs.lemmas.Option.{none-some, same_Some}
+use Rattle.pmt_model.specs.declared.event.Event.{Event}
+use Rattle.pmt_model.specs.declared.event.Op.{Op}
+use Rattle.pmt_model.specs.declared.event.Op.TheVariants.{Store, Clwb, ClflushOpt, Clflush, Sfence, Mfence, IsPersist, IsOrderedBefore}
+use Rattle.pmt_model.specs.Values.{Layout, line_of}
+use Rattle.pmt_model.specs.Machine.{Flushes}
+use Rattle.pmt_model.specs.Traces.{Recording, IsAct, act_of, event}
+use Rattle.pmt_model.specs.Selections.{Has}
+use Rattle.pmt_model.specs.Keeping.{IsKeep}
+use Rattle.pmt_flags.specs.Flags.{is_kept_at}
+use Rattle.pmt_causes.specs.declared.failure_keys.Origin.{Origin}
+use Rattle.pmt_causes.specs.contracts.failure_keys.OriginPartialEq.TheImpl as origin_eq
+use Rattle.pmt_causes.specs.FailureKeys.{origin_of}
+use Rattle.pmt_causes.proofs.ExactFailures.{origin-exact}
+use Rattle.pmt_hints.specs.Hints.{AreThose, IsOpenFlush, IsToldOpen}
+use Rattle.pmt_hints.specs.Flagging.{AreFlags}
+use Rattle.pmt_hints.specs.Telling.{AreClosed, Closed, closing, is_closed, is_place, op_place, place_of, told_so}
+use Rattle.pmt_hints.proofs.FlagLemmas.{flag-so}
+use Rattle.pmt_hints.proofs.OpenAtLemmas.{filter-has, filter-rising, open-bound}
+use Rattle.pmt_hints.proofs.SplitLemmas.{origin-same}
+
+-- a test that some number of a list passes
+any-has : (f : ℕ → Bool) (ks : List ℕ) (j : ℕ) → Has ks j → f j ≡ true → list_any f ks ≡ true
+any-has f [] j h so = absurd h
+any-has f (k ∷ ks) j (inl same) so = rw (ap f same ∙ so) refl
+any-has f (k ∷ ks) j (inr more) so = later (f k) (any-has f ks j more so)
+  where
+    later : (b : Bool) → list_any f ks ≡ true → (b || list_any f ks) ≡ true
+    later true e = refl
+    later false e = e
+
+any-none : (f : ℕ → Bool) (ks : List ℕ) → ((j : ℕ) → Has ks j → f j ≡ true → ⊥) → list_any f ks ≡ false
+any-none f [] none = refl
+any-none f (k ∷ ks) none = first (f k) refl (any-none f ks (λ j h. none j (inr h)))
+  where
+    first : (b : Bool) → f k ≡ b → list_any f ks ≡ false → (f k || list_any f ks) ≡ false
+    first true e rest = absurd (none k (inl refl) e)
+    first false e rest = rw e rest
+
+-- the place of a flush
+place-act : (f : Layout) (labels : List (Option ℕ)) (i u t l : ℕ) (o : Op) → act_of f u o ≡ Flushes t l → op_place labels i u o ≡ Some (origin_of labels i t)
+place-act f labels i u t l (Clwb a) e = let same : u ≡ t = cc in ap (λ v. Some (origin_of labels i v)) same
+place-act f labels i u t l (ClflushOpt a) e = let same : u ≡ t = cc in ap (λ v. Some (origin_of labels i v)) same
+place-act f labels i u t l (Store w) e = absurd (cc)
+place-act f labels i u t l (Clflush a) e = absurd (cc)
+place-act f labels i u t l Sfence e = absurd (cc)
+place-act f labels i u t l Mfence e = absurd (cc)
+place-act f labels i u t l (IsPersist r) e = absurd (cc)
+place-act f labels i u t l (IsOrderedBefore r q) e = absurd (cc)
+
+flush-place : (T : Recording) (labels : List (Option ℕ)) (i t l : ℕ) → IsAct T i (Flushes t l) → place_of labels i (event T i) ≡ Some (origin_of labels i t)
+flush-place T labels i t l is = ap (place_of labels i) is.1 ∙ place-act T.format labels i (is.0).thread t l (is.0).op is.2
+
+-- and only of one
+act-place : (f : Layout) (labels : List (Option ℕ)) (i u : ℕ) (o : Op) (q : Origin) → op_place labels i u o ≡ Some q → (t : ℕ) × (l : ℕ) × (act_of f u o ≡ Flushes t l) × (q ≡ origin_of labels i t)
+act-place f labels i u (Clwb a) q e = (u, line_of f a, refl, sym (same_Some _ _ e))
+act-place f labels i u (ClflushOpt a) q e = (u, line_of f a, refl, sym (same_Some _ _ e))
+act-place f labels i u (Store w) q e = absurd (none-some q e)
+act-place f labels i u (Clflush a) q e = absurd (none-some q e)
+act-place f labels i u Sfence q e = absurd (none-some q e)
+act-place f labels i u Mfence q e = absurd (none-some q e)
+act-place f labels i u (IsPersist r) q e = absurd (none-some q e)
+act-place f labels i u (IsOrderedBefore r s) q e = absurd (none-some q e)
+
+place-flush : (T : Recording) (labels : List (Option ℕ)) (i : ℕ) (q : Origin) → place_of labels i (event T i) ≡ Some q → (t : ℕ) × (l : ℕ) × IsAct T i (Flushes t l) × (q ≡ origin_of labels i t)
+place-flush T labels i q e = go (event T i) refl e
+  where
+    go : (o : Option Event) → event T i ≡ o → place_of labels i o ≡ Some q → (t : ℕ) × (l : ℕ) × IsAct T i (Flushes t l) × (q ≡ origin_of labels i t)
+    go None at e = absurd (none-some q e)
+    go (Some d) at e = let x = act-place T.format labels i d.thread d.op q e in (x.0, x.1, (d, at, x.2), x.3)
+
+-- one number more
+pub closed-more : (a b c d : Bool) → a ≡ (b || c) → b ≡ d → a ≡ (d || c)
+closed-more a b c d is same = is ∙ ap (λ x. x || c) same
+
+not-true-false : (b : Bool) → not b ≡ true → b ≡ false
+not-true-false true e = sym e
+not-true-false false e = refl
+
+-- an event that is told, and one that is to be told
+module _ (T : Recording) (labels : List (Option ℕ)) (kept : List ℕ) (flags : List Bool) (closed : Closed) (keep : IsKeep T kept) (x : AreFlags (IsOpenFlush T) (length T.events) flags) (c : AreClosed T labels flags kept closed) where
+  so : (i : ℕ) → (is_kept_at flags i ≡ true) ↔ IsOpenFlush T i
+  so = flag-so (IsOpenFlush T) (length T.events) flags (open-bound T) x
+
+  abbrev closes : Origin → ℕ → Bool
+  closes p j = is_place p (closing T labels flags j)
+
+  there : (i : ℕ) → Has kept i → told_so T labels flags closed i ≡ true → IsToldOpen T labels i
+  there i has told = record { is_open = ((keep.just i).0 has, o); all = λ j t l is_kept is_flush place. all j t l ((keep.just j).1 is_kept) is_flush place }
+    where
+      both : (is_kept_at flags i ≡ true) × (not (is_closed closed (place_of labels i (event T i))) ≡ true)
+      both = and_parts (is_kept_at flags i) (not (is_closed closed (place_of labels i (event T i)))) told
+
+      o : IsOpenFlush T i
+      o = (so i).0 both.0
+
+      p : Origin
+      p = origin_of labels i o.thread
+
+      none : list_any (closes p) kept ≡ false
+      none = sym (c p) ∙ ap (is_closed closed) (sym (flush-place T labels i o.thread o.line o.is_flush)) ∙ not-true-false (is_closed closed (place_of labels i (event T i))) both.1
+
+      all : (j t l : ℕ) → Has kept j → IsAct T j (Flushes t l) → origin_of labels j t ≡ p → IsOpenFlush T j
+      all j t l within is_flush place = go (is_kept_at flags j) refl
+        where
+          go : (b : Bool) → is_kept_at flags j ≡ b → IsOpenFlush T j
+          go true e = (so j).0 e
+          go false e =
+              let found : closing T labels flags j ≡ Some p = rw e (flush-place T labels j t l is_flush ∙ ap Some place) in
+              absurd (false≢true (sym none ∙ any-has (closes p) kept j within (ap (is_place p) found ∙ origin-same p)))
+
+  back : (i : ℕ) → IsToldOpen T labels i → Has kept i × (told_so T labels flags closed i ≡ true)
+  back i h = ((keep.just i).1 h.is_open.0, rw (flag, unclosed) refl)
+    where
+      o : IsOpenFlush T i
+      o = h.is_open.1
+
+      p : Origin
+      p = origin_of labels i o.thread
+
+      flag : is_kept_at flags i ≡ true
+      flag = (so i).1 o
+
+      never : (j : ℕ) → Has kept j → closes p j ≡ true → ⊥
+      never j within e = go (is_kept_at flags j) refl
+        where
+          by_place : is_kept_at flags j ≡ false → (q : Option Origin) → place_of labels j (event T j) ≡ q → is_place p q ≡ true → ⊥
+          by_place off None at e = false≢true e
+          by_place off (Some q) at e =
+              let f = place-flush T labels j q at in
+              let same : origin_of labels j f.0 ≡ p = sym f.3 ∙ origin-exact q p e in
+              false≢true (sym off ∙ (so j).1 (h.all j f.0 f.1 ((keep.just j).0 within) f.2 same))
+
+          go : (b : Bool) → is_kept_at flags j ≡ b → ⊥
+          go true on = let found : closing T labels flags j ≡ None = rw on refl in false≢true (sym (ap (is_place p) found) ∙ e)
+          go false off = let found : closing T labels flags j ≡ place_of labels j (event T j) = rw off refl in by_place off (place_of labels j (event T j)) refl (sym (ap (is_place p) found) ∙ e)
+
+      unclosed : is_closed closed (place_of labels i (event T i)) ≡ false
+      unclosed = ap (is_closed closed) (flush-place T labels i o.thread o.line o.is_flush) ∙ c p ∙ any-none (closes p) kept never
+
+  pub told-those : (numbers : List ℕ) → numbers ≡ filter (told_so T labels flags closed) kept → AreThose (IsToldOpen T labels) numbers
+  told-those numbers is = rw is (record {
+    rising = filter-rising (told_so T labels flags closed) 0 kept keep.rising;
+    just = λ i.
+        (λ h. let found = (filter-has (told_so T labels flags closed) kept i).0 h in there i found.0 found.1, λ h. (filter-has (told_so T labels flags closed) kept i).1 (back i h));
+  })

@@ -1,0 +1,83 @@
+-- What hints are told of: each kind is a set of events.
+use Rattle.std.specs.Prelude.{◌≡◌, ◌≢◌, ◌↔◌, ◌⊎◌, ℕ, ◌+◌, ◌%◌, ◌<◌, ◌≤◌, List, length, Option, Some}
+use Rattle.pmt_model.specs.declared.event.Event.{Event}
+use Rattle.pmt_model.specs.declared.event.Op.TheVariants.{Store}
+use Rattle.pmt_model.specs.Values.{Layout, Written}
+use Rattle.pmt_model.specs.Machine.{Stores, Flushes, Fences}
+use Rattle.pmt_model.specs.Traces.{Recording, IsAct, act, event}
+use Rattle.pmt_model.specs.Findings.{IsFlushOf}
+use Rattle.pmt_model.specs.Keeping.{IsKept}
+use Rattle.pmt_model.specs.Selections.{IsRising, Has}
+use Rattle.pmt_causes.specs.FailureKeys.{origin_of}
+
+-- These are the events that have the property, in their order.
+pub record AreThose (P : ℕ → Type 0) (numbers : List ℕ) : Type 0 where
+  pub rising : IsRising 0 numbers
+  pub just : (i : ℕ) → Has numbers i ↔ P i
+
+-- Event i is a store to line l by thread t.
+abbrev pub IsStoreBy : Recording → ℕ → ℕ → ℕ → Type 0
+IsStoreBy T t l i = (e : Event) × (w : Written) × (event T i ≡ Some e) × (e.thread ≡ t) × (act T.format e ≡ Stores l w)
+
+-- Thread t fences after event i and before event j.
+abbrev pub FencesBetween : Recording → ℕ → ℕ → ℕ → Type 0
+FencesBetween T t i j = (k : ℕ) × (i < k) × (k < j) × IsAct T k (Fences t)
+
+-- Event i is a store to a line that its thread has flushed before and not fenced since.
+pub record IsAfterOpenFlush (T : Recording) (i : ℕ) : Type 0 where
+  pub thread : ℕ
+  pub line : ℕ
+  pub flush : ℕ
+  pub is_store : IsStoreBy T thread line i
+  pub is_flush : IsAct T flush (Flushes thread line)
+  pub earlier : flush < i
+  pub still_open : ¬ FencesBetween T thread flush i
+
+-- Stored after its flush: no flush of the line, by any thread, stands between such a store and the next fence of its thread.
+pub record IsStoredAfterFlush (T : Recording) (i : ℕ) : Type 0 where
+  pub after : IsAfterOpenFlush T i
+  pub not_again : (k : ℕ) → i < k → IsFlushOf T after.line k → FencesBetween T after.thread i k
+
+-- Event i is a flush that its thread has not fenced when it stores to another line.
+pub record IsOpenFlush (T : Recording) (i : ℕ) : Type 0 where
+  pub thread : ℕ
+  pub line : ℕ
+  pub store : ℕ
+  pub elsewhere : ℕ
+  pub is_flush : IsAct T i (Flushes thread line)
+  pub is_store : IsStoreBy T thread elsewhere store
+  pub other : elsewhere ≢ line
+  pub later : i < store
+  pub still_open : ¬ FencesBetween T thread i store
+
+-- Open at a store: such a flush that is kept.
+abbrev pub IsOpenAtStore : Recording → ℕ → Type 0
+IsOpenAtStore T i = IsKept T i × IsOpenFlush T i
+
+-- Open at a store, as it is told: of a place, a label or without one a thread, only where each kept flush of the place is one.
+pub record IsToldOpen (T : Recording) (labels : List (Option ℕ)) (i : ℕ) : Type 0 where
+  pub is_open : IsOpenAtStore T i
+  pub all : (j t l : ℕ) → IsKept T j → IsAct T j (Flushes t l) → origin_of labels j t ≡ origin_of labels i (is_open.1).thread → IsOpenFlush T j
+
+-- Event i is this store by thread t.
+abbrev pub IsStoreOf : Recording → ℕ → Written → ℕ → Type 0
+IsStoreOf T t w i = event T i ≡ Some (record { thread = t; op = Store w })
+
+-- The second store's bytes follow those of the first one, at most 8 together, and they meet at a line's first byte.
+pub record Joins (f : Layout) (a b : Written) : Type 0 where
+  pub follows : a.addr + length a.bytes ≡ b.addr
+  pub word : length a.bytes + length b.bytes ≤ 8
+  pub line : b.addr % f.line_size ≡ 0
+
+-- Split word: event i is a store, and joins the store that its thread made before it, from the same place.
+pub record IsSplitWord (T : Recording) (labels : List (Option ℕ)) (i : ℕ) : Type 0 where
+  pub thread : ℕ
+  pub earlier : ℕ
+  pub first : Written
+  pub second : Written
+  pub is_first : IsStoreOf T thread first earlier
+  pub is_second : IsStoreOf T thread second i
+  pub order : earlier < i
+  pub none_between : (k : ℕ) (w : Written) → earlier < k → k < i → ¬ IsStoreOf T thread w k
+  pub joined : Joins T.format first second ⊎ Joins T.format second first
+  pub same_place : origin_of labels earlier thread ≡ origin_of labels i thread

@@ -1,0 +1,7 @@
+pub mod Flagging
+pub mod Hints
+pub mod Numbers
+pub mod Placing
+pub mod Splitting
+pub mod Stepping
+pub mod Telling

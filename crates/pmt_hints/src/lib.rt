@@ -1,0 +1,17 @@
+//! Hints: what a trace has that no rule forbids and that mostly is a slip. Each kind is a set of events with a definition.
+//!
+//! The definitions stand in `specs/`.
+#![tactic(auto)]
+
+mod flushers;
+pub mod hint;
+mod next_stores;
+pub mod open_at;
+mod per_thread;
+pub mod split_word;
+pub mod stored_after;
+
+pub use crate::hint::{Hint, HintKind, hints_of};
+pub use crate::open_at::{open_at_store, told_open};
+pub use crate::split_word::split_words;
+pub use crate::stored_after::stored_after_flush;

@@ -1,0 +1,238 @@
+//! Flushes that their thread has not fenced when it stores to another line.
+
+ghost use Rattle.std.specs.Prelude.{◌≡◌, ◌<◌, ◌||◌, ℕ, length, filter, IfOk, OnOk};
+ghost use Rattle.pmt_model.specs.Traces.{act_of, event};
+ghost use Rattle.pmt_model.specs.Keeping.{IsKeep};
+ghost use Rattle.pmt_model.specs.Selections.{IsRising};
+ghost use Rattle.pmt_flags.specs.Flags.{is_kept_at};
+ghost use Rattle.pmt_hints.specs.Hints.{AreThose, IsOpenAtStore, IsOpenFlush, IsToldOpen};
+ghost use Rattle.pmt_hints.specs.Flagging.{AreFlags};
+ghost use Rattle.pmt_hints.specs.Stepping.{open_so};
+ghost use Rattle.pmt_hints.specs.Telling.{AreClosed, closed_at, closing as closing_in, is_closed as is_closed_in, is_place, place_of as place_in, told_so};
+ghost use Rattle.pmt_causes.specs.declared.failure_keys.Origin.{Origin};
+
+use crate::next_stores::NextStores;
+use crate::per_thread::PerThread;
+use pmt_causes::{Origin, origin_of};
+use pmt_model::{Format, Op, OutOfMemory, Selection, Trace, line_of};
+use std::alloc::Global;
+use std::collections::HashMap;
+
+// The places that have a kept flush that no store of its thread to another line finds open.
+type Closed = HashMap<Origin, bool>;
+
+/// The flushes that are kept, and that their thread has not fenced when it stores to another line: what it stores there may persist
+/// before what was flushed. `kept` is what is kept of the trace.
+///
+/// It takes one look at each event, and one at each event that is kept.
+///
+/// # Errors
+/// Where memory was refused.
+pub fn open_at_store(
+    alloc: Global,
+    trace: &Trace,
+    kept: &Selection,
+) -> Result<Selection, OutOfMemory>
+    requires { IsKeep trace.now kept.now }
+    ensures { IfOk result (AreThose (IsOpenAtStore trace.now)) }
+{
+    let flags = open_flushes(alloc, trace)?;
+    let open = flagged(alloc, kept.numbers(), flags.as_slice())?;
+    Ok(selection_of(open))
+}
+
+/// Those of these flushes that are told: at whose place each flush that is kept is one. `labels` are the numbers of the labels of the
+/// events, in order; an event past their end has none. A place is a label, or without one a thread.
+///
+/// It takes one look at each event, and two at each event that is kept, with a look-up each.
+///
+/// # Errors
+/// Where memory was refused.
+pub fn told_open(
+    alloc: Global,
+    trace: &Trace,
+    kept: &Selection,
+    labels: &[Option<u64>],
+) -> Result<Selection, OutOfMemory>
+    requires { IsKeep trace.now kept.now }
+    ensures { IfOk result (AreThose (IsToldOpen trace.now labels.now)) }
+{
+    let flags = open_flushes(alloc, trace)?;
+    let numbers = kept.numbers();
+    let closed = closed_places(alloc, trace, labels, numbers, flags.as_slice())?;
+    let told = told_numbers(alloc, trace, labels, numbers, flags.as_slice(), &closed)?;
+    Ok(selection_of(told))
+}
+
+// The selection of these numbers.
+fn selection_of(numbers: Vec<u64>) -> Selection
+    requires { IsRising 0 numbers.items }
+    ensures { result ≡ numbers.items }
+{
+    let Ok(selection) = Selection::from_numbers(numbers) else {
+        unreachable!()
+    };
+    selection
+}
+
+// The places that have a flush among these numbers which is not flagged.
+fn closed_places(
+    alloc: Global,
+    trace: &Trace,
+    labels: &[Option<u64>],
+    numbers: &[u64],
+    flags: &[bool],
+) -> Result<Closed, OutOfMemory>
+    ensures { IfOk result (AreClosed trace.now labels.now flags.now numbers.now) }
+{
+    let mut closed = HashMap::new(alloc);
+    for number in numbers {
+        note_closed(&mut closed, closing(trace, labels, flags, *number))?;
+    }
+    Ok(closed)
+}
+
+// The place has a flush that is not flagged, if it is one.
+fn note_closed(closed: &mut Closed, place: Option<Origin>) -> Result<(), OutOfMemory>
+    ensures { OnOk result ((p : Origin) → closed_at closed.new p ≡ (closed_at closed.old p || is_place p place)) }
+{
+    match place {
+        None => Ok(()),
+        Some(place) => {
+            closed.insert(place, true)?;
+            Ok(())
+        }
+    }
+}
+
+// The place of the event, if it is a flush that is not flagged.
+fn closing(trace: &Trace, labels: &[Option<u64>], flags: &[bool], number: u64) -> Option<Origin>
+    ensures { result ≡ closing_in trace.now labels.now flags.now number }
+{
+    if is_flagged(flags, number) {
+        return None;
+    }
+    flush_place(trace, labels, number)
+}
+
+// The place of the event, if it is a flush.
+fn flush_place(trace: &Trace, labels: &[Option<u64>], number: u64) -> Option<Origin>
+    ensures { result ≡ place_in labels.now number (event trace.now number) }
+{
+    let Some(event) = trace.get(number) else {
+        return None;
+    };
+    match event.op {
+        Op::Clwb(_) | Op::ClflushOpt(_) => Some(origin_of(labels, number, event.thread)),
+        Op::Store(_)
+        | Op::Clflush(_)
+        | Op::Sfence
+        | Op::Mfence
+        | Op::IsPersist(_)
+        | Op::IsOrderedBefore(_, _) => None,
+    }
+}
+
+// Those of these numbers that are flagged, and whose place has no flush that is not.
+fn told_numbers(
+    alloc: Global,
+    trace: &Trace,
+    labels: &[Option<u64>],
+    numbers: &[u64],
+    flags: &[bool],
+    closed: &Closed,
+) -> Result<Vec<u64>, OutOfMemory>
+    ensures { IfOk result (λ told. told.items ≡ filter (told_so trace.now labels.now flags.now closed.now) numbers.now) }
+{
+    numbers
+        .iter()
+        .filter(|number| is_told(trace, labels, flags, closed, **number))
+        .copied()
+        .collect(alloc)
+}
+
+// Whether the event is flagged, and its place has no flush that is not.
+fn is_told(
+    trace: &Trace,
+    labels: &[Option<u64>],
+    flags: &[bool],
+    closed: &Closed,
+    number: u64,
+) -> bool
+    ensures { result ≡ told_so trace.now labels.now flags.now closed.now number }
+{
+    is_flagged(flags, number) && !is_closed(closed, flush_place(trace, labels, number))
+}
+
+// Whether the place has a flush that is not flagged.
+fn is_closed(closed: &Closed, place: Option<Origin>) -> bool
+    ensures { result ≡ is_closed_in closed.now place }
+{
+    match place {
+        None => false,
+        Some(place) => closed.get(&place).copied().unwrap_or(false),
+    }
+}
+
+// Those of these numbers whose events are flagged.
+fn flagged(alloc: Global, numbers: &[u64], flags: &[bool]) -> Result<Vec<u64>, OutOfMemory>
+    ensures { IfOk result (λ chosen. chosen.items ≡ filter (is_kept_at flags.now) numbers.now) }
+{
+    numbers
+        .iter()
+        .filter(|number| is_flagged(flags, **number))
+        .copied()
+        .collect(alloc)
+}
+
+// Whether the event is flagged.
+fn is_flagged(flags: &[bool], number: u64) -> bool
+    ensures { result ≡ is_kept_at flags.now number }
+{
+    let Some(index) = number.checked_sub(1) else {
+        return false;
+    };
+    match flags.get(index as usize) {
+        Some(flag) => *flag,
+        None => false,
+    }
+}
+
+// Of each event whether it is a flush that its thread has not fenced when it stores to another line.
+fn open_flushes(alloc: Global, trace: &Trace) -> Result<Vec<bool>, OutOfMemory>
+    ensures { IfOk result (λ flags. AreFlags (IsOpenFlush trace.now) (length trace.now.events) flags.items) }
+{
+    let format = trace.format();
+    let events = trace.events();
+    let past = events.len() as u64 + 1;
+    let mut fences = PerThread::new(past);
+    let mut stores = NextStores::new(past);
+    let mut flags = vec![in alloc; false; events.len()]?;
+    for index in (0..events.len()).rev() {
+        let event = events[index];
+        let number = index as u64 + 1;
+        let flag = is_open(&fences, &stores, format, event.thread, event.op);
+        flags[index] = flag;
+        fences.note_fence(format, event.thread, event.op, number);
+        stores.note(format, event.thread, event.op, number);
+    }
+    Ok(flags)
+}
+
+// Whether the op is a flush and the next store of its thread to another line comes before that thread's next fence.
+fn is_open(fences: &PerThread, stores: &NextStores, format: Format, thread: u8, op: Op) -> bool
+    ensures value { result ≡ open_so fences.now stores.now (act_of format thread op) }
+    ensures small { thread < 256 }
+{
+    match op {
+        Op::Clwb(addr) | Op::ClflushOpt(addr) => {
+            stores.elsewhere(thread, line_of(format, addr)) < fences.get(thread)
+        }
+        Op::Store(_)
+        | Op::Clflush(_)
+        | Op::Sfence
+        | Op::Mfence
+        | Op::IsPersist(_)
+        | Op::IsOrderedBefore(_, _) => false,
+    }
+}

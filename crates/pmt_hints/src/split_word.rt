@@ -1,0 +1,153 @@
+//! Stores that write one word in two parts, on both sides of a line's end.
+
+ghost use Rattle.std.specs.Prelude.{◌≡◌, ◌<◌, ◌&&◌, ◌||◌, ℕ, length, IfOk};
+ghost use Rattle.pmt_model.specs.Traces.{event};
+ghost use Rattle.pmt_hints.specs.Hints.{AreThose, IsSplitWord};
+ghost use Rattle.pmt_hints.specs.Flagging.{AreFlags};
+ghost use Rattle.pmt_hints.specs.Splitting.{event_part, is_same_place, joins as joins_in, op_part, split_so, store_of_thread};
+ghost use Rattle.pmt_hints.specs.Numbers.{of_thread};
+
+use crate::per_thread::PerThread;
+use pmt_causes::origin_of;
+use pmt_flags::marked_numbers;
+use pmt_model::{Format, Op, OutOfMemory, Selection, Trace};
+use std::alloc::Global;
+
+// Where the bytes of a store begin, and how many they are.
+#[derive(Clone, Copy)]
+pub(crate) struct Part {
+    pub(crate) addr: u64,
+    pub(crate) len: u64,
+}
+
+/// The stores that write the rest of a word which the store before them by their thread, from the same place, began to write in the
+/// line before or after: their bytes follow one another, at most 8 together, and meet at a line's first byte. `labels` are the numbers
+/// of the labels of the events, in order; an event past their end has none. A place is a label, or without one a thread.
+///
+/// It takes two looks at each event.
+///
+/// # Errors
+/// Where memory was refused.
+pub fn split_words(
+    alloc: Global,
+    trace: &Trace,
+    labels: &[Option<u64>],
+) -> Result<Selection, OutOfMemory>
+    ensures { IfOk result (AreThose (IsSplitWord trace.now labels.now)) }
+{
+    let flags = split_flags(alloc, trace, labels)?;
+    marked_numbers(alloc, flags.as_slice())
+}
+
+// Of each event whether it is such a store.
+fn split_flags(
+    alloc: Global,
+    trace: &Trace,
+    labels: &[Option<u64>],
+) -> Result<Vec<bool>, OutOfMemory>
+    ensures { IfOk result (λ flags. AreFlags (IsSplitWord trace.now labels.now) (length trace.now.events) flags.items) }
+{
+    let events = trace.events();
+    let mut stores = PerThread::new(0);
+    let mut flags = Vec::with_capacity(alloc, events.len())?;
+    for index in 0..events.len() {
+        let event = events[index];
+        let number = index as u64 + 1;
+        let earlier = stores.get(event.thread);
+        let flag = is_split(trace, labels, earlier, event.thread, event.op, number);
+        flags.push(flag)?;
+        note_store(&mut stores, event.thread, event.op, number);
+    }
+    Ok(flags)
+}
+
+// Whether the op with this number by the thread is a store whose bytes join those of its store at `earlier`, from the same place.
+fn is_split(
+    trace: &Trace,
+    labels: &[Option<u64>],
+    earlier: u64,
+    thread: u8,
+    op: Op,
+    number: u64,
+) -> bool
+    ensures value { result ≡ split_so trace.now labels.now earlier thread op number }
+    ensures small { thread < 256 }
+{
+    let Some(second) = part_of(op) else {
+        return false;
+    };
+    let Some(first) = part_at(trace, earlier) else {
+        return false;
+    };
+    is_joined(trace.format(), &first, &second) && is_one_place(labels, earlier, number, thread)
+}
+
+// The bytes of the event with this number, if it is a store.
+fn part_at(trace: &Trace, number: u64) -> Option<Part>
+    ensures { result ≡ event_part (event trace.now number) }
+{
+    let Some(event) = trace.get(number) else {
+        return None;
+    };
+    part_of(event.op)
+}
+
+// The bytes of the op, if it is a store.
+fn part_of(op: Op) -> Option<Part>
+    ensures { result ≡ op_part op }
+{
+    match op {
+        Op::Store(store) => Some(Part {
+            addr: store.addr().get(),
+            len: store.bytes().len() as u64,
+        }),
+        Op::Clwb(_)
+        | Op::ClflushOpt(_)
+        | Op::Clflush(_)
+        | Op::Sfence
+        | Op::Mfence
+        | Op::IsPersist(_)
+        | Op::IsOrderedBefore(_, _) => None,
+    }
+}
+
+// Whether the two events of the thread come from one place.
+fn is_one_place(labels: &[Option<u64>], earlier: u64, number: u64, thread: u8) -> bool
+    ensures { result ≡ is_same_place labels.now earlier number thread }
+{
+    origin_of(labels, earlier, thread) == origin_of(labels, number, thread)
+}
+
+// Whether one of the two parts joins the other one.
+fn is_joined(format: Format, first: &Part, second: &Part) -> bool
+    ensures { result ≡ (joins_in format first.now second.now || joins_in format second.now first.now) }
+{
+    joins(format, first, second) || joins(format, second, first)
+}
+
+// Whether the upper bytes follow the lower ones, with at most 8 together, and begin a line.
+fn joins(format: Format, lower: &Part, upper: &Part) -> bool
+    ensures { result ≡ joins_in format lower.now upper.now }
+{
+    lower.len <= upper.addr
+        && upper.addr - lower.len == lower.addr
+        && upper.len <= 8
+        && lower.len <= 8 - upper.len
+        && upper.addr % format.line_size() == 0
+}
+
+// The number of the event becomes that of its thread, if it is a store.
+fn note_store(stores: &mut PerThread, thread: u8, op: Op, number: u64)
+    ensures { (t : ℕ) → t < 256 → of_thread stores.new t ≡ store_of_thread op thread number t (of_thread stores.old t) }
+{
+    match op {
+        Op::Store(_) => stores.set(thread, number),
+        Op::Clwb(_)
+        | Op::ClflushOpt(_)
+        | Op::Clflush(_)
+        | Op::Sfence
+        | Op::Mfence
+        | Op::IsPersist(_)
+        | Op::IsOrderedBefore(_, _) => {}
+    }
+}
