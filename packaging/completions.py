@@ -70,6 +70,7 @@ def bash(program):
     each, behind, options, others = of_each(program), {}, {}, {}
     for name, command in each.items():
         behind.update({f"{name} {option.name}{option.link.strip(' [')}": bash_kind(option) for option in command.options if option.kind})
+        behind.update({f"{name} {option.short}": bash_kind(option) for option in command.options if option.kind and option.short})
         options[name] = " ".join(unique(option.name for option in command.options)) or "--help"
         others[name] = f"={kind_of_others(command)}"
     if program.commands:
@@ -105,11 +106,11 @@ def zsh_text(text):
     return "".join(f"\\{letter}" if letter in "\\[]:" else letter for letter in text)
 
 
-def zsh_option(option):
-    link = {" ": "=", "=": "=-", "[=": "=-"}.get(option.link, "")
+def zsh_option(option, name, link):
+    """The spec of an option by one of its names, which its value follows by this link."""
     action = f"({' '.join(option.choices)})" if option.choices else ZSH_ACTIONS[option.kind] if option.kind else ""
     value = f"{'::' if option.link == '[=' else ':'}{zsh_text(option.value)}:{action}" if option.kind else ""
-    return quoted(f"{'*' if option.repeats else ''}{option.name}{link}[{zsh_text(option.brief)}]{value}")
+    return quoted(f"{'*' if option.repeats else ''}{name}{link}[{zsh_text(option.brief)}]{value}")
 
 
 def zsh_arguments(command):
@@ -122,8 +123,14 @@ def zsh_arguments(command):
     return found
 
 
+def zsh_options(option):
+    """The specs of an option by its long name, and by its short one if it has one."""
+    specs = [zsh_option(option, option.name, {" ": "=", "=": "=-", "[=": "=-"}.get(option.link, ""))]
+    return [*specs, zsh_option(option, option.short, "+" if option.kind else "")] if option.short else specs
+
+
 def zsh_specs(command):
-    return [*(zsh_option(option) for option in command.options), *zsh_arguments(command)]
+    return [*(spec for option in command.options for spec in zsh_options(option)), *zsh_arguments(command)]
 
 
 def zsh_call(command, indent):

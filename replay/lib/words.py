@@ -20,7 +20,7 @@ Options:
   --at PLACES   other places: numbers and ranges of them, as 12,40-60; each number of a range is a
                 place
   --off K       how many cache lines may be off, 0 to 64 (1)
-  --jobs N      how many checkers run at once (one for each processor)
+  -j, --jobs N  how many checkers run at once (one for each processor)
   --keep DIR    keeps in DIR what the checkers said, and the images of the first 20 that failed. The
                 same words go on where a run was stopped
   --seconds S   how long a checker may take, in whole seconds (60); after that it is killed, and has
@@ -92,7 +92,7 @@ def take_words(words):
     parser = Parser(prog="pmtrim-replay", add_help=False, allow_abbrev=False)
     parser.add_argument("--at", type=read_places)
     parser.add_argument("--off", type=number_between(0, MOST_OFF), default=1)
-    parser.add_argument("--jobs", type=number_between(1, MOST_JOBS), default=len(os.sched_getaffinity(0)))
+    parser.add_argument("-j", "--jobs", type=number_between(1, MOST_JOBS), default=len(os.sched_getaffinity(0)))
     parser.add_argument("--seconds", type=number_between(1, MOST_SECONDS), default=60)
     parser.add_argument("--keep")
     parser.add_argument("trace", metavar="TRACE")

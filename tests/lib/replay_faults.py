@@ -92,7 +92,7 @@ class FaultTests(Runs):
             ('od -An -tu1 -N1 "$1"', ["2 images, the first is image 1 of place 2:\n               |    0", "2 images, the first is image 2 of "]),
             ('od -An -tu1 -N1 "$1" | grep 1; true', ["2 images, the first is image 1 of place 2:\n               nothing\n"]),
         ):
-            status, told, faults = self.replay(["--jobs", "1", trace, *of_shell(script)])
+            status, told, faults = self.replay(["-j", "1", trace, *of_shell(script)])
             self.expect(f"{script}: status", (status, faults, counts_of(told)) == (0, "", (6, 4, 0, 0)), told + faults)
             right = (differs in told) == bool(texts) and all(text in told for text in texts)
             self.expect(f"{script}: the texts", right, told)
