@@ -2,7 +2,9 @@
 import json
 import os
 import random
+import re
 import subprocess
+import sys
 
 from checks import Checks, add_tests
 from crowded import random_trace
@@ -158,6 +160,48 @@ class Explain(Checks):
         file = self.new_folder() / "groups"
         file.write_text(text)
         return self.explain(*words, file).stdout.decode()
+
+    def test_out(self):
+        """The answer goes to a file, which is none of those that are read."""
+        folder = self.new_folder()
+        (folder / "t").write_text(TWO_LOST)
+        (folder / "l").write_text("1 a\n")
+        for words in ([], ["--json"], ["--html", "--labels", "l"]):
+            told = self.explain(*words, "t", folder=folder).stdout
+            for option in (["--out", "o"], ["-o", "o"], ["-oo"]):
+                done = self.explain(*words, *option, "t", folder=folder)
+                written = (folder / "o").read_bytes() if (folder / "o").exists() else None
+                self.expect_equal(f"{words} {option}", (done.returncode, done.stdout, written), (1, b"", told))
+                (folder / "o").unlink(missing_ok=True)
+            self.expect_equal(f"{words} -o -", self.explain(*words, "-o", "-", "t", folder=folder).stdout, told)
+        for words in (["-o", "t", "t"], ["-o", "l", "--labels", "l", "t"], ["-o", "./t", "t"]):
+            done = self.explain(*words, folder=folder)
+            self.expect(f"{words}", done.returncode == 2 and b"is read, and can not be written" in done.stderr, done.stderr)
+        self.expect_equal("both are as they were", ((folder / "t").read_text(), (folder / "l").read_text()), (TWO_LOST, "1 a\n"))
+        done = self.explain("-o", "/dev/full", "t", folder=folder)
+        self.expect_equal("a full device", (done.returncode, done.stderr), (4, b"cannot write /dev/full: No space left on device\n"))
+        done = self.explain("-o", "none/o", "t", folder=folder)
+        self.expect_equal("no folder", (done.returncode, done.stderr), (4, b"cannot create none/o: No such file or directory\n"))
+
+    def test_colors(self):
+        """Colors stand round the words that begin paragraphs, and only where they are asked for."""
+        file = self.new_folder() / "t"
+        file.write_text(TWO_LOST)
+        plain = self.explain(file).stdout
+        self.expect("none in a pipe", b"\x1b" not in plain and plain == self.explain("--color", "auto", file).stdout == self.explain("--color", "never", file).stdout)
+        colored = self.explain("--color", "always", file).stdout
+        self.expect_equal("colors take no place", re.sub(rb"\x1b\[[0-9;]*m", b"", colored), plain)
+        heads = re.findall(rb"^\x1b\[1(?:;3[0-9])?m([a-z ]+:)\x1b\[0m", colored, re.M)
+        self.expect_equal("what is colored", heads, re.findall(rb"^(error:|warning:|note:|places:|table:|  fix:)", plain, re.M))
+        self.expect("JSON has none", b"\x1b" not in self.explain("--json", "--color", "always", file).stdout)
+        for known, wanted in (({}, True), ({"NO_COLOR": "1"}, False), ({"NO_COLOR": ""}, True), ({"TERM": "dumb"}, False), ({"NO_COLOR": "1" * 100}, False)):
+            shown = self.at_terminal(file, known)
+            self.expect(f"at a terminal with {known}", "never persisted" in shown and ("\x1b[1;31merror:" in shown) == wanted, shown[:500])
+
+    def at_terminal(self, file, known):
+        words = [sys.executable, TOP / "tests/lib/terminal.py", self.program, "explain", file]
+        environment = {name: value for name, value in os.environ.items() if name != "NO_COLOR"} | {"TERM": "xterm"} | known
+        return subprocess.run(words, stdin=subprocess.DEVNULL, capture_output=True, env=environment).stdout.decode()
 
     def test_loop(self):
         """A cause with more members than are named."""

@@ -9,13 +9,14 @@ from program import TOP, find
 from terminal import Terminal
 
 WIDEST = 100
-# Whose help has wider lines: its words stand in crates/command_words.
-WIDE = {"pmtrim"}
 # What is offered, by the words so far; the last one is being typed.
 OFFERED = {
     ("pmtrim", "ch"): ["check"],
     ("pmtrim", "help", "dr"): ["draw"],
     ("pmtrim", "check", "--workers", "1"): ["1", "16"],
+    ("pmtrim", "check", "-j", "1"): ["1", "16"],
+    ("pmtrim", "check", "--li"): ["--limit"],
+    ("pmtrim", "explain", "--color", "al"): ["always"],
     ("pmtrim", "trim", "--s"): ["--stream"],
     ("pmtrim", "explain", "--lab"): ["--label", "--labels"],
     ("pmtrim", "explain", "--only", "d"): ["dropped"],
@@ -74,9 +75,8 @@ class Help(Checks):
             name = f"{program} {command}".strip()
             for part in (rf"^Usage: {name}\b", "^Options:$", "^Statuses: ", f"^Example: .*{program}"):
                 self.expect(f"{name}: {part}", re.search(part, text, re.M), text)
-            if program not in WIDE:
-                wide = [line for line in text.splitlines() if len(line) > WIDEST]
-                self.expect(f"{name}: at most {WIDEST} columns", not wide, wide)
+            wide = [line for line in text.splitlines() if len(line) > WIDEST]
+            self.expect(f"{name}: at most {WIDEST} columns", text and not wide, wide)
 
     def test_versions(self):
         number = run([programs()[0], "--version"]).out.split()[1]

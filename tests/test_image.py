@@ -19,7 +19,6 @@ from traces import EXAMPLES
 
 TRACES = 24
 ORIGIN = 0xFF3
-FILE_FAULT = b"file fault\n"
 
 
 class Case:
@@ -291,6 +290,10 @@ def lists(program, library):
         right = f"--at 1\n--at 1 --line 0x1000:1\n--at 3\n--at 5\n--at 5 {two}\n--at 5 {both}\n".encode()
         judge(["--list", trace], Answer(0, right), None)
         judge(["--list"], Answer(0, right), None, TRACE)
+        judge(["--list", "--out", str(out), trace], Answer(0, b""), right)
+        judge(["--list", "-o", "-", trace], Answer(0, right), None)
+        judge(["--list", "--at", "6", "--out", str(out), trace], Answer(2, b"", b"place past end 5\n"), None)
+        judge(["--list", "--out", "/dev/full", trace], Answer(4, b"", b"cannot write /dev/full: No space left on device\n"), None)
         judge(["--list", "--off", "0", trace], Answer(0, b"--at 1\n--at 1 --all\n--at 3\n--at 5\n--at 5 --all\n"), None)
         judge(["--list", "--at", "4,3-4", "--off", "18446744073709551615", trace], Answer(0, f"--at 3\n--at 4\n--at 4 {two}\n".encode()), None)
         judge(["--list"], Answer(0, b"--at 0\n"), None, b"pmtrace 1\n")
@@ -299,7 +302,7 @@ def lists(program, library):
         judge(["--list", "--at", "18446744073709551616", trace], Answer(2, b"", b"place past end 5\n"), None)
         judge(["--list"], Answer(3, b"", b"standard input:2: "), None, b"pmtrace 1\nstore 0\n")
         judge(["--list", "/dev/null/none"], Answer(4, b"", b"cannot open /dev/null/none: "), None)
-        others = (["--all"], ["--failure", "1"], ["--line", "0x1000:1"], ["--pool", trace], ["--origin", "0x0"], ["--out", str(out)])
+        others = (["--all"], ["--failure", "1"], ["--line", "0x1000:1"], ["--pool", trace], ["--origin", "0x0"])
         places = ("", ",", "1,", ",1", "1,,2", "-", "1-", "1-2-3", "5-3", "01", "1 2", "0x1", "1,x")
         for words in (*others, *(["--at", word] for word in places), *(["--off", word] for word in ("", "01", "x", "1.5"))):
             judge(["--list", *words, trace], Answer(2, b"", b"error: "), None)
@@ -346,7 +349,9 @@ def devices(program, library, kind, to_file):
                 break
             shown = out.read_bytes() if out.exists() else answer.out
             # the trace is read first, as explain reads it, and then the pool
-            told = {FILE_FAULT, b"cannot read %s: Input/output error\n" % trace.encode()} if kind == "read" else {FILE_FAULT}
+            named = str(out).encode() if to_file else b"the answer"
+            told = {b"cannot read %s: Input/output error\n" % name.encode() for name in (trace, f"{trace}.base")}
+            told |= {b"cannot write %s: %s\n" % (named, reason) for reason in (b"Input/output error", b"write zero")}
             if answer.status != 4 or answer.faults not in told or out.exists() or not right.startswith(shown) or shown == right:
                 complaints.append(f"{kind} {at}: {faulty.short(answer)}, output {out.exists()}")
         written = out.read_bytes() if to_file and out.exists() else answer.out
@@ -396,7 +401,7 @@ def large_pool(program):
         answer = run(program, *words, str(trace))
         if answer.status != 0 or answer.out != right:
             complaints.append(f"a large pool: {faulty.short(answer)}")
-        compare(complaints, words, run(program, *words, "--out", "/dev/full", str(trace)), Answer(4, b"", FILE_FAULT))
+        compare(complaints, words, run(program, *words, "--out", "/dev/full", str(trace)), Answer(4, b"", b"cannot write /dev/full: No space left on device\n"))
         if not pathlib.Path("/dev/full").exists():
             complaints.append("the device was removed")
     return complaints

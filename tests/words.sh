@@ -35,6 +35,9 @@ expect 2 "'--frob'" trim --frob
 expect 2 "'3'" trim --workers 3
 expect 2 '1, 2, 4, 8, 16' trim --workers 3
 expect 2 "'3'" trim --stream --workers 3
+expect 2 "'3'" check -j 3
+expect 0 'kept 3 dropped 0' check -j 4 examples/one_persist.trace
+expect 0 'kept 3 dropped 0' check -j4 examples/one_persist.trace
 expect 2 "'04'" check --workers 04
 expect 2 "'--stream'" check --stream t
 expect 2 "'01'" fronts examples/one_persist.trace 01
@@ -95,33 +98,44 @@ judge 'no standard input, and none needed' "$?" 0 "$told" 'sfence 0'
 cp examples/one_persist.trace "$folder/-"
 told=$(cd "$folder" && "$program" trim ./- 2>&1 < /dev/null)
 judge 'a file that is named by a dash' "$?" 0 "$told" 'sfence 0'
-# dash PART WORD ..: the program's answer to the words on a trace that comes by standard input
+# dash STATUS PART WORD ..: the program's answer to the words on a trace that comes by standard input
 dash() {
-  local part=$1 told
-  shift
+  local wanted=$1 part=$2 told
+  shift 2
   told=$("$program" "$@" 2>&1 < examples/one_persist.trace)
-  judge "a dash is standard input: $*" "$?" 0 "$told" "$part"
+  judge "a dash is standard input: $*" "$?" "$wanted" "$told" "$part"
 }
-dash 'sfence 0' trim -
-dash 'sfence 0' trim --stream -
-dash 'kept 3 dropped 0' check -
-dash '3 events' explain -
-dash '<svg' draw -
-dash 'place 3 lines 1' fronts - 3
+dash 0 'sfence 0' trim -
+dash 0 'sfence 0' trim --stream -
+dash 0 'kept 3 dropped 0' check -
+dash 0 '3 events' explain -
+dash 0 '<svg' draw -
+dash 0 'place 3 lines 1' fronts - 3
+dash 0 '--at 1' image --list -
+dash 2 "'--pool' and '--origin'" image --at 1 -
+dash 2 'event 1 is no assertion that a crash can violate' slice --failure 1 -
 
 # A pipe whose reader has gone: quiet, but for the commands whose fault lines are fixed.
 mkfifo "$folder/pipe"
 exec 8<> "$folder/pipe"
 exec 9> "$folder/pipe"
 exec 8<&-
-for words in 'explain examples/mark_too_early.trace' 'explain --json examples/mark_too_early.trace' 'draw examples/mark_too_early.trace'; do
-  wanted=$([[ $words == draw* ]]; echo $?)
+head -c 4096 /dev/zero > "$folder/base"
+trace=examples/mark_too_early.trace
+for words in "explain $trace" "explain --json $trace" "explain --html $trace" "draw $trace" "slice --failure 7 $trace" "image --list $trace" \
+  "image --failure 7 --pool $folder/base --origin 0x1000 $trace" '--help' 'help explain' '--version'; do
+  wanted=$([[ $words != explain* ]]; echo $?)
   # shellcheck disable=SC2086 # words of a command
   told=$("$program" $words 2>&1 >&9)
   judge "a pipe that nobody reads: $words" "$?" "$wanted" "<$told>" '<>'
+  # shellcheck disable=SC2086
+  told=$("$program" $words 2>&1 > /dev/full)
+  judge "a full device: $words" "$?" 4 "<$told>" '<cannot write the answer: No space left on device>'
 done
-told=$("$program" check examples/one_persist.trace 2>&1 >&9)
-judge 'a pipe that nobody reads: check' "$?" 4 "$told" 'file fault'
+told=$("$program" check "$trace" 2>&1 >&9)
+judge 'a pipe that nobody reads: check' "$?" 4 "<$told>" '<file fault>'
+told=$("$program" check -v "$trace" 2>&1 >&9)
+judge 'a pipe that nobody reads: check -v' "$?" 4 "<$told>" $'<file fault\ncannot write the answer: Broken pipe>'
 exec 9>&-
 told=$("$program" trim --workers=4 2>&1 < examples/one_persist.trace)
 judge 'a value after the equals sign' "$?" 0 "$told" 'sfence 0'

@@ -1,9 +1,7 @@
 //! Drawing a trace.
 ghost use Rattle.std.specs.Prelude.{◌≡◌, IfOk};
 
-use command_inputs::{
-    Fault, Opener, STANDARD_INPUT, bytes_of, labels_of, taken_fault, write_answer,
-};
+use command_inputs::{Fault, Input, Opener, bytes_of, labels_of, taken_fault, write_named};
 use command_requests::Drawing;
 use pmt_causes::Group;
 use pmt_draw::{Known, Label, Picture, Refusal, Span, View, picture_of, refusal_of, svg_text};
@@ -16,7 +14,7 @@ use pmt_text::{Counted, TextSource};
 use std::alloc::{AllocError, Global};
 use std::io::{Cursor, Read, Write};
 
-/// Draws the trace of the file, or that of `input` where none is named. The status is 0.
+/// Draws the trace of the file, or that of `input` where none is named, into the file that is named or to `out`. The status is 0.
 ///
 /// # Errors
 /// The fault of the labels, of the trace or of the write; `OutOfMemory`.
@@ -34,9 +32,10 @@ where
     ensures { IfOk result (λ status. status ≡ 0) }
 {
     let labels = labels_of(alloc, files, drawing.labels)?;
-    let bytes = bytes_of(alloc, drawing.file, files, input)?;
+    let bytes = bytes_of(alloc, Input::new("draw", drawing.file), files, input)?;
     let text = svg_asked(alloc, drawing, &labels, bytes.as_slice())?;
-    write_answer(alloc, text.as_bytes(), out)?;
+    let read = [drawing.file, drawing.labels];
+    write_named(alloc, files, drawing.out, &read, text.into_bytes(), out)?;
     Ok(0)
 }
 
@@ -50,8 +49,8 @@ fn svg_asked(
     match explained(alloc, labels, drawing.view.span, bytes) {
         Ok(explanation) => svg_of(alloc, &explanation, &drawing.view, labels),
         Err(error) => {
-            let name = drawing.file.unwrap_or(STANDARD_INPUT);
-            Err(taken_fault(alloc, name, bytes, error)?)
+            let input = Input::new("draw", drawing.file);
+            Err(taken_fault(alloc, input, bytes, error)?)
         }
     }
 }

@@ -1,12 +1,13 @@
 //! `explain`: what is wrong in a trace, why, and what to do.
 ghost use Rattle.std.specs.Prelude.{◌≤◌, IfOk};
 
+use crate::colors::colored;
 use command_inputs::{
-    Fault, Opener, STANDARD_INPUT, bytes_of, cut_of, labels_of, no_failure, read_file, read_ranges,
-    taken_fault, write_answer,
+    Fault, Input, Opener, bytes_of, cut_of, labels_of, no_failure, read_file, read_ranges,
+    taken_fault, write_named,
 };
 use command_page::page_of;
-use command_requests::{ExplainWords, Form};
+use command_requests::{Color, ExplainWords, Form};
 use pmt_explain_json::json_text;
 use pmt_explain_run::explain;
 use pmt_explain_text::{Screen, text};
@@ -14,13 +15,14 @@ use pmt_explanation::{Cut, Explanation, Labels, has_failed};
 use pmt_model::OutOfMemory;
 use pmt_taking::TakeError;
 use pmt_text::{Counted, TextSource};
-use std::alloc::Global;
+use std::alloc::{AllocError, Global};
 use std::io::{Cursor, Read, Write};
 
 // The lines of a text where the words don't say how many entries are shown.
 const ROWS: usize = 40;
 
-/// Explains the trace of the file or of `input`, and writes what is asked for to `out`. The files of ranges and of labels are read and
+/// Explains the trace of the file or of `input`, and writes what is asked for to the file that is named, or to `out`, which shows colors
+/// or not. The files of ranges and of labels are read and
 /// judged first. The status is 1 where an assertion fails, or a store is never persisted that is not ignored.
 ///
 /// # Errors
@@ -32,6 +34,7 @@ pub fn run_explain<O, I, W>(
     files: &O,
     input: &mut I,
     out: &mut W,
+    colors: bool,
 ) -> Result<u8, Fault>
 where
     O: Opener,
@@ -41,9 +44,13 @@ where
 {
     read_ignored(alloc, files, words)?;
     let labels = labels_of(alloc, files, words.labels)?;
-    let bytes = bytes_of(alloc, words.file, files, input)?;
+    let bytes = bytes_of(alloc, Input::new("explain", words.file), files, input)?;
     let cut = cut_of(alloc, files, words.file)?;
-    let known = Known { labels, cut };
+    let known = Known {
+        labels,
+        cut,
+        colors: is_colored(words, colors),
+    };
     explain_bytes(alloc, files, words, &known, bytes.as_slice(), out)
 }
 
@@ -71,6 +78,17 @@ struct Known {
     labels: Labels,
     // Where and why it was cut, if it was.
     cut: Option<Cut>,
+    // Whether the text for people has colors.
+    colors: bool,
+}
+
+// Whether the text has colors, where a terminal would show them or not.
+fn is_colored(words: &ExplainWords<'_>, colors: bool) -> bool {
+    match words.color {
+        Color::Auto => colors && words.out.is_none(),
+        Color::Always => true,
+        Color::Never => false,
+    }
 }
 
 // Explains the trace with this text. The status is 1 where an assertion fails, or a store is never persisted that is not ignored.
@@ -87,8 +105,8 @@ fn explain_bytes<O: Opener, W: Write>(
     match explained(alloc, words, &known.labels, bytes) {
         Ok(mut explanation) => tell(alloc, files, words, known, bytes, &mut explanation, out),
         Err(error) => {
-            let name = words.file.unwrap_or(STANDARD_INPUT);
-            Err(taken_fault(alloc, name, bytes, error)?)
+            let input = Input::new("explain", words.file);
+            Err(taken_fault(alloc, input, bytes, error)?)
         }
     }
 }
@@ -123,8 +141,23 @@ fn tell<O: Opener, W: Write>(
         0
     };
     let answer = answer_of(alloc, files, explanation, known, words, bytes)?;
-    write_answer(alloc, answer.as_slice(), out)?;
+    let read = read_files(alloc, words)?;
+    write_named(alloc, files, words.out, read.as_slice(), answer, out)?;
     Ok(status)
+}
+
+// The files that are read, where they are named.
+fn read_files<'a>(
+    alloc: Global,
+    words: &ExplainWords<'a>,
+) -> Result<Vec<Option<&'a str>>, AllocError> {
+    let mut read = Vec::new(alloc);
+    read.push(words.file)?;
+    read.push(words.labels)?;
+    for name in &words.ignore_files {
+        read.push(Some(*name))?;
+    }
+    Ok(read)
 }
 
 // That the assertion of this event, if one was asked for, fails.
@@ -153,6 +186,10 @@ fn answer_of<O: Opener>(
 ) -> Result<Vec<u8>, Fault> {
     let labels = &known.labels;
     match words.form {
+        Form::Text if known.colors => {
+            let text = people_text(alloc, explanation, known, words)?;
+            Ok(colored(alloc, text.as_slice())?)
+        }
         Form::Text => Ok(people_text(alloc, explanation, known, words)?),
         Form::Json => Ok(json_text(alloc, explanation, labels, &words.options.choice)?),
         Form::Page => {

@@ -2,20 +2,19 @@
 ghost use Rattle.std.specs.Prelude.{◌≡◌, ◌+◌, ◌<◌, ◌^◌, IfOk};
 
 use command_inputs::{
-    Fault, OpenError, Opener, no_failure, open_fault, opened, read_file, read_origin, system_fault,
-    trace_of,
+    Fault, Input, Opener, Recalling, Recalls, create_fault, no_failure, open_fault, opened,
+    read_file, read_origin, system_fault, trace_of,
 };
 use command_requests::{AddressStores, AskedCrash, ImageWords};
 use pmt_explain::failure;
 use pmt_image::{
-    CopyFault, CountFault, Crash, ImageFault, LineStores, Pool, Stop, crash_at, crash_of_failure,
-    write_image,
+    CountFault, Crash, ImageFault, LineStores, Pool, Stop, crash_at, crash_of_failure, write_image,
 };
 use pmt_model::{Format, Trace, line_of};
 use pmt_report::RunError;
 use pmt_text::Counted;
 use std::alloc::Global;
-use std::io::{Read, Write};
+use std::io::{self, ErrorKind, Read, Write};
 
 // The pool that is read: where it lies, and its file.
 #[derive(Drop)]
@@ -42,7 +41,7 @@ where
     ensures { IfOk result (λ status. status ≡ 0) }
 {
     let base = base_of(alloc, words, files)?;
-    let trace = trace_of(alloc, words.file, files, input)?;
+    let trace = trace_of(alloc, Input::new("image", words.file), files, input)?;
     let crash = crash_of(alloc, &trace, &words.crash)?;
     write_pool(alloc, words, files, &trace, &crash, &base, out)?;
     Ok(0)
@@ -74,7 +73,7 @@ fn write_pool<O: Opener, W: Write>(
 ) -> Result<(), Fault> {
     match words.out {
         Some(name) => write_file(alloc, files, trace, crash, base, name),
-        None => write_to(alloc, files, trace, crash, base, out),
+        None => write_to(alloc, files, trace, crash, base, "the answer", out),
     }
 }
 
@@ -195,23 +194,60 @@ fn count_fault(alloc: Global, format: Format, fault: CountFault) -> Result<Fault
     }
 }
 
-// Writes the pool to `out`.
+// Writes the pool to `out`, which a person calls so.
 fn write_to<O: Opener, W: Write>(
     alloc: Global,
     files: &O,
     trace: &Trace,
     crash: &Crash,
     base: &Base,
+    output: &str,
     out: &mut W,
 ) -> Result<(), Fault> {
     let pool = pool_of(alloc, base)?;
     let name = base.name.as_str();
-    let mut reader = Counted::new(opened(alloc, files, name)?);
-    let mut writer = Counted::new(out);
+    let reader = opened(alloc, files, name)?;
+    let mut reader = Counted::new(Recalling::new(alloc, reader, Recalls::Errors));
+    let mut writer = Counted::new(Recalling::new(alloc, out, Recalls::Errors));
     let done = write_image(alloc, trace, crash, pool, &mut reader, &mut writer);
     match done {
         Ok(()) => Ok(()),
+        Err(ImageFault::Copy(fault)) => {
+            let errors = CopyErrors {
+                read: reader.into_inner().error(),
+                written: writer.into_inner().error(),
+            };
+            copy_fault(alloc, output, name, fault.stop, errors)
+        }
         Err(fault) => Err(image_fault(alloc, base, fault)?),
+    }
+}
+
+// Why the pool's reader and the answer's writer failed, if they did.
+#[derive(Clone, Copy)]
+struct CopyErrors {
+    read: Option<io::Error>,
+    written: Option<io::Error>,
+}
+
+// What comes of a copy that stopped: the fault of the pool with this name or of what was written, but a pipe whose reader has gone wants
+// no more.
+fn copy_fault(
+    alloc: Global,
+    output: &str,
+    name: &str,
+    stop: Stop,
+    errors: CopyErrors,
+) -> Result<(), Fault> {
+    match (stop, errors.read, errors.written) {
+        (Stop::Write, _, Some(error)) if error.kind() == ErrorKind::BrokenPipe => Ok(()),
+        (Stop::Write, _, Some(error)) => Err(system_fault(alloc, "cannot write", output, error)?),
+        (Stop::Read, Some(error), _) => Err(system_fault(alloc, "cannot read", name, error)?),
+        (Stop::Short, _, _) => {
+            let line = format!(in alloc; "{name}: fewer bytes came than the file had\n")?;
+            Err(Fault::System(line))
+        }
+        _ => Err(Fault::File),
     }
 }
 
@@ -227,12 +263,9 @@ fn write_file<O: Opener>(
     check(alloc, trace, crash, base)?;
     let mut file = match files.create(name, base.name.as_str()) {
         Ok(file) => file,
-        Err(OpenError::System(error)) => {
-            return Err(system_fault(alloc, "cannot create", name, error)?);
-        }
-        Err(OpenError::OutOfMemory) => return Err(Fault::OutOfMemory),
+        Err(error) => return Err(create_fault(alloc, name, error)?),
     };
-    match write_to(alloc, files, trace, crash, base, &mut file) {
+    match write_to(alloc, files, trace, crash, base, name, &mut file) {
         Ok(()) => Ok(()),
         Err(fault) => {
             files.remove(name);
@@ -260,16 +293,6 @@ fn image_fault(alloc: Global, base: &Base, fault: ImageFault) -> Result<Fault, F
                 "event {event} stores to {address:#x}, which lies outside of the pool: {size} bytes from {origin:#x} on\n"
             )?;
             Ok(Fault::Refused(line))
-        }
-        ImageFault::Copy(
-            CopyFault {
-                stop: Stop::Short,
-                ..
-            },
-        ) => {
-            let name = base.name.as_str();
-            let line = format!(in alloc; "{name}: fewer bytes came than the file had\n")?;
-            Ok(Fault::System(line))
         }
         ImageFault::Copy(_) => Ok(Fault::File),
     }

@@ -1,13 +1,13 @@
 //! `image --list`: the crashes near each place.
 ghost use Rattle.std.specs.Prelude.{◌≡◌, IfOk};
 
-use command_inputs::{Fault, Opener, trace_of};
+use command_inputs::{Fault, Input, Opener, create_fault, system_fault, trace_of};
 use command_requests::ListWords;
 use pmt_image::{LineStores, Walk, has_place, is_turn, push_crash};
 use pmt_model::Trace;
 use pmt_report::RunError;
 use std::alloc::Global;
-use std::io::{Read, Write};
+use std::io::{self, ErrorKind, Read, Write};
 
 /// The text is written in pieces of at least so many bytes.
 const PIECE: usize = 1 << 16;
@@ -16,8 +16,12 @@ const PIECE: usize = 1 << 16;
 #[derive(Drop)]
 struct Lister<'a, W: Write> {
     out: &'a mut W,
+    // What a person calls it.
+    output: &'a str,
     text: Vec<u8>,
     line_size: u64,
+    // Whether it is a pipe whose reader has gone: nothing more is wanted.
+    is_left: bool,
 }
 
 /// Writes the crashes near each place of the trace of the file or of `input`, a line each, place by place. The status is 0.
@@ -37,31 +41,64 @@ where
     W: Write,
     ensures { IfOk result (λ status. status ≡ 0) }
 {
-    let trace = trace_of(alloc, words.file, files, input)?;
-    list(alloc, &trace, words, out)
+    let trace = trace_of(alloc, Input::new("image --list", words.file), files, input)?;
+    match words.out {
+        Some(name) => list_to_file(alloc, files, &trace, words, name)?,
+        None => list(alloc, &trace, words, "the answer", out)?,
+    }
+    Ok(0)
 }
 
-// Writes the crashes near each place of the trace.
-fn list<W: Write>(
+// Writes the list to the named file; what was written in part is removed.
+fn list_to_file<O: Opener>(
     alloc: Global,
+    files: &O,
     trace: &Trace,
     words: &ListWords<'_>,
-    out: &mut W,
-) -> Result<u8, Fault>
-    ensures { IfOk result (λ status. status ≡ 0) }
-{
+    name: &str,
+) -> Result<(), Fault> {
+    judge_places(trace, words)?;
+    let mut file = match files.create(name, words.file.unwrap_or("")) {
+        Ok(file) => file,
+        Err(error) => return Err(create_fault(alloc, name, error)?),
+    };
+    match list(alloc, trace, words, name, &mut file) {
+        Ok(()) => Ok(()),
+        Err(fault) => {
+            files.remove(name);
+            Err(fault)
+        }
+    }
+}
+
+// That no place lies past the end.
+fn judge_places(trace: &Trace, words: &ListWords<'_>) -> Result<(), Fault> {
     let events = trace.len() as u64;
     if words.places.iter().any(|range| range.last > events) {
         return Err(Fault::Run(RunError::PastEnd { events }));
     }
+    Ok(())
+}
+
+// Writes the crashes near each place of the trace to `out`, which a person calls so.
+fn list<W: Write>(
+    alloc: Global,
+    trace: &Trace,
+    words: &ListWords<'_>,
+    output: &str,
+    out: &mut W,
+) -> Result<(), Fault> {
+    judge_places(trace, words)?;
     let mut lister = Lister {
         out,
+        output,
         text: Vec::new(alloc),
         line_size: trace.format().line_size(),
+        is_left: false,
     };
     list_places(alloc, trace, words, &mut lister)?;
-    write_rest(&mut lister)?;
-    Ok(0)
+    write_text(alloc, &mut lister)?;
+    flush(alloc, &mut lister)
 }
 
 // Lists the crashes near each place that is asked for.
@@ -73,6 +110,9 @@ fn list_places<W: Write>(
 ) -> Result<(), Fault> {
     let mut walk = Walk::new(alloc, trace)?;
     for place in 0..=trace.len() as u64 {
+        if lister.is_left {
+            break;
+        }
         if is_asked(trace, words, place) {
             list_place(alloc, &mut walk, lister, place, words.off)?;
         }
@@ -99,16 +139,17 @@ fn list_place<W: Write>(
 ) -> Result<(), Fault> {
     let crashes = walk.near_crashes(alloc, place, off)?;
     for lines in &crashes.off_fronts {
-        list_crash(lister, place, false, lines.as_slice())?;
+        list_crash(alloc, lister, place, false, lines.as_slice())?;
     }
     for lines in &crashes.off_counts {
-        list_crash(lister, place, true, lines.as_slice())?;
+        list_crash(alloc, lister, place, true, lines.as_slice())?;
     }
     Ok(())
 }
 
 // Lists the crash.
 fn list_crash<W: Write>(
+    alloc: Global,
     lister: &mut Lister<'_, W>,
     place: u64,
     all: bool,
@@ -116,25 +157,36 @@ fn list_crash<W: Write>(
 ) -> Result<(), Fault> {
     push_crash(&mut lister.text, lister.line_size, place, all, lines)?;
     if lister.text.len() >= PIECE {
-        write_text(lister)?;
+        write_text(alloc, lister)?;
     }
     Ok(())
 }
 
 // Writes the text so far.
-fn write_text<W: Write>(lister: &mut Lister<'_, W>) -> Result<(), Fault> {
-    if lister.out.write_all(lister.text.as_slice()).is_err() {
-        return Err(Fault::File);
-    }
+fn write_text<W: Write>(alloc: Global, lister: &mut Lister<'_, W>) -> Result<(), Fault> {
+    let done = lister.out.write_all(lister.text.as_slice());
     lister.text.clear();
-    Ok(())
+    judge_write(alloc, lister, done)
 }
 
-// Writes the rest of the text, and flushes once.
-fn write_rest<W: Write>(lister: &mut Lister<'_, W>) -> Result<(), Fault> {
-    write_text(lister)?;
-    match lister.out.flush() {
+// Flushes once.
+fn flush<W: Write>(alloc: Global, lister: &mut Lister<'_, W>) -> Result<(), Fault> {
+    let done = lister.out.flush();
+    judge_write(alloc, lister, done)
+}
+
+// The fault of a call of the writer, but that a pipe's reader has gone.
+fn judge_write<W: Write>(
+    alloc: Global,
+    lister: &mut Lister<'_, W>,
+    done: io::Result<()>,
+) -> Result<(), Fault> {
+    match done {
         Ok(()) => Ok(()),
-        Err(_) => Err(Fault::File),
+        Err(error) if error.kind() == ErrorKind::BrokenPipe => {
+            lister.is_left = true;
+            Ok(())
+        }
+        Err(error) => Err(system_fault(alloc, "cannot write", lister.output, error)?),
     }
 }

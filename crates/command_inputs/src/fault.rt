@@ -12,6 +12,8 @@ use std::io::Write;
 pub enum Fault {
     /// The words are wrong; the text says how, and ends with LF.
     Usage(String),
+    /// The first word names no command; the text says so, and ends with LF.
+    NoCommand(String),
     /// What the words ask for is not there; the text says why, and ends with LF.
     Absent(String),
     /// An input is refused; the text says where and why, and ends with LF.
@@ -55,7 +57,7 @@ impl Fault {
         ensures { result ≤ 6 }
     {
         match self {
-            Fault::Usage(_) | Fault::Absent(_) => 2,
+            Fault::Usage(_) | Fault::NoCommand(_) | Fault::Absent(_) => 2,
             Fault::Refused(_) => 3,
             Fault::System(_) => 4,
             Fault::Run(error) => error.status(),
@@ -81,11 +83,36 @@ impl Fault {
         }
     }
 
+    /// The fault that says what this one says and below it what the other one says, with the status of this one. Where memory is
+    /// refused to that, it is `OutOfMemory`.
+    pub(crate) fn with_reason(self, alloc: Global, reason: &Fault) -> Fault {
+        match self.text_with(alloc, reason) {
+            Ok(text) => match self.status() {
+                2 => Fault::Absent(text),
+                3 => Fault::Refused(text),
+                4 => Fault::System(text),
+                _ => self,
+            },
+            Err(_) => Fault::OutOfMemory,
+        }
+    }
+
+    // What this one says, and then what the other one says.
+    fn text_with(&self, alloc: Global, reason: &Fault) -> Result<String, OutOfMemory> {
+        let mut text = self.text(alloc)?;
+        let below = reason.text(alloc)?;
+        text.push_str(below.as_str())?;
+        Ok(text)
+    }
+
     // The lines that say what is wrong.
     fn text(&self, alloc: Global) -> Result<String, OutOfMemory> {
         match self {
-            Fault::Usage(text) | Fault::Absent(text) | Fault::Refused(text) | Fault::System(text) =>
-                { text.clone() }
+            Fault::Usage(text)
+            | Fault::NoCommand(text)
+            | Fault::Absent(text)
+            | Fault::Refused(text)
+            | Fault::System(text) => text.clone(),
             Fault::Run(error) => ended(fault_text(alloc, error)),
             Fault::Record(fault) => ended(fault.line(alloc)),
             Fault::File => String::from_str(alloc, "file fault\n"),

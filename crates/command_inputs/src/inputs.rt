@@ -2,6 +2,9 @@
 
 use crate::diagnosis::diagnosed;
 use crate::fault::Fault;
+use crate::foreign::{Foreign, foreign_fault, foreign_of};
+use crate::forms::Grammar;
+use crate::input::{Input, STANDARD_INPUT};
 use crate::labels::read_labels;
 use crate::opener::{OpenError, Opener};
 use crate::reading::{read_whole, system_fault};
@@ -10,46 +13,41 @@ use pmt_explanation::Labels;
 use pmt_model::Trace;
 use pmt_report::RunError;
 use pmt_taking::{TakeError, take_trace};
+use pmt_text::header::judge_header;
 use pmt_text::{Counted, SourceError, TextError, TextSource};
-use std::alloc::Global;
+use std::alloc::{AllocError, Global};
 use std::io::{Cursor, Read};
 
-/// What a person calls the input that has no name.
-pub const STANDARD_INPUT: &str = "standard input";
-
-/// The bytes of the trace of the file, or those of `input` where none is named.
+/// The bytes of the file, or those of `reader` where none is named.
 ///
 /// # Errors
 /// The fault of the file or of the read, which names it; `OutOfMemory`.
 pub fn bytes_of<O: Opener, I: Read>(
     alloc: Global,
-    file: Option<&str>,
+    input: Input<'_>,
     files: &O,
-    input: &mut I,
+    reader: &mut I,
 ) -> Result<Vec<u8>, Fault> {
-    match file {
+    match input.file {
         Some(name) => read_file(alloc, files, name),
-        None => read_whole(alloc, STANDARD_INPUT, input),
+        None => read_whole(alloc, STANDARD_INPUT, reader),
     }
 }
 
-/// The trace of the file or of `input`.
+/// The trace of the file or of `reader`.
 ///
 /// # Errors
 /// The fault of the file, of the read, or of the first line that is refused; `OutOfMemory`.
 pub fn trace_of<O: Opener, I: Read>(
     alloc: Global,
-    file: Option<&str>,
+    input: Input<'_>,
     files: &O,
-    input: &mut I,
+    reader: &mut I,
 ) -> Result<Trace, Fault> {
-    let bytes = bytes_of(alloc, file, files, input)?;
+    let bytes = bytes_of(alloc, input, files, reader)?;
     match taken(alloc, bytes.as_slice()) {
         Ok(trace) => Ok(trace),
-        Err(error) => {
-            let name = file.unwrap_or(STANDARD_INPUT);
-            Err(taken_fault(alloc, name, bytes.as_slice(), error)?)
-        }
+        Err(error) => Err(taken_fault(alloc, input, bytes.as_slice(), error)?),
     }
 }
 
@@ -104,20 +102,31 @@ pub fn open_fault(alloc: Global, name: &str, error: OpenError) -> Result<Fault, 
     }
 }
 
-/// The fault of the trace with this name and text, whose events were not taken for this: of a refused line its place, its text, and
-/// what is allowed there.
+/// The fault of a named file that was not created.
+///
+/// # Errors
+/// `OutOfMemory`.
+pub fn create_fault(alloc: Global, name: &str, error: OpenError) -> Result<Fault, Fault> {
+    match error {
+        OpenError::System(error) => system_fault(alloc, "cannot create", name, error),
+        OpenError::OutOfMemory => Ok(Fault::OutOfMemory),
+    }
+}
+
+/// The fault of the input with this text, whose events were not taken for this: of a refused line its place, its text, and what is
+/// allowed there.
 ///
 /// # Errors
 /// `OutOfMemory`.
 pub fn taken_fault(
     alloc: Global,
-    name: &str,
+    input: Input<'_>,
     text: &[u8],
     error: TakeError,
 ) -> Result<Fault, Fault> {
     match error {
-        TakeError::Source(SourceError::Text(fault)) => refused(alloc, name, text, fault),
-        TakeError::Source(SourceError::TooMany) => too_long(alloc, name),
+        TakeError::Source(SourceError::Text(fault)) => refused(alloc, input, text, fault),
+        TakeError::Source(SourceError::TooMany) => Ok(too_long(alloc, input)?),
         TakeError::Source(SourceError::Read | SourceError::Failed) => {
             Ok(Fault::Run(RunError::Read))
         }
@@ -128,14 +137,47 @@ pub fn taken_fault(
 }
 
 // The fault of the trace's line that is refused.
-fn refused(alloc: Global, name: &str, text: &[u8], fault: TextError) -> Result<Fault, Fault> {
-    let wrong = diagnosed(alloc, text, fault)?;
+fn refused(alloc: Global, input: Input<'_>, text: &[u8], fault: TextError) -> Result<Fault, Fault> {
+    let grammar = Grammar::of_trace(line_of_text(text, 1));
     let line = line_of_text(text, fault.line);
-    Ok(refused_line(alloc, name, fault.line, line, &wrong)?)
+    Ok(refused_text(alloc, input, &grammar, line, fault)?)
 }
 
-// The fault of a trace with more bytes than are judged.
-fn too_long(alloc: Global, name: &str) -> Result<Fault, Fault> {
+/// The fault of this line of the input, which was refused for this: what it is in place of a trace or a script, or else the place, the
+/// text, what is wrong with it, and what is allowed there.
+///
+/// # Errors
+/// `OutOfMemory`.
+pub(crate) fn refused_text(
+    alloc: Global,
+    input: Input<'_>,
+    grammar: &Grammar,
+    line: &[u8],
+    fault: TextError,
+) -> Result<Fault, AllocError> {
+    if fault.line == 1 {
+        if let Some(foreign) = foreign_to(grammar, line) {
+            return foreign_fault(alloc, input, foreign);
+        }
+    }
+    let wrong = diagnosed(alloc, grammar, line, fault.kind)?;
+    refused_line(alloc, input.name(), fault.line, line, &wrong)
+}
+
+// What an input with this first line is in place of what it is meant to be, if that is known.
+fn foreign_to(grammar: &Grammar, first: &[u8]) -> Option<Foreign> {
+    match grammar {
+        Grammar::Script if judge_header(first).is_some() => Some(Foreign::Trace),
+        _ => foreign_of(first),
+    }
+}
+
+/// The fault of an input with more bytes than are judged.
+///
+/// # Errors
+/// `OutOfMemory`.
+pub(crate) fn too_long(alloc: Global, input: Input<'_>) -> Result<Fault, AllocError> {
+    let name = input.name();
     let line = format!(in alloc;
         "{name}: the trace is too long: it has more than 67108864 bytes\n"
     )?;

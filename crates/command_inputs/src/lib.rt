@@ -5,24 +5,36 @@ mod budgets;
 mod cuts;
 mod diagnosis;
 mod fault;
+mod foreign;
+mod forms;
+mod input;
 mod inputs;
 mod labels;
 mod opener;
 mod origin;
+mod outputs;
 mod ranges;
 mod reading;
+mod reasons;
+mod recalling;
 mod refused;
+mod shell;
 mod writing;
 
 pub use crate::budgets::budget_of;
 pub use crate::cuts::cut_of;
 pub use crate::fault::{Fault, no_failure};
+pub use crate::input::{Input, STANDARD_INPUT};
 pub use crate::inputs::{
-    STANDARD_INPUT, bytes_of, labels_of, open_fault, opened, read_file, taken_fault, trace_of,
+    bytes_of, create_fault, labels_of, open_fault, opened, read_file, taken_fault, trace_of,
 };
 pub use crate::opener::{OpenError, Opener, SystemFiles};
 pub use crate::origin::read_origin;
+pub use crate::outputs::{Output, check_apart, write_named, write_outputs};
 pub use crate::ranges::{asked_range, read_ranges};
 pub use crate::reading::{read_whole, reason, system_fault};
+pub use crate::reasons::{open_input, reasoned, write_output};
+pub use crate::recalling::{Memory, Recalling, Recalls};
 pub use crate::refused::split_line;
+pub use crate::shell::shell_word;
 pub use crate::writing::{write_answer, write_whole};

@@ -9,6 +9,8 @@ pub struct Drawing<'a> {
     pub view: View,
     /// The file of the labels.
     pub labels: Option<&'a str>,
+    /// The file that is written; none for standard output.
+    pub out: Option<&'a str>,
     /// The file of the trace; none for standard input.
     pub file: Option<&'a str>,
 }

@@ -13,6 +13,15 @@ pub enum Form {
     Page,
 }
 
+/// Whether the text for people has colors.
+#[derive(Clone, Copy, PartialEq, Eq)]
+pub enum Color {
+    /// If a terminal shows it.
+    Auto,
+    Always,
+    Never,
+}
+
 /// What `explain` is asked for.
 #[derive(Drop)]
 pub struct ExplainWords<'a> {
@@ -28,6 +37,10 @@ pub struct ExplainWords<'a> {
     pub labels: Option<&'a str>,
     /// What is written.
     pub form: Form,
+    /// Whether the text for people has colors.
+    pub color: Color,
+    /// The file that is written; none for standard output.
+    pub out: Option<&'a str>,
     /// The folder of the source files whose lines a page shows.
     pub source: Option<&'a str>,
     /// The most entries of a kind that a page has.

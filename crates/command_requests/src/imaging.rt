@@ -47,6 +47,8 @@ pub struct ListWords<'a> {
     pub places: Vec<PlaceRange>,
     /// How many lines may be off.
     pub off: u64,
+    /// The file that is written; none for standard output.
+    pub out: Option<&'a str>,
     /// The trace; none for standard input.
     pub file: Option<&'a str>,
 }

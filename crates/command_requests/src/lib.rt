@@ -9,10 +9,10 @@ mod request;
 mod slicing;
 
 pub use crate::drawing::Drawing;
-pub use crate::explaining::{ExplainWords, Form};
+pub use crate::explaining::{Color, ExplainWords, Form};
 pub use crate::imaging::{AddressStores, AskedCrash, ImageRequest, ImageWords, ListWords};
 pub use crate::measuring::{StatForm, StatWords};
-pub use crate::request::{FrontsWords, Request, TraceWords};
+pub use crate::request::{CheckWords, FrontsWords, RecordWords, Request, TraceWords};
 pub use crate::slicing::{SliceSubject, SliceWords};
 
 /// The version of the program.

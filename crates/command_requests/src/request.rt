@@ -12,13 +12,13 @@ pub enum Request<'a> {
     /// This text: help, or the version.
     Show(String),
     /// The report of a trace.
-    Check(TraceWords<'a>),
+    Check(CheckWords<'a>),
     /// What is wrong in a trace, why, and what to do.
     Explain(ExplainWords<'a>),
     /// The trimmed trace.
     Trim(TraceWords<'a>),
-    /// The trimmed trace of this file, or of standard input, written while it is read.
-    Stream(Option<&'a str>),
+    /// The trimmed trace, written while it is read.
+    Stream(TraceWords<'a>),
     /// The fronts of a trace at a place.
     Fronts(FrontsWords<'a>),
     /// The picture of a trace.
@@ -31,8 +31,8 @@ pub enum Request<'a> {
     Slice(SliceWords<'a>),
     /// The figures of a trace.
     Stat(StatWords<'a>),
-    /// The trace that these scripts record.
-    Record(Vec<&'a str>),
+    /// The trace that some scripts record.
+    Record(RecordWords<'a>),
 }
 
 /// Which trace is read.
@@ -42,6 +42,21 @@ pub struct TraceWords<'a> {
     pub workers: usize,
     /// The trace; standard input, if none is given.
     pub file: Option<&'a str>,
+    /// Whether the reason stands below a fault's line.
+    pub verbose: bool,
+}
+
+/// Which trace is checked, and what is told of it.
+#[derive(Clone, Copy)]
+pub struct CheckWords<'a> {
+    /// The trace.
+    pub trace: TraceWords<'a>,
+    /// The labels file, whose texts stand after the entries.
+    pub labels: Option<&'a str>,
+    /// The most entries that are told; none for all of them.
+    pub limit: Option<u64>,
+    /// Whether nothing is written but a fault: the status tells.
+    pub quiet: bool,
 }
 
 /// Of which trace fronts are told.
@@ -51,14 +66,25 @@ pub struct FrontsWords<'a> {
     pub file: Option<&'a str>,
     /// After how many events.
     pub place: u64,
+    /// Whether the reason stands below a fault's line.
+    pub verbose: bool,
+}
+
+/// Which scripts are recorded.
+#[derive(Drop)]
+pub struct RecordWords<'a> {
+    /// Their files, a thread each.
+    pub scripts: Vec<&'a str>,
+    /// Whether the reason stands below a fault's line.
+    pub verbose: bool,
 }
 
 impl Request<'_> {
     /// Whether standard input is read for it.
     pub fn reads_input(&self) -> bool {
         match self {
-            Request::Check(words) | Request::Trim(words) => words.file.is_none(),
-            Request::Stream(file) => file.is_none(),
+            Request::Check(words) => words.trace.file.is_none(),
+            Request::Trim(words) | Request::Stream(words) => words.file.is_none(),
             Request::Fronts(words) => words.file.is_none(),
             Request::Explain(words) => words.file.is_none(),
             Request::Draw(drawing) => drawing.file.is_none(),
@@ -67,6 +93,17 @@ impl Request<'_> {
             Request::Slice(words) => words.file.is_none(),
             Request::Stat(words) => words.file.is_none(),
             Request::Show(_) | Request::Record(_) => false,
+        }
+    }
+
+    /// Whether the reason is to stand below the line of a fault that is fixed.
+    pub fn is_verbose(&self) -> bool {
+        match self {
+            Request::Check(words) => words.trace.verbose,
+            Request::Trim(words) | Request::Stream(words) => words.verbose,
+            Request::Fronts(words) => words.verbose,
+            Request::Record(words) => words.verbose,
+            _ => false,
         }
     }
 }

@@ -1,8 +1,10 @@
 //! `slice`: the events that show a failed assertion or a lost store, as a trace.
 ghost use Rattle.std.specs.Prelude.{◌≡◌, IfOk};
 
-use crate::outputs::{Output, check_apart, write_outputs};
-use command_inputs::{Fault, Opener, labels_of, no_failure, trace_of, write_answer};
+use command_inputs::{
+    Fault, Input, Opener, Output, check_apart, labels_of, no_failure, trace_of, write_answer,
+    write_outputs,
+};
 use command_requests::{SliceSubject, SliceWords};
 use pmt_explain::failure;
 use pmt_explanation::Labels;
@@ -31,7 +33,7 @@ where
     ensures { IfOk result (λ status. status ≡ 0) }
 {
     let labels = labels_of(alloc, files, words.labels)?;
-    let trace = trace_of(alloc, words.file, files, input)?;
+    let trace = trace_of(alloc, Input::new("slice", words.file), files, input)?;
     let slice = match words.subject {
         SliceSubject::Failure(number) => slice_of_failure(alloc, &trace, number)?,
         SliceSubject::Store(number) => slice_of_store(alloc, &trace, number)?,

@@ -1,6 +1,6 @@
 //! What is measured of a trace.
 
-use command_inputs::{Fault, Opener, STANDARD_INPUT, bytes_of, labels_of, taken_fault};
+use command_inputs::{Fault, Input, Opener, bytes_of, labels_of, taken_fault};
 use pmt_causes::Origin;
 use pmt_explain_run::explain;
 use pmt_explanation::{Choice, Explanation, Kind, Labels, Options, Summary, frame_of, summary_of};
@@ -35,13 +35,11 @@ pub(crate) fn measured_of<O: Opener, I: Read>(
     labels: Option<&str>,
 ) -> Result<Measured, Fault> {
     let labels = labels_of(alloc, files, labels)?;
-    let bytes = bytes_of(alloc, file, files, input)?;
+    let source = Input::new("stat", file);
+    let bytes = bytes_of(alloc, source, files, input)?;
     match explained(alloc, &labels, bytes.as_slice()) {
         Ok(explanation) => Ok(measures_of(alloc, &explanation, &labels)?),
-        Err(error) => {
-            let name = file.unwrap_or(STANDARD_INPUT);
-            Err(taken_fault(alloc, name, bytes.as_slice(), error)?)
-        }
+        Err(error) => Err(taken_fault(alloc, source, bytes.as_slice(), error)?),
     }
 }
 

@@ -33,6 +33,16 @@ pub fn flag<'a>(alloc: Global, name: &'a str, help: &'a str) -> Arg<'a> {
         .help(help)
 }
 
+/// Whether the reason stands below a fault's line.
+pub fn verbose<'a>(alloc: Global) -> Arg<'a> {
+    flag(
+        alloc,
+        "verbose",
+        "Say the file and the reason below the line of a fault, as at a terminal",
+    )
+    .short('v')
+}
+
 /// The file of the trace.
 pub fn trace_file<'a>(alloc: Global) -> Arg<'a> {
     Arg::new(alloc, "FILE").help("The trace; standard input, if none is given, or -")
@@ -41,6 +51,20 @@ pub fn trace_file<'a>(alloc: Global) -> Arg<'a> {
 /// The name of the trace's file; none for standard input.
 pub fn trace_name<'a>(given: &ArgMatches<'a>) -> Option<&'a str> {
     match given.get_str("FILE") {
+        Some("-") => None,
+        name => name,
+    }
+}
+
+/// The file that is written.
+pub fn out_file<'a>(alloc: Global) -> Arg<'a> {
+    let help = "Write to FILE; to standard output, if none is given, or -";
+    value(alloc, "out", "FILE", help).short('o')
+}
+
+/// The name of the file that is written; none for standard output.
+pub fn out_name<'a>(given: &ArgMatches<'a>) -> Option<&'a str> {
+    match given.get_str("out") {
         Some("-") => None,
         name => name,
     }

@@ -1,5 +1,7 @@
 //! The words of `draw`.
-use crate::arguments::{Made, bad_word, event_of, trace_file, trace_name, value, values, with};
+use crate::arguments::{
+    Made, bad_word, event_of, out_file, out_name, trace_file, trace_name, value, values, with,
+};
 use clap::{ArgMatches, Command};
 use command_inputs::Fault;
 use command_requests::Drawing;
@@ -11,11 +13,11 @@ use std::alloc::Global;
 pub fn draw_command<'a>(alloc: Global) -> Made<'a> {
     let command = Command::new(alloc, "draw")
         .override_usage(
-            "pmtrim draw [--failure N | --around I | --from I --to J] [--line A].. [--labels FILE] [FILE]",
+            "pmtrim draw [--failure N | --around I | --from I --to J] [--line A].. [--labels FILE]\n                   [--out FILE] [FILE]",
         )
         .about("Draws what is safe when, as one SVG.")
         .after_help(
-            "Without --failure, --around and --from it draws what explain tells first: an assertion that fails, with what led to it; else stores that are never persisted; else what has no effect, is written over, saved late or never stored; else the first events. At most 120 events and 30 lines are drawn; the picture says what is left out.{n}Statuses: 0 done; 2 wrong words, or they are not of this trace; 3 trace or labels refused; 4 file fault; 5 out of memory{n}Example: pmtrim draw run.trace > run.svg",
+            "Without --failure, --around and --from it draws what explain tells first: an assertion that fails,{n}with what led to it; else stores that are never persisted; else what has no effect, is written over,{n}saved late or never stored; else the first events. At most 120 events and 30 lines are drawn; the{n}picture says what is left out.{n}Statuses: 0 done; 2 wrong words, or they are not of this trace; 3 trace or labels refused; 4 file{n}fault; 5 out of memory{n}Example: pmtrim draw run.trace > run.svg",
         );
     with_names(alloc, with_places(alloc, Ok(command)))
 }
@@ -50,7 +52,7 @@ fn with_names<'a>(alloc: Global, command: Made<'a>) -> Made<'a> {
         alloc,
         "line",
         "A",
-        "Draw the line of address A (hexadecimal), and what matters to it; may be repeated",
+        "Draw the line of address A (hexadecimal), and what matters to it;{n}may be repeated",
     );
     let labels = value(
         alloc,
@@ -58,7 +60,8 @@ fn with_names<'a>(alloc: Global, command: Made<'a>) -> Made<'a> {
         "FILE",
         "Names of events: lines 'EVENT TEXT'",
     );
-    with(with(with(command, line), labels), trace_file(alloc))
+    let named = with(with(command, line), labels);
+    with(with(named, out_file(alloc)), trace_file(alloc))
 }
 
 /// What these words ask for.
@@ -72,6 +75,7 @@ pub fn drawing_of<'a>(alloc: Global, given: &ArgMatches<'a>) -> Result<Drawing<'
             kept: kept_lines(alloc, given)?,
         },
         labels: given.get_str("labels"),
+        out: out_name(given),
         file: trace_name(given),
     })
 }

@@ -1,13 +1,20 @@
 //! The command `explain`, by clap.
 
-use crate::arguments::{Made, flag, trace_file, value, values, with};
+use crate::arguments::{Made, flag, out_file, trace_file, value, values, with};
 use crate::explain_choice::KINDS;
 use clap::Command;
 use std::alloc::Global;
 
+// When the text is colored.
+const COLORS: &[&str] = &["auto", "always", "never"];
+
+// The help of --only, with what stands in KINDS on two lines.
+const ONLY: &str =
+    "Tell findings of this kind alone{n}[possible values: failure, never_persisted, dropped,{n}overwritten, unwritten, late]";
+
 /// How `explain` is used.
 pub const USAGE: &str =
-    "pmtrim explain [--ignore A:N].. [--ignore-file FILE].. [--limit N] [--only KIND] [--thread T] [--range A:N] [--from I] [--to J] [--label TEXT] [--failure N] [--labels FILE] [--json | --html [--source DIR]] [FILE]";
+    "pmtrim explain [--ignore A:N].. [--ignore-file FILE].. [--limit N] [--only KIND] [--thread T]\n                      [--range A:N] [--from I] [--to J] [--label TEXT] [--failure N] [--labels FILE]\n                      [--json | --html [--source DIR] | --color WHEN] [--out FILE] [FILE]";
 
 /// The words of `explain`.
 pub fn explain_command<'a>(alloc: Global) -> Made<'a> {
@@ -15,7 +22,7 @@ pub fn explain_command<'a>(alloc: Global) -> Made<'a> {
         .override_usage(USAGE)
         .about("Says what is wrong in a trace, why, and where to put the flush or fence.")
         .after_help(
-            "Writes a summary, then each failed assertion with a crash that violates it, stores that are never persisted, flushes and fences without effect, and overwritten stores: what matters most first, in at most 40 lines where no --limit is given. --only to --failure choose what is told; the status is of the whole trace.{n}Statuses: 0 done; 1 an assertion fails or a store that is not ignored is never persisted; 2 wrong words; 3 trace, labels or ranges refused; 4 file fault; 5 out of memory{n}Example: pmtrim explain --labels run.trace.labels run.trace",
+            "Writes a summary, then each failed assertion with a crash that violates it, stores that are never{n}persisted, flushes and fences without effect, and overwritten stores: what matters most first, in at{n}most 40 lines where no --limit is given. --only to --failure choose what is told; the status is of{n}the whole trace.{n}Statuses: 0 done; 1 an assertion fails or a store that is not ignored is never persisted; 2 wrong{n}words; 3 trace, labels or ranges refused; 4 file fault; 5 out of memory{n}Example: pmtrim explain --labels run.trace.labels run.trace",
         );
     let ignoring = with_ignoring(alloc, Ok(command));
     let choosing = with_events(alloc, with_choice(alloc, ignoring));
@@ -28,13 +35,13 @@ fn with_ignoring<'a>(alloc: Global, command: Made<'a>) -> Made<'a> {
         alloc,
         "ignore",
         "A:N",
-        "Leave out what is lost in the N bytes from address A on, as 0x1000:8; may be given more than once",
+        "Leave out what is lost in the N bytes from address A on, as 0x1000:8;{n}may be given more than once",
     );
     let files = values(
         alloc,
         "ignore-file",
         "FILE",
-        "Leave out the ranges of this file too: lines A:N; may be given more than once",
+        "Leave out the ranges of this file too: lines A:N;{n}may be given more than once",
     );
     let limit = value(
         alloc,
@@ -47,7 +54,9 @@ fn with_ignoring<'a>(alloc: Global, command: Made<'a>) -> Made<'a> {
 
 // Which findings are told.
 fn with_choice<'a>(alloc: Global, command: Made<'a>) -> Made<'a> {
-    let only = value(alloc, "only", "KIND", "Tell findings of this kind alone").value_parser(KINDS);
+    let only = value(alloc, "only", "KIND", ONLY)
+        .value_parser(KINDS)
+        .hide_possible_values(true);
     let thread = value(alloc, "thread", "T", "Tell of events of thread T alone");
     let range = value(
         alloc,
@@ -89,7 +98,7 @@ fn with_files<'a>(alloc: Global, command: Made<'a>) -> Made<'a> {
     let html = flag(
         alloc,
         "html",
-        "Write one page of HTML that walks through the trace: open it in a browser",
+        "Write one page of HTML that walks through the trace:{n}open it in a browser",
     );
     with(
         with(with(command, labels), json),
@@ -97,13 +106,17 @@ fn with_files<'a>(alloc: Global, command: Made<'a>) -> Made<'a> {
     )
 }
 
-// Which files are read.
+// Which files are read and written, and how.
 fn with_source<'a>(alloc: Global, command: Made<'a>) -> Made<'a> {
     let source = value(
         alloc,
         "source",
         "DIR",
-        "Put the source lines that labels name into the page, from files below this folder; wants --html and --labels",
+        "Put the source lines that labels name into the page, from files below{n}this folder; wants --html and --labels",
     );
-    with(with(command, source), trace_file(alloc))
+    let color = value(alloc, "color", "WHEN", "Color the text")
+        .value_parser(COLORS)
+        .default_value("auto");
+    let written = with(with(command, source), color);
+    with(with(written, out_file(alloc)), trace_file(alloc))
 }

@@ -1,10 +1,10 @@
 //! The words of `explain`.
 
-use crate::arguments::{bad_word, trace_name};
+use crate::arguments::{bad_word, out_name, trace_name};
 use crate::explain_choice::choice_of;
 use clap::ArgMatches;
 use command_inputs::{Fault, asked_range};
-use command_requests::{ExplainWords, Form};
+use command_requests::{Color, ExplainWords, Form};
 use pmt_explanation::{ByteRange, Choice, Options};
 use pmt_text::number::read_number;
 use std::alloc::Global;
@@ -35,6 +35,8 @@ pub fn explain_words<'a>(alloc: Global, given: &ArgMatches<'a>) -> Result<Explai
         failure,
         labels: given.get_str("labels"),
         form: form_of(given),
+        color: color_of(given),
+        out: out_name(given),
         source: source_of(alloc, given)?,
         page_limit: asked_limit(alloc, given.get_str("limit"), MANY)?,
         file: trace_name(given),
@@ -49,6 +51,15 @@ fn form_of(given: &ArgMatches<'_>) -> Form {
         Form::Json
     } else {
         Form::Text
+    }
+}
+
+// Whether the text has colors: the command takes no other word.
+fn color_of(given: &ArgMatches<'_>) -> Color {
+    match given.get_str("color") {
+        Some("always") => Color::Always,
+        Some("never") => Color::Never,
+        _ => Color::Auto,
     }
 }
 

@@ -1,5 +1,5 @@
 //! The words of `image --list`.
-use crate::arguments::{bad_word, number_of, trace_name};
+use crate::arguments::{bad_word, number_of, out_name, trace_name};
 use clap::ArgMatches;
 use command_inputs::Fault;
 use command_requests::ListWords;
@@ -13,11 +13,15 @@ use std::alloc::{AllocError, Global};
 /// A usage fault, or `OutOfMemory`.
 pub fn list_words<'a>(alloc: Global, given: &ArgMatches<'a>) -> Result<ListWords<'a>, Fault> {
     if has_other(given) {
-        return Err(Fault::usage(alloc, "'--list' stands with '--at' and '--off' alone")?);
+        return Err(Fault::usage(
+            alloc,
+            "'--list' stands with '--at', '--off' and '--out' alone",
+        )?);
     }
     Ok(ListWords {
         places: places_of(alloc, given)?,
         off: off_of(alloc, given)?,
+        out: out_name(given),
         file: trace_name(given),
     })
 }
@@ -29,7 +33,6 @@ fn has_other(given: &ArgMatches<'_>) -> bool {
         || given.get_strs("line").is_some()
         || given.get_str("pool").is_some()
         || given.get_str("origin").is_some()
-        || given.get_str("out").is_some()
 }
 
 // The places that are asked for.

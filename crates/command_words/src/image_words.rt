@@ -1,6 +1,7 @@
 //! The words of `image`.
 use crate::arguments::{
-    Made, bad_word, event_of, flag, number_of, trace_file, trace_name, value, values, with,
+    Made, bad_word, event_of, flag, number_of, out_file, out_name, trace_file, trace_name, value,
+    values, with,
 };
 use crate::image_list_words::list_words;
 use clap::{ArgMatches, Command};
@@ -14,11 +15,11 @@ use std::alloc::Global;
 pub fn image_command<'a>(alloc: Global) -> Made<'a> {
     let command = Command::new(alloc, "image")
         .override_usage(
-            "pmtrim image (--failure N | --at PLACE [--all] [--line A:K]..) [--pool BASE --origin A] [--out FILE] [FILE]\n       pmtrim image --list [--at PLACES] [--off K] [FILE]",
+            "pmtrim image (--failure N | --at PLACE [--all] [--line A:K]..) [--pool BASE --origin A]\n                    [--out FILE] [FILE]\n       pmtrim image --list [--at PLACES] [--off K] [--out FILE] [FILE]",
         )
         .about("Writes the pool's file as a crash leaves it, or lists crashes.")
         .after_help(
-            "A crash at a place leaves each line the stores that no crash can lose, with --all all its stores, and the line of address A its first K. Without --pool and --origin the pool is FILE.base, and FILE.origin has the address of its first byte.{n}The list has the crashes at each place that leave all lines but K the stores that no crash can lose, and those that leave all but K all their stores: a line each, of the words that image takes. Without --at the places are those after a fence or a clflush, and those after a store, or at the beginning, with no store coming next.{n}Statuses: 0 done; 2 wrong words, or no crash leaves so many stores; 3 trace or pool refused; 4 file fault; 5 out of memory{n}Example: pmtrim image --failure 7 --out crashed.pool run.trace",
+            "A crash at a place leaves each line the stores that no crash can lose, with --all all its stores,{n}and the line of address A its first K. Without --pool and --origin the pool is FILE.base, and{n}FILE.origin has the address of its first byte.{n}The list has the crashes at each place that leave all lines but K the stores that no crash can lose,{n}and those that leave all but K all their stores: a line each, of the words that image takes. Without{n}--at the places are those after a fence or a clflush, and those after a store, or at the beginning,{n}with no store coming next.{n}Statuses: 0 done; 2 wrong words, or no crash leaves so many stores; 3 trace or pool refused; 4 file{n}fault; 5 out of memory{n}Example: pmtrim image --failure 7 --out crashed.pool run.trace",
         );
     let listing = with_list(alloc, Ok(command));
     with_files(alloc, with_crash(alloc, listing))
@@ -59,7 +60,7 @@ fn with_crash<'a>(alloc: Global, command: Made<'a>) -> Made<'a> {
         alloc,
         "line",
         "A:K",
-        "Leave the line of address A its first K stores, as 0x1000:2; may be repeated, and the last one of a line counts",
+        "Leave the line of address A its first K stores, as 0x1000:2; may be repeated,{n}and the last one of a line counts",
     );
     with(with(with(with(command, failure), at), all), line)
 }
@@ -78,16 +79,8 @@ fn with_files<'a>(alloc: Global, command: Made<'a>) -> Made<'a> {
         "A",
         "The address of the pool's first byte (hexadecimal); wants --pool",
     );
-    let out = value(
-        alloc,
-        "out",
-        "FILE",
-        "The file to write; standard output, if none is given",
-    );
-    with(
-        with(with(with(command, pool), origin), out),
-        trace_file(alloc),
-    )
+    let based = with(with(command, pool), origin);
+    with(with(based, out_file(alloc)), trace_file(alloc))
 }
 
 /// What these words ask for.
@@ -111,7 +104,7 @@ fn image_words<'a>(alloc: Global, given: &ArgMatches<'a>) -> Result<ImageWords<'
         crash,
         pool: given.get_str("pool"),
         origin: origin_of(alloc, given)?,
-        out: given.get_str("out"),
+        out: out_name(given),
         file: trace_name(given),
     };
     if words.pool.is_some() != words.origin.is_some() {

@@ -9,7 +9,7 @@ use crate::stat_words::stat_words;
 use clap::error::ErrorKind;
 use clap::{ArgMatches, Error};
 use command_inputs::Fault;
-use command_requests::{FrontsWords, ImageRequest, Request, TraceWords};
+use command_requests::{CheckWords, FrontsWords, ImageRequest, RecordWords, Request, TraceWords};
 use pmt_text::number::read_number;
 use std::alloc::Global;
 use std::convert::AsStr;
@@ -33,7 +33,9 @@ fn shown<'a>(alloc: Global, error: &Error) -> Result<Request<'a>, Fault> {
         return Err(Fault::OutOfMemory);
     }
     let text = format!(in alloc; "{error}")?;
-    if error.use_stderr() {
+    if error.kind() == ErrorKind::InvalidSubcommand {
+        Err(Fault::NoCommand(text))
+    } else if error.use_stderr() {
         Err(Fault::Usage(text))
     } else {
         Ok(Request::Show(text))
@@ -42,7 +44,7 @@ fn shown<'a>(alloc: Global, error: &Error) -> Result<Request<'a>, Fault> {
 
 fn asked<'a>(alloc: Global, matches: &ArgMatches<'a>) -> Result<Request<'a>, Fault> {
     match matches.subcommand() {
-        Some(("check", given)) => Ok(Request::Check(trace_words(given))),
+        Some(("check", given)) => Ok(Request::Check(check_words(alloc, given)?)),
         Some(("explain", given)) => Ok(Request::Explain(explain_words(alloc, given)?)),
         Some(("fronts", given)) => fronts(alloc, given),
         Some(("record", given)) => record(alloc, given),
@@ -54,6 +56,7 @@ fn asked<'a>(alloc: Global, matches: &ArgMatches<'a>) -> Result<Request<'a>, Fau
         None => Ok(Request::Trim(TraceWords {
             workers: 1,
             file: None,
+            verbose: false,
         })),
     }
 }
@@ -62,12 +65,39 @@ fn trace_words<'a>(given: &ArgMatches<'a>) -> TraceWords<'a> {
     TraceWords {
         workers: workers_of(given),
         file: trace_name(given),
+        verbose: given.get_flag("verbose"),
+    }
+}
+
+fn check_words<'a>(alloc: Global, given: &ArgMatches<'a>) -> Result<CheckWords<'a>, Fault> {
+    Ok(CheckWords {
+        trace: trace_words(given),
+        labels: given.get_str("labels"),
+        limit: limit_of(alloc, given)?,
+        quiet: given.get_flag("quiet"),
+    })
+}
+
+// The most entries; none for all.
+fn limit_of(alloc: Global, given: &ArgMatches<'_>) -> Result<Option<u64>, Fault> {
+    let Some(word) = given.get_str("limit") else {
+        return Ok(None);
+    };
+    if word == "all" {
+        return Ok(None);
+    }
+    match read_number(10, word.as_bytes()) {
+        Some(limit) => Ok(Some(limit)),
+        None => {
+            let allowed = "a decimal number without leading zeros, or 'all'";
+            Err(bad_word(alloc, word, "--limit <N>", allowed)?)
+        }
     }
 }
 
 fn trim<'a>(given: &ArgMatches<'a>) -> Request<'a> {
     if given.get_flag("stream") {
-        Request::Stream(trace_name(given))
+        Request::Stream(trace_words(given))
     } else {
         Request::Trim(trace_words(given))
     }
@@ -93,9 +123,14 @@ fn workers_of(given: &ArgMatches<'_>) -> usize {
 
 fn fronts<'a>(alloc: Global, given: &ArgMatches<'a>) -> Result<Request<'a>, Fault> {
     let file = trace_name(given);
+    let verbose = given.get_flag("verbose");
     let text = given.get_str("PLACE").unwrap_or("");
     match place_of(text) {
-        Some(place) => Ok(Request::Fronts(FrontsWords { file, place })),
+        Some(place) => Ok(Request::Fronts(FrontsWords {
+            file,
+            place,
+            verbose,
+        })),
         None => {
             let allowed = "a decimal number without leading zeros, at most 18446744073709551615";
             Err(bad_word(alloc, text, "<PLACE>", allowed)?)
@@ -118,5 +153,8 @@ fn record<'a>(alloc: Global, given: &ArgMatches<'a>) -> Result<Request<'a>, Faul
     }
     let mut scripts = Vec::new(alloc);
     scripts.extend_from_slice(names)?;
-    Ok(Request::Record(scripts))
+    Ok(Request::Record(RecordWords {
+        scripts,
+        verbose: given.get_flag("verbose"),
+    }))
 }

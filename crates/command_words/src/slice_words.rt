@@ -1,5 +1,5 @@
 //! The words of `slice`.
-use crate::arguments::{Made, event_of, trace_file, trace_name, value, with};
+use crate::arguments::{Made, event_of, out_file, out_name, trace_file, trace_name, value, with};
 use clap::{ArgMatches, Command};
 use command_inputs::Fault;
 use command_requests::{SliceSubject, SliceWords};
@@ -13,7 +13,7 @@ pub fn slice_command<'a>(alloc: Global) -> Made<'a> {
         )
         .about("Writes the few events that show a failed assertion or a lost store, as a trace.")
         .after_help(
-            "Of an assertion the events are itself, the last store to each byte of its ranges, and what tells whether and why each of these stores is safe; their trace alone gives the assertion the same verdict. Of a store that is never persisted or late they are itself, what tells whether and why it is safe, and the first two fences of its thread that leave it unsafe; it is as lost and as late in their trace.{n}With --out FILE the number that each event has in the whole trace goes to FILE.numbers, and with --labels what the events are called to FILE.labels.{n}Statuses: 0 done; 2 wrong words, or the assertion does not fail, or the store is safe in time; 3 trace or labels refused; 4 file fault; 5 out of memory{n}Example: pmtrim slice --failure 7 --labels run.trace.labels --out slice.trace run.trace",
+            "Of an assertion the events are itself, the last store to each byte of its ranges, and what tells{n}whether and why each of these stores is safe; their trace alone gives the assertion the same{n}verdict.{n}Of a store that is never persisted or late they are itself, what tells whether and why it is safe,{n}and the first two fences of its thread that leave it unsafe; it is as lost and as late in their{n}trace.{n}With --out FILE the number that each event has in the whole trace goes to FILE.numbers, and with{n}--labels what the events are called to FILE.labels.{n}Statuses: 0 done; 2 wrong words, or the assertion does not fail, or the store is safe in time; 3{n}trace or labels refused; 4 file fault; 5 out of memory{n}Example: pmtrim slice --failure 7 --labels run.trace.labels --out slice.trace run.trace",
         );
     let failure = value(
         alloc,
@@ -33,16 +33,8 @@ pub fn slice_command<'a>(alloc: Global) -> Made<'a> {
         "FILE",
         "Names of events: lines 'EVENT TEXT'; wants --out",
     );
-    let out = value(
-        alloc,
-        "out",
-        "FILE",
-        "The file to write; standard output, if none is given",
-    );
-    with(
-        with(with(with(with(Ok(command), failure), store), labels), out),
-        trace_file(alloc),
-    )
+    let named = with(with(with(Ok(command), failure), store), labels);
+    with(with(named, out_file(alloc)), trace_file(alloc))
 }
 
 /// What these words ask for.
@@ -53,7 +45,7 @@ pub fn slice_words<'a>(alloc: Global, given: &ArgMatches<'a>) -> Result<SliceWor
     let words = SliceWords {
         subject: slice_subject(alloc, given)?,
         labels: given.get_str("labels"),
-        out: given.get_str("out"),
+        out: out_name(given),
         file: trace_name(given),
     };
     if words.labels.is_some() && words.out.is_none() {

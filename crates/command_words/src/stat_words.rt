@@ -9,13 +9,13 @@ use std::alloc::Global;
 pub fn stat_command<'a>(alloc: Global) -> Made<'a> {
     let command = Command::new(alloc, "stat")
         .override_usage(
-            "pmtrim stat [--labels FILE] [--compare OTHER [--compare-labels FILE]] [--budget FILE] [--json] [FILE]\n       pmtrim stat --write-budget [--labels FILE] [FILE]",
+            "pmtrim stat [--labels FILE] [--compare OTHER [--compare-labels FILE]] [--budget FILE]\n                   [--json] [FILE]\n       pmtrim stat --write-budget [--labels FILE] [FILE]",
         )
         .about(
-            "Counts what a trace has: its events, how full its fences are, and what each place pays for flushes and fences.",
+            "Counts events, how full fences are, and what each place pays for flushes and fences.",
         )
         .after_help(
-            "A place is the innermost frame of a label, as 'leaves.c:141 split', or of events without label their thread. With --budget a place that pays more than the file allows is told, and the status is 1. A line of a budget is 'FLUSHES IDLE FENCES IDLE PLACE': the most flushes, how many of them may do nothing, and the same of fences.{n}Statuses: 0 done; 1 a place is over the budget; 2 wrong words; 3 trace, labels or budget refused; 4 file fault; 5 out of memory{n}Example: pmtrim stat --labels run.trace.labels --budget flushes.budget run.trace",
+            "A place is the innermost frame of a label, as 'leaves.c:141 split', or of events without label their{n}thread. With --budget a place that pays more than the file allows is told, and the status is 1. A{n}line of a budget is 'FLUSHES IDLE FENCES IDLE PLACE': the most flushes, how many of them may do{n}nothing, and the same of fences.{n}Statuses: 0 done; 1 a place is over the budget; 2 wrong words; 3 trace, labels or budget refused; 4{n}file fault; 5 out of memory{n}Example: pmtrim stat --labels run.trace.labels --budget flushes.budget run.trace",
         );
     let labelled = with(
         Ok(command),

@@ -2,7 +2,9 @@
 
 ghost use Rattle.std.specs.Prelude.{◌≡◌, IfOk};
 
-use command_inputs::{Fault, Opener, write_whole};
+use command_inputs::{
+    Fault, Input, Opener, Recalling, Recalls, open_input, reasoned, write_output,
+};
 use pmt_model::{NoGate, Op, OutOfMemory, Trace};
 use pmt_recorder::{RecordError, record_scripts};
 use pmt_report::RecordFault;
@@ -17,26 +19,38 @@ use std::thread::Threads;
 ///
 /// # Errors
 /// The first script's that can't be opened, whose read fails, or which is refused; then that of the recording; then that of the
-/// write; `OutOfMemory`.
-pub fn record<T, O, W>(rt: &T, files: &O, names: &[&str], out: &mut W) -> Result<u8, Fault>
+/// write, each with the reason below its line if one is asked for; `OutOfMemory`.
+pub fn record<T, O, W>(
+    rt: &T,
+    files: &O,
+    names: &[&str],
+    out: &mut W,
+    recalls: Recalls,
+) -> Result<u8, Fault>
 where
     T: AllocGlobal + Threads + Wait + Sync,
     O: Opener,
     W: Write,
     ensures { IfOk result (λ status. status ≡ 0) }
 {
-    let scripts = scripts_of(rt.alloc(), files, names)?;
+    let alloc = rt.alloc();
+    let scripts = scripts_of(alloc, files, names, recalls)?;
     let trace = recorded(rt, scripts)?;
-    let text = write_trace(rt.alloc(), &trace)?;
-    write_whole(out, text.as_slice())?;
+    let text = write_trace(alloc, &trace)?;
+    write_output(alloc, out, text.as_slice(), recalls)?;
     Ok(0)
 }
 
 // The scripts with these names.
-fn scripts_of<O: Opener>(alloc: Global, files: &O, names: &[&str]) -> Result<Vec<Vec<Op>>, Fault> {
+fn scripts_of<O: Opener>(
+    alloc: Global,
+    files: &O,
+    names: &[&str],
+    recalls: Recalls,
+) -> Result<Vec<Vec<Op>>, Fault> {
     let mut scripts = Vec::new(alloc);
     for (place, name) in names.iter().enumerate() {
-        let script = read_one(alloc, files, place as u64 + 1, name)?;
+        let script = read_one(alloc, files, place as u64 + 1, name, recalls)?;
         if scripts.push(script).is_err() {
             return Err(Fault::OutOfMemory);
         }
@@ -50,11 +64,18 @@ fn read_one<O: Opener>(
     files: &O,
     script: u64,
     name: &str,
+    recalls: Recalls,
 ) -> Result<Vec<Op>, Fault> {
-    let mut input = Counted::new(files.open(name)?);
-    match read_script_from(alloc, &mut input) {
+    let reader = open_input(alloc, files, name, recalls)?;
+    let mut reader = Counted::new(Recalling::new(alloc, reader, recalls.whole()));
+    match read_script_from(alloc, &mut reader) {
         Ok(ops) => Ok(ops),
-        Err(error) => Err(script_fault(script, error)),
+        Err(error) => {
+            let reader = reader.into_inner();
+            let fault = script_fault(script, error);
+            let input = Input::new("record /dev/stdin", Some(name));
+            Err(reasoned(alloc, fault, input, reader.memory(), None))
+        }
     }
 }
 

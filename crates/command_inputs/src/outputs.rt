@@ -1,12 +1,16 @@
 //! The files that are written: all of them, or none.
 
-use command_inputs::{Fault, OpenError, Opener, system_fault};
+use crate::fault::Fault;
+use crate::inputs::create_fault;
+use crate::opener::{OpenError, Opener};
+use crate::reading::system_fault;
+use crate::writing::write_answer;
 use std::alloc::Global;
 use std::io::Write;
 
 /// A file that is written.
 #[derive(Drop)]
-pub(crate) struct Output {
+pub struct Output {
     name: String,
     text: Vec<u8>,
 }
@@ -16,12 +20,7 @@ impl Output {
     ///
     /// # Errors
     /// `OutOfMemory`.
-    pub(crate) fn new(
-        alloc: Global,
-        name: &str,
-        ending: &str,
-        text: Vec<u8>,
-    ) -> Result<Self, Fault> {
+    pub fn new(alloc: Global, name: &str, ending: &str, text: Vec<u8>) -> Result<Self, Fault> {
         let name = format!(in alloc; "{name}{ending}")?;
         Ok(Output { name, text })
     }
@@ -31,7 +30,7 @@ impl Output {
 ///
 /// # Errors
 /// A usage fault where one of the files is the input; `OutOfMemory`.
-pub(crate) fn check_apart<O: Opener>(
+pub fn check_apart<O: Opener>(
     alloc: Global,
     files: &O,
     outputs: &[Output],
@@ -70,15 +69,37 @@ fn real_name<O: Opener>(alloc: Global, files: &O, name: &str) -> Result<Option<S
     }
 }
 
+/// Writes the answer to the named file, which is none of those that were read, or to `out` where none is named.
+///
+/// # Errors
+/// A usage fault where the file was read; the fault of a write, and no file is left then; `OutOfMemory`.
+pub fn write_named<O: Opener, W: Write>(
+    alloc: Global,
+    files: &O,
+    name: Option<&str>,
+    read: &[Option<&str>],
+    answer: Vec<u8>,
+    out: &mut W,
+) -> Result<(), Fault> {
+    let Some(name) = name else {
+        return write_answer(alloc, answer.as_slice(), out);
+    };
+    let mut outputs = Vec::with_capacity(alloc, 1)?;
+    let output = Output::new(alloc, name, "", answer)?;
+    if outputs.push(output).is_err() {
+        return Err(Fault::OutOfMemory);
+    }
+    for input in read {
+        check_apart(alloc, files, outputs.as_slice(), *input)?;
+    }
+    write_outputs(alloc, files, outputs.as_slice())
+}
+
 /// Writes the files.
 ///
 /// # Errors
 /// The fault of the first one that can't be written; none of them is left then.
-pub(crate) fn write_outputs<O: Opener>(
-    alloc: Global,
-    files: &O,
-    outputs: &[Output],
-) -> Result<(), Fault> {
+pub fn write_outputs<O: Opener>(alloc: Global, files: &O, outputs: &[Output]) -> Result<(), Fault> {
     for index in 0..outputs.len() {
         if let Err(fault) = write_output(alloc, files, &outputs[index]) {
             remove_all(files, &outputs[..index]);
@@ -93,10 +114,7 @@ fn write_output<O: Opener>(alloc: Global, files: &O, output: &Output) -> Result<
     let name = output.name.as_str();
     let mut file = match files.create(name, "") {
         Ok(file) => file,
-        Err(OpenError::System(error)) => {
-            return Err(system_fault(alloc, "cannot create", name, error)?);
-        }
-        Err(OpenError::OutOfMemory) => return Err(Fault::OutOfMemory),
+        Err(error) => return Err(create_fault(alloc, name, error)?),
     };
     let written = match file.write_all(output.text.as_slice()) {
         Ok(()) => file.flush(),

@@ -1,0 +1,121 @@
+//! What a file is that is no trace and no script, by its first bytes, and what to do with it.
+
+use crate::fault::Fault;
+use crate::input::Input;
+use crate::shell::shell_word;
+use std::alloc::{AllocError, Global};
+
+/// What a file is in place of a trace or a script.
+#[derive(Clone, Copy, PartialEq, Eq)]
+pub(crate) enum Foreign {
+    Gzip,
+    Zstd,
+    Xz,
+    Bzip2,
+    // A text of UTF-8 that begins with a byte order mark.
+    Marked,
+    Utf16,
+    // Machine code.
+    Program,
+    // What an interpreter runs.
+    Interpreted,
+    // A trace where a script is wanted.
+    Trace,
+    // No text.
+    Binary,
+}
+
+impl Foreign {
+    // What a person is told of it.
+    fn what(self) -> &'static str {
+        match self {
+            Foreign::Gzip => "this is packed by gzip",
+            Foreign::Zstd => "this is packed by zstd",
+            Foreign::Xz => "this is packed by xz",
+            Foreign::Bzip2 => "this is packed by bzip2",
+            Foreign::Marked => "this begins with a byte order mark",
+            Foreign::Utf16 => "this is a text in UTF-16",
+            Foreign::Program => "this is a program",
+            Foreign::Interpreted => "this is a program, by its first line",
+            Foreign::Trace => "this is a trace, and no script",
+            Foreign::Binary => "this is no text",
+        }
+    }
+
+    // What to do with it, before the command that does it.
+    fn advice(self) -> &'static str {
+        match self {
+            Foreign::Gzip | Foreign::Zstd | Foreign::Xz | Foreign::Bzip2 => {
+                "it is read unpacked, from a pipe"
+            }
+            Foreign::Marked => "it is read without the mark",
+            Foreign::Utf16 => "it is read as UTF-8",
+            Foreign::Program | Foreign::Interpreted => "what it does is recorded by",
+            Foreign::Trace => "it is judged by",
+            Foreign::Binary => "a trace is made by",
+        }
+    }
+
+    // What makes a trace or script of it, to which the file's name is given.
+    fn filter(self) -> Option<&'static str> {
+        match self {
+            Foreign::Gzip => Some("zcat"),
+            Foreign::Zstd => Some("zstdcat"),
+            Foreign::Xz => Some("xzcat"),
+            Foreign::Bzip2 => Some("bzcat"),
+            Foreign::Marked => Some("tail -c +4"),
+            Foreign::Utf16 => Some("iconv -f UTF-16 -t UTF-8"),
+            Foreign::Program | Foreign::Interpreted | Foreign::Trace | Foreign::Binary => None,
+        }
+    }
+}
+
+/// What a file is whose first line this is; none where that is not known.
+pub(crate) fn foreign_of(first: &[u8]) -> Option<Foreign> {
+    match first {
+        [0x1f, 0x8b, ..] => Some(Foreign::Gzip),
+        [0x28, 0xb5, 0x2f, 0xfd, ..] => Some(Foreign::Zstd),
+        [0xfd, b'7', b'z', b'X', b'Z', ..] => Some(Foreign::Xz),
+        [b'B', b'Z', b'h', ..] => Some(Foreign::Bzip2),
+        [0xef, 0xbb, 0xbf, ..] => Some(Foreign::Marked),
+        [0xff, 0xfe, ..] | [0xfe, 0xff, ..] => Some(Foreign::Utf16),
+        [0x7f, b'E', b'L', b'F', ..] => Some(Foreign::Program),
+        [b'#', b'!', ..] => Some(Foreign::Interpreted),
+        _ if first.contains(&0) => Some(Foreign::Binary),
+        _ => None,
+    }
+}
+
+/// The fault of an input that is this: `NAME:1: WHAT`, and a hint with the command that does what it wants.
+///
+/// # Errors
+/// `OutOfMemory`.
+pub(crate) fn foreign_fault(
+    alloc: Global,
+    input: Input<'_>,
+    foreign: Foreign,
+) -> Result<Fault, AllocError> {
+    let name = input.name();
+    let what = foreign.what();
+    let advice = foreign.advice();
+    let command = command_for(alloc, input, foreign)?;
+    let command = command.as_str();
+    let text = format!(in alloc; "{name}:1: {what}\nhint: {advice}: {command}\n")?;
+    Ok(Fault::Refused(text))
+}
+
+// The command that does what such an input wants.
+fn command_for(alloc: Global, input: Input<'_>, foreign: Foreign) -> Result<String, AllocError> {
+    let file = shell_word(alloc, input.file.unwrap_or("FILE"))?;
+    let file = file.as_str();
+    let words = input.words;
+    if let Some(filter) = foreign.filter() {
+        return format!(in alloc; "{filter} {file} | pmtrim {words}");
+    }
+    match foreign {
+        Foreign::Trace => format!(in alloc; "pmtrim check {file}"),
+        Foreign::Binary => String::from_str(alloc, "pmtrim-record PROGRAM"),
+        _ if file.contains('/') => format!(in alloc; "pmtrim-record {file}"),
+        _ => format!(in alloc; "pmtrim-record ./{file}"),
+    }
+}

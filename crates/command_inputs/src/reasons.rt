@@ -1,0 +1,157 @@
+//! What a person is told below a fault whose line is fixed: the file, the reason, and what to do.
+
+use crate::fault::Fault;
+use crate::forms::Grammar;
+use crate::input::Input;
+use crate::inputs::{open_fault, refused_text, too_long};
+use crate::opener::{OpenError, Opener};
+use crate::reading::system_fault;
+use crate::recalling::{Memory, Recalling, Recalls};
+use crate::writing::write_whole;
+use pmt_report::{RecordFault, RunError};
+use pmt_text::TextError;
+use std::alloc::Global;
+use std::io::{self, Write};
+
+/// The fault, with the reason below its line where the devices recall it.
+pub fn reasoned(
+    alloc: Global,
+    fault: Fault,
+    input: Input<'_>,
+    read: Option<&Memory>,
+    written: Option<&Memory>,
+) -> Fault {
+    let reason = match reason_of(alloc, &fault, input, read, written) {
+        Ok(reason) => reason,
+        Err(other) => return other,
+    };
+    match reason {
+        Some(reason) => fault.with_reason(alloc, &reason),
+        None => fault,
+    }
+}
+
+// What is told below the line of this fault, if anything is.
+fn reason_of(
+    alloc: Global,
+    fault: &Fault,
+    input: Input<'_>,
+    read: Option<&Memory>,
+    written: Option<&Memory>,
+) -> Result<Option<Fault>, Fault> {
+    match fault {
+        Fault::Run(RunError::Text(error)) => refused_trace(alloc, input, read, *error),
+        Fault::Run(RunError::TooMany) if read.is_some() => Ok(Some(too_long(alloc, input)?)),
+        Fault::Run(RunError::Read) => unread(alloc, input, read),
+        Fault::Run(RunError::Write { written: _ }) => unwritten(alloc, written),
+        Fault::Record(RecordFault::Line { script: _, error }) => {
+            refused_script(alloc, input, read, *error)
+        }
+        Fault::Record(RecordFault::TooLong { script: _ }) if read.is_some() => {
+            Ok(Some(too_long(alloc, input)?))
+        }
+        Fault::File if read.is_some() => unread(alloc, input, read),
+        Fault::File => unwritten(alloc, written),
+        _ => Ok(None),
+    }
+}
+
+// What is told of a trace's line.
+fn refused_trace(
+    alloc: Global,
+    input: Input<'_>,
+    read: Option<&Memory>,
+    error: TextError,
+) -> Result<Option<Fault>, Fault> {
+    let Some(memory) = read else {
+        return Ok(None);
+    };
+    let grammar = Grammar::of_trace(memory.first_line());
+    let line = memory.line(error.line)?;
+    Ok(Some(refused_text(alloc, input, &grammar, line, error)?))
+}
+
+// What is told of a script's line.
+fn refused_script(
+    alloc: Global,
+    input: Input<'_>,
+    read: Option<&Memory>,
+    error: TextError,
+) -> Result<Option<Fault>, Fault> {
+    let Some(memory) = read else {
+        return Ok(None);
+    };
+    let line = memory.line(error.line)?;
+    let refused = refused_text(alloc, input, &Grammar::Script, line, error)?;
+    Ok(Some(refused))
+}
+
+// What is told of a read that failed.
+fn unread(alloc: Global, input: Input<'_>, read: Option<&Memory>) -> Result<Option<Fault>, Fault> {
+    match error_of(read) {
+        Some(error) => Ok(Some(system_fault(alloc, "cannot read", input.name(), error)?)),
+        None => Ok(None),
+    }
+}
+
+// What is told of a write that failed.
+fn unwritten(alloc: Global, written: Option<&Memory>) -> Result<Option<Fault>, Fault> {
+    match error_of(written) {
+        Some(error) => Ok(Some(system_fault(alloc, "cannot write", "the answer", error)?)),
+        None => Ok(None),
+    }
+}
+
+fn error_of(memory: Option<&Memory>) -> Option<io::Error> {
+    memory?.error
+}
+
+/// The reader of the named file.
+///
+/// # Errors
+/// `File` where it can't be opened, with the reason below its line if one is asked for; `OutOfMemory`.
+pub fn open_input<O: Opener>(
+    alloc: Global,
+    files: &O,
+    name: &str,
+    recalls: Recalls,
+) -> Result<O::Reader, Fault> {
+    match files.open(name) {
+        Ok(reader) => Ok(reader),
+        Err(error) => Err(not_opened(alloc, name, error, recalls)?),
+    }
+}
+
+fn not_opened(
+    alloc: Global,
+    name: &str,
+    error: OpenError,
+    recalls: Recalls,
+) -> Result<Fault, Fault> {
+    match open_fault(alloc, name, error)? {
+        Fault::OutOfMemory => Ok(Fault::OutOfMemory),
+        reason if recalls != Recalls::Nothing => Ok(Fault::File.with_reason(alloc, &reason)),
+        _ => Ok(Fault::File),
+    }
+}
+
+/// Writes the answer, and then flushes once.
+///
+/// # Errors
+/// `File` where a write or the flush failed, with the reason below its line if one is asked for; the first bytes of the answer may be
+/// out then. `OutOfMemory`.
+pub fn write_output<W: Write>(
+    alloc: Global,
+    out: &mut W,
+    answer: &[u8],
+    recalls: Recalls,
+) -> Result<(), Fault> {
+    let mut writer = Recalling::new(alloc, out, recalls);
+    match write_whole(&mut writer, answer) {
+        Ok(()) => Ok(()),
+        Err(fault) => {
+            let output = Input::new("", None);
+            Err(reasoned(alloc, fault, output, None, writer.memory()))
+        }
+    }
+}

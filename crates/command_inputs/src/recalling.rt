@@ -1,0 +1,213 @@
+//! Devices that recall what a person is told of their faults.
+
+use crate::refused::{line_of_text, split_line};
+use std::alloc::{AllocError, Global};
+use std::io::{self, ErrorKind, Read, Write};
+
+// So many bytes of a line are recalled that pieces before the last one have begun. A line that is right has fewer.
+const BEGUN: usize = 256;
+
+// So many bytes are recalled of the beginning: more than a header has.
+const FIRST: usize = 32;
+
+/// What a device recalls.
+#[derive(Clone, Copy, PartialEq, Eq)]
+pub enum Recalls {
+    Nothing,
+    /// Why a call failed.
+    Errors,
+    /// That, and the lines that were read last.
+    LastLines,
+    /// That, and all that was read.
+    AllLines,
+}
+
+impl Recalls {
+    /// All that is read, where anything is recalled: for what is judged only once all of it is read.
+    pub fn whole(self) -> Self {
+        match self {
+            Recalls::Nothing => Recalls::Nothing,
+            _ => Recalls::AllLines,
+        }
+    }
+}
+
+/// A reader or writer that recalls what it was made to.
+#[derive(Drop)]
+pub struct Recalling<D> {
+    device: D,
+    memory: Option<Memory>,
+}
+
+/// What is recalled of a device.
+#[derive(Drop)]
+pub struct Memory {
+    alloc: Global,
+    recalls: Recalls,
+    // The first bytes.
+    first: Vec<u8>,
+    // How many lines end before `last` begins.
+    lines: u64,
+    // What was read last, from the beginning of a line on.
+    last: Vec<u8>,
+    // Whether memory was refused to it, so that lines are missing.
+    is_torn: bool,
+    // Why the last call failed that did.
+    pub(crate) error: Option<io::Error>,
+}
+
+impl<D> Recalling<D> {
+    /// The device, which recalls this.
+    pub fn new(alloc: Global, device: D, recalls: Recalls) -> Self {
+        Recalling {
+            device,
+            memory: match recalls {
+                Recalls::Nothing => None,
+                _ => Some(Memory::new(alloc, recalls)),
+            },
+        }
+    }
+
+    /// What is recalled, if anything.
+    pub fn memory(&self) -> Option<&Memory> {
+        self.memory.as_ref()
+    }
+
+    /// Why the last call failed that did, if that is recalled.
+    pub fn error(&self) -> Option<io::Error> {
+        self.memory()?.error
+    }
+
+    // Recalls why a call failed.
+    fn recall_error(&mut self, error: io::Error) {
+        if let Some(memory) = &mut self.memory {
+            memory.error = Some(error);
+        }
+    }
+}
+
+impl<R: Read> Read for Recalling<R> {
+    fn read(&mut self, buf: &mut [u8]) -> io::Result<usize> {
+        match self.device.read(buf) {
+            Ok(count) => {
+                if let Some(memory) = &mut self.memory {
+                    memory.recall(&buf[..count]);
+                }
+                Ok(count)
+            }
+            Err(error) => {
+                self.recall_error(error);
+                Err(error)
+            }
+        }
+    }
+}
+
+impl<W: Write> Write for Recalling<W> {
+    fn write(&mut self, buf: &[u8]) -> io::Result<usize> {
+        match self.device.write(buf) {
+            Ok(0) if !buf.is_empty() => {
+                self.recall_error(io::Error::from(ErrorKind::WriteZero));
+                Ok(0)
+            }
+            Ok(count) => Ok(count),
+            Err(error) => {
+                self.recall_error(error);
+                Err(error)
+            }
+        }
+    }
+
+    fn flush(&mut self) -> io::Result<()> {
+        match self.device.flush() {
+            Ok(()) => Ok(()),
+            Err(error) => {
+                self.recall_error(error);
+                Err(error)
+            }
+        }
+    }
+}
+
+impl Memory {
+    // Nothing.
+    fn new(alloc: Global, recalls: Recalls) -> Self {
+        Memory {
+            alloc,
+            recalls,
+            first: Vec::new(alloc),
+            lines: 0,
+            last: Vec::new(alloc),
+            is_torn: false,
+            error: None,
+        }
+    }
+
+    /// The first line, or its beginning.
+    pub(crate) fn first_line(&self) -> &[u8] {
+        line_of_text(self.first.as_slice(), 1)
+    }
+
+    /// The line with this number, or its beginning. It is among those that were read last.
+    ///
+    /// # Errors
+    /// Where memory was refused to it.
+    pub(crate) fn line(&self, number: u64) -> Result<&[u8], AllocError> {
+        if self.is_torn {
+            return Err(AllocError);
+        }
+        let place = number.saturating_sub(self.lines);
+        Ok(line_of_text(self.last.as_slice(), place))
+    }
+
+    // Recalls what was read.
+    fn recall(&mut self, piece: &[u8]) {
+        let done = match self.recalls {
+            Recalls::Nothing | Recalls::Errors => Ok(()),
+            Recalls::LastLines => self.recall_last(piece),
+            Recalls::AllLines => self.last.extend_from_slice(piece),
+        };
+        if done.is_err() {
+            self.is_torn = true;
+        }
+    }
+
+    fn recall_first(&mut self, piece: &[u8]) -> Result<(), AllocError> {
+        if self.first.len() < FIRST {
+            self.first.extend_from_slice(beginning(piece, FIRST))?;
+        }
+        Ok(())
+    }
+
+    fn recall_last(&mut self, piece: &[u8]) -> Result<(), AllocError> {
+        self.recall_first(piece)?;
+        let (ended, begun) = begun_in(self.last.as_slice());
+        let mut last = Vec::new(self.alloc);
+        last.extend_from_slice(beginning(begun, BEGUN))?;
+        last.extend_from_slice(piece)?;
+        self.lines = self.lines.saturating_add(ended);
+        self.last = last;
+        Ok(())
+    }
+}
+
+// The first bytes of the text, at most so many.
+fn beginning(text: &[u8], most: usize) -> &[u8] {
+    &text[..text.len().min(most)]
+}
+
+// How many lines end in the text, and what stands after the last of them.
+fn begun_in(text: &[u8]) -> (u64, &[u8]) {
+    let mut rest = text;
+    let mut ended: u64 = 0;
+    for _ in 0..text.len() {
+        match split_line(rest) {
+            Some((_, later)) => {
+                rest = later;
+                ended = ended.saturating_add(1);
+            }
+            None => break,
+        }
+    }
+    (ended, rest)
+}

@@ -1,0 +1,130 @@
+//! `check`: the report of a trace.
+ghost use Rattle.std.specs.Prelude.{◌≤◌, IfOk};
+
+use crate::faults::run_fault;
+use crate::places::placed;
+use command_inputs::{
+    Fault, Input, Opener, Recalling, Recalls, labels_of, open_input, reasoned, write_output,
+};
+use command_requests::{CheckWords, TraceWords};
+use pmt_analysis::Analysis;
+use pmt_explanation::Labels;
+use pmt_report::{failed, report_text, run_check, run_error, swept};
+use pmt_taking::TakeError;
+use pmt_text::{Counted, TextSource};
+use std::alloc::Global;
+use std::io::{Read, Write, sink};
+use std::sync::Wait;
+use std::thread::Threads;
+
+/// Checks the trace of the file, or that of `input` where none is named. The status is 1 where an assertion fails or a store is never
+/// persisted.
+///
+/// # Errors
+/// The fault of the labels, of the file or of the run, the latter two with the reason below their line if one is asked for;
+/// `OutOfMemory`.
+pub fn check<T, O, I, W>(
+    rt: &T,
+    words: CheckWords<'_>,
+    files: &O,
+    input: &mut I,
+    out: &mut W,
+    recalls: Recalls,
+) -> Result<u8, Fault>
+where
+    T: AllocGlobal + Threads + Wait + Sync,
+    O: Opener,
+    I: Read,
+    W: Write,
+    ensures { IfOk result (λ status. status ≤ 1) }
+{
+    let alloc = rt.alloc();
+    let labels = labels_of(alloc, files, words.labels)?;
+    match words.trace.file {
+        Some(name) => {
+            let reader = open_input(alloc, files, name, recalls)?;
+            check_reader(rt, words, &labels, reader, out, recalls)
+        }
+        None => check_reader(rt, words, &labels, input, out, recalls),
+    }
+}
+
+// Checks the trace that the reader gives: as it is fixed, or with nothing written, or with places or fewer entries.
+fn check_reader<T, R, W>(
+    rt: &T,
+    words: CheckWords<'_>,
+    labels: &Labels,
+    reader: R,
+    out: &mut W,
+    recalls: Recalls,
+) -> Result<u8, Fault>
+where
+    T: AllocGlobal + Threads + Wait + Sync,
+    R: Read + Drop,
+    W: Write,
+    ensures { IfOk result (λ status. status ≤ 1) }
+{
+    if words.quiet {
+        return check_whole(rt, words.trace, reader, &mut sink(), recalls);
+    }
+    if words.labels.is_none() && words.limit.is_none() {
+        return check_whole(rt, words.trace, reader, out, recalls);
+    }
+    let alloc = rt.alloc();
+    let analysis = analysed(alloc, words.trace, reader, recalls)?;
+    let status = if failed(&analysis) { 1 } else { 0 };
+    let report = report_text(alloc, &analysis)?;
+    let text = placed(alloc, report.as_slice(), labels, words.limit)?;
+    write_output(alloc, out, text.as_slice(), recalls)?;
+    Ok(status)
+}
+
+// The report as it is fixed.
+fn check_whole<T, R, W>(
+    rt: &T,
+    words: TraceWords<'_>,
+    reader: R,
+    out: &mut W,
+    recalls: Recalls,
+) -> Result<u8, Fault>
+where
+    T: AllocGlobal + Threads + Wait + Sync,
+    R: Read + Drop,
+    W: Write,
+    ensures { IfOk result (λ status. status ≤ 1) }
+{
+    let alloc = rt.alloc();
+    let reader = Counted::new(Recalling::new(alloc, reader, recalls));
+    let mut writer = Counted::new(Recalling::new(alloc, out, recalls));
+    let (reader, done) = run_check(rt, alloc, words.workers, reader, &mut writer);
+    match done {
+        Ok(true) => Ok(1),
+        Ok(false) => Ok(0),
+        Err(error) => Err(run_fault(alloc, error, input_of(words), reader, writer)),
+    }
+}
+
+// What is read for these words.
+fn input_of(words: TraceWords<'_>) -> Input<'_> {
+    Input::new("check", words.file)
+}
+
+// The analysis of the trace that the reader gives.
+fn analysed<R: Read + Drop>(
+    alloc: Global,
+    words: TraceWords<'_>,
+    reader: R,
+    recalls: Recalls,
+) -> Result<Analysis, Fault> {
+    let reader = Counted::new(Recalling::new(alloc, reader, recalls));
+    let mut source = TextSource::new(alloc, reader);
+    match swept(alloc, &mut source) {
+        Ok(analysis) => Ok(analysis),
+        Err(TakeError::OutOfMemory) => Err(Fault::OutOfMemory),
+        Err(TakeError::Source(error)) => {
+            let fault = Fault::Run(run_error(error));
+            let reader = source.into_input().into_inner();
+            Err(reasoned(alloc, fault, input_of(words), reader.memory(), None))
+        }
+    }
+}

@@ -1,0 +1,58 @@
+//! `fronts`: how many stores of each line are safe at a place.
+ghost use Rattle.std.specs.Prelude.{◌≤◌, IfOk};
+
+use crate::faults::run_fault;
+use command_inputs::{Fault, Input, Opener, Recalling, Recalls, open_input};
+use command_requests::FrontsWords;
+use pmt_report::run_fronts;
+use pmt_text::Counted;
+use std::alloc::Global;
+use std::io::{Read, Write};
+
+/// Writes the fronts of the trace of the file, or of that of `input` where none is named. The status is 0.
+///
+/// # Errors
+/// The fault of the file or of the run, with the reason below its line if one is asked for; `OutOfMemory`.
+pub fn fronts<O, I, W>(
+    alloc: Global,
+    words: FrontsWords<'_>,
+    files: &O,
+    input: &mut I,
+    out: &mut W,
+    recalls: Recalls,
+) -> Result<u8, Fault>
+where
+    O: Opener,
+    I: Read,
+    W: Write,
+    ensures { IfOk result (λ status. status ≤ 1) }
+{
+    match words.file {
+        Some(name) => {
+            let reader = open_input(alloc, files, name, recalls)?;
+            fronts_of(alloc, words, reader, out, recalls)
+        }
+        None => fronts_of(alloc, words, input, out, recalls),
+    }
+}
+
+fn fronts_of<R: Read + Drop, W: Write>(
+    alloc: Global,
+    words: FrontsWords<'_>,
+    reader: R,
+    out: &mut W,
+    recalls: Recalls,
+) -> Result<u8, Fault>
+    ensures { IfOk result (λ status. status ≤ 1) }
+{
+    let reader = Counted::new(Recalling::new(alloc, reader, recalls));
+    let mut writer = Counted::new(Recalling::new(alloc, out, recalls));
+    let (reader, done) = run_fronts(alloc, words.place, reader, &mut writer);
+    match done {
+        Ok(()) => Ok(0),
+        Err(error) => {
+            let input = Input::new("fronts - PLACE", words.file);
+            Err(run_fault(alloc, error, input, reader, writer))
+        }
+    }
+}

@@ -1,0 +1,37 @@
+//! What a person may have meant by words that are no command.
+
+use command_inputs::{Fault, Opener, shell_word};
+use std::alloc::{AllocError, Global};
+use std::convert::AsStr;
+
+/// The fault of these words. Where the first one names no command, but a file that is there, it says what can be done with the file.
+pub fn with_tip<S: AsStr, O: Opener>(alloc: Global, files: &O, words: &[S], fault: Fault) -> Fault {
+    match fault {
+        Fault::NoCommand(text) => match told(alloc, files, words, text.as_str()) {
+            Ok(text) => Fault::Usage(text),
+            Err(_) => Fault::OutOfMemory,
+        },
+        other => other,
+    }
+}
+
+// What is told of these words, which name no command.
+fn told<S: AsStr, O: Opener>(
+    alloc: Global,
+    files: &O,
+    words: &[S],
+    text: &str,
+) -> Result<String, AllocError> {
+    let name = match words.first() {
+        Some(word) => word.as_str(),
+        None => "",
+    };
+    match files.size(name) {
+        Ok(Some(_)) => {
+            let file = shell_word(alloc, name)?;
+            let file = file.as_str();
+            format!(in alloc; "{text}\ntip: {file} is a file; to judge it: pmtrim check {file}\n")
+        }
+        _ => String::from_str(alloc, text),
+    }
+}

@@ -1,0 +1,127 @@
+//! `trim`: the trace without the flushes and fences that no crash can show.
+ghost use Rattle.std.specs.Prelude.{◌≤◌, IfOk};
+
+use crate::faults::run_fault;
+use command_inputs::{Fault, Input, Opener, Recalling, Recalls, open_input};
+use command_requests::TraceWords;
+use pmt_report::{RunError, run_error, run_trim};
+use pmt_text::{Counted, TextSource};
+use pmt_trimming::{StreamError, trim_stream};
+use std::alloc::Global;
+use std::io::{Read, Write};
+use std::sync::Wait;
+use std::thread::Threads;
+
+/// Trims the trace of the file, or that of `input` where none is named. The status is 0.
+///
+/// # Errors
+/// The fault of the file or of the run, with the reason below its line if one is asked for; `OutOfMemory`.
+pub fn trim<T, O, I, W>(
+    rt: &T,
+    words: TraceWords<'_>,
+    files: &O,
+    input: &mut I,
+    out: &mut W,
+    recalls: Recalls,
+) -> Result<u8, Fault>
+where
+    T: AllocGlobal + Threads + Wait + Sync,
+    O: Opener,
+    I: Read,
+    W: Write,
+    ensures { IfOk result (λ status. status ≤ 1) }
+{
+    match words.file {
+        Some(name) => {
+            let reader = open_input(rt.alloc(), files, name, recalls)?;
+            trim_reader(rt, words, reader, out, recalls)
+        }
+        None => trim_reader(rt, words, input, out, recalls),
+    }
+}
+
+fn trim_reader<T, R, W>(
+    rt: &T,
+    words: TraceWords<'_>,
+    reader: R,
+    out: &mut W,
+    recalls: Recalls,
+) -> Result<u8, Fault>
+where
+    T: AllocGlobal + Threads + Wait + Sync,
+    R: Read + Drop,
+    W: Write,
+    ensures { IfOk result (λ status. status ≤ 1) }
+{
+    let alloc = rt.alloc();
+    let reader = Counted::new(Recalling::new(alloc, reader, recalls));
+    let mut writer = Counted::new(Recalling::new(alloc, out, recalls));
+    let (reader, done) = run_trim(rt, alloc, words.workers, reader, &mut writer);
+    match done {
+        Ok(()) => Ok(0),
+        Err(error) => Err(run_fault(alloc, error, input_of(words), reader, writer)),
+    }
+}
+
+// What is read for these words.
+fn input_of(words: TraceWords<'_>) -> Input<'_> {
+    Input::new("trim", words.file)
+}
+
+/// Trims the same trace while it is read. The status is 0.
+///
+/// # Errors
+/// As `trim`; what is out before a fault stays.
+pub fn stream<O, I, W>(
+    alloc: Global,
+    words: TraceWords<'_>,
+    files: &O,
+    input: &mut I,
+    out: &mut W,
+    recalls: Recalls,
+) -> Result<u8, Fault>
+where
+    O: Opener,
+    I: Read,
+    W: Write,
+    ensures { IfOk result (λ status. status ≤ 1) }
+{
+    match words.file {
+        Some(name) => {
+            let reader = open_input(alloc, files, name, recalls)?;
+            stream_reader(alloc, words, reader, out, recalls)
+        }
+        None => stream_reader(alloc, words, input, out, recalls),
+    }
+}
+
+fn stream_reader<R: Read + Drop, W: Write>(
+    alloc: Global,
+    words: TraceWords<'_>,
+    reader: R,
+    out: &mut W,
+    recalls: Recalls,
+) -> Result<u8, Fault>
+    ensures { IfOk result (λ status. status ≤ 1) }
+{
+    let reader = Counted::new(Recalling::new(alloc, reader, recalls));
+    let mut source = TextSource::new(alloc, reader);
+    let mut writer = Counted::new(Recalling::new(alloc, out, recalls));
+    match trim_stream(alloc, &mut source, &mut writer) {
+        Ok(()) => Ok(0),
+        Err(error) => {
+            let fault = stream_fault(error);
+            let reader = source.into_input();
+            Err(run_fault(alloc, fault, input_of(words), reader, writer))
+        }
+    }
+}
+
+// What a run tells in the place of the stream.
+fn stream_fault(error: StreamError) -> RunError {
+    match error {
+        StreamError::Source(fault) => run_error(fault),
+        StreamError::OutOfMemory => RunError::OutOfMemory,
+        StreamError::Write { written } => RunError::Write { written },
+    }
+}

@@ -1,0 +1,80 @@
+"""What `check` writes with --labels, --limit and --quiet; without them its answer is fixed, and tests/test_answers.py compares it."""
+import subprocess
+
+from checks import Checks
+from program import find
+
+TRACE = (
+    "pmtrace 1\nstore 0 0x1000 01\nstore 0 0x1000 02\nclwb 0 0x1000\nsfence 1\nisPersist 0 0x1000 1\n"
+    "isOrderedBefore 0 0x1000 1 0x1000 1\nclwb 0 0x1000\n"
+)
+HEAD, LAST = "events 7 lines 1\n", "kept 4 dropped 3\n"
+# Its entries, each with what stands behind it by LABELS.
+LABELS = "1 a.c:1 first < main\n2 a.c:2\n5 a.c:5 claim\n7 a.c:7\n"
+ENTRIES = (
+    ("never-persisted 1 flushed", " at a.c:1 first < main"),
+    ("overwritten 1 by 2", " at a.c:2, before at a.c:1 first < main"),
+    ("never-persisted 2 flushed", " at a.c:2"),
+    ("fence-without-flush 4", ""),
+    ("persist 5 fail", " at a.c:5 claim"),
+    ("ordered 6 pass", ""),
+    ("redundant-flush 7", " at a.c:7"),
+)
+SAVED = "pmtrace 1\nstore 0 0x1000 01\nclwb 0 0x1000\nsfence 0\n"
+
+
+def setUpModule():
+    find()
+
+
+def report(count=len(ENTRIES), labels=True):
+    """The answer with the first entries, and how many are left out."""
+    entries = "".join(f"{entry}{label if labels else ''}\n" for entry, label in ENTRIES[:count])
+    left = len(ENTRIES) - count
+    return f"{HEAD}{entries}{LAST}" + (f"entries left out {left}\n" if left else "")
+
+
+class Check(Checks):
+    """The trace t and its labels l, in a folder of their own."""
+
+    def setUp(self):
+        self.folder = self.new_folder()
+        (self.folder / "t").write_text(TRACE)
+        (self.folder / "saved").write_text(SAVED)
+        (self.folder / "l").write_text(LABELS)
+
+    def told(self, *words, text=""):
+        done = subprocess.run([self.program, "check", *words], input=text, capture_output=True, text=True, cwd=self.folder, timeout=60)
+        return done.returncode, done.stdout, done.stderr
+
+    def test_plain(self):
+        self.expect_equal("no option", self.told("t"), (1, report(labels=False), ""))
+        self.expect_equal("all", self.told("--limit", "all", "t"), (1, report(labels=False), ""))
+
+    def test_labels(self):
+        self.expect_equal("labels", self.told("--labels", "l", "t"), (1, report(), ""))
+        self.expect_equal("labels, by standard input", self.told("--labels", "l", "-", text=TRACE), (1, report(), ""))
+        self.expect_equal("labels, four workers", self.told("-j", "4", "--labels", "l", "t"), (1, report(), ""))
+        (self.folder / "bad").write_text("1 a\nb\n")
+        status, out, fault = self.told("--labels", "bad", "none")
+        self.expect("bad labels come first", (status, out) == (3, "") and fault.startswith("bad:2: 'b' is no number of an event\n"), fault)
+
+    def test_limit(self):
+        for count in (0, 1, 5, 6, 7, 8, 10**19):
+            wanted = (1, report(min(count, len(ENTRIES)), labels=False), "")
+            self.expect_equal(f"at most {count}", self.told("--limit", str(count), "t"), wanted)
+        self.expect_equal("with labels", self.told("--limit", "2", "--labels", "l", "t"), (1, report(2), ""))
+        for word in ("", "x", "-1", "01", "1.5"):
+            status, out, fault = self.told(f"--limit={word}", "t")
+            self.expect(f"limit {word!r}", (status, out) == (2, "") and f"'{word}'" in fault, fault)
+
+    def test_quiet(self):
+        for words in (["--quiet"], ["-q"], ["-q", "--labels", "l", "--limit", "1"], ["-q", "-j", "2"]):
+            self.expect_equal(f"{words}", self.told(*words, "t"), (1, "", ""))
+            self.expect_equal(f"{words} of what is saved", self.told(*words, "saved"), (0, "", ""))
+        self.expect_equal("a fault is told", self.told("-q", "none"), (4, "", "file fault\n"))
+        (self.folder / "bad").write_text("pmtrace 1\nsfence 256\n")
+        for words in (["-q"], ["--limit", "1"], ["--labels", "l"]):
+            self.expect_equal(f"{words} of a refused trace", self.told(*words, "bad"), (3, "", "trace line 2: out-of-range\n"))
+            reason = "bad:2: the thread '256' is out of range\n    sfence 256\na thread is a decimal number from 0 to 255, without leading zeros\n"
+            self.expect_equal(f"{words} -v", self.told(*words, "-v", "bad"), (3, "", f"trace line 2: out-of-range\n{reason}"))
