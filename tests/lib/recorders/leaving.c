@@ -29,6 +29,8 @@ static void *store_for_ever(void *asynchronous) {
     for (uint64_t value = 0;; value++) {
         pmtrace_store(((uint64_t *)(void *)pool)[1], value);
         pthread_testcancel();
+        if (value > 10000) /* or a trace could be full before a busy machine cancels */
+            usleep(1000);
     }
     return NULL;
 }
