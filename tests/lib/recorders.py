@@ -172,7 +172,7 @@ class RecorderTests(CaseTests, FaultTests, PartTests, ThreadTests):
         last = before["label"].rsplit(":", 1)[1]
         between = (TOP / file).read_text().splitlines()[int(first) : int(last) - 1]
         self.expect(f"{what}: the line at fault", len(between) < 6 and fault in map(str.strip, between), between)
-        text = run([*words, "--failure", failure["event"]["event"], "--limit", "all"])[1]
+        text = run([*words, "--failure", failure["event"]["event"]])[1]
         named = [event["label"] in text and event["words"] in text for event in (failure["event"], after, before)]
         self.expect(f"{what}: the text names these lines", all(named), text[:200])
 

@@ -207,15 +207,16 @@ fn answer_of<O: Opener>(
     }
 }
 
-// The text for people.
+// The text for people: a screen, or all rows where a limit or one failure is asked for.
 fn people_text(
     alloc: Global,
     explanation: &Explanation,
     known: &Known,
     words: &ExplainWords<'_>,
 ) -> Result<Vec<u8>, OutOfMemory> {
+    let is_whole = words.is_limited || words.failure.is_some();
     let screen = Screen {
-        rows: if words.is_limited { None } else { Some(ROWS) },
+        rows: if is_whole { None } else { Some(ROWS) },
         choice: &words.options.choice,
         ignored: words.options.ignored.as_slice(),
         trace: words.file,

@@ -22,7 +22,7 @@ pub fn explain_command<'a>(alloc: Global) -> Made<'a> {
         .override_usage(USAGE)
         .about("Says what is wrong in a trace, why, and where to put the flush or fence.")
         .after_help(
-            "Writes a summary, then each failed assertion with a crash that violates it, stores that are never{n}persisted, flushes and fences without effect, and overwritten stores: what matters most first, in at{n}most 40 lines where no --limit is given. --only to --failure choose what is told; the status is of{n}the whole trace.{n}Statuses: 0 done; 1 an assertion fails or a store that is not ignored is never persisted; 2 wrong{n}words; 3 trace, labels or ranges refused; 4 file fault; 5 out of memory{n}Example: pmtrim explain --labels run.trace.labels run.trace",
+            "Writes a summary, then each failed assertion with a crash that violates it, stores that are never{n}persisted, flushes and fences without effect, and overwritten stores: what matters most first, in at{n}most 40 lines unless --limit or --failure is given. --only to --failure choose what is told; the{n}status is of the whole trace.{n}Statuses: 0 done; 1 an assertion fails or a store that is not ignored is never persisted; 2 wrong{n}words; 3 trace, labels or ranges refused; 4 file fault; 5 out of memory{n}Example: pmtrim explain --labels run.trace.labels run.trace",
         );
     let ignoring = with_ignoring(alloc, Ok(command));
     let choosing = with_events(alloc, with_choice(alloc, ignoring));
