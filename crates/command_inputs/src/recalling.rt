@@ -1,6 +1,7 @@
 //! Devices that recall what a person is told of their faults.
 
-use crate::refused::{line_of_text, split_line};
+use crate::refused::line_of_text;
+use memchr::{memchr_iter, memrchr};
 use std::alloc::{AllocError, Global};
 use std::io::{self, ErrorKind, Read, Write};
 
@@ -42,7 +43,6 @@ pub struct Recalling<D> {
 /// What is recalled of a device.
 #[derive(Drop)]
 pub struct Memory {
-    alloc: Global,
     recalls: Recalls,
     // The first bytes.
     first: Vec<u8>,
@@ -133,7 +133,6 @@ impl Memory {
     // Nothing.
     fn new(alloc: Global, recalls: Recalls) -> Self {
         Memory {
-            alloc,
             recalls,
             first: Vec::new(alloc),
             lines: 0,
@@ -181,13 +180,10 @@ impl Memory {
 
     fn recall_last(&mut self, piece: &[u8]) -> Result<(), AllocError> {
         self.recall_first(piece)?;
-        let (ended, begun) = begun_in(self.last.as_slice());
-        let mut last = Vec::new(self.alloc);
-        last.extend_from_slice(beginning(begun, BEGUN))?;
-        last.extend_from_slice(piece)?;
-        self.lines = self.lines.saturating_add(ended);
-        self.last = last;
-        Ok(())
+        let ended = memchr_iter(b'\n', self.last.as_slice()).count();
+        self.lines = self.lines.saturating_add(ended as u64);
+        keep_begun(&mut self.last);
+        self.last.extend_from_slice(piece)
     }
 }
 
@@ -196,18 +192,14 @@ fn beginning(text: &[u8], most: usize) -> &[u8] {
     &text[..text.len().min(most)]
 }
 
-// How many lines end in the text, and what stands after the last of them.
-fn begun_in(text: &[u8]) -> (u64, &[u8]) {
-    let mut rest = text;
-    let mut ended: u64 = 0;
-    for _ in 0..text.len() {
-        match split_line(rest) {
-            Some((_, later)) => {
-                rest = later;
-                ended = ended.saturating_add(1);
-            }
-            None => break,
-        }
-    }
-    (ended, rest)
+// Keeps of the text the beginning of its last line, which has no LF yet.
+fn keep_begun(text: &mut Vec<u8>) {
+    let size = text.len();
+    let start = match memrchr(b'\n', text.as_slice()) {
+        Some(end) => end + 1,
+        None => 0,
+    };
+    let begun = (size - start).min(BEGUN);
+    text.as_mut_slice().copy_within(start..start + begun, 0);
+    text.truncate(begun);
 }

@@ -1,6 +1,7 @@
 //! What a person is told of a refused line: its place, its text, what is wrong with it, and what is allowed there.
 
 use crate::fault::Fault;
+use memchr::memchr;
 use std::alloc::{AllocError, Global};
 
 // How many bytes of a line are shown.
@@ -46,12 +47,8 @@ pub fn line_of_text(text: &[u8], number: u64) -> &[u8] {
 
 /// The first line, without its LF, and what stands after that. None where no LF is there.
 pub fn split_line(text: &[u8]) -> Option<(&[u8], &[u8])> {
-    for (at, byte) in text.iter().enumerate() {
-        if *byte == b'\n' {
-            return Some((&text[..at], &text[at + 1..]));
-        }
-    }
-    None
+    let end = memchr(b'\n', text)?;
+    Some((&text[..end], &text[end + 1..]))
 }
 
 /// The fault of a line: `NAME:LINE: WHAT`, its text, what is allowed, and a hint where lines end in CR LF.
