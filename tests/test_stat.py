@@ -193,9 +193,9 @@ REFUSED = {
 # Words that are refused, and what is told.
 WORDS = {
     ("--compare-labels", "l"): "'--compare-labels' stands with '--compare'",
-    ("--write-budget", "--json"): "'--write-budget' stands with '--labels' alone",
-    ("--write-budget", "--budget", "b"): "'--write-budget' stands with '--labels' alone",
-    ("--write-budget", "--compare", "t"): "'--write-budget' stands with '--labels' alone",
+    ("--write-budget", "--json"): "'--write-budget' stands with '--labels' and '--out' alone",
+    ("--write-budget", "--budget", "b"): "'--write-budget' stands with '--labels' and '--out' alone",
+    ("--write-budget", "--compare", "t"): "'--write-budget' stands with '--labels' and '--out' alone",
     ("--frob",): "'--frob'",
     ("a", "b"): "'b'",
 }
@@ -305,6 +305,24 @@ class Stats(Checks):
         same = run(self.program, "stat", "--compare", folder / "small.trace", folder / "small.trace").out
         self.expect("the same", b"No place pays more or less.\n" in same, same.decode())
         self.expect_equal("no other trace", run(self.program, "stat", "--compare", folder / "none", *words).status, 4)
+
+    def test_cut(self):
+        folder, words = self.small()
+        cuts = (
+            ("6 a trace has at most 6 events\n", {"event": 6, "why": "a trace has at most 6 events"}, " was cut after event 6: a trace has at most 6 events\n"),
+            ("", {"event": None, "why": ""}, " was cut\n"),
+        )
+        self.expect_equal("a whole trace", figures(self.program, *words)["summary"][0]["cut"], None)
+        for text, wanted, told in cuts:
+            (folder / "small.trace.cut").write_text(text)
+            self.expect_equal(f"{text!r}: JSON", figures(self.program, *words)["summary"][0]["cut"], wanted)
+            first = run(self.program, "stat", *words).out.decode()
+            self.expect(f"{text!r}: text", first.startswith(f"This trace{told}"), first)
+            other = run(self.program, "stat", "--compare", folder / "small.trace", EXAMPLES / "redo.trace").out.decode()
+            self.expect(f"{text!r}: the other one", other.startswith(f"The other trace{told}"), other)
+        (folder / "small.trace.cut").write_text("x\n")
+        answer = run(self.program, "stat", *words)
+        self.expect("a bad one is refused", answer.status == 3 and f"{folder}/small.trace.cut:1: ".encode() in answer.faults, short(answer))
 
     def test_words_are_refused(self):
         for words, told in WORDS.items():

@@ -24,6 +24,21 @@ pub struct StatWords<'a> {
     pub budget: Option<&'a str>,
     /// What is written.
     pub form: StatForm,
+    /// The file that is written; none for standard output.
+    pub out: Option<&'a str>,
     /// The trace; standard input, if none is given.
     pub file: Option<&'a str>,
+}
+
+impl<'a> StatWords<'a> {
+    // The files that are read, where they are named.
+    pub(crate) fn inputs(&self) -> [Option<&'a str>; 5] {
+        [
+            self.file,
+            self.labels,
+            self.other,
+            self.other_labels,
+            self.budget,
+        ]
+    }
 }

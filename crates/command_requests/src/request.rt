@@ -5,6 +5,7 @@ use crate::explaining::ExplainWords;
 use crate::imaging::{ImageWords, ListWords};
 use crate::measuring::StatWords;
 use crate::slicing::SliceWords;
+use std::alloc::{AllocError, Global};
 
 /// What the words ask for.
 #[derive(Drop)]
@@ -42,6 +43,8 @@ pub struct TraceWords<'a> {
     pub workers: usize,
     /// The trace; standard input, if none is given.
     pub file: Option<&'a str>,
+    /// The file that is written; none for standard output.
+    pub out: Option<&'a str>,
     /// Whether the reason stands below a fault's line.
     pub verbose: bool,
 }
@@ -66,6 +69,8 @@ pub struct FrontsWords<'a> {
     pub file: Option<&'a str>,
     /// After how many events.
     pub place: u64,
+    /// The file that is written; none for standard output.
+    pub out: Option<&'a str>,
     /// Whether the reason stands below a fault's line.
     pub verbose: bool,
 }
@@ -75,11 +80,46 @@ pub struct FrontsWords<'a> {
 pub struct RecordWords<'a> {
     /// Their files, a thread each.
     pub scripts: Vec<&'a str>,
+    /// The file that is written; none for standard output.
+    pub out: Option<&'a str>,
     /// Whether the reason stands below a fault's line.
     pub verbose: bool,
 }
 
-impl Request<'_> {
+impl<'a> Request<'a> {
+    /// The file that is to be written in place of standard output, of a command that does not write one by itself.
+    pub fn out(&self) -> Option<&'a str> {
+        match self {
+            Request::Check(words) => words.trace.out,
+            Request::Trim(words) => words.out,
+            Request::Fronts(words) => words.out,
+            Request::Record(words) => words.out,
+            Request::Stat(words) => words.out,
+            _ => None,
+        }
+    }
+
+    /// The files that such a command reads, where they are named.
+    ///
+    /// # Errors
+    /// `AllocError` if memory was refused.
+    pub fn inputs(&self, alloc: Global) -> Result<Vec<Option<&'a str>>, AllocError> {
+        let mut names = Vec::new(alloc);
+        match self {
+            Request::Check(words) => names.extend_from_slice(&[words.trace.file, words.labels])?,
+            Request::Trim(words) => names.push(words.file)?,
+            Request::Fronts(words) => names.push(words.file)?,
+            Request::Record(words) => {
+                for script in &words.scripts {
+                    names.push(Some(*script))?;
+                }
+            }
+            Request::Stat(words) => names.extend_from_slice(&words.inputs())?,
+            _ => {}
+        }
+        Ok(names)
+    }
+
     /// Whether standard input is read for it.
     pub fn reads_input(&self) -> bool {
         match self {

@@ -1,9 +1,11 @@
 //! What is measured of a trace.
 
-use command_inputs::{Fault, Input, Opener, bytes_of, labels_of, taken_fault};
+use command_inputs::{Fault, Input, Opener, bytes_of, cut_of, labels_of, taken_fault};
 use pmt_causes::Origin;
 use pmt_explain_run::explain;
-use pmt_explanation::{Choice, Explanation, Kind, Labels, Options, Summary, frame_of, summary_of};
+use pmt_explanation::{
+    Choice, Cut, Explanation, Kind, Labels, Options, Summary, frame_of, summary_of,
+};
 use pmt_fates::PlaceRow;
 use pmt_model::OutOfMemory;
 use pmt_stat::{Cost, Figures, PlaceCost, cost_of, figures_of, sort_places};
@@ -24,6 +26,8 @@ pub(crate) struct Measured {
     pub(crate) figures: Figures,
     // What each place pays that flushes or fences, in the order in which places are told.
     pub(crate) places: Vec<PlaceCost>,
+    // Where and why the trace was cut, if it was.
+    pub(crate) cut: Option<Cut>,
 }
 
 // What is measured of the trace of the file or of `input`, with the labels of the file.
@@ -37,8 +41,9 @@ pub(crate) fn measured_of<O: Opener, I: Read>(
     let labels = labels_of(alloc, files, labels)?;
     let source = Input::new("stat", file);
     let bytes = bytes_of(alloc, source, files, input)?;
+    let cut = cut_of(alloc, files, file)?;
     match explained(alloc, &labels, bytes.as_slice()) {
-        Ok(explanation) => Ok(measures_of(alloc, &explanation, &labels)?),
+        Ok(explanation) => Ok(measures_of(alloc, &explanation, &labels, cut)?),
         Err(error) => Err(taken_fault(alloc, source, bytes.as_slice(), error)?),
     }
 }
@@ -66,6 +71,7 @@ fn measures_of(
     alloc: Global,
     explanation: &Explanation,
     labels: &Labels,
+    cut: Option<Cut>,
 ) -> Result<Measured, OutOfMemory> {
     let trace = explanation.analysis.trace();
     let places = places_of(alloc, explanation.places.as_slice(), labels)?;
@@ -75,6 +81,7 @@ fn measures_of(
         line_size: trace.format().line_size(),
         figures,
         places,
+        cut,
     })
 }
 

@@ -5,7 +5,7 @@ use crate::comparing::push_comparison;
 use crate::judging::{Excess, push_excess};
 use crate::stat::Told;
 use crate::tables::push_tables;
-use pmt_explanation::first;
+use pmt_explanation::{Cut, first};
 use pmt_model::OutOfMemory;
 use pmt_pen::Pen;
 use std::alloc::Global;
@@ -17,8 +17,12 @@ const SHOWN: usize = 4;
 pub(crate) fn people_text(alloc: Global, told: &Told<'_>) -> Result<Vec<u8>, OutOfMemory> {
     let mut pen = Pen::new(alloc);
     push_excesses(&mut pen, told.excesses);
+    push_cut(&mut pen, "This trace", told.own.cut.as_ref());
     match told.other {
-        Some(other) => push_comparison(&mut pen, told, other),
+        Some(other) => {
+            push_cut(&mut pen, "The other trace", other.cut.as_ref());
+            push_comparison(&mut pen, told, other);
+        }
         None => push_tables(&mut pen, told.own),
     }
     Ok(pen.finish()?.into_bytes())
@@ -42,6 +46,23 @@ fn push_excesses(pen: &mut Pen, excesses: &[Excess<'_>]) {
     }
     push_more(pen, excesses.len(), SHOWN);
     pen.put("\n");
+}
+
+// Adds that the trace was cut, if it was.
+fn push_cut(pen: &mut Pen, name: &str, cut: Option<&Cut>) {
+    let Some(cut) = cut else {
+        return;
+    };
+    pen.put(name);
+    pen.put(" was cut");
+    if let Some(event) = cut.event {
+        pen.fill(" after event #", &[event]);
+    }
+    if !cut.why.is_empty() {
+        pen.put(": ");
+        pen.put(cut.why.as_str());
+    }
+    pen.put("\nIts figures are of what was recorded, not of the whole run.\n\n");
 }
 
 // Adds how many places are not shown.

@@ -4,6 +4,7 @@ use crate::changes::Changed;
 use crate::judging::Excess;
 use crate::measured::Measured;
 use crate::tables::unfenced;
+use pmt_explanation::Cut;
 use pmt_model::OutOfMemory;
 use pmt_stat::{Cost, Counts, Limits, PlaceCost, ThreadCounts};
 use serde_json::{Map, Value, put};
@@ -30,10 +31,12 @@ pub(crate) fn summary_value(
     let counts = &own.summary;
     let kind = Value::try_from_str(alloc, kind)?;
     let events = counts_value(alloc, &own.figures.all)?;
+    let cut = cut_value(alloc, own.cut.as_ref())?;
     object_of(
         alloc,
         vec![in alloc;
             ("cache_lines", Value::from(counts.cache_lines)),
+            ("cut", cut),
             ("events", events),
             ("fences", Value::from(counts.fences)),
             ("fences_dropped", Value::from(counts.fences_dropped)),
@@ -45,6 +48,19 @@ pub(crate) fn summary_value(
             ("threads", Value::from(counts.threads)),
         ]?,
     )
+}
+
+// Where and why a trace was cut; null of one that was not.
+fn cut_value(alloc: Global, cut: Option<&Cut>) -> Result<Value, OutOfMemory> {
+    let Some(cut) = cut else {
+        return Ok(Value::Null);
+    };
+    let event = match cut.event {
+        Some(event) => Value::from(event),
+        None => Value::Null,
+    };
+    let why = Value::try_from_str(alloc, cut.why.as_str())?;
+    object_of(alloc, vec![in alloc; ("event", event), ("why", why)]?)
 }
 
 // The events of each kind, and the bytes that are stored.

@@ -1,5 +1,5 @@
 //! The words of the program, by clap.
-use crate::arguments::{Made, flag, trace_file, value, verbose, with};
+use crate::arguments::{Made, flag, out_file, trace_file, value, verbose, with};
 use crate::draw_words::draw_command;
 use crate::explain_command::explain_command;
 use crate::image_words::image_command;
@@ -43,7 +43,7 @@ fn program<'a>(alloc: Global) -> Made<'a> {
     Ok(
         command
             .override_usage(
-                "pmtrim < TRACE\n       pmtrim check [--labels FILE] [--limit N] [--quiet] [FILE]\n       pmtrim explain [--ignore A:N].. [--limit N] [--only KIND] .. [--labels FILE]\n                      [--json | --html [--source DIR]] [--out FILE] [FILE]\n       pmtrim trim [--stream] [FILE]\n       pmtrim fronts FILE PLACE\n       pmtrim record SCRIPT..\n       pmtrim draw [--failure N | --around I | --from I --to J] [--line A].. [--labels FILE]\n                   [--out FILE] [FILE]\n       pmtrim image (--failure N | --at PLACE [--all] [--line A:K]..) [--pool BASE --origin A]\n                    [--out FILE] [FILE]\n       pmtrim image --list [--at PLACES] [--off K] [--out FILE] [FILE]\n       pmtrim slice (--failure N | --store N) [[--labels FILE] --out FILE] [FILE]\n       pmtrim stat [--labels FILE] [--compare OTHER] [--budget FILE] [--json | --write-budget]\n                   [FILE]",
+                "pmtrim < TRACE\n       pmtrim check [--labels FILE] [--limit N] [--quiet] [--out FILE] [FILE]\n       pmtrim explain [--ignore A:N].. [--limit N] [--only KIND] .. [--labels FILE]\n                      [--json | --html [--source DIR]] [--out FILE] [FILE]\n       pmtrim trim [--stream | --out FILE] [FILE]\n       pmtrim fronts [--out FILE] FILE PLACE\n       pmtrim record [--out FILE] SCRIPT..\n       pmtrim draw [--failure N | --around I | --from I --to J] [--line A].. [--labels FILE]\n                   [--out FILE] [FILE]\n       pmtrim image (--failure N | --at PLACE [--all] [--line A:K]..) [--pool BASE --origin A]\n                    [--out FILE] [FILE]\n       pmtrim image --list [--at PLACES] [--off K] [--out FILE] [FILE]\n       pmtrim slice (--failure N | --store N) [[--labels FILE] --out FILE] [FILE]\n       pmtrim stat [--labels FILE] [--compare OTHER] [--budget FILE] [--json | --write-budget]\n                   [--out FILE] [FILE]",
             )
             .about(
                 "Checks traces of persistent memory events, and trims the flushes and fences that no crash can{n}show. With no words it trims the trace on standard input.",
@@ -56,7 +56,9 @@ fn program<'a>(alloc: Global) -> Made<'a> {
 
 fn check<'a>(alloc: Global) -> Made<'a> {
     let command = Command::new(alloc, "check")
-        .override_usage("pmtrim check [--workers N] [--labels FILE] [--limit N] [--quiet] [FILE]")
+        .override_usage(
+            "pmtrim check [--workers N] [--labels FILE] [--limit N] [--quiet] [--out FILE] [FILE]",
+        )
         .about("Judges the assertions of a trace, and reports findings.")
         .after_help(
             "Writes the number of events and lines, an entry for each finding and each assertion, and how many{n}events trim keeps.{n}Statuses: 0 done; 1 an assertion fails or a store is never persisted; 2 wrong words; 3 trace{n}refused; 4 file fault; 5 out of memory{n}Example: pmtrim check --workers 4 run.trace",
@@ -81,10 +83,10 @@ fn check<'a>(alloc: Global) -> Made<'a> {
 
 fn trim<'a>(alloc: Global) -> Made<'a> {
     let command = Command::new(alloc, "trim")
-        .override_usage("pmtrim trim [--workers N] [--stream] [FILE]")
+        .override_usage("pmtrim trim [--workers N] [--stream | --out FILE] [FILE]")
         .about("Writes the trace without the flushes and fences that no crash can show.")
         .after_help(
-            "Statuses: 0 done; 2 wrong words; 3 trace refused; 4 file fault; 5 out of memory{n}Example: pmtrim trim run.trace > trimmed.trace",
+            "Statuses: 0 done; 2 wrong words; 3 trace refused; 4 file fault; 5 out of memory{n}Example: pmtrim trim --out trimmed.trace run.trace",
         );
     let stream = flag(alloc, "stream", "Write the trace as it is read");
     let working = with(Ok(command), workers(alloc, UNUSED));
@@ -93,12 +95,13 @@ fn trim<'a>(alloc: Global) -> Made<'a> {
 
 // Which trace, and how its faults are told.
 fn with_trace<'a>(alloc: Global, command: Made<'a>) -> Made<'a> {
-    with(with(command, verbose(alloc)), trace_file(alloc))
+    let telling = with(with(command, out_file(alloc)), verbose(alloc));
+    with(telling, trace_file(alloc))
 }
 
 fn fronts<'a>(alloc: Global) -> Made<'a> {
     let command = Command::new(alloc, "fronts")
-        .override_usage("pmtrim fronts FILE PLACE")
+        .override_usage("pmtrim fronts [--out FILE] FILE PLACE")
         .about("Tells how many stores of each cache line are safe at a place.")
         .after_help(
             "Statuses: 0 done; 2 wrong words, or the place lies past the end; 3 trace refused; 4 file fault; 5{n}out of memory{n}Example: pmtrim fronts run.trace 12",
@@ -107,7 +110,8 @@ fn fronts<'a>(alloc: Global) -> Made<'a> {
     let place = Arg::new(alloc, "PLACE")
         .required(true)
         .help("After how many events, a decimal number");
-    with(with(with(Ok(command), verbose(alloc)), file), place)
+    let telling = with(with(Ok(command), out_file(alloc)), verbose(alloc));
+    with(with(telling, file), place)
 }
 
 fn record<'a>(alloc: Global) -> Made<'a> {
@@ -117,12 +121,13 @@ fn record<'a>(alloc: Global) -> Made<'a> {
         .num_args(1..=256)
         .help("The events of a thread, one a line; 1 to 256 scripts");
     let command = Command::new(alloc, "record")
-        .override_usage("pmtrim record SCRIPT..")
+        .override_usage("pmtrim record [--out FILE] SCRIPT..")
         .about("Runs each script in a thread of its own, and writes the trace that they record.")
         .after_help(
-            "Statuses: 0 done; 2 wrong words; 3 a script refused, or the trace is full; 4 file fault; 5 out of{n}memory; 6 torn recorder{n}Example: pmtrim record first.script second.script > run.trace",
+            "Statuses: 0 done; 2 wrong words; 3 a script refused, or the trace is full; 4 file fault; 5 out of{n}memory; 6 torn recorder{n}Example: pmtrim record --out run.trace first.script second.script",
         );
-    with(with(Ok(command), verbose(alloc)), scripts)
+    let telling = with(with(Ok(command), out_file(alloc)), verbose(alloc));
+    with(telling, scripts)
 }
 
 fn workers<'a>(alloc: Global, help: &'a str) -> Arg<'a> {

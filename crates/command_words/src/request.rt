@@ -1,5 +1,5 @@
 //! What the words ask for.
-use crate::arguments::{bad_word, trace_name};
+use crate::arguments::{bad_word, out_name, trace_name};
 use crate::command::commands;
 use crate::draw_words::drawing_of;
 use crate::explain_words::explain_words;
@@ -52,10 +52,11 @@ fn asked<'a>(alloc: Global, matches: &ArgMatches<'a>) -> Result<Request<'a>, Fau
         Some(("slice", given)) => Ok(Request::Slice(slice_words(alloc, given)?)),
         Some(("stat", given)) => Ok(Request::Stat(stat_words(alloc, given)?)),
         Some(("draw", given)) => Ok(Request::Draw(drawing_of(alloc, given)?)),
-        Some((_, given)) => Ok(trim(given)),
+        Some((_, given)) => trim(alloc, given),
         None => Ok(Request::Trim(TraceWords {
             workers: 1,
             file: None,
+            out: None,
             verbose: false,
         })),
     }
@@ -65,6 +66,7 @@ fn trace_words<'a>(given: &ArgMatches<'a>) -> TraceWords<'a> {
     TraceWords {
         workers: workers_of(given),
         file: trace_name(given),
+        out: out_name(given),
         verbose: given.get_flag("verbose"),
     }
 }
@@ -95,12 +97,17 @@ fn limit_of(alloc: Global, given: &ArgMatches<'_>) -> Result<Option<u64>, Fault>
     }
 }
 
-fn trim<'a>(given: &ArgMatches<'a>) -> Request<'a> {
-    if given.get_flag("stream") {
-        Request::Stream(trace_words(given))
-    } else {
-        Request::Trim(trace_words(given))
+fn trim<'a>(alloc: Global, given: &ArgMatches<'a>) -> Result<Request<'a>, Fault> {
+    let words = trace_words(given);
+    if !given.get_flag("stream") {
+        return Ok(Request::Trim(words));
     }
+    if words.out.is_some() {
+        let message =
+            "'--stream' writes to standard output while it reads; a file of '--out' is written whole";
+        return Err(Fault::usage(alloc, message)?);
+    }
+    Ok(Request::Stream(words))
 }
 
 fn image<'a>(alloc: Global, given: &ArgMatches<'a>) -> Result<Request<'a>, Fault> {
@@ -129,6 +136,7 @@ fn fronts<'a>(alloc: Global, given: &ArgMatches<'a>) -> Result<Request<'a>, Faul
         Some(place) => Ok(Request::Fronts(FrontsWords {
             file,
             place,
+            out: out_name(given),
             verbose,
         })),
         None => {
@@ -155,6 +163,7 @@ fn record<'a>(alloc: Global, given: &ArgMatches<'a>) -> Result<Request<'a>, Faul
     scripts.extend_from_slice(names)?;
     Ok(Request::Record(RecordWords {
         scripts,
+        out: out_name(given),
         verbose: given.get_flag("verbose"),
     }))
 }

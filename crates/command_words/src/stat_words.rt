@@ -1,5 +1,5 @@
 //! The words of `stat`.
-use crate::arguments::{Made, flag, trace_file, trace_name, value, with};
+use crate::arguments::{Made, flag, out_file, out_name, trace_file, trace_name, value, with};
 use clap::{ArgMatches, Command};
 use command_inputs::Fault;
 use command_requests::{StatForm, StatWords};
@@ -9,7 +9,7 @@ use std::alloc::Global;
 pub fn stat_command<'a>(alloc: Global) -> Made<'a> {
     let command = Command::new(alloc, "stat")
         .override_usage(
-            "pmtrim stat [--labels FILE] [--compare OTHER [--compare-labels FILE]] [--budget FILE]\n                   [--json] [FILE]\n       pmtrim stat --write-budget [--labels FILE] [FILE]",
+            "pmtrim stat [--labels FILE] [--compare OTHER [--compare-labels FILE]] [--budget FILE]\n                   [--json] [--out FILE] [FILE]\n       pmtrim stat --write-budget [--labels FILE] [--out FILE] [FILE]",
         )
         .about(
             "Counts events, how full fences are, and what each place pays for flushes and fences.",
@@ -59,10 +59,8 @@ pub fn stat_command<'a>(alloc: Global) -> Made<'a> {
             "Write the budget that just allows what each place pays",
         ),
     );
-    with(
-        with(judged, flag(alloc, "json", "Write JSON, an object a line")),
-        trace_file(alloc),
-    )
+    let formed = with(judged, flag(alloc, "json", "Write JSON, an object a line"));
+    with(with(formed, out_file(alloc)), trace_file(alloc))
 }
 
 /// What these words ask for.
@@ -76,6 +74,7 @@ pub fn stat_words<'a>(alloc: Global, given: &ArgMatches<'a>) -> Result<StatWords
         other_labels: given.get_str("compare-labels"),
         budget: given.get_str("budget"),
         form: form_of(given),
+        out: out_name(given),
         file: trace_name(given),
     };
     if words.other_labels.is_some() && words.other.is_none() {
@@ -85,7 +84,7 @@ pub fn stat_words<'a>(alloc: Global, given: &ArgMatches<'a>) -> Result<StatWords
     }
     if words.form == StatForm::Budget && has_more(given, &words) {
         let message =
-            "'--write-budget' stands with '--labels' alone: it writes nothing but the budget";
+            "'--write-budget' stands with '--labels' and '--out' alone: it writes nothing but the budget";
         return Err(Fault::usage(alloc, message)?);
     }
     Ok(words)

@@ -3,6 +3,7 @@ ghost use Rattle.std.specs.Prelude.{◌≤◌, IfOk};
 
 use crate::check::check;
 use crate::fronts::fronts;
+use crate::gathering::Gathered;
 use crate::record::record;
 use crate::terminals::Terminals;
 use crate::tips::with_tip;
@@ -10,7 +11,7 @@ use crate::trim::{stream, trim};
 use command_draw::draw;
 use command_explain::run_explain;
 use command_image::{run_image, run_list};
-use command_inputs::{Fault, Opener, Recalls, write_answer};
+use command_inputs::{Fault, Opener, Recalls, write_answer, write_named};
 use command_requests::Request;
 use command_slice::run_slice;
 use command_stat::run_stat;
@@ -75,7 +76,41 @@ where
     }
 }
 
+// Answers to the file that is to be written, or to `out`.
 fn answer<T, O, I, W>(
+    rt: &T,
+    request: &mut Request<'_>,
+    files: &O,
+    input: &mut I,
+    out: &mut W,
+    terminals: Terminals,
+) -> Result<u8, Fault>
+where
+    T: AllocGlobal + Threads + Wait + Sync,
+    O: Opener,
+    I: Read,
+    W: Write,
+    ensures { IfOk result (λ status. status ≤ 1) }
+{
+    let name = request.out();
+    if name.is_none() {
+        return answer_to(rt, request, files, input, out, terminals);
+    }
+    let alloc = rt.alloc();
+    let read = request.inputs(alloc)?;
+    let mut gathered = Gathered::new(alloc);
+    match answer_to(rt, request, files, input, &mut gathered, terminals) {
+        Ok(status) => {
+            let text = gathered.into_text();
+            write_named(alloc, files, name, read.as_slice(), text, out)?;
+            Ok(status)
+        }
+        Err(fault) => Err(gathered.fault(fault)),
+    }
+}
+
+// Answers to `out`.
+fn answer_to<T, O, I, W>(
     rt: &T,
     request: &mut Request<'_>,
     files: &O,
