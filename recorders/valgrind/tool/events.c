@@ -11,7 +11,7 @@
 #include "turns.h"
 #include "windows.h"
 
-enum { WORD_BYTES = 8, MOST_CLAIMED = 4096 };
+enum { MOST_CLAIMED = 4096 };
 
 Notes notes;
 
@@ -42,7 +42,7 @@ static void write_store(FollowedStore *store, const HChar *label) {
     }
     follow_store(store);
     mark_stored(store->address, store->length);
-    event_passed(store->thread);
+    events_passed(store->thread, 1);
     give_way_at_line(store->address / LINE_BYTES, store->thread);
 }
 
@@ -58,7 +58,7 @@ static void write_line_flush(FlushKind kind, ThreadId thread, ULong address, Add
         follow_full_flush(line);
     else
         follow_flush(thread, line, instruction, written);
-    event_passed(thread);
+    events_passed(thread, 1);
 }
 
 static void write_waiting(void) {
@@ -85,26 +85,31 @@ static const HChar *label_of_running(Addr instruction) {
     return recording == RECORDING ? label_at(VG_(get_running_tid)(), instruction) : NULL;
 }
 
-static SizeT to_end_of_word(ULong address, SizeT length) {
-    SizeT room = WORD_BYTES - address % WORD_BYTES;
+/* How many bytes of a range lie in the unit in which it starts: a word, or a line. */
+static inline SizeT to_end_of(SizeT unit, ULong address, SizeT length) {
+    SizeT room = unit - (address & (unit - 1));
     return length < room ? length : room;
 }
 
-/* The part of a range that is in a pool and in one word, from its start on; bytes that are in no pool are gone over. */
-static Bool next_piece(Addr *start, SizeT *length, ULong *address, SizeT *piece) {
+/* The part of a range that is in a pool and in one unit, from its start on; words that are in no pool are gone over. */
+static inline Bool next_part(SizeT unit, Addr *start, SizeT *length, ULong *address, SizeT *part) {
     SizeT room;
     while (*length > 0) {
         if (find_in_pools(*start, address, &room)) {
-            *piece = within_file(*address, to_end_of_word(*address, *length < room ? *length : room));
-            if (*piece > 0)
+            *part = within_file(*address, to_end_of(unit, *address, *length < room ? *length : room));
+            if (*part > 0)
                 return True;
             notes.behind_end++;
         }
-        SizeT skipped = to_end_of_word(*start, *length);
+        SizeT skipped = to_end_of(WORD_BYTES, *start, *length);
         *start += skipped;
         *length -= skipped;
     }
     return False;
+}
+
+static Bool next_piece(Addr *start, SizeT *length, ULong *address, SizeT *piece) {
+    return next_part(WORD_BYTES, start, length, address, piece);
 }
 
 /* What stands in memory already, and is noted behind the event that is written now. */
@@ -119,22 +124,57 @@ void restore_rest_in_bases(void) {
         restore_in_bases(address, find_old(start, piece), piece);
 }
 
+/* The unit in which stores are noted: each word, where a window may open behind one, or behind the event that waits. */
+static SizeT unit_of_stores(void) {
+    return opens_within(LINE_BYTES / WORD_BYTES + 1) ? WORD_BYTES : LINE_BYTES;
+}
+
+/* Stores to the words of a line. */
+static void write_words(FollowedStore line, const HChar *label) {
+    while (line.length > 0) {
+        FollowedStore word = line;
+        word.length = to_end_of(WORD_BYTES, line.address, line.length);
+        write_store(&word, label);
+        line.address += word.length;
+        line.bytes += word.length;
+        line.old = line.old == NULL ? NULL : line.old + word.length;
+        line.length -= word.length;
+    }
+}
+
+/* The same where none of them is written. */
+static void pass_over(const FollowedStore *line) {
+    SizeT count = words_in(line->address, line->address + line->length);
+    count_missing(count);
+    follow_store(line);
+    mark_stored(line->address, line->length);
+    events_passed(line->thread, count);
+    give_way_at_line(line->address / LINE_BYTES, line->thread);
+}
+
+static void note_in_line(const FollowedStore *line, const HChar *label) {
+    mark_dirty(line->address);
+    if (recording == RECORDING)
+        write_words(*line, label);
+    else
+        pass_over(line);
+}
+
 void note_store(Addr start, SizeT length, Addr instruction) {
     ULong address;
-    SizeT piece;
+    SizeT part;
     const HChar *label = NULL;
-    for (; next_piece(&start, &length, &address, &piece); start += piece, length -= piece) {
+    for (; next_part(unit_of_stores(), &start, &length, &address, &part); start += part, length -= part) {
         rest_start = start;
         rest_length = length;
         settle_events();
-        rest_start += piece;
-        rest_length -= piece;
+        rest_start += part;
+        rest_length -= part;
         if (label == NULL)
             label = label_of_running(instruction);
-        mark_dirty(address);
-        FollowedStore store = {.thread = running(), .address = address, .bytes = (const UChar *)start, .old = find_old(start, piece),
-                               .length = piece, .instruction = instruction};
-        write_store(&store, label);
+        FollowedStore line = {.thread = running(), .address = address, .bytes = (const UChar *)start, .old = find_old(start, part),
+                              .length = part, .instruction = instruction};
+        note_in_line(&line, label);
     }
 }
 
@@ -228,7 +268,7 @@ static void write_fence(const HChar *word, ThreadId thread, const HChar *label) 
         end_event(label);
     follow_fence(thread);
     set_open_flush(thread, NO_FLUSH);
-    event_passed(thread);
+    events_passed(thread, 1);
     write_events();
 }
 
@@ -257,13 +297,12 @@ void note_bytes(ThreadId thread, ULong address, const UChar *bytes, SizeT length
     const HChar *label = label_of(thread);
     settle_events();
     while (length > 0) {
-        SizeT piece = to_end_of_word(address, length);
-        mark_dirty(address);
-        FollowedStore store = {.thread = thread, .address = address, .bytes = bytes, .length = piece, .instruction = VG_(get_IP)(thread)};
-        write_store(&store, label);
-        address += piece;
-        bytes += piece;
-        length -= piece;
+        SizeT part = to_end_of(unit_of_stores(), address, length);
+        FollowedStore line = {.thread = thread, .address = address, .bytes = bytes, .length = part, .instruction = VG_(get_IP)(thread)};
+        note_in_line(&line, label);
+        address += part;
+        bytes += part;
+        length -= part;
     }
 }
 
@@ -320,7 +359,7 @@ void note_is_persist(ThreadId thread, Claimed range, const HChar *label) {
             put_number(piece);
             end_event(label);
         }
-        event_passed(thread);
+        events_passed(thread, 1);
     }
 }
 
@@ -335,7 +374,7 @@ static void write_ordered(ThreadId thread, ULong one, SizeT piece, ULong two, Si
         put_number(other);
         end_event(label);
     }
-    event_passed(thread);
+    events_passed(thread, 1);
 }
 
 void note_is_ordered_before(ThreadId thread, Claimed first, Claimed second, const HChar *label) {

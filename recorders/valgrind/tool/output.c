@@ -243,20 +243,20 @@ static Bool has_room(void) {
     return recording == RECORDING;
 }
 
-static void count_missing(void) {
+void count_missing(SizeT count) {
     if (recording == BEFORE_WINDOW)
-        event_counts.before++;
+        event_counts.before += count;
     else if (recording == AFTER_WINDOW)
-        event_counts.after++;
+        event_counts.after += count;
     else
-        event_counts.missing++;
+        event_counts.missing += count;
 }
 
 Bool begin_event_by(const HChar *word, Int number) {
     if (number < 0)
         end_full("a trace has at most 256 threads at one time, and here is the 257th");
     if (recording != RECORDING || !has_room()) {
-        count_missing();
+        count_missing(1);
         return False;
     }
     common->trace.now.events++;
@@ -267,7 +267,7 @@ Bool begin_event_by(const HChar *word, Int number) {
 
 Bool begin_event(const HChar *word, ThreadId thread) {
     if (recording != RECORDING) {
-        count_missing();
+        count_missing(1);
         return False;
     }
     Int number = thread_number(thread);

@@ -4,7 +4,7 @@
 
 #include "core.h"
 
-enum { MOST_EVENTS = 1000000, MOST_THREADS = 256, LINE_BYTES = 64, TEXT_BYTES_WAITING = 1 << 16 };
+enum { MOST_EVENTS = 1000000, MOST_THREADS = 256, LINE_BYTES = 64, WORD_BYTES = 8, TEXT_BYTES_WAITING = 1 << 16 };
 
 /* Which part of the run is recorded, and why not the rest. */
 typedef enum { BEFORE_WINDOW, RECORDING, AFTER_WINDOW, ENDED, OFF } Recording;
@@ -59,6 +59,14 @@ void put_address(ULong address);
 void put_number(ULong number);
 void put_bytes(const UChar *bytes, SizeT length);
 void end_event(const HChar *label);
+
+/* So many events can't be written now: they are counted. */
+void count_missing(SizeT count);
+
+/* How many words [from, end) has, or has parts of: a store to it is as many events. */
+static inline SizeT words_in(ULong from, ULong end) {
+    return from < end ? (end - 1) / WORD_BYTES - from / WORD_BYTES + 1 : 0;
+}
 
 /* Ends the trace for good, with a line on standard error. */
 void end_trace(const HChar *why);

@@ -7,7 +7,7 @@
 #include "threads.h"
 
 /* A chunk has the lines of 1 MiB. */
-enum { CHUNK_BITS = 20, CHUNK_LINES = (1 << CHUNK_BITS) / LINE_BYTES, WORD_BYTES = 8, MOST_OF_LINE = 256, MOST_STORES = 4000000 };
+enum { CHUNK_BITS = 20, CHUNK_LINES = (1 << CHUNK_BITS) / LINE_BYTES, MOST_OF_LINE = 256, MOST_STORES = 4000000 };
 
 typedef struct Store Store;
 struct Store {
@@ -90,6 +90,13 @@ static Line *new_line(void) {
         free_lines = line->next_free;
     *line = (Line){.thinned_at = MOST_OF_LINE};
     return line;
+}
+
+static Line *made_line(ULong address) {
+    Line **place = place_of_line(address);
+    if (*place == NULL)
+        *place = new_line();
+    return *place;
 }
 
 static void free_line(Line **place) {
@@ -244,34 +251,50 @@ static void thin_out(ULong address, Line *line) {
     line->thinned_at = 2 * line->count > MOST_OF_LINE ? 2 * line->count : MOST_OF_LINE;
 }
 
+static void copy_word(UChar *to, const UChar *from, SizeT length) {
+    if (length == WORD_BYTES)
+        __builtin_memcpy(to, from, WORD_BYTES);
+    else
+        VG_(memcpy)(to, from, length);
+}
+
+static void add_store(ULong address, Line *line, Store *added) {
+    if (line->last != NULL)
+        line->last->next = added;
+    else
+        line->first = added;
+    line->last = added;
+    if (++line->count >= line->thinned_at)
+        thin_out(address, line);
+}
+
+/* A store to [from, from + length) of a line, within a word. */
+static void follow_word(ULong address, Line *line, const FollowedStore *store, SizeT from, SizeT length) {
+    SizeT into = address + from - store->address;
+    Store *added = new_store();
+    *added = (Store){.sequence = sequence, .instruction = store->instruction, .serial = thread_serial(store->thread),
+                     .offset = (UChar)from, .length = (UChar)length, .written = store->written, .has_old = store->old != NULL};
+    copy_word(added->bytes, store->bytes + into, length);
+    if (store->old != NULL)
+        copy_word(added->old, store->old + into, length);
+    add_store(address, line, added);
+}
+
 void follow_store(const FollowedStore *store) {
     ULong address = store->address & ~(ULong)(LINE_BYTES - 1);
-    Line **place;
-    Store *added;
+    SizeT from = store->address - address, end = from + store->length, next;
+    Line *line;
     if (options.one_trace)
         return;
-    sequence++;
-    if (store_count >= MOST_STORES) {
-        unfollowed_stores++;
-        return;
+    line = store_count < MOST_STORES ? made_line(address) : NULL;
+    for (; from < end && store_count < MOST_STORES; from = next) {
+        next = (from / WORD_BYTES + 1) * WORD_BYTES;
+        next = next < end ? next : end;
+        sequence++;
+        follow_word(address, line, store, from, next - from);
     }
-    place = place_of_line(address);
-    if (*place == NULL)
-        *place = new_line();
-    added = new_store();
-    *added = (Store){.sequence = sequence, .instruction = store->instruction, .serial = thread_serial(store->thread),
-                     .offset = (UChar)(store->address - address), .length = (UChar)store->length, .written = store->written,
-                     .has_old = store->old != NULL};
-    VG_(memcpy)(added->bytes, store->bytes, store->length);
-    if (store->old != NULL)
-        VG_(memcpy)(added->old, store->old, store->length);
-    if ((*place)->last != NULL)
-        (*place)->last->next = added;
-    else
-        (*place)->first = added;
-    (*place)->last = added;
-    if (++(*place)->count >= (*place)->thinned_at)
-        thin_out(address, *place);
+    sequence += words_in(from, end);
+    unfollowed_stores += words_in(from, end);
 }
 
 static Int by_line(const void *one, const void *other) {

@@ -6,7 +6,7 @@
 
 #include "core.h"
 
-/* A store of one word or a part of it. `old` is what stood there before; NULL where that is not known. */
+/* A store within one line. `old` is what stood there before; NULL where that is not known. */
 typedef struct {
     ThreadId thread;
     ULong address;
@@ -17,7 +17,7 @@ typedef struct {
 } FollowedStore;
 
 void begin_pending(void);
-void follow_store(const FollowedStore *store);
+void follow_store(const FollowedStore *store); /* a store of each of its words */
 void follow_flush(ThreadId thread, ULong line, Addr instruction, Bool written);
 /* A flush that needs no fence (clflush). */
 void follow_full_flush(ULong line);

@@ -15,9 +15,12 @@ ULong carried_events, refused_windows;
 static ULong passed;
 static Bool was_opened, carrying;
 
+static void all_was_outside(void);
+
 void begin_windows(void) {
     passed = carried_events = 0;
     was_opened = False;
+    all_was_outside();
     if (options.start_after != NULL || options.first_event > 1)
         recording = BEFORE_WINDOW;
 }
@@ -65,7 +68,6 @@ static void write_outside_store(ULong address, const UChar *bytes, SizeT length)
 
 /* A line that became safe between two windows: what was stored to it, word by word, and a flush that makes it safe at once. */
 static void write_made_safe(ULong line, const UChar *bytes, ULong mask) {
-    enum { WORD_BYTES = 8 };
     UInt at, end;
     for (at = 0; at < LINE_BYTES; at = end) {
         end = at + 1;
@@ -81,8 +83,6 @@ static void write_made_safe(ULong line, const UChar *bytes, ULong mask) {
         carried_events++;
     }
 }
-
-static void all_was_outside(void);
 
 static void write_fences(void) {
     Int number;
@@ -137,42 +137,52 @@ void close_window(void) {
     }
 }
 
-void event_passed(ThreadId thread) {
+Bool opens_within(SizeT count) {
+    ULong first = (ULong)options.first_event;
+    return first > passed + 1 && first <= passed + count + 1;
+}
+
+void events_passed(ThreadId thread, SizeT count) {
     if (carrying)
         return;
-    passed++;
+    passed += count;
     if (options.first_event > 1 && passed + 1 == (ULong)options.first_event)
         open_window(thread);
     if (options.last_event > 0 && passed == (ULong)options.last_event)
         close_window();
 }
 
-/* Which bytes were ever stored to, and which of them last inside of a window that was opened: two words of bits for 64 bytes. */
+/* Which bytes were ever stored to, and which of them last inside of a window that was opened: a bit for each. */
 
-enum { CHUNK_BITS = 20, CHUNK_WORDS = 2 * (1 << CHUNK_BITS) / 64 };
+enum { CHUNK_BITS = 20, CHUNK_WORDS = (1 << CHUNK_BITS) / 64 };
 
-static Chunks stored = {.bits = CHUNK_BITS, .bytes = CHUNK_WORDS * sizeof(ULong), .name = "windows.chunk"};
+typedef struct {
+    ULong ever[CHUNK_WORDS], inside[CHUNK_WORDS];
+} Marks;
 
-static ULong *words_of(ULong address, Bool made) {
-    ULong *chunk = chunk_at(&stored, address, made);
-    return chunk == NULL ? NULL : chunk + 2 * (address % (1 << CHUNK_BITS) / 64);
+static Chunks stored = {.bits = CHUNK_BITS, .bytes = sizeof(Marks), .name = "windows.chunk"};
+
+static SizeT word_of(ULong address) {
+    return address % (1 << CHUNK_BITS) / 64;
 }
 
 void mark_stored(ULong address, SizeT length) {
+    ULong mask = ~0ULL >> (64 - length) << (address % 64);
+    SizeT at = word_of(address);
     if (options.one_trace)
         return;
-    ULong *words = words_of(address, True), mask = ((1ULL << length) - 1) << (address % 64);
-    words[0] |= mask;
+    Marks *marks = chunk_at(&stored, address, True);
+    if ((marks->ever[at] & mask) != mask)
+        marks->ever[at] |= mask;
     if (was_opened && recording == RECORDING)
-        words[1] |= mask;
-    else
-        words[1] &= ~mask;
+        marks->inside[at] |= mask;
+    else if (was_opened)
+        marks->inside[at] &= ~mask;
 }
 
 static void was_outside(ULong address, void *chunk) {
-    SizeT at;
-    for (at = 1; at < CHUNK_WORDS; at += 2)
-        ((ULong *)chunk)[at] = 0;
+    Marks *marks = chunk;
+    VG_(memset)(marks->inside, 0, sizeof marks->inside);
 }
 
 static void all_was_outside(void) {
@@ -182,8 +192,8 @@ static void all_was_outside(void) {
 Bool was_stored_outside(ULong address, SizeT length) {
     ULong at;
     for (at = address; was_opened && at < address + length; at++) {
-        const ULong *words = words_of(at, False);
-        if (words != NULL && ((words[0] & ~words[1]) >> (at % 64) & 1) != 0)
+        const Marks *marks = chunk_at(&stored, at, False);
+        if (marks != NULL && ((marks->ever[word_of(at)] & ~marks->inside[word_of(at)]) >> (at % 64) & 1) != 0)
             return True;
     }
     return False;

@@ -18,8 +18,12 @@ void begin_or_go_on(ThreadId thread);
 
 void close_window(void);
 
-/* Told of each event of the run, recorded or not: windows by the numbers of events open and close behind them. */
-void event_passed(ThreadId thread);
+/* Told of each event of the run, recorded or not: windows by the numbers of events open and close behind them. More than one at a time
+ * where no window opens within them, and none is open. */
+void events_passed(ThreadId thread, SizeT count);
+
+/* Whether a window opens behind one of so many next events, by its number. */
+Bool opens_within(SizeT count);
 
 /* How many events of the trace are carried. */
 extern ULong carried_events;
