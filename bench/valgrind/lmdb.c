@@ -1,10 +1,11 @@
-/* Puts records into LMDB, which stores to its mapping: lmdb POOL. 1,000 records in each of its transactions, which do not wait for the
- * medium. */
+/* Puts records into LMDB, which stores to its mapping: lmdb POOL TRANSACTIONS. 1,000 records in each of its transactions, which do not
+ * wait for the medium. */
 #include <lmdb.h>
 #include <stdint.h>
+#include <stdlib.h>
 #include <string.h>
 
-enum { TRANSACTIONS = 700, RECORDS = 1000, MAP_BYTES = 1 << 28 };
+enum { RECORDS = 1000, MAP_BYTES = 1 << 28 };
 
 static int put_records(MDB_env *store, uint64_t *number) {
     MDB_txn *transaction;
@@ -24,10 +25,10 @@ static int put_records(MDB_env *store, uint64_t *number) {
 int main(int count, char **words) {
     MDB_env *store;
     uint64_t number = 0;
-    if (count != 2 || mdb_env_create(&store) != 0 || mdb_env_set_mapsize(store, MAP_BYTES) != 0 ||
+    if (count != 3 || mdb_env_create(&store) != 0 || mdb_env_set_mapsize(store, MAP_BYTES) != 0 ||
         mdb_env_open(store, words[1], MDB_WRITEMAP | MDB_NOSUBDIR | MDB_NOSYNC, 0666) != 0)
         return 1;
-    for (int at = 0; at < TRANSACTIONS; at++)
+    for (int at = 0; at < atoi(words[2]); at++)
         if (put_records(store, &number) != 0)
             return 1;
     mdb_env_close(store);

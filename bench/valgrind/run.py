@@ -89,8 +89,10 @@ def programs(folder):
             engine = [pool if word == "POOL" else word for word in words]
             yield Program(name, engine, engine, options=(f"--file={pool}", f"--file={pool}-wal") if words[0] == "sqlite3" else ())
     if pathlib.Path("/usr/include/lmdb.h").exists():
-        lmdb = [build(HERE / "lmdb.c", [], folder / "lmdb", "-llmdb"), pool]
-        yield Program("LMDB, 700,000 records", lmdb, lmdb)
+        lmdb = build(HERE / "lmdb.c", [], folder / "lmdb", "-llmdb")
+        for transactions in ("100", "700"):
+            words = [lmdb, pool, transactions]
+            yield Program(f"LMDB, {transactions},000 records", words, words)
 
 
 def runs_of(program, trace):
