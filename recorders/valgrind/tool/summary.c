@@ -53,7 +53,7 @@ static void add_all_missing(void) {
     add_missing(notes.locked, "locked instructions as fences after flushes (--locked-fences notes them)");
     add_missing(notes.failed_masks, "masks of masked stores, which are noted whole");
     add_missing(notes.set_aside, "claims that a range is saved before one that was stored to before the window");
-    add_missing(unfollowed_stores, "stores before the window that may not be safe, behind 4000000 others");
+    add_missing(window_was_opened() ? unfollowed_stores : 0, "stores before the window that may not be safe, behind 4000000 others");
     add_missing(unrestored_stores, "stores before the window that the base has, though they are not safe");
     add_missing(notes.claims_outside, "claims on memory that is in no pool");
     add_missing(call_counts.unreturned, "calls of a named function that did not return");

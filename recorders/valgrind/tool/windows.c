@@ -137,6 +137,10 @@ void close_window(void) {
     }
 }
 
+Bool window_was_opened(void) {
+    return was_opened;
+}
+
 Bool opens_within(SizeT count) {
     ULong first = (ULong)options.first_event;
     return first > passed + 1 && first <= passed + count + 1;

@@ -18,6 +18,9 @@ void begin_or_go_on(ThreadId thread);
 
 void close_window(void);
 
+/* Whether one was opened, and not only the program begun. */
+Bool window_was_opened(void);
+
 /* Told of each event of the run, recorded or not: windows by the numbers of events open and close behind them. More than one at a time
  * where no window opens within them, and none is open. */
 void events_passed(ThreadId thread, SizeT count);
