@@ -115,11 +115,14 @@ class Installed(Checks):
             self.expect(f"{name} is there", (place / "shared" / name).is_file(), name)
 
     def test_documents(self):
-        """What their links lead to is installed too."""
-        doc = self.prefix / "share/doc/pmtrim"
+        """What their links lead to is installed too, and what the man pages say of them."""
+        doc = self.prefix / "share/doc"
         for page in sorted(doc.rglob("*.md")):
             for link in LINK.findall(page.read_text()):
                 self.expect(f"{page.relative_to(doc)}: {link}", (page.parent / link).exists(), "it is not installed")
+        for page in sorted((self.prefix / "share/man/man1").iterdir()):
+            named = re.findall(r"\bshare/doc/\S+", page.read_text().replace("\\-", "-"))
+            self.expect(f"{page.name} names documents", named and all((self.prefix / name).is_file() for name in named), named)
         mit, gpl = "Permission is hereby granted, free of charge", "GNU GENERAL PUBLIC LICENSE"
         for place, text in (("doc/pmtrim", mit), ("pmtrim/python", mit), ("pmtrim/rust", mit), ("doc/pmtrim-record", gpl)):
             self.expect(f"the licence in {place}", text in (self.prefix / "share" / place / "LICENSE").read_text(), place)
