@@ -156,6 +156,7 @@ class Windows:
     def run(self):
         self.carried()
         self.again()
+        self.inherited()
         program = self.tests.build("steps")
         for seed in range(1, PROGRAMS + 1):
             self.random_program(program, seed)
@@ -185,6 +186,17 @@ class Windows:
         trace, _, _, faults = self.tests.record("again", [self.tests.build("again"), pool], "--start-after", "begin", "--stop-at", "end")
         self.tests.is_text("a window opens again", trace, AGAIN)
         self.expect("a window opens again: told", ", 2 carried into the window" in faults and "events after the window: 3" in faults, faults)
+
+    def inherited(self):
+        """A child's window has nothing of its parent's: an order of what was stored there can't be judged, and is not claimed."""
+        folder, program = self.tests.folder / "inherited.runs", self.tests.build("inherited")
+        folder.mkdir()
+        words = [program, self.tests.folder / "inherited.pool"]
+        faults = self.tests.record("inherited.runs/run", words, "--start-after", "begin", "--trace-children", "yes")[3]
+        found = [path.read_text() for path in folder.glob("run.trace.[0-9]*") if path.suffix[1:].isdigit()]
+        self.expect("a child's window: its trace", found == ["pmtrace 2 64\n"], found)
+        told = "claims that a range is saved before one that was stored to before the window: 1" in faults
+        self.expect("a child's window: told", told, faults)
 
     def random_program(self, program, seed):
         script, text, pool = Script(seed), self.tests.folder / f"steps.{seed}", self.tests.folder / "steps.pool"
