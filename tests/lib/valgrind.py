@@ -108,8 +108,7 @@ store 0 0x1 02
 """
 LABELS = [
     ("stores", "insert < main {calls insert}"),
-    ("flushes", "flush_range < persist {calls flush_range} < insert {calls persist} < main {calls insert}"),
-    ("fences", "persist < insert {calls persist} < main {calls insert}"),
+    ("calls persist", "insert < main {calls insert}"),
     ("fills", "insert < main {calls insert}"),
     ("writes", "main"),
 ]

@@ -81,8 +81,8 @@ void forget_events(void) {
     waiting.kind = NOTHING;
 }
 
-static const HChar *label_of_running(Addr instruction) {
-    return recording == RECORDING ? label_at(VG_(get_running_tid)(), instruction) : NULL;
+static const HChar *label_of_running(Addr instruction, Act act) {
+    return recording == RECORDING ? label_at(VG_(get_running_tid)(), instruction, act) : NULL;
 }
 
 /* How many bytes of a range lie in the unit in which it starts: a word, or a line. */
@@ -171,7 +171,7 @@ void note_store(Addr start, SizeT length, Addr instruction) {
         rest_start += part;
         rest_length -= part;
         if (label == NULL)
-            label = label_of_running(instruction);
+            label = label_of_running(instruction, STORING);
         FollowedStore line = {.thread = running(), .address = address, .bytes = (const UChar *)start, .old = find_old(start, part),
                               .length = part, .instruction = instruction};
         note_in_line(&line, label);
@@ -217,7 +217,7 @@ void note_step(Addr start, SizeT length, Addr instruction) {
         settle_events();
         rest_length = 0;
         mark_dirty(address);
-        waiting.label = label_of_running(instruction);
+        waiting.label = label_of_running(instruction, STORING);
         waiting.kind = STEPS;
         waiting.thread = running();
         waiting.instruction = instruction;
@@ -242,7 +242,7 @@ void note_streamed(Addr start, SizeT length, Addr instruction) {
         waiting.kind = FLUSH;
         waiting.thread = thread;
         waiting.instruction = instruction;
-        waiting.label = label_of_running(instruction);
+        waiting.label = label_of_running(instruction, STORING);
         waiting.address = address;
         set_open_flush(thread, OPEN_FLUSH);
     }
@@ -253,12 +253,12 @@ void note_flush(FlushKind kind, Addr place, Addr instruction) {
     SizeT room;
     if (find_in_pools(place, &address, &room)) {
         settle_events();
-        write_line_flush(kind, running(), address, instruction, label_of_running(instruction));
+        write_line_flush(kind, running(), address, instruction, label_of_running(instruction, SAVING));
         if (kind != CLFLUSH)
             set_open_flush(VG_(get_running_tid)(), OPEN_FLUSH);
     } else if (had_mappings() && recording == RECORDING) {
         if (notes.other_flushes++ == 0)
-            notes.first_other_flush = label_of_running(instruction);
+            notes.first_other_flush = label_of_running(instruction, SAVING);
     }
 }
 
@@ -274,7 +274,7 @@ static void write_fence(const HChar *word, ThreadId thread, const HChar *label) 
 
 void note_fence(Bool full, Addr instruction) {
     if (had_mappings())
-        write_fence(full ? "mfence" : "sfence", VG_(get_running_tid)(), label_of_running(instruction));
+        write_fence(full ? "mfence" : "sfence", VG_(get_running_tid)(), label_of_running(instruction, SAVING));
 }
 
 void note_locked(Addr instruction) {
@@ -282,19 +282,19 @@ void note_locked(Addr instruction) {
     if (open_flush(thread) != OPEN_FLUSH)
         return;
     if (options.locked_fences)
-        write_fence("mfence", thread, label_of_running(instruction));
+        write_fence("mfence", thread, label_of_running(instruction, SAVING));
     else {
         notes.locked++;
         set_open_flush(thread, LOCKED_SINCE);
     }
 }
 
-static const HChar *label_of(ThreadId thread) {
-    return recording == RECORDING ? label_at(thread, VG_(get_IP)(thread)) : NULL;
+static const HChar *label_of(ThreadId thread, Act act) {
+    return recording == RECORDING ? label_at(thread, VG_(get_IP)(thread), act) : NULL;
 }
 
 void note_bytes(ThreadId thread, ULong address, const UChar *bytes, SizeT length) {
-    const HChar *label = label_of(thread);
+    const HChar *label = label_of(thread, STORING);
     settle_events();
     while (length > 0) {
         SizeT part = to_end_of(unit_of_stores(), address, length);
@@ -311,11 +311,11 @@ void note_synchronized(ThreadId thread, ULong from, ULong end) {
     ULong line;
     settle_events();
     for (line = take_dirty(from, end); line < end; line = take_dirty(line, end)) {
-        write_line_flush(CLWB, thread, line, VG_(get_IP)(thread), label_of(thread));
+        write_line_flush(CLWB, thread, line, VG_(get_IP)(thread), label_of(thread, SAVING));
         any = True;
     }
     if (any)
-        write_fence("sfence", thread, label_of(thread));
+        write_fence("sfence", thread, label_of(thread, SAVING));
 }
 
 Claimed claimed_memory(Addr start, SizeT length) {

@@ -2,7 +2,7 @@
 #include "frames.h"
 #include "options.h"
 
-enum { TABLE_SIZE = 1 << 16, MOST_LABELS = TABLE_SIZE / 2, MOST_FRAMES = 24, LABEL_BYTES = 400 };
+enum { TABLE_SIZE = 1 << 16, MOST_LABELS = TABLE_SIZE / 2, MOST_FRAMES = 24, MOST_SHOWN = 2 * MOST_FRAMES, LABEL_BYTES = 400, MOST_STORING = 4096 };
 
 /* A label by the addresses of its instruction and callers. */
 typedef struct {
@@ -53,40 +53,83 @@ static void append(HChar *text, Int *length, const HChar *added) {
 }
 
 static void append_frame(HChar *text, Int *length, const Frame *frame, Bool first) {
+    Bool has_place = frame->place[0] != '\0';
     append(text, length, first ? frame->place : " < ");
-    append(text, length, first ? " " : frame->function);
-    append(text, length, first ? frame->function : " ");
-    if (!first)
-        append(text, length, frame->place);
+    append(text, length, first && has_place ? " " : "");
+    append(text, length, frame->function);
+    append(text, length, !first && has_place ? " " : "");
+    append(text, length, first ? "" : frame->place);
 }
 
-/* Functions, of a program without lines. */
-static void append_symbols(HChar *text, Int *length, const Addr *addresses, UInt count) {
+/* The functions that have stored, by sums of their names. */
+static ULong storing[MOST_STORING];
+static Int storing_count;
+
+static ULong sum_of(const HChar *name) {
+    ULong sum = 1;
+    for (; *name != '\0'; name++)
+        sum = (sum ^ (UChar)*name) * 0x100000001B3ULL;
+    return sum;
+}
+
+static Bool has_stored(const Frame *frame) {
+    ULong sum = sum_of(frame->function);
+    Int at;
+    for (at = 0; at < storing_count; at++)
+        if (storing[at] == sum)
+            return True;
+    return False;
+}
+
+static void note_storing(const Frame *frame) {
+    if (!has_stored(frame) && storing_count < MOST_STORING)
+        storing[storing_count++] = sum_of(frame->function);
+}
+
+/* The frames that have source lines, the innermost first, as many as a label may need; how many. */
+static Int frames_of(const Addr *addresses, UInt count, Frame *frames, Act act) {
+    Int most = act == SAVING ? MOST_SHOWN - MOST_INLINED : options.callers, found = 0;
     UInt at;
-    Int shown = 0;
-    for (at = 0; at < count && shown <= options.callers; at++) {
-        if (at > 0 && !is_in_object(addresses[at]))
-            break;
+    for (at = 0; at < count && found <= most; at++)
+        found += frames_at(addresses[at], &frames[found]);
+    return found;
+}
+
+/* The functions alone, of a program without lines. */
+static Int symbols_of(const Addr *addresses, UInt count, Frame *frames) {
+    Int found = 0;
+    UInt at;
+    for (at = 0; at < count && (at == 0 || is_in_object(addresses[at])); at++) {
         if (at > 0 && is_in_c_library(addresses[at]))
             continue;
-        append(text, length, shown++ > 0 ? " < " : "");
-        append(text, length, symbol_at(addresses[at]));
+        frames[found].place[0] = '\0';
+        VG_(strncpy)(frames[found].function, symbol_at(addresses[at]), FUNCTION_BYTES - 1);
+        frames[found++].function[FUNCTION_BYTES - 1] = '\0';
     }
+    return found;
 }
 
-/* Of frames with source lines the innermost and its callers; where there are none, the functions. */
-static const HChar *spell(const Addr *addresses, UInt count) {
-    HChar text[LABEL_BYTES];
-    Int length = 0, shown = 0;
-    UInt at;
-    Frame frames[MOST_INLINED];
-    for (at = 0; at < count && shown <= options.callers; at++) {
-        Int found = frames_at(addresses[at], frames), inlined;
-        for (inlined = 0; inlined < found && shown <= options.callers; inlined++)
-            append_frame(text, &length, &frames[inlined], shown++ == 0);
-    }
-    if (shown == 0)
-        append_symbols(text, &length, addresses, count);
+/* With which of the frames the label of a flush or fence begins. */
+static Int first_storing(const Frame *frames, Int count) {
+    Int at;
+    for (at = 0; at < count; at++)
+        if (has_stored(&frames[at]))
+            return at;
+    return 0;
+}
+
+/* A frame and its callers. */
+static const HChar *spell(const Addr *addresses, UInt count, Act act) {
+    static Frame frames[MOST_SHOWN];
+    HChar text[LABEL_BYTES] = "";
+    Int length = 0, found = frames_of(addresses, count, frames, act), first, at;
+    if (found == 0)
+        found = symbols_of(addresses, count, frames);
+    if (act == STORING)
+        note_storing(&frames[0]);
+    first = act == SAVING ? first_storing(frames, found) : 0;
+    for (at = first; at < found && at - first <= options.callers; at++)
+        append_frame(text, &length, &frames[at], at == first);
     return VG_(strdup)("labels.text", text);
 }
 
@@ -99,7 +142,7 @@ static void learn_epoch(void) {
 }
 
 /* The label of these addresses, which is made where it is new. */
-static const HChar *label_of_addresses(const Addr *addresses, UInt count) {
+static const HChar *label_of_addresses(const Addr *addresses, UInt count, Act act) {
     learn_epoch();
     ULong hash = hash_of(addresses, count);
     Label **place = look_up(hash, addresses, count);
@@ -108,13 +151,13 @@ static const HChar *label_of_addresses(const Addr *addresses, UInt count) {
         (*place)->hash = hash;
         (*place)->count = count;
         VG_(memcpy)((*place)->addresses, addresses, count * sizeof *addresses);
-        (*place)->text = spell(addresses, count);
+        (*place)->text = spell(addresses, count, act);
         label_count++;
     }
     return (*place)->text;
 }
 
-const HChar *label_at(ThreadId thread, Addr instruction) {
+const HChar *label_at(ThreadId thread, Addr instruction, Act act) {
     Addr addresses[MOST_FRAMES];
     UInt count = 1;
     if (!options.labels)
@@ -122,7 +165,7 @@ const HChar *label_at(ThreadId thread, Addr instruction) {
     if (thread != VG_INVALID_THREADID)
         count = VG_(get_StackTrace)(thread, addresses, MOST_FRAMES, NULL, NULL, 0);
     addresses[0] = instruction;
-    return label_of_addresses(addresses, count == 0 ? 1 : count);
+    return label_of_addresses(addresses, count == 0 ? 1 : count, act);
 }
 
 const HChar *label_of_caller(ThreadId thread) {
@@ -131,14 +174,14 @@ const HChar *label_of_caller(ThreadId thread) {
     if (!options.labels)
         return NULL;
     count = VG_(get_StackTrace)(thread, addresses, MOST_FRAMES, NULL, NULL, 0);
-    return count > 1 ? label_of_addresses(addresses + 1, count - 1) : label_of_addresses(addresses, count);
+    return count > 1 ? label_of_addresses(addresses + 1, count - 1, CLAIMING) : label_of_addresses(addresses, count, CLAIMING);
 }
 
 const HChar *label_of_past(Addr instruction) {
     static HChar text[LABEL_BYTES + 32];
     if (!options.labels)
         return NULL;
-    VG_(snprintf)(text, sizeof text, "%s (before the window)", label_of_addresses(&instruction, 1));
+    VG_(snprintf)(text, sizeof text, "%s (before the window)", label_of_addresses(&instruction, 1, CLAIMING));
     return text;
 }
 

@@ -4,9 +4,13 @@
 
 #include "core.h"
 
-/* The label of an event by this thread's instruction, as `list.c:20 flush_range < persist list.c:31 < insert list.c:57`: the place
- * comes first, then its function, then callers with the place of the call. NULL without labels. It stays as it is. */
-const HChar *label_at(ThreadId thread, Addr instruction);
+/* What an event does. The label of one that saves, a flush or fence, begins with the innermost function that has stored by then, if there
+ * is one: functions that flush and fence for others are left out. */
+typedef enum { STORING, SAVING, CLAIMING } Act;
+
+/* The label of an event by this thread's instruction, as `list.c:20 link < insert list.c:57`: the place comes first, then its function,
+ * then callers with the place of the call. NULL without labels. It stays as it is. */
+const HChar *label_at(ThreadId thread, Addr instruction, Act act);
 
 /* At the first instruction of a function: the label of its call. */
 const HChar *label_of_caller(ThreadId thread);

@@ -20,7 +20,7 @@ enum {
 };
 
 static Bool take_claim(ThreadId thread, const UWord *words) {
-    const HChar *label = label_at(thread, VG_(get_IP)(thread));
+    const HChar *label = label_at(thread, VG_(get_IP)(thread), CLAIMING);
     switch (words[0]) {
     case PMTRIM_REQUEST_IS_PERSIST:
         note_is_persist(thread, claimed_memory(words[1], words[2]), label);
