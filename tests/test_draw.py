@@ -3,11 +3,12 @@ import random
 import re
 import subprocess
 
-from checks import Checks
+from checks import Checks, add_tests
 from drawn import SVG, Picture, of_class, title_of
 from drawn_rules import (
     COLUMNS,
     CRASHES,
+    TOLD,
     bars_are_told,
     crashes_are_apart,
     crashes_are_right,
@@ -19,13 +20,19 @@ from drawn_rules import (
     lanes_of,
     legend_is_right,
     losses_are_marked,
+    lost_by,
+    marked_losses,
     range_is_shown,
     rows_are_named,
     stores_are_right,
     story_is_right,
+    waits_are_apart,
 )
 from machine import FLUSHES, random_trace, spelled, text_of, verdict
+from page_machine import read_trace
 from program import TOP, find
+from slices import Plain, slice_of
+from traces import all_traces
 
 TRACES = 150
 ROWS = 30
@@ -89,6 +96,7 @@ class Drawing(Checks):
         """What holds of each picture's page."""
         self.judge(f"crashes apart {words}", crashes_are_apart(picture))
         self.judge(f"names {words}", rows_are_named(picture))
+        self.judge(f"lines of flushes apart {words}", waits_are_apart(picture))
         self.judge(f"legend {words}", legend_is_right(picture))
         self.judge(f"page {words}", is_on_page(picture))
 
@@ -150,7 +158,34 @@ class Random(Drawing):
             self.refused("passes", "--failure", number)
         else:
             picture = self.drawn("--failure", number)
-            self.judge(f"failure {number}", title_of(picture.root).endswith(f" {number} fails.") and losses_are_marked(picture, trace))
+            self.judge(f"failure {number}", title_of(picture.root).endswith(f" {number} fails.") and picture.numbers == slice_of(trace, number))
+            self.judge(f"marks of {number}", losses_are_marked(picture, trace) and marked_losses(picture) == sorted(lost_by(trace, picture.crashes[0])))
+            plain = Plain(trace.size, trace.events)
+            alike = all(plain.is_safe(store, place) == trace.is_safe(store, place) for store in marked_losses(picture) for place in trace.numbers if store <= place)
+            self.judge(f"safe places of {number}", alike)
+
+
+class Marks(Drawing):
+    """Each failed assertion of the worked traces: its picture has the events of its slice, and marks the lost stores of its crash."""
+
+    def check_marks_of(self, file):
+        self.file = file
+        trace = Plain(*read_trace(file.read_bytes()))
+        checked = subprocess.run([self.program, "check", str(file)], capture_output=True, text=True, timeout=60).stdout.splitlines()
+        failing = [int(line.split()[1]) for line in checked if line.endswith(" fail")]
+        for number in failing:
+            picture, wanted = self.drawn("--failure", number), slice_of(trace, number)
+            self.judge(f"slice of {number}", picture.numbers == wanted or TOLD == len(picture.numbers) and set(picture.numbers) < set(wanted))
+            left = f"Of the {len(wanted)} events that tell of it, {len(wanted) - TOLD} have no room: 'pmtrim slice --failure {number}' writes all."
+            self.judge(f"what is left of {number}", (left in told_words(picture)) == (len(wanted) > TOLD))
+            lost = lost_by(trace, picture.crashes[0])
+            self.judge(f"marks of {number}", losses_are_marked(picture, trace) and marked_losses(picture) == sorted(lost & set(picture.numbers)))
+            self.judge(f"stores of {number}", stores_are_right(picture, trace))
+            self.judge_page(number, picture)
+        self.judge("the first picture", self.drawn().numbers)
+
+
+add_tests(Marks, Marks.check_marks_of, {f"marks_of_{file.stem}": file for file in all_traces() if len(file.read_bytes().splitlines()) > 1})
 
 
 class Worked(Drawing):
@@ -186,44 +221,66 @@ class Worked(Drawing):
         stores = [f"store {n} {0x1000 + n % 4:#x} 01" for n in range(100, 140)]
         flushes = [f"clwb {n} 0x1000" for n in range(100, 140)]
         self.file.write_bytes(text_of(["pmtrace 1", *stores, *flushes, "isPersist 255 0x1000 1"]))
-        picture = self.drawn()
+        picture = self.drawn("--from", 1, "--to", 81)
         names = {text.text for text in picture.band(81).root.iter(SVG + "text")}
         self.judge("the assertion's thread", "thread 255" in names and "other threads" in names)
         self.judge("three digits", marks_are_apart(picture))
         self.judge_page("three digits", picture)
 
     def test_range(self):
-        """A range of 40 lines whose last is never flushed, as by a wrong mask: its first, its last and its lost line are drawn, with the last
-        flushes and the fence before the assertion."""
+        """A range of 40 lines whose last is never flushed, as by a wrong mask: of the 161 events of its slice the lost stores, the last others
+        and words that say how to see all."""
         first, last = 0x10000, 0x10000 + 39 * 64
         stores = [f"store 0 {address + at:#x} 0102030405060708" for address in range(first, last + 64, 64) for at in (0, 8, 16)]
         flushes = [f"clwb 0 {address:#x}" for address in range(first, last, 64)]
         events = [*stores, *flushes, "sfence 0", f"isPersist 0 {first:#x} {40 * 64 - 40}"]
         self.file.write_bytes(text_of(["pmtrace 1", *events]))
         picture = self.drawn()
-        end = len(events)
-        rows = {line for band in picture.bands for line in band.lines}
-        self.judge("lines of a range", {first, last, last - 64} <= rows)
-        self.judge("flushes before the assertion", set(range(end - 9, end + 1)) <= set(picture.numbers))
-        marks = [int(mark.get("data-store")) for band in picture.bands for mark in of_class(band.root, "path", "lost-store")]
-        self.judge("lost stores of a range", marks == [118, 119, 120] and picture.crashes[0].get("data-losses") == "3")
+        self.judge("events of a range", picture.numbers == [118, 119, 120, *range(141, 162)])
+        self.judge("what is left of a range", "Of the 161 events that tell of it, 137 have no room: 'pmtrim slice --failure 161' writes all." in told_words(picture))
+        self.judge("lost stores of a range", marked_losses(picture) == [118, 119, 120] and picture.crashes[0].get("data-losses") == "3")
         texts = {text.text for text in picture.of_class("text", "asserted")}
         self.judge("bytes of a range", texts == {"claimed +0 to +63", "claimed +0 to +23"})
         self.judge_page("a range", picture)
 
+    def test_many_losses(self):
+        """A range of 32 stores that are never flushed: as many of them as have room, each marked, and words for the others."""
+        stores = [f"store 0 {0x1000 + 8 * at:#x} 0102030405060708" for at in range(32)]
+        self.file.write_bytes(text_of(["pmtrace 1", *stores, "isPersist 0 0x1000 256"]))
+        picture = self.drawn()
+        self.judge("many losses", picture.numbers == [*range(1, TOLD), 33] and marked_losses(picture) == [*range(1, TOLD)])
+        self.judge("losses without room", "Of the 32 stores that it loses, 9 are not drawn." in told_words(picture))
+        self.judge_page("many losses", picture)
+        self.file.write_bytes(text_of(["pmtrace 1", *(f"store 0 {0x1000 + at:#x} 01" for at in range(40))]))
+        picture = self.drawn()
+        self.judge("stores of a line", picture.numbers == [*range(1, TOLD + 1)] == marked_losses(picture))
+        self.judge("stores without room", "Of the 40 stores that it loses, 16 are not drawn." in told_words(picture))
+
     def test_crowd(self):
-        """More bars than a row has room for: those of the stores that the crash loses or keeps are there all the same."""
+        """More bars than a row has room for: a slice has them all, and else the picture says how many there are not."""
         sizes = {"isPersist 0 0x1000 64": 8, "isOrderedBefore 0 0x1018 8 0x1000 8": 1}
         for claim, count in sizes.items():
             events = [event for n in range(20) for event in (f"store {n} {0x1000 + 8 * (n % 8):#x} 0102030405060708", f"clwb {n} 0x1000")]
             self.file.write_bytes(text_of(["pmtrace 1", *events, claim]))
             picture = self.drawn()
-            crash = next(crash for crash in picture.crashes if crash.get("data-event") == "41")
-            told = {int(mark.get("data-store")) for band in picture.bands for mark in of_class(band.root, "path", "lost-store")}
+            crash, = picture.crashes
+            told = marked_losses(picture)
             kept = {int(crash.get("data-kept"))} if crash.get("data-kept") else set()
-            self.judge(f"lost stores of a crowd, {claim}", len(told) == count and "Bars that have no room in their rows" in told_words(picture))
-            self.judge(f"their bars, {claim}", all(lanes_of(picture.band(store), store, 0x1000) for store in told | kept))
+            self.judge(f"lost stores of a crowd, {claim}", len(told) == count and "Bars that have no room" not in told_words(picture))
+            self.judge(f"their bars, {claim}", all(lanes_of(picture.band(store), store, 0x1000) for store in kept.union(told)))
             self.judge_page(f"a crowd, {claim}", picture)
+            picture = self.drawn("--from", 1, "--to", 41)
+            self.judge(f"a crowd in a stretch, {claim}", "Bars that have no room in their rows: 12." in told_words(picture))
+
+    def test_waits(self):
+        """Three flushes of one thread that wait: a line from each to the next, and none on another."""
+        stores = [f"store 0 {0x1000 + 64 * n:#x} 01" for n in range(3)]
+        flushes = [f"clwb 0 {0x1000 + 64 * n:#x}" for n in range(3)]
+        for fence in ([], ["sfence 0"]):
+            self.file.write_bytes(text_of(["pmtrace 1", *stores, *flushes, *fence, "isPersist 0 0x1000 192"]))
+            picture = self.drawn("--from", 1, "--to", 7)
+            kinds = [line.get("class") for band in picture.bands for line in of_class(band.root, "line", "wait")]
+            self.judge(f"lines of flushes {fence}", kinds == ["wait" if fence else "wait never"] * 3 and waits_are_apart(picture))
 
     def test_fold(self):
         """Stores that share their states share a bar, with a tick for each; a long history is folded into bands, and stays small."""

@@ -12,9 +12,8 @@ import faulty
 import machine
 from checks import Checks, add_tests
 from faulty import Answer
-from machine import FENCES
 from program import find
-from stories import told_by
+from slices import slice_of, standing_of, store_slice_of
 from traces import EXAMPLES, all_traces
 
 TRACES = 150
@@ -23,27 +22,6 @@ TRACES = 150
 def run(program, *words, text=b""):
     done = subprocess.run([program, *words], input=text, capture_output=True, timeout=60)
     return Answer(done.returncode, done.stdout, done.stderr)
-
-
-def slice_of(trace, number):
-    """The numbers of the events of the slice of an assertion."""
-    event = trace.event(number)
-    stores = set().union(*(trace.last_stores(event[at], event[at + 1], number) for at in range(2, len(event), 2)))
-    return sorted({number}.union(*(told_by(trace, store, number) for store in stores)))
-
-
-def own_fences(trace, store):
-    """The first two fences of its own thread after a store, where it is not safe."""
-    thread = trace.event(store)[1]
-    fences = [at for at in range(store + 1, len(trace.events) + 1) if trace.event(at)[0] in FENCES and trace.event(at)[1] == thread]
-    return [at for at in fences[:2] if not trace.is_safe(store, at)]
-
-
-def standing_of(trace, store):
-    """Whether a store is lost, and whether it is late, by the states of all runs; none of another event."""
-    if trace.event(store)[0] != "store":
-        return None
-    return not trace.is_safe(store, len(trace.events)), len(own_fences(trace, store)) == 2
 
 
 class Sliced:
@@ -152,7 +130,7 @@ def wrong_store_slice(program, sliced, header, trace):
     number, name = sliced.number, f"{sliced.file.name} store {sliced.number}"
     if sliced.answer != Answer(0, b""):
         return [f"{name}: {faulty.short(sliced.answer)}"]
-    wanted = sorted({*told_by(trace, number, len(trace.events)), *own_fences(trace, number)})
+    wanted = store_slice_of(trace, number)
     part = machine.Trace(trace.size, [trace.event(at) for at in wanted])
     if sliced.numbers != wanted or sliced.text != machine.text_of([header, *map(machine.spelled, part.events)]):
         return [f"{name}: {sliced.numbers}, wanted {wanted}"]

@@ -10,8 +10,10 @@ from drawn import SVG, of_class, shown_stores, title_of
 from explained import Explained
 from explained_text import dropped_groups, overwritten_groups
 from machine import FENCES, FLUSHES, is_kept, spelled, verdict
+from slices import slice_of, store_slice_of
 
 COLUMNS = 120
+TOLD = 24
 CRASHES = 12
 WIDTH, HEIGHT = 1400, 24000
 LETTER = {"headline": 9.1, "told": 7.9, "small": 5.5}
@@ -48,24 +50,32 @@ def stores_are_right(picture, trace):
 
 
 def bars_are_told(picture, trace):
-    """The title of a bar tells each store with its place in the line, and what makes them safe."""
+    """The title of a bar tells each store with its place in the line, the first flush after them, and what makes them safe."""
     last = max(picture.numbers, default=0)
     for band in picture.bands:
         for bar in band.bars:
-            title, line = title_of(bar), int(bar.get("data-line"), 16)
+            line, more = int(bar.get("data-line"), 16), int(bar.get("data-older"))
             stores = [number for number in shown_stores(bar, picture.numbers) if trace.event(number)[0] == "store" and trace.line(number) * trace.size == line]
-            if int(bar.get("data-drawn")):
-                places = [f"event {number}: {spelled(trace.event(number))}, at +{trace.event(number)[2] - line} of its line" for number in stores]
-                if len(stores) != int(bar.get("data-drawn")) or not all(place in title for place in places):
-                    return False
-            saved = next((place for place in range(stores[-1], last + 1) if trace.is_safe(stores[-1], place)), None)
-            wanted = "not safe"
-            if saved is not None:
-                word, thread = trace.event(saved)[:2]
-                wanted = f"safe from event {saved} on, the {'fence' if word in FENCES else 'clflush'} of thread {thread}"
-            if not title.endswith(wanted):
+            told = [f"event {number}: {spelled(trace.event(number))}, at +{trace.event(number)[2] - line} of its line" for number in stores]
+            if not int(bar.get("data-drawn")):
+                told = [f"event {stores[0]}, a store that is not drawn" + f", and {more} more that are not" * (more > 0)]
+            elif len(stores) != int(bar.get("data-drawn")):
+                return False
+            if title_of(bar) != "; ".join([*told, *fate_of(trace, stores[-1], last)]):
                 return False
     return True
+
+
+def fate_of(trace, store, last):
+    """What becomes of a store up to the last event that is drawn, in the words of a title."""
+    flush = next((at for at in range(store + 1, last + 1) if trace.is_flush_of(at, trace.line(store), ("clflush", *FLUSHES))), None)
+    saved = next((at for at in range(store, last + 1) if trace.is_safe(store, at)), None)
+    yield "not flushed" if flush is None else f"flushed by event {flush} of thread {trace.event(flush)[1]}"
+    if saved is None:
+        yield "not safe"
+    else:
+        word, thread = trace.event(saved)[:2]
+        yield f"safe from event {saved} on, the {'fence' if word in FENCES else 'clflush'} of thread {thread}"
 
 
 def earlier_are_counted(picture, trace, first):
@@ -182,12 +192,26 @@ def losses_are_marked(picture, trace):
 
 
 def losses_have_bars(picture, trace, crash, lost):
-    """Of the crash that the picture is about each lost store that is drawn has a bar, however many others have none."""
+    """Of the crash that the picture is about each lost store that is drawn has a bar."""
     subject = re.fullmatch(r"is\w+ (\d+) fails\.", title_of(picture.root))
     if crash.get("data-event") != (subject and subject[1]):
         return True
     drawn = [store for store in lost if store in picture.numbers]
     return all(lanes_of(picture.band(store), store, trace.line(store) * trace.size) for store in drawn)
+
+
+def marked_losses(picture):
+    """The stores with the mark of a lost one, in all bands."""
+    return sorted(int(mark.get("data-store")) for band in picture.bands for mark in of_class(band.root, "path", "lost-store"))
+
+
+def waits_are_apart(picture):
+    """In the rows of threads no line from a flush to its fence lies on another one."""
+    for band in picture.bands:
+        lines = sorted(tuple(int(line.get(side)) for side in ("y1", "x1", "x2")) for line in of_class(band.root, "line", "wait"))
+        if any(y == other and right > left for (y, _, right), (other, left, _) in zip(lines, lines[1:])):
+            return False
+    return True
 
 
 def lanes_of(band, store, line):
@@ -223,39 +247,38 @@ def crashes_are_right(picture, trace):
 
 
 def story_is_right(picture, trace):
-    """Without words: what explain tells first. Of a failure what touches its lines, up to it; else the stores to a line that are never
-    persisted; else what has no effect, is written over, saved late or never stored; else the first events."""
+    """Without options: what explain tells first. Of a failure its slice; else the slices of stores to a line that are never persisted; else
+    what has no effect, is written over, saved late or never stored; else the first events."""
     explained = Explained(trace, [], {})
-    if not explained.causes:
-        return told_first_is_right(picture, explained)
-    number = explained.causes[0][1][0]
-    event = trace.event(number)
-    ranges = [(event[2], event[3])] + ([(event[4], event[5])] if len(event) > 4 else [])
-    lines = {byte // trace.size for start, length in ranges for byte in range(start, start + length)}
-    touching = touching_of(trace, lines, number)
-    shown = set(picture.numbers)
-    strays = {n for n in shown - touching - {number} if trace.event(n)[0] not in FENCES and not trace.event(n)[0].startswith("is")}
-    is_told = title_of(picture.root) == f"{event[0]} {number} fails."
-    return is_told and touching <= shown and number == max(shown) and not strays and picture.numbers == sorted(shown)
-
-
-def touching_of(trace, lines, end):
-    return {n for n in range(1, end) if trace.event(n)[0] in ("store", "clflush", *FLUSHES) and trace.line(n) in lines}
-
-
-def told_first_is_right(picture, explained):
-    trace, end = explained.trace, explained.end
+    if explained.causes:
+        number = explained.causes[0][1][0]
+        is_about = title_of(picture.root) == f"{trace.event(number)[0]} {number} fails."
+        return is_about and picture.numbers == slice_of(trace, number) and is_all_told(picture)
     lost = grouped.lost(explained)
     if lost:
-        first, line = lost[0][0]["first"]["event"], int(lost[0][0]["cache_line"], 16) // trace.size
-        crash = picture.crashes[0]
-        told = crash.get("data-event") is None and int(crash.get("data-place")) == end and int(crash.get("data-lost")) == first
-        headline = re.fullmatch(r"Never persisted: (\d+) stores? to line (0x[0-9a-f]+)", title_of(picture.root))
-        return told and headline and int(headline[2], 16) == line * trace.size and touching_of(trace, {line}, end + 1) <= set(picture.numbers)
+        return lost_is_right(picture, trace, lost[0][0])
     about = first_note(explained)
     if about is None:
         return picture.numbers == list(trace.numbers)[:COLUMNS]
+    if "late" in about[0] and picture.numbers != store_slice_of(trace, about[1]):
+        return False
     return title_of(picture.root) == about[0] and set(about[1:]) <= set(picture.numbers)
+
+
+def is_all_told(picture):
+    """It shows no more events than a picture of a slice has room for, and says that they are all."""
+    return len(picture.numbers) <= TOLD and ", all that tell of it, " in picture.words() and "have no room" not in picture.words()
+
+
+def lost_is_right(picture, trace, group):
+    """A crash at the end, and the slices of the stores to the line that it loses."""
+    end, first, line = len(trace.events), group["first"]["event"], int(group["cache_line"], 16) // trace.size
+    stores = [store for store in trace.stores(line, end) if not trace.is_safe(store, end)]
+    crash, = picture.crashes
+    is_crash = crash.get("data-event") is None and int(crash.get("data-place")) == end and int(crash.get("data-lost")) == first
+    words = f"Never persisted: {len(stores)} store{'s' if len(stores) > 1 else ''} to line {line * trace.size:#x}"
+    wanted = sorted(set().union(*(store_slice_of(trace, store) for store in stores)))
+    return is_crash and title_of(picture.root) == words and picture.numbers == wanted and is_all_told(picture)
 
 
 def first_note(explained):
@@ -266,17 +289,11 @@ def first_note(explained):
         earlier, later = group["earlier"]["event"], group["later"]["event"]
         return f"Store {earlier} is written over by store {later} before any flush", earlier, later
     for _, stores in grouped.late(explained):
-        return f"Store {stores[0]} is saved late", stores[0], *fences_after(explained.trace, stores[0])
+        return f"Store {stores[0]} is saved late", stores[0]
     for entry in explained.unwritten():
         number = entry["event"]["event"]
         return f"The assertion of event {number} speaks of bytes that no store has written", number
     return None
-
-
-def fences_after(trace, store):
-    """The first two fences of the store's thread after it."""
-    later = range(store + 1, len(trace.events) + 1)
-    return [number for number in later if trace.event(number)[0] in FENCES and trace.event(number)[1] == trace.event(store)[1]][:2]
 
 
 def extent(text):

@@ -1,10 +1,13 @@
 //! Drawing a trace.
 ghost use Rattle.std.specs.Prelude.{◌≡◌, IfOk};
 
+use crate::told::told_of;
 use command_inputs::{Fault, Input, Opener, bytes_of, labels_of, taken_fault, write_named};
 use command_requests::Drawing;
 use pmt_causes::Group;
-use pmt_draw::{Known, Label, Picture, Refusal, Span, View, picture_of, refusal_of, svg_text};
+use pmt_draw::{
+    Known, Label, Picture, Refusal, Span, View, about_of, picture_of, refusal_of, svg_text,
+};
 use pmt_explain::{LostGroup, OverwrittenGroup};
 use pmt_explain_run::explain;
 use pmt_explanation::{Choice, Explanation, Kind, Labels, Options, Unwritten};
@@ -162,8 +165,15 @@ fn picture(alloc: Global, explanation: &Explanation, view: &View) -> Result<Pict
     let known = marked.known(explanation);
     match refusal_of(known, view.span, view.kept.as_slice()) {
         Some(refusal) => Err(refused(alloc, refusal, known.trace.len())?),
-        None => Ok(picture_of(alloc, known, view)?),
+        None => Ok(told_picture(alloc, known, view)?),
     }
+}
+
+// The picture of the view, with the events that tell of what it is about.
+fn told_picture(alloc: Global, known: Known<'_>, view: &View) -> Result<Picture, OutOfMemory> {
+    let mut about = about_of(alloc, known, view)?;
+    about.told = told_of(alloc, known.trace, &about)?;
+    picture_of(alloc, known, view, about)
 }
 
 // What is never persisted, by line, in the order of its causes.

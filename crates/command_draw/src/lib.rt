@@ -2,5 +2,6 @@
 #![tactic(auto)]
 
 mod drawing;
+mod told;
 
 pub use crate::drawing::{draw, first_picture};

@@ -17,7 +17,7 @@ pub fn draw_command<'a>(alloc: Global) -> Made<'a> {
         )
         .about("Draws what is safe when, as one SVG.")
         .after_help(
-            "Without --failure, --around and --from it draws what explain tells first: an assertion that fails,{n}with what led to it; else stores that are never persisted; else what has no effect, is written over,{n}saved late or never stored; else the first events. At most 120 events and 30 lines are drawn; the{n}picture says what is left out.{n}Statuses: 0 done; 2 wrong words, or they are not of this trace; 3 trace or labels refused; 4 file{n}fault; 5 out of memory{n}Example: pmtrim draw run.trace > run.svg",
+            "Without --failure, --around and --from it draws what explain tells first: an assertion that fails;{n}else stores that are never persisted; else what has no effect, is written over, saved late or never{n}stored; else the first events. A failure, or stores that are lost or late, are drawn by their slice,{n}at most 24 events of it; else at most 120 events. The picture says what is left out.{n}Statuses: 0 done; 2 wrong words, or they are not of this trace; 3 trace or labels refused; 4 file{n}fault; 5 out of memory{n}Example: pmtrim draw run.trace > run.svg",
         );
     with_names(alloc, with_places(alloc, Ok(command)))
 }

@@ -6,7 +6,7 @@ use crate::waiting::{is_fence, is_flush};
 use pmt_model::{Format, Op, OutOfMemory, Trace};
 use std::alloc::{AllocError, Global};
 
-/// The most lanes of a row, beside those of stores that the picture tells of.
+/// The most lanes of a row, where the events are not those that tell of the subject.
 pub const MOST_LANES: usize = 8;
 
 /// A flush of a line.
@@ -106,8 +106,8 @@ pub struct Drawn<'a> {
     pub columns: &'a [u64],
     /// The crashes' places, rising. Stores before one share no bar with stores after it.
     pub places: &'a [u64],
-    /// The stores that the picture tells of, rising. Their bars have room in any case.
-    pub told: &'a [u64],
+    /// Whether they are the events that tell of the subject: then each store that is drawn has a bar, and no other one has.
+    pub is_told: bool,
 }
 
 impl Drawn<'_> {
@@ -198,6 +198,9 @@ fn events_of(alloc: Global, drawn: Drawn<'_>, line: u64) -> Result<LineEvents, O
 
 // The bar of the stores from this index on that are left out before the event `next`, those that are not safe when it comes.
 fn hidden_bar(drawn: Drawn<'_>, events: &LineEvents, from: usize, next: u64) -> Option<Bar> {
+    if drawn.is_told {
+        return None;
+    }
     let mut waiting: u64 = 0;
     let mut last = 0;
     for store in events.stores.iter().skip(from) {
@@ -249,8 +252,7 @@ fn push_bar(row: &mut Row, drawn: Drawn<'_>, bar: Bar) {
         return;
     }
     let lane = take_lane(row.bars.as_mut_slice(), row.lanes, bar.store);
-    let is_told = bar.drawn > 0 && is_listed(drawn.told, bar.store);
-    if lane >= MOST_LANES.max(row.lanes) && !is_told {
+    if lane >= MOST_LANES && !drawn.is_told {
         row.crowded = row.crowded.saturating_add(1);
         return;
     }

@@ -30,16 +30,6 @@ pub struct Crash {
     pub lost: Vec<u64>,
 }
 
-impl Crash {
-    /// Whether it violates the assertion with this number.
-    pub fn is_of(&self, number: u64) -> bool {
-        match self.assertion {
-            Some(assertion) => assertion.number == number,
-            None => false,
-        }
-    }
-}
-
 /// The crash that violates the assertion with this number. None where it passes, or the event is no assertion.
 ///
 /// # Errors

@@ -38,16 +38,13 @@ fn push_headline(pen: &mut Pen, picture: &Picture) {
             push_assertion(pen, crash);
             pen.put(".");
         },
-        Subject::Lost(group) => {
+        Subject::Lost(group) => if let Some(crash) = picture.focus() {
             let line = address_of(picture.format, group.line);
-            pen.fill("Never persisted: #", &[group.count]);
-            pen.put(if group.count == 1 {
-                " store"
-            } else {
-                " stores"
-            });
+            let count = crash.lost.len() as u64;
+            pen.fill("Never persisted: #", &[count]);
+            pen.put(if count == 1 { " store" } else { " stores" });
             pen.fill(" to line @", &[line]);
-        }
+        },
         Subject::Dropped(event) => pen.fill("Event # has no effect", &[event.event]),
         Subject::Overwritten(pair) => pen.fill(
             "Store # is written over by store # before any flush",
@@ -112,15 +109,13 @@ fn push_left(pen: &mut Pen, picture: &Picture, letters: u64, top: u64) -> u64 {
     let columns = picture.columns.len() as u64;
     let rows = picture.rows.len() as u64;
     let mut words = Pen::new(pen.alloc());
+    words.fill("Drawn: # of # events", &[columns, picture.events]);
+    if picture.is_told && picture.cut == 0 {
+        words.put(", all that tell of it");
+    }
     words.fill(
-        "Drawn: # of # events, # of # cache lines of # bytes.",
-        &[
-            columns,
-            picture.events,
-            rows,
-            picture.lines,
-            picture.format.line_size(),
-        ],
+        ", # of # cache lines of # bytes.",
+        &[rows, picture.lines, picture.format.line_size()],
     );
     let left = picture.events.saturating_sub(columns);
     if left > 0 {
@@ -137,8 +132,36 @@ fn push_left(pen: &mut Pen, picture: &Picture, letters: u64, top: u64) -> u64 {
     push_told(pen, "told soft", &words, letters, top)
 }
 
-// Adds what of the events that were asked for is not drawn.
+// Adds what is not drawn of the events that were asked for, or of those that tell of the subject, and how to see more.
 fn push_cut(words: &mut Pen, picture: &Picture) {
+    match picture.subject {
+        Subject::Failure(number) => push_more(words, picture, "failure", number),
+        Subject::Lost(group) => push_more(words, picture, "store", group.first),
+        Subject::Late(number) => push_more(words, picture, "store", number),
+        Subject::Dropped(_) | Subject::Overwritten(_) | Subject::Unwritten(_) | Subject::Events => {
+            push_asked(words, picture)
+        }
+    }
+}
+
+// Adds how to see more than what tells of the event with this number.
+fn push_more(words: &mut Pen, picture: &Picture, option: &str, number: u64) {
+    if picture.cut > 0 {
+        let all = picture.cut.saturating_add(picture.columns.len() as u64);
+        words.fill(
+            " Of the # events that tell of it, # have no room: 'pmtrim slice --",
+            &[all, picture.cut],
+        );
+        words.put(option);
+        words.fill(" #' writes all.", &[number]);
+    }
+    if picture.events > picture.columns.len() as u64 {
+        words.fill(" '--around #' draws all events near it.", &[number]);
+    }
+}
+
+// Adds what of the events that were asked for is not drawn.
+fn push_asked(words: &mut Pen, picture: &Picture) {
     if let Span::Between { first, last } = picture.span {
         if picture.cut > 0 {
             words.fill(
@@ -172,10 +195,30 @@ fn push_unshown(words: &mut Pen, picture: &Picture) {
     if crowded > 0 {
         words.fill(" Bars that have no room in their rows: #.", &[crowded]);
     }
+    push_unseen(words, picture);
     if picture.untold > 0 {
         words.fill(
             " Failed assertions whose crash has no room: # (# are drawn).",
             &[picture.untold, MOST_CRASHES as u64],
+        );
+    }
+}
+
+// Adds how many of the stores that the crash of the subject loses are not drawn.
+fn push_unseen(words: &mut Pen, picture: &Picture) {
+    let Some(crash) = picture.focus() else {
+        return;
+    };
+    let mut unseen: u64 = 0;
+    for store in &crash.lost {
+        if picture.column(*store).is_none() {
+            unseen = unseen.saturating_add(1);
+        }
+    }
+    if unseen > 0 {
+        words.fill(
+            " Of the # stores that it loses, # are not drawn.",
+            &[crash.lost.len() as u64, unseen],
         );
     }
 }

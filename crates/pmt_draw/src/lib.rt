@@ -1,9 +1,10 @@
 //! A picture of what is safe when: which events of a trace are drawn, what they do to the stores of their lines, and the SVG of it.
 //!
 //! What the picture tells of a trace is given by its caller, or comes from the calls of pmt_explain; where it stands on the page is
-//! tested.
+//! tested. That its columns are the events that are given is proved, by the definitions in `specs/`.
 #![tactic(auto)]
 
+pub mod about;
 mod asserted;
 mod band;
 pub mod bars;
@@ -34,6 +35,7 @@ mod waiting;
 mod window;
 mod words;
 
+pub use crate::about::{About, Told, about_of};
 pub use crate::asserted::{Asserted, Role};
 pub use crate::bars::{Bar, Flush, Row};
 pub use crate::crash::Crash;

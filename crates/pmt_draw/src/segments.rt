@@ -47,10 +47,11 @@ pub fn push_bar(pen: &mut Pen, page: Page<'_>, bar: &Bar, address: u64, top: u64
 // Adds what is told of a bar.
 fn push_title(pen: &mut Pen, page: Page<'_>, bar: &Bar) {
     if bar.drawn == 0 {
-        pen.fill(
-            "event #, a store that is not drawn, and # more that are not",
-            &[bar.store, bar.older],
-        );
+        pen.fill("event #, a store that is not drawn", &[bar.store]);
+        if bar.older > 0 {
+            pen.fill(", and # more that are not", &[bar.older]);
+        }
+        pen.put("; ");
     }
     let mut named: u64 = 0;
     for column in &page.picture.columns {

@@ -46,40 +46,6 @@ pub fn lines_of_addresses(
     lines.rising()
 }
 
-/// The lines of the assertion's ranges, of those that are kept, rising and each once. All are kept, if none is named.
-pub fn lines_of_assertion(
-    alloc: Global,
-    format: Format,
-    op: Op,
-    kept: &[u64],
-) -> Result<Vec<u64>, OutOfMemory> {
-    let mut lines = Numbers::new(alloc);
-    let claims = asserted_of(op);
-    for claim in &claims {
-        if let Some(bytes) = claim {
-            let (first, last) = bytes.lines(format);
-            for line in first..=last {
-                if kept.is_empty() || kept.contains(&line) {
-                    lines.push(line);
-                }
-            }
-        }
-    }
-    lines.rising()
-}
-
-/// Adds the first and the last line of each of the assertion's ranges, those that are not there.
-pub fn push_ends(lines: &mut Numbers, format: Format, op: &Op) {
-    let claims = asserted_of(*op);
-    for claim in &claims {
-        if let Some(bytes) = claim {
-            let (first, last) = bytes.lines(format);
-            lines.push_once(first);
-            lines.push_once(last);
-        }
-    }
-}
-
 /// The first address of the line.
 pub fn address_of(format: Format, line: u64) -> u64 {
     line.saturating_mul(format.line_size())

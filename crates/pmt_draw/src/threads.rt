@@ -1,7 +1,7 @@
 //! The rows of the threads, and how long each flush waits for a fence of its thread.
 use crate::layout::{LEFT, THREAD};
 use crate::page::Page;
-use crate::picture::Column;
+use crate::picture::{Column, Picture};
 use crate::shapes::push_shape;
 use crate::waiting::waits_for_fence;
 use pmt_pen::Pen;
@@ -34,8 +34,8 @@ fn push_name(pen: &mut Pen, page: Page<'_>, top: u64) {
     pen.fill("<text class='end' x='#' y='#'>", &[LEFT - 14, low]);
 }
 
-// Adds the line from a flush to the next fence of its thread, or to the end, as far as this band has it. Threads that share a row have none,
-// since there it would not say whose it is.
+// Adds the line from a flush to where it ends, as far as this band has it. Threads that share a row have none, since there it would not say
+// whose it is.
 fn push_wait(pen: &mut Pen, page: Page<'_>, column: &Column) {
     let thread = column.event.thread;
     if !waits_for_fence(&column.event.op) || !page.band.has_thread(thread) {
@@ -43,17 +43,33 @@ fn push_wait(pen: &mut Pen, page: Page<'_>, column: &Column) {
     }
     let y = page.band.thread_middle(thread, page.threads);
     let from = page.band.middle(column.number);
-    let (class, to) = match column.fence {
-        Some(fence) => ("wait", page.band.middle(fence)),
-        None => ("wait never", page.band.right),
+    let to = match wait_end(page.picture, column) {
+        Some(end) => page.band.middle(end),
+        None => page.band.right,
     };
     if from < to {
         push_shape(
             pen,
             "line",
-            class,
+            if column.fence.is_some() {
+                "wait"
+            } else {
+                "wait never"
+            },
             "x1='#' y1='#' x2='#' y2='#'/>\n",
             &[from, y, to, y],
         );
     }
+}
+
+// Where the line from a flush ends: at the next flush that waits for the same fence, from which another line goes on, or at the fence; none
+// where that is not drawn.
+fn wait_end(picture: &Picture, column: &Column) -> Option<u64> {
+    for other in &picture.columns {
+        let is_later = column.number < other.number && waits_for_fence(&other.event.op);
+        if is_later && other.event.thread == column.event.thread && other.fence == column.fence {
+            return Some(other.number);
+        }
+    }
+    column.fence
 }

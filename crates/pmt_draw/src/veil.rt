@@ -109,12 +109,12 @@ fn push_bar_marks(
     let told = Told { top, x };
     if lost > 0 {
         let is_later = crash.failure.place < bar.store;
-        push_frame(pen, page, crash, bar, told, "lost");
+        push_frame(pen, page, bar, told, "lost");
         push_tag(pen, told, "lost", if is_later { "later" } else { "lost" });
     }
     if let Some(kept) = crash.failure.kept {
         if has_store(page, bar, kept.store) {
-            push_frame(pen, page, crash, bar, told, "kept");
+            push_frame(pen, page, bar, told, "kept");
             push_tag(pen, told, "kept", "kept");
         }
     }
@@ -141,10 +141,10 @@ fn push_lost_store(pen: &mut Pen, page: Page<'_>, store: u64, lane: u64) {
     }
 }
 
-// Adds the frame of a bar from its first store to the crash, where the picture frames what the crash tells of.
-fn push_frame(pen: &mut Pen, page: Page<'_>, crash: &Crash, bar: &Bar, told: Told, class: &str) {
+// Adds the frame of a bar from its first store to the crash, where the picture has no other crash.
+fn push_frame(pen: &mut Pen, page: Page<'_>, bar: &Bar, told: Told, class: &str) {
     let from = page.band.middle(bar.store).min(told.x);
-    if page.picture.frames(crash) && from < told.x {
+    if page.picture.crashes.len() == 1 && from < told.x {
         push_shape(
             pen,
             "rect",

@@ -7,18 +7,11 @@ use std::alloc::Global;
 /// Which of the candidates matter most.
 #[derive(Clone, Copy)]
 pub enum Aim {
-    /// The last ones up to this event.
-    UpTo(u64),
     /// Those around this event.
     Around(u64),
-    /// Those from this event on, with some before it.
-    From(u64),
     /// Those from `first` to `last`, the first ones first.
     Between { first: u64, last: u64 },
 }
-
-// How many candidates come before the event from which on they matter.
-const BEFORE: usize = 20;
 
 /// The events that are drawn, by rising number: at most `MOST_COLUMNS` of the candidates, those that matter most, with the needed ones.
 /// Both lists rise.
@@ -48,18 +41,10 @@ pub fn window(
 fn bounds(aim: Aim, candidates: &[u64], room: usize) -> (usize, usize) {
     let all = candidates.len();
     match aim {
-        Aim::UpTo(number) => {
-            let end = count_before(candidates, number.saturating_add(1));
-            (end.saturating_sub(room), end)
-        }
         Aim::Around(number) => {
             let at = count_before(candidates, number);
             let end = at.saturating_add(room / 2 + 1).min(all);
             (end.saturating_sub(room), all)
-        }
-        Aim::From(number) => {
-            let at = count_before(candidates, number).saturating_sub(BEFORE);
-            (at.min(all.saturating_sub(room)), all)
         }
         Aim::Between { first, last } => (
             count_before(candidates, first),
