@@ -20,10 +20,7 @@ function focusOf(trace, finding) {
   const lines = new Set();
   let end = trace.events;
   if (kind === 'failure' || kind === 'unwritten') end = entry.event.event;
-  if (kind === 'failure') {
-    anchors.push(entry.place, entry.mend.after, entry.mend.before, entry.cause.flush?.event, entry.cause.other?.event);
-  }
-  if (kind === 'never_persisted') anchors.push(entry.mend.after, entry.cause.flush?.event, entry.cause.other?.event, trace.events);
+  if (kind === 'failure' || kind === 'never_persisted') anchors.push(entry.cause.flush?.event, entry.cause.other?.event);
   if (kind === 'dropped') {
     if (entry.reason.by !== null) anchors.push(entry.reason.by.event);
     const { event, thread } = entry.event;
@@ -59,9 +56,13 @@ function near(list, starts, index, number) {
   return list.subarray(Math.max(starts[index], at - NEAR), Math.min(starts[index + 1], at + NEAR));
 }
 
-// The events that matter to a finding: the stores and flushes of its lines next to the events that it names, and the fences that
-// the flushes wait for.
-function matteringEvents(trace, focus) {
+// The events that matter to a finding: its slice, if it has one; else the stores and flushes of its lines next to the events that it
+// names, and the fences that the flushes wait for.
+function matteringEvents(trace, finding, focus) {
+  return sliceOf(trace, finding, focus.anchors) ?? eventsNear(trace, focus);
+}
+
+function eventsNear(trace, focus) {
   const chosen = new Set(focus.anchors);
   for (const anchor of focus.anchors) {
     for (const line of focus.lines) {

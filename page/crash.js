@@ -26,6 +26,20 @@ function lineRowOf(trace, line, place) {
   return { address: hex(trace.addressOfLine(line)), safe: state.safe - state.begin, stores: state.end - state.begin, lost };
 }
 
+// The stores that the program's own crash loses of the range that is to be kept: the last ones to its bytes, those that come after the
+// crash and, of each line, those behind the stores that are persisted.
+function lostStores(trace, own) {
+  const persisted = new Map(own.lines.map((line) => [line.cache_line, line.persisted]));
+  const last = new Set(wantedAt(trace, trace.ranges(own.event.event)[0], own.event.event));
+  return [...last].filter((store) => {
+    if (store === 0 || store > own.place) return store !== 0;
+    const { starts, list } = trace.storesOf;
+    const line = trace.lineOf[store];
+    const before = firstAbove(list, starts[line], starts[line + 1], store - 1) - starts[line];
+    return before >= (persisted.get(hex(trace.addressOfLine(line))) ?? Infinity);
+  });
+}
+
 // The rows of the program's own crash: the lines that the finding is about, and the others that lose a store, the first few.
 function ownRows(trace, own, focus) {
   const losing = new Map(own.lines.map((line) => [line.cache_line, line]));

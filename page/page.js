@@ -40,10 +40,13 @@ class Page {
     const focus = focusOf(trace, finding);
     const own = finding?.kind === 'failure' ? finding.entry : null;
     const crash = place ?? own?.place ?? this.placeOf(finding);
-    const mattering = finding === null ? null : matteringEvents(trace, focus);
+    const mattering = finding === null ? null : matteringEvents(trace, finding, focus);
+    const more = own === null ? 0 : assertionSlice(trace, finding.number).length - mattering.length;
     const from = mattering?.at(0) ?? 1;
     const to = mattering?.at(-1) ?? Math.min(trace.events, 60);
-    this.view = { ...this.view, finding, focus, mattering, from, to, place: crash, own: own !== null && own.place === crash ? own : null };
+    this.view = {
+      ...this.view, finding, focus, mattering, more, from, to, place: crash, own: own !== null && own.place === crash ? own : null,
+    };
     this.drawAll();
   }
 
@@ -158,8 +161,9 @@ class Page {
       `▽ ${flushes} and ${fences} do nothing`,
     ];
     byId('summary').replaceChildren(...told.map((text) => make('span', {}, text)));
-    byId('strip-key').textContent = '✕ is where an assertion fails, the frame what the picture shows, the dashed line the crash.'
-      + ' Draw a frame to choose a stretch.';
+    const key = '✕ is where an assertion fails, the frame what the picture shows, the dashed line the crash. Draw a frame to choose a stretch.';
+    byId('strip-key').textContent = key;
+    byId('strip').setAttribute('title', key);
     byId('proved').replaceChildren(...this.provedNodes(about));
     byId('summary').append(...this.leftOut(about, summary).map((text) => make('span', { class: 'note' }, ...text)));
   }
@@ -205,29 +209,31 @@ class Page {
       ...paths.map(([name, path]) => shape('path', { class: name, d: path })),
     );
     const signs = [
-      [[['unsafe', 'M-12 -6h24v12h-24z']], 'not safe: a crash may lose the store'],
-      [[['safe', 'M-12 -2h24v5h-24z']], 'safe: no crash loses it'],
-      [[['dot', 'M-4 -4h8v8h-8z']], 'store'],
-      [[['mark', 'M-7 -6H7L0 7Z']], 'flush'],
-      [[['mark', 'M-3 -8h6v16h-6z']], 'fence'],
-      [[['mark hollow', 'M-7 -6H7L0 7Z']], 'hollow: does nothing'],
-      [[['mark bad', 'M-7 -6H7L0 7Z'], ['shout', 'M0 -4.5V0M0 1.5V3']], 'flush whose fence is missing: add the fence'],
-      [[['wait', 'M-12 0H12']], 'from a flush to its thread’s next fence; dotted: none comes'],
-      [[['pass', 'M-7 0a7 7 0 1 0 14 0a7 7 0 1 0 -14 0'], ['tick', 'M-4 0L-1 4L4 -4']], 'assertion that passes'],
-      [[['fail', 'M-7 0a7 7 0 1 0 14 0a7 7 0 1 0 -14 0'], ['cross', 'M-4 -4L4 4M4 -4L-4 4']], 'assertion that fails'],
-      [[['crash-line', 'M0 -8V8']], 'the crash'],
+      [[['unsafe', 'M-12 -6h24v12h-24z']], 'not safe', 'a crash may lose the store'],
+      [[['safe', 'M-12 -2h24v5h-24z']], 'safe', 'no crash loses the store'],
+      [[['dot', 'M-4 -4h8v8h-8z']], 'store', 'a store'],
+      [[['mark', 'M-7 -6H7L0 7Z']], 'flush', 'a flush'],
+      [[['mark', 'M-3 -8h6v16h-6z']], 'fence', 'a fence'],
+      [[['mark hollow', 'M-7 -6H7L0 7Z']], 'does nothing', 'a hollow flush or fence does nothing'],
+      [[['mark bad', 'M-7 -6H7L0 7Z'], ['shout', 'M0 -4.5V0M0 1.5V3']], 'fence missing', 'a flush whose fence is missing: add the fence'],
+      [[['wait', 'M-12 0H12']], 'waits', 'from a flush to the next fence of its thread; dashed: none comes'],
+      [[['pass', 'M-7 0a7 7 0 1 0 14 0a7 7 0 1 0 -14 0'], ['tick', 'M-4 0L-1 4L4 -4']], 'passes', 'an assertion that passes'],
+      [[['fail', 'M-7 0a7 7 0 1 0 14 0a7 7 0 1 0 -14 0'], ['cross', 'M-4 -4L4 4M4 -4L-4 4']], 'fails', 'an assertion that fails'],
+      [[['crash-line', 'M0 -8V8']], 'crash', 'the crash'],
+      [[['lost', 'M-4 -4L4 4M4 -4L-4 4']], 'lost', 'a store that the crash loses'],
     ];
-    byId('signs').replaceChildren(...signs.map(([paths, text]) => make('span', {}, sign(paths), text)));
+    byId('signs').replaceChildren(...signs.map(([paths, text, title]) => make('span', { title }, sign(paths), text)));
   }
 
   writeTold() {
     const { view } = this;
     const { layout, rows } = this.sheet;
     const isPart = view.mattering !== null && layout.gaps.length > 0;
-    const left = isPart ? ' Events that do not matter to the finding are left out, where the dots stand.' : '';
+    const left = isPart ? '; dots stand for others' : '';
     const columns = layout.columns.length;
     const drawn = layout.bins ? `${count(view.to - view.from + 1, 'event')} in ${columns} columns` : count(columns, 'event');
-    const told = `Events ${grouped(view.from)} to ${grouped(view.to)}: ${drawn}.${left}`;
+    const more = isPart && view.more > 0 ? `; pmtrim slice --failure ${view.finding.number} has ${grouped(view.more)} more that tell of it` : '';
+    const told = `Events ${grouped(view.from)} to ${grouped(view.to)}: ${drawn}${left}${more}.`;
     byId('picture-told').textContent = this.trace.events === 0 ? 'The trace has no events.' : told;
     byId('matter').checked = view.mattering !== null;
     byId('matter').disabled = view.finding === null;
@@ -300,6 +306,7 @@ class Page {
     if (finding === null) {
       byId('finding-place').textContent = shown.length === 0 ? '' : 'Choose a cause, or go to the next finding.';
       byId('told').replaceChildren();
+      byId('details').replaceChildren();
       byId('mend').replaceChildren(make('p', {}, 'No finding is chosen.'));
       return;
     }
@@ -307,7 +314,9 @@ class Page {
     const all = `${at + 1} of ${count(shown.length, 'finding')}`;
     const told = (members) => `${members.indexOf(finding) + 1} of ${members.length} with this cause; ${all}`;
     byId('finding-place').textContent = group === null ? 'not among those that the filters leave' : told(group.members);
-    byId('told').replaceChildren(...findingNodes(this.trace, finding));
+    const { head, rest } = findingNodes(this.trace, finding);
+    byId('told').replaceChildren(...head);
+    byId('details').replaceChildren(rest);
     byId('mend').replaceChildren(make('p', { class: 'mend' }, ...remedyNodes(this.trace, finding)));
   }
 

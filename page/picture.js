@@ -345,14 +345,18 @@ class Sheet {
     if (own !== null && !this.layout.bins) this.tags(own, x);
   }
 
+  // Marks each store that the crash loses and the one that it keeps, with a word in each of their rows.
   tags(own, x) {
-    for (const [name, number] of [['lost', own.lost.store.event], ['kept', own.kept?.store.event]]) {
+    const words = new Set();
+    for (const [name, number] of [...lostStores(this.trace, own).map((store) => ['lost', store]), ['kept', own.kept?.store.event]]) {
       const mark = number === undefined ? null : this.parts.cells.querySelector(`.tickmark[data-store="${number}"]`);
       if (mark === null) continue;
       const [, at, top] = /^M([\d.]+) ([\d.]+)/.exec(mark.getAttribute('d'));
       const sign = name === 'lost' ? `M${at - 4} ${top - 2}l8 8m0 -8l-8 8` : `M${at - 4} ${Number(top) + 2}l3 4l5 -8`;
+      this.crashCells.append(shape('path', { class: name, 'data-store': number, d: sign }));
+      if (words.has(`${name} ${top}`)) continue;
+      words.add(`${name} ${top}`);
       this.crashCells.append(
-        shape('path', { class: name, d: sign }),
         shape('rect', { class: `tag ${name}`, x: x + 3, y: Number(top) + 2, width: 34, height: 16, rx: 3 }),
         shape('text', { class: 'tag-word', x: x + 7, y: Number(top) + 14 }, name),
       );

@@ -3,7 +3,7 @@
 // The whole trace as a strip, binned: how many stores come, how many cache lines are not safe, and where assertions fail; and in it
 // the stretch that the picture shows, and the crash.
 
-const STRIP = { height: 100, stores: [14, 26], unsafe: [54, 26], fails: 92 };
+const STRIP = { height: 52, stores: [10, 10], unsafe: [30, 12], fails: 47 };
 const MOST_BINS = 600;
 
 class Strip {
@@ -54,8 +54,8 @@ class Strip {
     const svg = shape('svg', { width, height: STRIP.height, viewBox: `0 0 ${width} ${STRIP.height}`, 'aria-hidden': 'true' });
     const name = (y, text) => shape('text', { class: 'strip-name', x: 3, y }, text);
     svg.append(
-      name(STRIP.stores[0] - 4, `stores${this.most(found.stores, found.bins)}`),
-      name(STRIP.unsafe[0] - 3, `cache lines that are not safe, up to ${grouped(Math.max(...found.unsafe))}`),
+      name(STRIP.stores[0] - 2, `stores${this.most(found.stores, found.bins)}`),
+      name(STRIP.unsafe[0] - 2, `cache lines that are not safe, up to ${grouped(Math.max(...found.unsafe))}`),
       shape('path', { class: 'strip-stores', d: this.steps(found.stores, found.bins, STRIP.stores) }),
       shape('path', { class: 'strip-unsafe', d: this.steps(found.unsafe, found.bins, STRIP.unsafe) }),
       shape('path', { class: 'strip-fails', d: this.crosses(found.fails, found.bins) }),

@@ -6,9 +6,12 @@ function item(name, ...children) {
   return [make('dt', {}, name), make('dd', {}, ...children)];
 }
 
+// A finding in short, with its reason if it has one, and the rest of what is told of it.
 function findingNodes(trace, finding) {
-  const { headline, items } = TOLD[finding.kind](trace, finding.entry);
-  return [make('p', { class: `headline ${finding.kind}` }, `${KIND_SIGNS[finding.kind]} ${headline}`), make('dl', {}, ...items)];
+  const { headline, why = [], items } = TOLD[finding.kind](trace, finding.entry);
+  const head = [make('p', { class: `headline ${finding.kind}` }, `${KIND_SIGNS[finding.kind]} ${headline}`)];
+  if (why.length > 0) head.push(make('p', {}, ...why));
+  return { head, rest: make('dl', {}, ...items) };
 }
 
 // The address of the cache line of an event.
@@ -22,27 +25,28 @@ const TOLD = {
     const part = partOf(trace, entry);
     return {
       headline: `A crash can violate the assertion of event ${entry.event.event}`,
+      why: causeNodes(trace, entry.cause, lineAddressOf(trace, lost)),
       items: [
         ...item('claim', ...eventNodes(trace, entry.event.event)),
         ...item('crash', `right after event ${entry.place}`),
         ...(entry.kept === null ? [] : item('keeps', `byte ${entry.kept.byte} of `, ...eventNodes(trace, entry.kept.store.event))),
         ...item('loses', `byte ${entry.lost.byte}, in the ${part} cache line of its range, of `, ...eventNodes(trace, lost)),
-        ...item('why', ...causeNodes(trace, entry.cause, lineAddressOf(trace, lost))),
       ],
     };
   },
   never_persisted: (trace, entry) => ({
     headline: `${count(entry.count, 'store')} to cache line ${entry.cache_line} never persisted: a crash at the end can lose`
       + ` ${entry.count === 1 ? 'it' : 'them'}`,
+    why: causeNodes(trace, entry.cause, entry.cache_line),
     items: [
       ...item(entry.count === 1 ? 'store' : 'first', ...eventNodes(trace, entry.first.event)),
       ...(entry.count === 1 ? [] : item('last', ...eventNodes(trace, entry.last.event))),
-      ...item('why', ...causeNodes(trace, entry.cause, entry.cache_line)),
     ],
   }),
   dropped: (trace, entry) => ({
     headline: `The ${trace.word(entry.event.event)} of event ${entry.event.event} does nothing`,
-    items: [...item('event', ...eventNodes(trace, entry.event.event)), ...item('why', ...reasonNodes(trace, entry.reason))],
+    why: reasonNodes(trace, entry.reason),
+    items: item('event', ...eventNodes(trace, entry.event.event)),
   }),
   overwritten: (trace, entry) => ({
     headline: `${count(entry.count, 'time')} a store to cache line ${entry.cache_line} is written over before any flush`,

@@ -160,6 +160,30 @@ def widths(pages):
     pages.browser.send("Emulation.setDeviceMetricsOverride", width=1400, height=1000, deviceScaleFactor=1, mobile=False)
 
 
+# What of the chosen finding is not in sight, and the height of the row with the strip.
+SIGHT = """(() => {
+  const box = (name) => document.querySelector(name).getBoundingClientRect();
+  const out = ['#told .headline', '#mend', '#sheet'].filter((name) => {
+    const { top, bottom, left, right, height } = box(name);
+    return height === 0 || top < 0 || bottom > innerHeight || left < 0 || right > innerWidth;
+  });
+  return [out, box('#trace').height];
+})()"""
+
+
+def in_sight(pages):
+    """The finding, its picture and what mends it are in sight without scrolling, under a strip of one row."""
+    for name, labels in (("linked_list", []), ("mark_too_early", []), ("redo", ["--labels", TOP / "examples/redo.trace.labels"])):
+        page, _ = pages.make(TOP / f"examples/{name}.trace", *labels, name="sight")
+        for width, height in ((1000, 700), (1400, 900)):
+            pages.browser.send("Emulation.setDeviceMetricsOverride", width=width, height=height, deviceScaleFactor=1, mobile=False)
+            pages.open(page)
+            hidden, strip = pages.browser.run(SIGHT)
+            yield f"{name} in sight at {width} x {height}", hidden
+            yield f"the strip of {name} at {width} x {height}", "" if strip < 60 else f"{strip} pixels"
+    pages.browser.send("Emulation.setDeviceMetricsOverride", width=1400, height=1000, deviceScaleFactor=1, mobile=False)
+
+
 def reading(pages):
     page, _ = pages.make(TOP / "examples/linked_list.trace", name="reading")
     pages.open(page)
@@ -197,4 +221,4 @@ def fetching(pages):
     yield "a trace without events", pages.faults(page) or ("" if pages.shown()["place"] == 0 else pages.shown())
 
 
-PARTS = (hostile, without_script, still_picture, colours, widths, reading, fetching)
+PARTS = (hostile, without_script, still_picture, colours, widths, in_sight, reading, fetching)

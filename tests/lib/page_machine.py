@@ -6,6 +6,7 @@ import random
 from crowded import random_trace
 from explained import Explained
 from machine import FENCES, FLUSHES, Trace, is_kept, least, spelled, text_of
+from slices import Plain, slice_of
 
 TOP = pathlib.Path(__file__).resolve().parents[2]
 TRACES = 8
@@ -122,6 +123,14 @@ def crash_of(size, events, number):
     return chosen[place - 1], chosen[lost[0] - 1], list(zip(stores, (leave["values"] for leave in leaves)))
 
 
+def lost_at(trace, entry):
+    """The stores that a failure's crash loses, of the last ones to the range that is to be kept."""
+    event, place, kept = trace.event(entry["event"]["event"]), entry["place"], entry["kept"]
+    full = kept and trace.line(kept["store"]["event"])
+    last = trace.last_stores(event[2], event[3], entry["event"]["event"])
+    return {store for store in last if store > place or not trace.is_safe(store, place) and trace.line(store) != full}
+
+
 def wrong_failure(size, events, entry, shown):
     """What is wrong with a failure as the page shows it. Of lines that the assertion does not name, what loses a store is the program's."""
     number = entry["event"]["event"]
@@ -133,6 +142,13 @@ def wrong_failure(size, events, entry, shown):
         return f"the crash is at {shown['place']}, drawn at {shown['drawn']}, and not at {place}"
     if f"of event {lost}" not in shown["crash"] or lost not in shown["events"]:
         return f"event {lost} is not shown as lost"
+    trace = Plain(size, events)
+    lost = lost_at(trace, entry) & set(shown["events"])
+    if sorted(shown["lost"]) != sorted(lost):
+        return f"{shown['lost']} are marked as lost, and not {lost}"
+    wanted = slice_of(trace, number)
+    if shown["events"] != wanted and (len(shown["events"]) != 24 or not set(shown["events"]) < set(wanted)):
+        return f"the picture has the events {shown['events']}, and not {wanted}"
     if [row for row in shown["lines"] if row[1] < row[2]] != losing:
         return f"the lines are {shown['lines']}, and those that lose a store {losing}"
     found = [cells_of(own) for own in shown["rows"]]
