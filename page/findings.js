@@ -45,21 +45,15 @@ function spansOf(trace, entry) {
   return line(Number(entry.cache_line));
 }
 
-// Where the line of the lost byte lies among those of the range that must be kept.
-function partOf(trace, entry) {
-  const [range] = trace.ranges(entry.event.event);
-  const lineOf = (address) => Math.floor(address / trace.lineSize);
-  const lost = lineOf(Number(entry.lost.byte));
-  const isFirst = lost === lineOf(range.address);
-  const isLast = lost === lineOf(range.address + range.length - 1);
-  if (isFirst && isLast) return 'only';
-  if (isFirst) return 'first';
-  return isLast ? 'last' : 'inner';
-}
-
 function ownerOf(trace, number) {
   const label = trace.label(number);
   return label === null ? { label: null, thread: trace.thread[number] } : { label, thread: null };
+}
+
+// The place of the source: the innermost frame of the label, without its callers.
+function placeOf(trace, number) {
+  const { label, thread } = ownerOf(trace, number);
+  return { label: label === null ? null : label.split(' < ', 1)[0], thread };
 }
 
 function causeWords(entry) {
@@ -73,13 +67,13 @@ function overlap(one, other) {
 // What a finding has in common with others of its cause: words, whose they are, and how many finds it stands for.
 const COMMON = {
   failure: (trace, entry) => ({
-    words: `${trace.word(entry.event.event)}: ${causeWords(entry)}; the ${partOf(trace, entry)} line of its range`,
-    owner: ownerOf(trace, entry.event.event),
+    words: `${trace.word(entry.event.event)}: ${causeWords(entry)}`,
+    owner: placeOf(trace, entry.event.event),
     count: 1,
   }),
   never_persisted: (trace, entry) => ({
     words: `store: ${causeWords(entry)}`,
-    owner: ownerOf(trace, entry.last.event),
+    owner: placeOf(trace, entry.last.event),
     count: entry.count,
   }),
   dropped: (trace, entry) => {

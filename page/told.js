@@ -22,7 +22,6 @@ function lineAddressOf(trace, number) {
 const TOLD = {
   failure: (trace, entry) => {
     const lost = entry.lost.store.event;
-    const part = partOf(trace, entry);
     return {
       headline: `A crash can violate the assertion of event ${entry.event.event}`,
       why: causeNodes(trace, entry.cause, lineAddressOf(trace, lost)),
@@ -30,7 +29,7 @@ const TOLD = {
         ...item('claim', ...eventNodes(trace, entry.event.event)),
         ...item('crash', `right after event ${entry.place}`),
         ...(entry.kept === null ? [] : item('keeps', `byte ${entry.kept.byte} of `, ...eventNodes(trace, entry.kept.store.event))),
-        ...item('loses', `byte ${entry.lost.byte}, in the ${part} cache line of its range, of `, ...eventNodes(trace, lost)),
+        ...item('loses', `byte ${entry.lost.byte} of `, ...eventNodes(trace, lost)),
       ],
     };
   },

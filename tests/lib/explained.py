@@ -87,9 +87,9 @@ class Explained:
         return grouped.causes(self)
 
     def cause_entry(self, key, members):
-        assertion, why, part, (origin, name) = key
+        assertion, why, (origin, name) = key
         named = {"label": None, "thread": None, origin: name}
-        return {"kind": "cause", "assertion": assertion, "why": why, "part": part, "count": len(members), "events": members, **named}
+        return {"kind": "cause", "assertion": assertion, "why": why, "count": len(members), "events": members, **named}
 
     def byte_stores(self, span, place):
         """The last store to each byte of the range, the first by number and then by byte first."""

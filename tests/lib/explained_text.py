@@ -198,15 +198,15 @@ def is_alone(explained):
     return asked["from"] is not None and asked == {**NOTHING, "only": "failure", "from": asked["from"], "to": asked["from"]}
 
 
-def full_lines(explained, key, number):
+def full_lines(explained, number):
     """Of what is told of a failed assertion alone the lines that name its claim and its lost store, and those of the range."""
     store, byte = explained.violation(number)[3]
     yield f"  claim:  {named(explained, number)}"
-    yield f"  loses:  byte {byte:#x}, in the {key[2]} cache line of its range, of {named(explained, store)}"
+    yield f"  loses:  byte {byte:#x} of {named(explained, store)}"
     yield from range_block(explained, explained.failure(number))
 
 
-def wrong_failure(explained, key, members, entry):
+def wrong_failure(explained, members, entry):
     """What is wrong with the entry of a cause: its story, the other members, and all of the first one, where it is told alone."""
     wrong = wrong_story(explained, members, entry)
     if wrong:
@@ -214,7 +214,7 @@ def wrong_failure(explained, key, members, entry):
     rest = entry[len(rows(explained, members[0])) + 2 : -1]
     if not is_alone(explained):
         return None if rest == others_lines(members) else f"the others: wanted {others_lines(members)}, in {entry}"
-    wanted = list(full_lines(explained, key, members[0]))
+    wanted = list(full_lines(explained, members[0]))
     told = [line for line in rest if line.startswith(("  claim: ", "  loses: "))] + told_of_range(entry)
     return None if told == wanted and any(", lost: event " in row for row in wanted) else f"all of a failure: wanted {wanted}, in {entry}"
 
@@ -349,7 +349,7 @@ def wrong_text(explained, told):
     if len(entries) < len(causes) or lines.count(HEADING) != int(bool(causes) and not is_alone(explained)):
         return f"causes: wanted {causes}, in\n{told.decode()}"
     for (key, members), entry in zip(causes, entries):
-        wrong = wrong_failure(explained, key, members, entry)
+        wrong = wrong_failure(explained, members, entry)
         if wrong:
             return f"{wrong}\nin\n{told.decode()}"
     return wrong_losses(explained, entries[len(causes) :]) or wrong_draws(explained, entries)

@@ -16,29 +16,25 @@ def grouped(keyed):
     return sorted(groups.items(), key=lambda group: (-len(group[1]), group[1][0]))
 
 
-def origin(explained, number):
-    """Whence an event comes: its label, or without one its thread."""
+def frame(explained, number):
+    """The innermost frame of the event's label, without its callers; None without a label."""
     label = explained.labels.get(number)
-    return ("thread", explained.trace.event(number)[1]) if label is None else ("label", label)
+    return None if label is None else label.partition(" < ")[0]
+
+
+def origin(explained, number):
+    """Whence an event comes: the innermost frame of its label, or without a label its thread."""
+    place = frame(explained, number)
+    return ("thread", explained.trace.event(number)[1]) if place is None else ("label", place)
 
 
 # Failed assertions by cause
 
 
-def part(trace, number, byte):
-    """Where the line of the byte lies among those of the assertion's range, or of its first one."""
-    _, _, start, length = trace.event(number)[:4]
-    first, last, line = start // trace.size, (start + length - 1) // trace.size, byte // trace.size
-    if first == last:
-        return "only"
-    return {first: "first", last: "last"}.get(line, "inner")
-
-
 def cause_key(explained, number):
-    """What failed assertions of one cause have in common: kind, cause, part of the range, and the label, or without one the thread."""
-    trace = explained.trace
-    _, place, _, (store, byte), _ = explained.violation(number)
-    return trace.event(number)[0], explained.cause(store, place)["cause"], part(trace, number, byte), origin(explained, number)
+    """What failed assertions of one cause have in common: kind, cause, and whence they come."""
+    _, place, _, (store, _), _ = explained.violation(number)
+    return explained.trace.event(number)[0], explained.cause(store, place)["cause"], origin(explained, number)
 
 
 def causes(explained):
@@ -72,9 +68,9 @@ def fences_waited(trace, store):
 
 
 def late_key(explained, store):
-    """Where a late store stands: its label, or without one its line."""
-    label = explained.labels.get(store)
-    return ("line", explained.address(explained.trace.line(store))) if label is None else ("label", label)
+    """Where a late store stands: the innermost frame of its label, or without a label its line."""
+    place = frame(explained, store)
+    return ("line", explained.address(explained.trace.line(store))) if place is None else ("label", place)
 
 
 def late(explained):

@@ -115,7 +115,6 @@ JSON = {
     "a cause's last member left out": ("cause", without_last),
     "a cause's size": ("cause", with_more("count")),
     "the order of causes": ("cause", swapped),
-    "a cause's part": ("cause", lambda entries: entries[0].update(part="inner")),
     "the store of a byte": ("failure", with_other_store),
     "a late count": ("late", with_more("count")),
     "a late place left out": ("late", list.clear),

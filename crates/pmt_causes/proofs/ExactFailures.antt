@@ -8,19 +8,16 @@ use Rattle.pmt_causes.specs.declared.failure_keys.AssertionKind.{AssertionKind}
 use Rattle.pmt_causes.specs.declared.failure_keys.AssertionKind.TheVariants.{Persist, Ordered}
 use Rattle.pmt_causes.specs.declared.failure_keys.CauseKind.{CauseKind}
 use Rattle.pmt_causes.specs.declared.failure_keys.CauseKind.TheVariants.{Later, Unflushed, Unfenced}
-use Rattle.pmt_causes.specs.declared.failure_keys.RangePart.{RangePart}
-use Rattle.pmt_causes.specs.declared.failure_keys.RangePart.TheVariants.{Only, First, Inner, Last}
 use Rattle.pmt_causes.specs.declared.failure_keys.FailureKey.{FailureKey}
 use Rattle.pmt_causes.specs.declared.lost.LostKey.{LostKey}
 use Rattle.pmt_causes.specs.contracts.failure_keys.OriginPartialEq.TheImpl as origin_eq
 use Rattle.pmt_causes.specs.contracts.failure_keys.AssertionKindPartialEq.TheImpl as kind_eq
 use Rattle.pmt_causes.specs.contracts.failure_keys.CauseKindPartialEq.TheImpl as cause_eq
-use Rattle.pmt_causes.specs.contracts.failure_keys.RangePartPartialEq.TheImpl as part_eq
 use Rattle.pmt_causes.specs.contracts.failure_keys.FailureKeyPartialEq.TheImpl as failure_eq
 use Rattle.pmt_causes.specs.contracts.lost.LostKeyPartialEq.TheImpl as lost_eq
 
-abbrev key_of_parts : AssertionKind → CauseKind → RangePart → Origin → FailureKey
-key_of_parts k c p o = record { kind = k; cause = c; part = p; origin = o }
+abbrev key_of_parts : AssertionKind → CauseKind → Origin → FailureKey
+key_of_parts k c o = record { kind = k; cause = c; origin = o }
 
 pub origin-exact : (x y : Origin) → (origin_eq.ghosts).eq x y ≡ true → x ≡ y
 origin-exact (Label a) (Label b) e = ap Label (eqb-true a b e)
@@ -45,34 +42,14 @@ cause-exact Unfenced Later e = absurd (false≢true e)
 cause-exact Unfenced Unflushed e = absurd (false≢true e)
 cause-exact Unfenced Unfenced e = refl
 
-part-exact : (x y : RangePart) → (part_eq.ghosts).eq x y ≡ true → x ≡ y
-part-exact Only Only e = refl
-part-exact Only First e = absurd (false≢true e)
-part-exact Only Inner e = absurd (false≢true e)
-part-exact Only Last e = absurd (false≢true e)
-part-exact First Only e = absurd (false≢true e)
-part-exact First First e = refl
-part-exact First Inner e = absurd (false≢true e)
-part-exact First Last e = absurd (false≢true e)
-part-exact Inner Only e = absurd (false≢true e)
-part-exact Inner First e = absurd (false≢true e)
-part-exact Inner Inner e = refl
-part-exact Inner Last e = absurd (false≢true e)
-part-exact Last Only e = absurd (false≢true e)
-part-exact Last First e = absurd (false≢true e)
-part-exact Last Inner e = absurd (false≢true e)
-part-exact Last Last e = refl
-
 -- the key of a failed assertion
 pub failure-exact : (x y : FailureKey) → (failure_eq.ghosts).eq x y ≡ true → x ≡ y
 failure-exact x y e =
-    let first = and_parts ((kind_eq.ghosts).eq x.kind y.kind) ((cause_eq.ghosts).eq x.cause y.cause && ((part_eq.ghosts).eq x.part y.part && (origin_eq.ghosts).eq x.origin y.origin)) e in
-    let second = and_parts ((cause_eq.ghosts).eq x.cause y.cause) ((part_eq.ghosts).eq x.part y.part && (origin_eq.ghosts).eq x.origin y.origin) first.1 in
-    let third = and_parts ((part_eq.ghosts).eq x.part y.part) ((origin_eq.ghosts).eq x.origin y.origin) second.1 in
-    ap (λ k. key_of_parts k x.cause x.part x.origin) (kind-exact x.kind y.kind first.0)
-    ∙ ap (λ c. key_of_parts y.kind c x.part x.origin) (cause-exact x.cause y.cause second.0)
-    ∙ ap (λ p. key_of_parts y.kind y.cause p x.origin) (part-exact x.part y.part third.0)
-    ∙ ap (λ o. key_of_parts y.kind y.cause y.part o) (origin-exact x.origin y.origin third.1)
+    let first = and_parts ((kind_eq.ghosts).eq x.kind y.kind) ((cause_eq.ghosts).eq x.cause y.cause && (origin_eq.ghosts).eq x.origin y.origin) e in
+    let second = and_parts ((cause_eq.ghosts).eq x.cause y.cause) ((origin_eq.ghosts).eq x.origin y.origin) first.1 in
+    ap (λ k. key_of_parts k x.cause x.origin) (kind-exact x.kind y.kind first.0)
+    ∙ ap (λ c. key_of_parts y.kind c x.origin) (cause-exact x.cause y.cause second.0)
+    ∙ ap (λ o. key_of_parts y.kind y.cause o) (origin-exact x.origin y.origin second.1)
 
 abbrev lost_of_parts : CauseKind → Origin → LostKey
 lost_of_parts c o = record { cause = c; origin = o }

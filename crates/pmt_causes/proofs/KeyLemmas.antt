@@ -81,7 +81,7 @@ lost-cause T n x full flushes within are lost =
 
 key-from : (T : Recording) (labels : List (Option ℕ)) (flushes : List ℕ) (i n : ℕ) (full : Option ℕ) (e : Event) (kind : AssertionKind) (A : Span) (f : Failure) → event T i ≡ Some e →
     IsAssertion e.op kind A → IsFailureOf T i e.op (Some f) → f.place ≡ n → n ≤ length T.events → AreNextFlushes T flushes → IsLost T n full f.lost.store →
-    IsFailureKey T labels i (key_by T.format labels flushes i e.thread kind A f)
+    IsFailureKey T labels i (key_by labels flushes i e.thread kind f)
 key-from T labels flushes i n full e kind A f is assertion fails place within are lost =
     let at : HasCause T f.place f.lost.store (get_or flushes (f.lost.store - 1) 0) =
     subst (λ m. HasCause T m f.lost.store (get_or flushes (f.lost.store - 1) 0)) (sym place) (lost-cause T n f.lost.store full flushes within are lost) in
@@ -95,20 +95,19 @@ key-from T labels flushes i n full e kind A f is assertion fails place within ar
       why = at.why;
       is_cause = at.is_cause;
       cause = at.kind;
-      part = refl;
       origin = refl;
     }
 
 -- of an isPersist
 pub persist-key : (T : Recording) (labels : List (Option ℕ)) (flushes : List ℕ) (i : ℕ) (e : Event) (A : Span) (f : Failure) → event T i ≡ Some e → e.op ≡ IsPersist A → i ≤ length T.events →
-    AreNextFlushes T flushes → IsPersistFailure T i A f → IsFailureKey T labels i (key_by T.format labels flushes i e.thread Persist A f)
+    AreNextFlushes T flushes → IsPersistFailure T i A f → IsFailureKey T labels i (key_by labels flushes i e.thread Persist f)
 persist-key T labels flushes i e A f is op within are failure =
     key-from T labels flushes i i None e Persist A f is (subst (λ o. IsAssertion o Persist A) (sym op) (OfPersist A)) (subst (λ o. IsFailureOf T i o (Some f)) (sym op) failure) failure.place within are
     failure.lost.is_lost
 
 -- of an isOrderedBefore
 pub ordered-key : (T : Recording) (labels : List (Option ℕ)) (flushes : List ℕ) (i : ℕ) (e : Event) (A B : Span) (f : Failure) → event T i ≡ Some e → e.op ≡ IsOrderedBefore A B →
-    AreNextFlushes T flushes → IsOrderedFailure T i A B f → IsFailureKey T labels i (key_by T.format labels flushes i e.thread Ordered A f)
+    AreNextFlushes T flushes → IsOrderedFailure T i A B f → IsFailureKey T labels i (key_by labels flushes i e.thread Ordered f)
 ordered-key T labels flushes i e A B f is op are failure =
     let within = (act-within T failure.kept.store (Stores failure.line failure.what) failure.is_store).1 in
     key-from T labels flushes i failure.kept.store (Some failure.line) e Ordered A f is (subst (λ o. IsAssertion o Ordered A) (sym op) (OfOrdered A B))
@@ -117,13 +116,13 @@ ordered-key T labels flushes i e A B f is op are failure =
 -- the key of what is found of an assertion
 pub persist-keyed : (T : Recording) (labels : List (Option ℕ)) (flushes : List ℕ) (i : ℕ) (e : Event) (A : Span) (o : Option Failure) → event T i ≡ Some e → e.op ≡ IsPersist A → i ≤ length T.events →
     AreNextFlushes T flushes → MatchOption o (PersistPasses (history T i) A) (IsPersistFailure T i A) →
-    MatchOption (option_map (key_by T.format labels flushes i e.thread Persist A) o) (IsFailureAt T i None) (IsFailureKey T labels i)
+    MatchOption (option_map (key_by labels flushes i e.thread Persist) o) (IsFailureAt T i None) (IsFailureKey T labels i)
 persist-keyed T labels flushes i e A None is op within are passes = at-event T i e None is (subst (λ o. IsFailureOf T i o None) (sym op) passes)
 persist-keyed T labels flushes i e A (Some f) is op within are failure = persist-key T labels flushes i e A f is op within are failure
 
 pub ordered-keyed : (T : Recording) (labels : List (Option ℕ)) (flushes : List ℕ) (i : ℕ) (e : Event) (A B : Span) (o : Option Failure) → event T i ≡ Some e → e.op ≡ IsOrderedBefore A B →
     AreNextFlushes T flushes → MatchOption o (OrderedPasses (history T i) A B) (IsOrderedFailure T i A B) →
-    MatchOption (option_map (key_by T.format labels flushes i e.thread Ordered A) o) (IsFailureAt T i None) (IsFailureKey T labels i)
+    MatchOption (option_map (key_by labels flushes i e.thread Ordered) o) (IsFailureAt T i None) (IsFailureKey T labels i)
 ordered-keyed T labels flushes i e A B None is op are passes = at-event T i e None is (subst (λ o. IsFailureOf T i o None) (sym op) passes)
 ordered-keyed T labels flushes i e A B (Some f) is op are failure = ordered-key T labels flushes i e A B f is op are failure
 

@@ -127,26 +127,22 @@ fn key_at(
         Op::IsPersist(range) => {
             let found = persist_at(alloc, trace, safe, writers, number, range)?;
             Ok(keyed(
-                trace,
                 labels,
                 flushes,
                 number,
                 thread,
                 AssertionKind::Persist,
-                range,
                 found,
             ))
         }
         Op::IsOrderedBefore(range, second) => {
             let found = ordered_at(alloc, trace, safe, writers, number, range, second)?;
             Ok(keyed(
-                trace,
                 labels,
                 flushes,
                 number,
                 thread,
                 AssertionKind::Ordered,
-                range,
                 found,
             ))
         }
@@ -157,29 +153,18 @@ fn key_at(
 
 // The key of the assertion with this number, if a crash violates it.
 fn keyed(
-    trace: &Trace,
     labels: &[Option<u64>],
     flushes: &[u64],
     number: u64,
     thread: u8,
     kind: AssertionKind,
-    range: Range,
     found: Option<Failure>,
 ) -> Option<FailureKey>
-    ensures { result ≡ option_map (key_by trace.now.format labels.now flushes.now number thread kind range) found }
+    ensures { result ≡ option_map (key_by labels.now flushes.now number thread kind) found }
 {
     match found {
         None => None,
-        Some(failure) => Some(key_of(
-            trace.format(),
-            labels,
-            flushes,
-            number,
-            thread,
-            kind,
-            range,
-            &failure,
-        )),
+        Some(failure) => Some(key_of(labels, flushes, number, thread, kind, &failure)),
     }
 }
 

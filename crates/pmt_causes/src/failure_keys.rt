@@ -1,10 +1,9 @@
 //! What failed assertions of one group have in common.
 
 ghost use Rattle.std.specs.Prelude.{◌≡◌, ◌-◌, slice_index};
-ghost use Rattle.pmt_causes.specs.FailureKeys.{cause_by, key_by, origin_of as origin_in, part_of as part_in};
+ghost use Rattle.pmt_causes.specs.FailureKeys.{cause_by, key_by, origin_of as origin_in};
 
 use crate::labels::label_of;
-use pmt_model::{Format, Range};
 use pmt_reasons::Failure;
 
 /// Whence an event comes.
@@ -36,19 +35,6 @@ pub enum CauseKind {
     Unfenced,
 }
 
-/// Where a line lies in a range.
-#[derive(Clone, Copy, Debug, PartialEq, Eq, Hash)]
-pub enum RangePart {
-    /// It is the range's only line.
-    Only,
-    /// It is the first one of several.
-    First,
-    /// Others lie before and after it.
-    Inner,
-    /// It is the last one of several.
-    Last,
-}
-
 /// What failed assertions of one group have in common.
 #[derive(Clone, Copy, Debug, PartialEq, Eq, Hash)]
 pub struct FailureKey {
@@ -56,32 +42,27 @@ pub struct FailureKey {
     pub kind: AssertionKind,
     /// The kind of the cause for which the told crash loses the store.
     pub cause: CauseKind,
-    /// Where the line of the lost byte lies in the assertion's range, or in its first one.
-    pub part: RangePart,
     /// Whence the assertions come.
     pub origin: Origin,
 }
 
-// The key of the assertion with this number by the thread, of this kind and with this first range, where the crash violates it. Of
-// each store `flushes` has the number of the next flush of its line.
+// The key of the assertion with this number by the thread, of this kind, where the crash violates it. Of each store `flushes` has the
+// number of the next flush of its line.
 pub(crate) fn key_of(
-    format: Format,
     labels: &[Option<u64>],
     flushes: &[u64],
     number: u64,
     thread: u8,
     kind: AssertionKind,
-    range: Range,
     failure: &Failure,
 ) -> FailureKey
-    ensures { result ≡ key_by format labels.now flushes.now number thread kind range failure.now }
+    ensures { result ≡ key_by labels.now flushes.now number thread kind failure.now }
 {
     let store = failure.lost.store;
     let flush = flush_after(flushes, store);
     FailureKey {
         kind,
         cause: cause_kind(failure.place, store, flush),
-        part: part_of(format, range, failure.lost.byte),
         origin: origin_of(labels, number, thread),
     }
 }
@@ -106,26 +87,6 @@ fn cause_kind(place: u64, store: u64, flush: u64) -> CauseKind
         CauseKind::Unflushed
     } else {
         CauseKind::Unfenced
-    }
-}
-
-// Where the byte's line lies in the range.
-fn part_of(format: Format, range: Range, byte: u64) -> RangePart
-    ensures { result ≡ part_in format range byte }
-{
-    let size = format.line_size();
-    let start = range.addr().get();
-    let first = start / size;
-    let last = (start + (range.len() - 1)) / size;
-    let line = byte / size;
-    if first == last {
-        RangePart::Only
-    } else if line == first {
-        RangePart::First
-    } else if line == last {
-        RangePart::Last
-    } else {
-        RangePart::Inner
     }
 }
 

@@ -16,7 +16,7 @@ pub mod tables;
 
 pub use crate::dropping::{DropWord, DroppedKey, ReasonKind, Spot, dropped_groups};
 pub use crate::failing::failure_groups;
-pub use crate::failure_keys::{AssertionKind, CauseKind, FailureKey, Origin, RangePart, origin_of};
+pub use crate::failure_keys::{AssertionKind, CauseKind, FailureKey, Origin, origin_of};
 pub use crate::grouping::{Group, Keyed, groups};
 pub use crate::late::{LateSpot, LateStores, late_stores};
 pub use crate::lost::{LostKey, lost_causes};

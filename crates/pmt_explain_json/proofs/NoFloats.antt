@@ -33,7 +33,8 @@ use Rattle.pmt_explanation.specs.Labelling.{label_of}
 use Rattle.pmt_reasons.specs.Mends.{mend_of}
 use Rattle.pmt_explain_json.specs.Parts.{or_null, count_data, address_data, address_of, known_event_data, event_data, line_data, byte_store_data, range_data, cause_data, by_of, reason_data, mend_data}
 use Rattle.pmt_explain_json.specs.Entries.{line_count_data, byte_store, byte_value, range_after_data, failure_data, lost_data, dropped_data, overwritten_data, ranges_of, unwritten_data}
-use Rattle.pmt_explain_json.specs.Groups.{cause_group_data, origin_label, origin_thread}
+use Rattle.pmt_explain_json.specs.Groups.{cause_group_data}
+use Rattle.pmt_explain_json.specs.Places.{place_label, place_thread}
 use Rattle.pmt_explain_json.specs.Tables.{label_row_data, late_data, spot_label, spot_line}
 use Rattle.pmt_explanation.specs.declared.choosing.Choice.{Choice}
 use Rattle.pmt_explanation.specs.declared.choosing.Kind.{Kind}
@@ -142,8 +143,8 @@ unwritten-float T labels u =
 pub cause_group-float : (labels : Labels) (g : Group FailureKey) → has_float (cause_group_data labels g) ≡ false
 cause_group-float labels g =
     both (items_have_float (items_of (map count_data g.members.items))) _ (array-float count_data (λ n. refl) g.members.items)
-    (both (has_float (or_null string (origin_label labels g.key.origin))) _ (label-float (origin_label labels g.key.origin))
-    (both (has_float (or_null count_data (origin_thread g.key.origin))) false (count-float (origin_thread g.key.origin)) refl))
+    (both (has_float (or_null string (place_label labels g.key.origin))) _ (label-float (place_label labels g.key.origin))
+    (both (has_float (or_null count_data (place_thread g.key.origin))) false (count-float (place_thread g.key.origin)) refl))
 
 line-float : (T : Recording) (o : Option ℕ) → has_float (or_null (line_data T) o) ≡ false
 line-float T o = or_null-float (line_data T) (λ l. refl) o

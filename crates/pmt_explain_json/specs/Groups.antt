@@ -1,19 +1,15 @@
 -- Groups of findings as JSON.
-use Rattle.std.specs.Prelude.{ℕ, List, [], ◌∷◌, length, map, Option, None, Some, codes}
+use Rattle.std.specs.Prelude.{ℕ, List, [], ◌∷◌, length, map, codes}
 use Rattle.serde_json.specs.Data.{Data, string}
 use Rattle.pmt_causes.specs.declared.failure_keys.AssertionKind.{AssertionKind}
 use Rattle.pmt_causes.specs.declared.failure_keys.AssertionKind.TheVariants.{Persist, Ordered}
 use Rattle.pmt_causes.specs.declared.failure_keys.CauseKind.{CauseKind}
 use Rattle.pmt_causes.specs.declared.failure_keys.CauseKind.TheVariants.{Later, Unflushed, Unfenced}
 use Rattle.pmt_causes.specs.declared.failure_keys.FailureKey.{FailureKey}
-use Rattle.pmt_causes.specs.declared.failure_keys.Origin.{Origin}
-use Rattle.pmt_causes.specs.declared.failure_keys.Origin.TheVariants.{Label, Thread}
-use Rattle.pmt_causes.specs.declared.failure_keys.RangePart.{RangePart}
-use Rattle.pmt_causes.specs.declared.failure_keys.RangePart.TheVariants.{Only, First, Inner, Last}
 use Rattle.pmt_causes.specs.declared.grouping.Group.{Group}
 use Rattle.pmt_explanation.specs.declared.labels.Labels.{Labels}
-use Rattle.pmt_explanation.specs.Labelling.{label_of}
 use Rattle.pmt_explain_json.specs.Parts.{array_of, count_data, json_line, object_of, or_null}
+use Rattle.pmt_explain_json.specs.Places.{place_label, place_thread}
 
 abbrev pub assertion_name : AssertionKind → List ℕ
 assertion_name Persist = codes "isPersist"
@@ -24,22 +20,6 @@ why_name Later = codes "later"
 why_name Unflushed = codes "unflushed"
 why_name Unfenced = codes "unfenced"
 
-abbrev pub part_name : RangePart → List ℕ
-part_name Only = codes "only"
-part_name First = codes "first"
-part_name Inner = codes "inner"
-part_name Last = codes "last"
-
--- The label of those that come from one place in the program.
-abbrev pub origin_label : Labels → Origin → Option (List ℕ)
-origin_label labels (Label n) = label_of labels n
-origin_label labels (Thread t) = None
-
--- The thread of those that have no label.
-abbrev pub origin_thread : Origin → Option ℕ
-origin_thread (Label n) = None
-origin_thread (Thread t) = Some t
-
 -- The failed assertions with one cause.
 abbrev pub cause_group_data : Labels → Group FailureKey → Data
 cause_group_data labels g = object_of
@@ -47,9 +27,8 @@ cause_group_data labels g = object_of
     ∷ (codes "count", count_data (length g.members.items))
     ∷ (codes "events", array_of (map count_data g.members.items))
     ∷ (codes "kind", string (codes "cause"))
-    ∷ (codes "label", or_null string (origin_label labels g.key.origin))
-    ∷ (codes "part", string (part_name g.key.part))
-    ∷ (codes "thread", or_null count_data (origin_thread g.key.origin))
+    ∷ (codes "label", or_null string (place_label labels g.key.origin))
+    ∷ (codes "thread", or_null count_data (place_thread g.key.origin))
     ∷ (codes "why", string (why_name g.key.cause))
     ∷ [])
 

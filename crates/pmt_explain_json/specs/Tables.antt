@@ -10,6 +10,7 @@ use Rattle.pmt_causes.specs.declared.tables.Row.{Row}
 use Rattle.pmt_causes.specs.Groups.{first_in}
 use Rattle.pmt_explanation.specs.declared.explaining.Explanation.{Explanation}
 use Rattle.pmt_explanation.specs.declared.labels.Labels.{Labels}
+use Rattle.pmt_explanation.specs.Framing.{frame_of}
 use Rattle.pmt_explanation.specs.Labelling.{label_of}
 use Rattle.pmt_explain_json.specs.Parts.{count_data, event_data, json_line, line_data, object_of, or_null}
 use Rattle.pmt_explain_json.specs.Places.{place_line}
@@ -19,9 +20,9 @@ abbrev pub spot_line : LateSpot → Option ℕ
 spot_line (Label n) = None
 spot_line (Line l) = Some l
 
--- The label of stores of one place in the program.
+-- The innermost frame of stores of one place in the program.
 abbrev pub spot_label : Labels → LateSpot → Option (List ℕ)
-spot_label labels (Label n) = label_of labels n
+spot_label labels (Label n) = frame_of labels n
 spot_label labels (Line l) = None
 
 -- The late stores of one place.

@@ -2,12 +2,12 @@
 ghost use Rattle.std.specs.Prelude.{◌≡◌, IfOk, map};
 ghost use Rattle.serde_json.specs.Data.{string};
 ghost use Rattle.serde_json.specs.View.{view};
-ghost use Rattle.pmt_explain_json.specs.Parts.{array_of, count_data, or_null};
-ghost use Rattle.pmt_explain_json.specs.Groups.{assertion_name, cause_group_data, origin_label, origin_thread, part_name, why_name};
+ghost use Rattle.pmt_explain_json.specs.Parts.{array_of, count_data};
+ghost use Rattle.pmt_explain_json.specs.Groups.{assertion_name, cause_group_data, why_name};
 
 use crate::objects::object_made;
-use crate::parts::label_value;
-use pmt_causes::{AssertionKind, CauseKind, FailureKey, Group, Origin, RangePart};
+use crate::places::{label_or_null, thread_or_null};
+use pmt_causes::{AssertionKind, CauseKind, FailureKey, Group};
 use pmt_explanation::Labels;
 use pmt_model::OutOfMemory;
 use serde_json::Value;
@@ -25,9 +25,7 @@ pub(crate) fn cause_group_value(
     let kind = Value::try_from_str(alloc, "cause");
     let assertion = assertion_value(alloc, key.kind);
     let events = numbers_value(alloc, group.members.as_slice());
-    let label = origin_label_value(alloc, labels, key.origin);
-    let part = part_value(alloc, key.part);
-    let thread = origin_thread_value(key.origin);
+    let label = label_or_null(alloc, labels, key.origin);
     let why = why_value(alloc, key.cause);
     let fields = vec![in alloc;
         ("assertion", assertion),
@@ -35,8 +33,7 @@ pub(crate) fn cause_group_value(
         ("events", events),
         ("kind", kind),
         ("label", label),
-        ("part", part),
-        ("thread", thread),
+        ("thread", Ok(thread_or_null(key.origin))),
         ("why", why),
     ]?;
     object_made(alloc, fields)
@@ -51,26 +48,6 @@ fn numbers_value(alloc: Global, numbers: &[u64]) -> Result<Value, OutOfMemory>
         values.push(Value::from(*number))?;
     }
     Ok(Value::Array(values))
-}
-
-// The label of those that come from one place in the program.
-fn origin_label_value(alloc: Global, labels: &Labels, origin: Origin) -> Result<Value, OutOfMemory>
-    ensures { IfOk result (λ v. view v ≡ or_null string (origin_label labels.now origin)) }
-{
-    match origin {
-        Origin::Label(number) => label_value(alloc, labels, number),
-        Origin::Thread(_) => Ok(Value::Null),
-    }
-}
-
-// The thread of those that have no label.
-fn origin_thread_value(origin: Origin) -> Result<Value, OutOfMemory>
-    ensures { IfOk result (λ v. view v ≡ or_null count_data (origin_thread origin)) }
-{
-    match origin {
-        Origin::Label(_) => Ok(Value::Null),
-        Origin::Thread(thread) => Ok(Value::from(thread)),
-    }
 }
 
 fn assertion_value(alloc: Global, kind: AssertionKind) -> Result<Value, OutOfMemory>
@@ -89,16 +66,5 @@ fn why_value(alloc: Global, cause: CauseKind) -> Result<Value, OutOfMemory>
         CauseKind::Later => Value::try_from_str(alloc, "later"),
         CauseKind::Unflushed => Value::try_from_str(alloc, "unflushed"),
         CauseKind::Unfenced => Value::try_from_str(alloc, "unfenced"),
-    }
-}
-
-fn part_value(alloc: Global, part: RangePart) -> Result<Value, OutOfMemory>
-    ensures { IfOk result (λ v. view v ≡ string (part_name part)) }
-{
-    match part {
-        RangePart::Only => Value::try_from_str(alloc, "only"),
-        RangePart::First => Value::try_from_str(alloc, "first"),
-        RangePart::Inner => Value::try_from_str(alloc, "inner"),
-        RangePart::Last => Value::try_from_str(alloc, "last"),
     }
 }

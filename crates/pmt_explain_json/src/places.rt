@@ -3,15 +3,14 @@ ghost use Rattle.std.specs.Prelude.{◌≡◌, ◌++◌, IfOk, OnOk};
 ghost use Rattle.std.specs.List.{flat_map};
 ghost use Rattle.serde_json.specs.Data.{string};
 ghost use Rattle.serde_json.specs.View.{view};
-ghost use Rattle.pmt_explanation.specs.Framing.{frame_of as frame_in};
 ghost use Rattle.pmt_explain_json.specs.Parts.{count_data, or_null};
 ghost use Rattle.pmt_explain_json.specs.Places.{place_data, place_label, place_line, place_thread};
 
 use crate::lines::push_value;
 use crate::objects::object_made;
-use crate::parts::{event_or_null, event_value};
+use crate::parts::{event_or_null, event_value, frame_value};
 use pmt_causes::Origin;
-use pmt_explanation::{Labels, frame_of};
+use pmt_explanation::Labels;
 use pmt_fates::PlaceRow;
 use pmt_model::{OutOfMemory, Trace};
 use serde_json::Value;
@@ -82,7 +81,11 @@ fn place_value(
 }
 
 // The place's innermost frame, if its events have a label.
-fn label_or_null(alloc: Global, labels: &Labels, place: Origin) -> Result<Value, OutOfMemory>
+pub(crate) fn label_or_null(
+    alloc: Global,
+    labels: &Labels,
+    place: Origin,
+) -> Result<Value, OutOfMemory>
     ensures { IfOk result (λ v. view v ≡ or_null string (place_label labels.now place)) }
 {
     match place {
@@ -91,18 +94,8 @@ fn label_or_null(alloc: Global, labels: &Labels, place: Origin) -> Result<Value,
     }
 }
 
-// The innermost frame of the event's label, if it has one.
-fn frame_value(alloc: Global, labels: &Labels, number: u64) -> Result<Value, OutOfMemory>
-    ensures { IfOk result (λ v. view v ≡ or_null string (frame_in labels.now number)) }
-{
-    match labels.get(number) {
-        Some(label) => Value::try_from_str(alloc, frame_of(label.as_str())),
-        None => Ok(Value::Null),
-    }
-}
-
 // The thread of the place, if its events have no label.
-fn thread_or_null(place: Origin) -> Value
+pub(crate) fn thread_or_null(place: Origin) -> Value
     ensures { view result ≡ or_null count_data (place_thread place) }
 {
     match place {

@@ -8,7 +8,7 @@ ghost use Rattle.pmt_explain_json.specs.Tables.{label_line, label_row_data, late
 
 use crate::lines::push_value;
 use crate::objects::{object_made, object_value};
-use crate::parts::{event_value, label_value, line_value};
+use crate::parts::{event_value, frame_value, label_value, line_value};
 use crate::places::push_places;
 use pmt_causes::{Group, LateSpot, Row};
 use pmt_explanation::{Explanation, Labels, first, first_of};
@@ -147,12 +147,12 @@ fn spot_line_value(alloc: Global, trace: &Trace, spot: LateSpot) -> Result<Value
     }
 }
 
-// The label of stores of one place in the program.
+// The innermost frame of stores of one place in the program.
 fn spot_label_value(alloc: Global, labels: &Labels, spot: LateSpot) -> Result<Value, OutOfMemory>
     ensures { IfOk result (λ v. view v ≡ or_null string (spot_label labels.now spot)) }
 {
     match spot {
-        LateSpot::Label(number) => label_value(alloc, labels, number),
+        LateSpot::Label(number) => frame_value(alloc, labels, number),
         LateSpot::Line(_) => Ok(Value::Null),
     }
 }

@@ -4,7 +4,7 @@ use crate::parts::plural;
 use crate::rows::push_line;
 use crate::spelling::word_of;
 use crate::telling::Telling;
-use pmt_causes::{FailureKey, Group, RangePart};
+use pmt_causes::{FailureKey, Group};
 use pmt_explanation::frame_of;
 use pmt_model::Op;
 use pmt_pen::Pen;
@@ -69,14 +69,4 @@ pub(crate) fn push_others(pen: &mut Pen, group: &Group<FailureKey>) {
         pen.fill(" and # more", &[count.saturating_sub(NAMED) as u64]);
     }
     pen.put("\n");
-}
-
-// Where in its range a line lies.
-pub(crate) fn part_word(part: RangePart) -> &'static str {
-    match part {
-        RangePart::Only => "only",
-        RangePart::First => "first",
-        RangePart::Inner => "inner",
-        RangePart::Last => "last",
-    }
 }

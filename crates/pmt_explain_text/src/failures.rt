@@ -1,6 +1,6 @@
 //! Failed assertions in words: each by its story, and one that is asked for in full.
 
-use crate::causes::{part_word, push_head, push_others};
+use crate::causes::{push_head, push_others};
 use crate::commands::push_draw;
 use crate::fixes::push_fix;
 use crate::parts::{plural, push_cause, push_event, push_mend, push_named};
@@ -57,7 +57,7 @@ fn push_failure(
     group: &Group<FailureKey>,
 ) {
     push_named(pen, told, "  claim:  ", shown.event);
-    push_crash(pen, told, shown, group);
+    push_crash(pen, told, shown);
     let line = shown.failure.lost.byte / told.trace.format().line_size();
     push_cause(pen, told, shown.cause, line);
     pen.put("  mend:   ");
@@ -67,16 +67,14 @@ fn push_failure(
 }
 
 // Adds the crash: where it comes, and which store it keeps, if that is told, and which it loses.
-fn push_crash(pen: &mut Pen, told: &Telling<'_>, shown: &ShownFailure, group: &Group<FailureKey>) {
+fn push_crash(pen: &mut Pen, told: &Telling<'_>, shown: &ShownFailure) {
     pen.fill("  crash:  right after event #\n", &[shown.failure.place]);
     if let Some(kept) = shown.failure.kept {
         pen.fill("  keeps:  byte @ of ", &[kept.byte]);
         push_event(pen, told, kept.store);
     }
     let lost = shown.failure.lost;
-    pen.fill("  loses:  byte @, in the ", &[lost.byte]);
-    pen.put(part_word(group.key.part));
-    pen.put(" cache line of its range, of ");
+    pen.fill("  loses:  byte @ of ", &[lost.byte]);
     push_event(pen, told, lost.store);
 }
 

@@ -1,6 +1,6 @@
 //! Stores that are saved late, in words.
 
-use crate::parts::{push_count, push_label};
+use crate::parts::{push_count, push_frame};
 use crate::screen::Section;
 use crate::telling::{Telling, line_address, tells_all};
 use pmt_causes::{Group, LateSpot};
@@ -39,7 +39,7 @@ fn push_late(pen: &mut Pen, told: &Telling<'_>, group: &Group<LateSpot>) {
     pen.put("  ");
     push_count(pen, group.members.len() as u64, "store");
     match group.key {
-        LateSpot::Label(label) => push_label(pen, told, label),
+        LateSpot::Label(label) => push_frame(pen, told, label),
         LateSpot::Line(line) => {
             pen.fill(" to cache line @", &[line_address(told.trace, line)]);
         }

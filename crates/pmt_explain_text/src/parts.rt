@@ -79,6 +79,14 @@ pub(crate) fn push_label(pen: &mut Pen, told: &Telling<'_>, number: u64) {
     }
 }
 
+// Adds the place of the source whose events have a label: its innermost frame.
+pub(crate) fn push_frame(pen: &mut Pen, told: &Telling<'_>, number: u64) {
+    if let Some(label) = told.labels.get(number) {
+        pen.put(" at ");
+        pen.put(frame_of(label.as_str()));
+    }
+}
+
 // The place of the event.
 pub(crate) fn place_of(told: &Telling<'_>, number: u64) -> Origin {
     let thread = match told.trace.get(number) {

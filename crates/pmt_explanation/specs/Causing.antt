@@ -18,4 +18,4 @@ asked_items asked items = filter (λ (x : Keyed LateSpot). asked x.number) items
 
 -- The late stores that are asked for, in groups by their spots.
 abbrev pub AreAskedLate : Recording → List (Option ℕ) → (ℕ → Bool) → List (Group LateSpot) → Type 0
-AreAskedLate T label_numbers asked late = (items : List (Keyed LateSpot)) × AreLateItems T label_numbers items × AreGrouped (asked_items asked items) late
+AreAskedLate T frames asked late = (items : List (Keyed LateSpot)) × AreLateItems T frames items × AreGrouped (asked_items asked items) late

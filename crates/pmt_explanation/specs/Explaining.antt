@@ -36,16 +36,16 @@ pub record IsExplanation (a : Analysed) (labels : Labels) (o : Options) (x : Exp
   pub label_numbers : AreLabelNumbers labels (length a.trace.events) x.label_numbers.items
   pub frames : AreFrameNumbers labels (length a.trace.events) x.frames.items
   pub places : ArePlaces a.trace x.frames.items x.stores.items (map event_of x.dropped.items) x.places.items
-  pub causes : AreFailureGroups a.trace x.label_numbers.items x.asked_failing.items x.causes.items
+  pub causes : AreFailureGroups a.trace x.frames.items x.asked_failing.items x.causes.items
   pub failures : All (IsShown a.trace) x.failures.items
   pub shown : map (λ (s : ShownFailure). s.event) x.failures.items ≡ take x.limit (first_members x.causes.items)
   pub stores : x.stores.items ≡ told_stores a.trace o.ignored.items a.findings
   pub lost : AreLostGroups a.trace (asked_numbers a.trace labels o.choice kinds.NeverPersisted x.stores.items) x.lost.items
-  pub lost_causes : AreGrouped (filter_map (lost_item a.trace x.label_numbers.items) x.lost.items) x.lost_causes.items
+  pub lost_causes : AreGrouped (filter_map (lost_item a.trace x.frames.items) x.lost.items) x.lost_causes.items
   pub dropped : AreDropped a.trace x.dropped.items
   pub asked_dropped : x.asked_dropped.items ≡ asked_dropped a.trace labels o.choice x.dropped.items
   pub dropped_groups : AreGrouped (filter_map (dropped_item a.trace x.label_numbers.items) x.asked_dropped.items) x.dropped_groups.items
-  pub late : AreAskedLate a.trace x.label_numbers.items (is_asked_for a.trace labels o.choice kinds.Late) x.late.items
+  pub late : AreAskedLate a.trace x.frames.items (is_asked_for a.trace labels o.choice kinds.Late) x.late.items
   pub waited : AreWaited a.trace x.waited.items
   pub threads : AreThreadRows a.trace x.dropped.items x.threads.items
   pub labelled : AreLabelRows a.trace x.label_numbers.items x.dropped.items x.labelled.items
@@ -59,10 +59,10 @@ pub record AreParts (a : Analysed) (labels : Labels) (o : Options) (p : Parts) :
   pub label_numbers : AreLabelNumbers labels (length a.trace.events) p.label_numbers.items
   pub frames : AreFrameNumbers labels (length a.trace.events) p.frames.items
   pub places : ArePlaces a.trace p.frames.items p.lost.stores.items (map event_of p.found.dropped.items) p.found.places.items
-  pub found : AreFound a.trace a.verdicts labels p.label_numbers.items o p.found
+  pub found : AreFound a.trace a.verdicts labels p.label_numbers.items p.frames.items o p.found
   pub stores : p.lost.stores.items ≡ told_stores a.trace o.ignored.items a.findings
   pub lost : AreLostGroups a.trace (asked_numbers a.trace labels o.choice kinds.NeverPersisted p.lost.stores.items) p.lost.groups.items
-  pub lost_causes : AreGrouped (filter_map (lost_item a.trace p.label_numbers.items) p.lost.groups.items) p.lost.causes.items
+  pub lost_causes : AreGrouped (filter_map (lost_item a.trace p.frames.items) p.lost.groups.items) p.lost.causes.items
   pub overwritten : AreOverwrittenGroups a.trace (asked_pairs a.trace labels o.choice (told_pairs a.trace o.ignored.items a.findings)) p.lost.overwritten.items
   pub unwritten : p.unwritten.items ≡ asked_unwritten a.trace labels o.choice (unwritten_of a.trace)
   pub ignored_stores : p.lost.ignored_stores ≡ count_by (λ (f : Finding). is_some (lost_store f)) a.findings - length p.lost.stores.items

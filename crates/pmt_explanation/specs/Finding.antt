@@ -18,16 +18,16 @@ use Rattle.pmt_explanation.specs.Causing.{AreAskedLate, first_members}
 use Rattle.pmt_explanation.specs.Failing.{failing_events}
 use Rattle.pmt_explanation.specs.Showing.{AreShown}
 
--- What is found in a trace with these verdicts, with these labels of these numbers, where this is asked.
-pub record AreFound (T : Recording) (verdicts : List Verdict) (labels : Labels) (numbers : List (Option ℕ)) (o : Options) (x : Found) : Type 0 where
+-- What is found in a trace with these verdicts, with these labels, whose numbers and whose innermost frames' numbers are these, where this is asked.
+pub record AreFound (T : Recording) (verdicts : List Verdict) (labels : Labels) (numbers frames : List (Option ℕ)) (o : Options) (x : Found) : Type 0 where
   pub failing : x.failed.failing.items ≡ failing_events verdicts
   pub asked_failing : x.failed.asked.items ≡ asked_numbers T labels o.choice kinds.Failure x.failed.failing.items
-  pub causes : AreFailureGroups T numbers x.failed.asked.items x.failed.causes.items
+  pub causes : AreFailureGroups T frames x.failed.asked.items x.failed.causes.items
   pub shown : AreShown T (take o.limit (first_members x.failed.causes.items)) x.failed.shown.items
   pub dropped : AreDropped T x.dropped.items
   pub asked_dropped : x.effects.asked_dropped.items ≡ asked_dropped T labels o.choice x.dropped.items
   pub dropped_groups : AreGrouped (filter_map (dropped_item T numbers) x.effects.asked_dropped.items) x.effects.dropped_groups.items
-  pub late : AreAskedLate T numbers (is_asked_for T labels o.choice kinds.Late) x.effects.late.items
+  pub late : AreAskedLate T frames (is_asked_for T labels o.choice kinds.Late) x.effects.late.items
   pub waited : AreWaited T x.effects.waited.items
   pub threads : AreThreadRows T x.dropped.items x.effects.threads.items
   pub labelled : AreLabelRows T numbers x.dropped.items x.effects.labelled.items

@@ -19,15 +19,15 @@ use std::alloc::Global;
 pub(crate) fn causes_of(
     alloc: Global,
     safe: &SafePlaces<'_>,
-    label_numbers: &[Option<u64>],
+    frames: &[Option<u64>],
     failing: &[u64],
 ) -> Result<Vec<Group<FailureKey>>, OutOfMemory>
-    ensures { IfOk result (λ causes. AreFailureGroups safe.now.trace.now label_numbers.now failing.now causes.items) }
+    ensures { IfOk result (λ causes. AreFailureGroups safe.now.trace.now frames.now failing.now causes.items) }
 {
     if failing.is_empty() {
         return Ok(Vec::new(alloc));
     }
-    failure_groups(alloc, safe, label_numbers, failing)
+    failure_groups(alloc, safe, frames, failing)
 }
 
 // The first member of each of these groups.
@@ -61,16 +61,16 @@ pub(crate) fn asked_late(
     alloc: Global,
     safe: &SafePlaces<'_>,
     labels: &Labels,
-    label_numbers: &[Option<u64>],
+    frames: &[Option<u64>],
     choice: &Choice,
 ) -> Result<AskedLate, OutOfMemory>
     ensures waited { IfOk result (λ late. AreWaited safe.now.trace.now late.waited.items) }
-    ensures groups { IfOk result (λ late. AreAskedLate safe.now.trace.now label_numbers.now (asked_for safe.now.trace.now labels.now choice.now Late) late.groups.items) }
+    ensures groups { IfOk result (λ late. AreAskedLate safe.now.trace.now frames.now (asked_for safe.now.trace.now labels.now choice.now Late) late.groups.items) }
 {
     let LateStores {
         waited,
         items: mut late,
-    } = late_stores(alloc, safe, label_numbers)?;
+    } = late_stores(alloc, safe, frames)?;
     keep_asked(safe.trace(), labels, choice, &mut late);
     let groups = groups(alloc, late.as_slice())?;
     Ok(AskedLate { waited, groups })

@@ -35,18 +35,20 @@ pub(crate) struct Effects {
     pub(crate) labelled: Vec<Row<u64>>,
 }
 
-// What flushes and fences do in the trace of these places, where these are dropped, and where the events have these numbers of labels.
+// What flushes and fences do in the trace of these places, where these are dropped, and where the events have these numbers of labels
+// and of innermost frames.
 pub(crate) fn effects_of(
     alloc: Global,
     safe: &SafePlaces<'_>,
     dropped: &[Dropped],
     labels: &Labels,
     numbers: &[Option<u64>],
+    frames: &[Option<u64>],
     options: &Options,
 ) -> Result<Effects, OutOfMemory>
     ensures asked { IfOk result (λ e. e.asked_dropped.items ≡ drops_asked safe.now.trace.now labels.now options.now.choice dropped.now) }
     ensures groups { IfOk result (λ e. AreGrouped (filter_map (dropped_item safe.now.trace.now numbers.now) e.asked_dropped.items) e.dropped_groups.items) }
-    ensures late { IfOk result (λ e. AreAskedLate safe.now.trace.now numbers.now (is_asked_for safe.now.trace.now labels.now options.now.choice Late) e.late.items) }
+    ensures late { IfOk result (λ e. AreAskedLate safe.now.trace.now frames.now (is_asked_for safe.now.trace.now labels.now options.now.choice Late) e.late.items) }
     ensures waited { IfOk result (λ e. AreWaited safe.now.trace.now e.waited.items) }
     ensures threads { IfOk result (λ e. AreThreadRows safe.now.trace.now dropped.now e.threads.items) }
     ensures labelled { IfOk result (λ e. AreLabelRows safe.now.trace.now numbers.now dropped.now e.labelled.items) }
@@ -55,7 +57,7 @@ pub(crate) fn effects_of(
     let choice = &options.choice;
     let asked_dropped = asked_drops(alloc, trace, labels, choice, dropped)?;
     let dropped_groups = dropped_groups(alloc, trace, numbers, asked_dropped.as_slice())?;
-    let late = asked_late(alloc, safe, labels, numbers, choice)?;
+    let late = asked_late(alloc, safe, labels, frames, choice)?;
     let threads = thread_table(alloc, trace, dropped)?;
     let labelled = label_table(alloc, trace, numbers, dropped)?;
     Ok(Effects {

@@ -51,7 +51,7 @@ pub struct Explanation {
     pub frames: Vec<Option<u64>>,
     /// What each place of the source has in the trace: each innermost frame by its number, and each thread that has events without label.
     pub places: Vec<PlaceRow>,
-    /// Those of `asked_failing`, by cause.
+    /// Those of `asked_failing`, by cause and place.
     pub causes: Vec<Group<FailureKey>>,
     /// The first failure of each of the first `limit` causes in full, in the order of the causes.
     pub failures: Vec<ShownFailure>,
@@ -125,7 +125,7 @@ fn parts_of(
     let label_numbers = label_numbers(alloc, labels, analysis.trace().len())?;
     let numbers = label_numbers.as_slice();
     let frames = frame_numbers(alloc, labels, numbers, analysis.trace().len())?;
-    let lost = losses_of(alloc, analysis, labels, numbers, options)?;
+    let lost = losses_of(alloc, analysis, labels, frames.as_slice(), options)?;
     let found = found_of(
         alloc,
         analysis,

@@ -31,18 +31,18 @@ pub(crate) struct Failed {
     pub(crate) shown: Vec<ShownFailure>,
 }
 
-// The assertions that fail by these verdicts of the trace of these places, where the events have these numbers of labels.
+// The assertions that fail by these verdicts of the trace of these places, where the events have these numbers of innermost frames.
 pub(crate) fn failed_of(
     alloc: Global,
     safe: &SafePlaces<'_>,
     verdicts: &[Verdict],
     labels: &Labels,
-    numbers: &[Option<u64>],
+    frames: &[Option<u64>],
     options: &Options,
 ) -> Result<Failed, OutOfMemory>
     ensures failing { IfOk result (λ f. f.failing.items ≡ failing_of verdicts.now) }
     ensures asked { IfOk result (λ f. f.asked.items ≡ numbers_asked safe.now.trace.now labels.now options.now.choice Failure f.failing.items) }
-    ensures causes { IfOk result (λ f. AreFailureGroups safe.now.trace.now numbers.now f.asked.items f.causes.items) }
+    ensures causes { IfOk result (λ f. AreFailureGroups safe.now.trace.now frames.now f.asked.items f.causes.items) }
     ensures shown { IfOk result (λ f. AreShown safe.now.trace.now (take options.now.limit (firsts_of f.causes.items)) f.shown.items) }
 {
     let failing = failing_events(alloc, verdicts)?;
@@ -54,7 +54,7 @@ pub(crate) fn failed_of(
         Kind::Failure,
         failing.as_slice(),
     )?;
-    let causes = causes_of(alloc, safe, numbers, asked.as_slice())?;
+    let causes = causes_of(alloc, safe, frames, asked.as_slice())?;
     let firsts = first_members(alloc, causes.as_slice())?;
     let shown = shown_failures(alloc, safe, firsts.as_slice(), options.limit)?;
     Ok(Failed {

@@ -38,12 +38,20 @@ pub(crate) fn found_of(
     told: &[u64],
     options: &Options,
 ) -> Result<Found, OutOfMemory>
-    ensures found { IfOk result (AreFound analysis.now.trace analysis.now.verdicts labels.now numbers.now options.now) }
+    ensures found { IfOk result (AreFound analysis.now.trace analysis.now.verdicts labels.now numbers.now frames.now options.now) }
     ensures places { IfOk result (λ found. ArePlaces analysis.now.trace frames.now told.now (map event_of found.dropped.items) found.places.items) }
 {
     let EventEffects { dropped, safe } = effects(alloc, analysis.trace())?;
-    let failed = failed_of(alloc, &safe, analysis.verdicts(), labels, numbers, options)?;
-    let effects = effects_of(alloc, &safe, dropped.as_slice(), labels, numbers, options)?;
+    let failed = failed_of(alloc, &safe, analysis.verdicts(), labels, frames, options)?;
+    let effects = effects_of(
+        alloc,
+        &safe,
+        dropped.as_slice(),
+        labels,
+        numbers,
+        frames,
+        options,
+    )?;
     let places = place_table(
         alloc,
         &safe,

@@ -11,9 +11,9 @@ returns c =
     let count = c.from.ensures ∙ ap count_data (c.len.ensures ∙ sym c.as_slice.ensures.len ∙ ap length c.as_slice.ensures.value) in
     let events = subst (λ (ns : List ℕ). IfOk c.numbers_value-events.result (λ v. view v ≡ array_of (map count_data ns))) c.as_slice.ensures.value c.numbers_value-events.ensures in
     object-made c.object_made.result _ _
-    (_ ∷ count_data (length g.members.items) ∷ array_of (map count_data g.members.items) ∷ _ ∷ _ ∷ _ ∷ _ ∷ _ ∷ [])
+    (_ ∷ count_data (length g.members.items) ∷ array_of (map count_data g.members.items) ∷ _ ∷ _ ∷ _ ∷ _ ∷ [])
     (cause_group_data c.args.labels.now g)
     c.object_made.ensures c.in_ok-fields.ensures.items
-    (c.assertion_value-assertion.ensures also count also events also c.try_from_str-kind.ensures also c.origin_label_value-label.ensures
-    also c.part_value-part.ensures also c.origin_thread_value-thread.ensures also c.why_value-why.ensures also _)
+    (c.assertion_value-assertion.ensures also count also events also c.try_from_str-kind.ensures also c.label_or_null-label.ensures
+    also c.thread_or_null.ensures also c.why_value-why.ensures also _)
     (λ d e. e)

@@ -5,4 +5,4 @@ use Rattle.pmt_explanation.proofs.causing.causes_of.Goals as goal
 pub returns-then-is_empty : goal.returns-then-is_empty
 returns-then-is_empty c =
     let none : length c.args.failing.now ≡ 0 = search rules in
-    causes-none c.args.safe.now.trace.now c.args.label_numbers.now c.args.failing.now c.new.result.items none c.new.ensures.items
+    causes-none c.args.safe.now.trace.now c.args.frames.now c.args.failing.now c.new.result.items none c.new.ensures.items

@@ -9,7 +9,7 @@ returns-clause-explained c = λ labels o p same.
     let T = c.args.analysis.trace in
     let parts = c.args.parts in
     let failed = parts.found.failed in
-    let shown = shown-firsts T parts.label_numbers.items failed.asked.items failed.causes.items o.limit failed.shown.items p.found.causes p.found.shown in
+    let shown = shown-firsts T parts.frames.items failed.asked.items failed.causes.items o.limit failed.shown.items p.found.causes p.found.shown in
     record {
       failing = p.found.failing;
       asked_failing = p.found.asked_failing;

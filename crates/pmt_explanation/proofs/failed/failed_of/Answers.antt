@@ -15,7 +15,7 @@ returns-clause-asked c =
     (subst (λ ns. c.in_ok-asked.asked.items ≡ asked_numbers c.trace.result.now c.args.labels.now c.args.options.now.choice Failure ns) c.as_slice.ensures.value c.in_ok-asked.ensures)
 
 pub returns-clause-causes : goal.returns-clause-causes
-returns-clause-causes c = subst (λ ns. AreFailureGroups c.args.safe.now.trace.now c.args.numbers.now ns c.in_ok-causes.causes.items) c.as_slice-2.ensures.value c.in_ok-causes.ensures
+returns-clause-causes c = subst (λ ns. AreFailureGroups c.args.safe.now.trace.now c.args.frames.now ns c.in_ok-causes.causes.items) c.as_slice-2.ensures.value c.in_ok-causes.ensures
 
 pub returns-clause-shown : goal.returns-clause-shown
 returns-clause-shown c =

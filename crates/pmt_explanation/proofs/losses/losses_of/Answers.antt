@@ -15,8 +15,8 @@ returns-clause-groups c =
 
 pub returns-clause-causes : goal.returns-clause-causes
 returns-clause-causes c =
-    subst (λ T. AreGrouped (filter_map (lost_item T c.args.numbers.now) c.in_ok-groups.groups.items) c.in_ok-causes.causes.items) c.trace-trace.ensures.value
-    (subst (λ gs. AreGrouped (filter_map (lost_item c.trace-trace.result.now c.args.numbers.now) gs) c.in_ok-causes.causes.items) c.as_slice-2.ensures.value c.in_ok-causes.ensures)
+    subst (λ T. AreGrouped (filter_map (lost_item T c.args.frames.now) c.in_ok-groups.groups.items) c.in_ok-causes.causes.items) c.trace-trace.ensures.value
+    (subst (λ gs. AreGrouped (filter_map (lost_item c.trace-trace.result.now c.args.frames.now) gs) c.in_ok-causes.causes.items) c.as_slice-2.ensures.value c.in_ok-causes.ensures)
 
 pub returns-clause-stores : goal.returns-clause-stores
 returns-clause-stores c = rw (sym c.trace-trace.ensures.value, sym c.findings-findings.ensures.value, sym c.as_slice-ranges.ensures.value) c.in_ok-stores.ensures
