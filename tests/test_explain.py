@@ -227,8 +227,10 @@ class Explain(Checks):
         """How much is told where much fails."""
         count = len(self.told(many_failures()).splitlines())
         self.expect("the text of 300 failures", count <= SCREEN, f"{count} lines, wanted at most {SCREEN}")
-        alone = self.told(many_failures(), "--failure", "513")
-        self.expect("a failure asked for is told in full", alone == self.told(many_failures(), "--failure", "513", "--limit", "all"), alone)
+        file = self.new_folder() / "many"
+        file.write_text(many_failures())
+        told = [self.explain("--failure", "513", *more, file).stdout for more in ([], ["--limit", "all"])]
+        self.expect_equal("a failure asked for is told in full", *told)
         size = len(self.told(many_failures(), "--json"))
         self.expect("the JSON of 300 failures", size < 2_000_000, f"{size} bytes, wanted less than 2000000")
 

@@ -15,6 +15,7 @@ SCREEN = 40
 MOST = 8
 DROPPED = "note: flushes and fences that do nothing, most first:"
 OVERWRITTEN = "note: stores overwritten before any flush of their cache line, those with other bytes first:"
+SAVED_LATE = "  stores saved late, which a crash can lose though their thread went on: "
 LATE = "note: stores that two fences or more of their own thread left unsafe, most first:"
 THREADS = "table: what each thread makes, and how many of its flushes and fences do nothing:"
 LABELS = "table: what is made at each source place, those first where most does nothing:"
@@ -249,7 +250,16 @@ def wrong_losses(explained, entries):
     return None if told == wanted else f"never persisted: wanted {wanted}, in {told}"
 
 
-PLACE = re.compile(r"(error|note): .*: \d+ stores?: \d+ never persisted, \d+ saved late, \d+ in time(, \d+ ignored)?$")
+PLACE = re.compile(r"(error|warning|note): .*: \d+ stores?: \d+ never persisted, \d+ saved late, \d+ in time(, \d+ ignored)?$")
+
+
+def wrong_late(explained, lines):
+    """What is wrong with how many stores are saved late."""
+    rows = [row for _, row in by_place.rows(explained)]
+    late, stores = (sum(row[name] for row in rows) for name in ("late", "stores"))
+    wanted = [f"{SAVED_LATE}{late} of {stores}"] if late else []
+    told = [line for line in lines if line.startswith(SAVED_LATE)]
+    return None if told == wanted else f"saved late: wanted {wanted}, in {told}"
 
 
 def wrong_places(explained, lines):
@@ -342,7 +352,7 @@ def wrong_text(explained, told):
             return f"{heading} wanted {wanted}, in\n{told.decode()}"
     if [line for line in lines if line.startswith("guess: ")] != by_place.guess_lines(explained):
         return f"the guess: wanted {by_place.guess_lines(explained)}, in\n{told.decode()}"
-    wrong = wrong_places(explained, lines)
+    wrong = wrong_late(explained, lines) or wrong_places(explained, lines)
     if wrong:
         return wrong
     causes, entries = explained.causes, errors_of(lines)

@@ -9,7 +9,7 @@ from grouped import ANY_FLUSH, fences_waited
 from machine import FENCES, is_kept
 
 CALLER = " < "
-COUNTS = ("stores", "never_persisted", "ignored", "late", "in_time", "flushes", "flushes_dropped", "fences", "fences_dropped")
+COUNTS = ("stores", "never_persisted", "ignored", "late", "in_time", "left", "flushes", "flushes_dropped", "fences", "fences_dropped")
 LABELLED = "places: what becomes of what each one stores; those that lose or delay a part come first:"
 THREADS = "places: what becomes of what each thread stores; with labels (--labels FILE) a place is a line of source:"
 MOST = 8
@@ -29,7 +29,10 @@ def fates(explained, lost, number):
         if number in lost:
             yield "ignored" if explained.is_ignored(number) else "never_persisted"
         else:
-            yield "late" if fences_waited(trace, number) >= 2 else "in_time"
+            waited = fences_waited(trace, number)
+            yield "late" if waited >= 2 else "in_time"
+            if waited == 1:
+                yield "left"
     for kind, words in (("flushes", ANY_FLUSH), ("fences", FENCES)):
         if word in words:
             yield kind
@@ -53,7 +56,7 @@ def rows(explained):
     """Each place with what it has, in the order in which they are told."""
     lost, found = set(explained.lost_stores()), {}
     for number in explained.trace.numbers:
-        row = found.setdefault(place(explained, number), {**dict.fromkeys(COUNTS, 0), "first": number, "first_never_persisted": None, "first_late": None})
+        row = found.setdefault(place(explained, number), {**dict.fromkeys(COUNTS, 0), "first": number, "first_never_persisted": None, "first_late": None, "first_left": None})
         for fate in fates(explained, lost, number):
             row[fate] += 1
             if f"first_{fate}" in row and row[f"first_{fate}"] is None:
@@ -64,7 +67,7 @@ def rows(explained):
 def entries(explained):
     """What the JSON has of them."""
     for (kind, name), row in rows(explained):
-        firsts = {member: row[member] and explained.event(row[member]) for member in ("first", "first_never_persisted", "first_late")}
+        firsts = {member: row[member] and explained.event(row[member]) for member in ("first", "first_never_persisted", "first_late", "first_left")}
         yield {**row, **firsts, "kind": "place", "label": None, "thread": None, kind: name}
 
 
@@ -84,7 +87,7 @@ def heads(explained):
         if standing(row)[0] < 4:
             lost, late = row["never_persisted"], row["late"]
             ignored = f", {row['ignored']} ignored" if row["ignored"] else ""
-            kind = "error" if lost else "note"
+            kind = "error" if lost else "warning" if late < row["stores"] - row["ignored"] else "note"
             told = f"{kind}: {name_of(key)}: {stores_in_words(row['stores'])}: {lost} never persisted, {late} saved late, {row['in_time']} in time{ignored}"
             yield told, ("store", row["first_never_persisted"]) if lost else ("late", row["first_late"])
 

@@ -2,7 +2,7 @@
 import json
 import re
 
-from explained_text import LABELS, PLACE, THREADS
+from explained_text import LABELS, PLACE, SAVED_LATE, THREADS
 
 
 def first_at(lines, part):
@@ -65,13 +65,14 @@ TEXT = {
     "the crash of a story": (lambda lines: first_at(lines, "--  crash"), None),
     "what mends a failure": (lambda lines: named_at(lines, "fix"), raised(r"(?<=event )\d+")),
     "the picture of a failure": (lambda lines: named_at(lines, "draw"), raised(r"(?<=event)\d+(?=\.svg)")),
+    "how many stores are saved late in all": (lambda lines: first_at(lines, SAVED_LATE), raised(r"\d+(?= of)")),
     "a place left out": (place_at, None),
     "how many stores a place has": (place_at, raised(r"\d+(?= stores?: \d+ never)")),
     "how many of them are never persisted": (place_at, raised(r"\d+(?= never persisted,)")),
     "how many of them are late": (place_at, raised(r"\d+(?= saved late)")),
     "how many of them are in time": (place_at, raised(r"\d+(?= in time)")),
     "the first store of a place": (lambda lines: place_at(lines, rows=1), raised(r"(?<=event )\d+")),
-    "for how many fences it is late": (lambda lines: place_at(lines, "note: ", 2), raised(r"\d+(?= fences of its thread)")),
+    "for how many fences it is late": (lambda lines: first_at(lines, " left it unsafe"), raised(r"\d+(?= fences of its thread)")),
     "what mends a place": (lambda lines: below_place(lines, "  fix:    "), None),
     "the picture of a place": (lambda lines: below_place(lines, "  draw:   "), raised(r"(?<=event)\d+(?=\.svg)")),
     "a thread's row": (lambda lines: below_at(lines, THREADS, 2), raised(r"\d+(?=  thread)")),
@@ -81,7 +82,6 @@ TEXT = {
 
 # The same of the text of one failed assertion.
 ALONE = {
-    "where the lost line lies": (lambda lines: first_at(lines, "in the last cache line"), lambda line: line.replace("the last", "the inner")),
     "a line of a range": (range_at, turned),
     "a line of a range left out": (range_at, None),
     "the flush of a line": (range_at, raised(r"(?<=last flush event )\d+")),

@@ -13,6 +13,7 @@ pub place-float : (T : Recording) (labels : Labels) (r : PlaceRow) → has_float
 place-float T labels r =
     both (has_float (event_data T labels r.first)) _ (event-float T labels r.first)
     (both (has_float (or_null (event_data T labels) r.first_late)) _ (or_null-float (event_data T labels) (event-float T labels) r.first_late)
+    (both (has_float (or_null (event_data T labels) r.first_left)) _ (or_null-float (event_data T labels) (event-float T labels) r.first_left)
     (both (has_float (or_null (event_data T labels) r.first_lost)) _ (or_null-float (event_data T labels) (event-float T labels) r.first_lost)
     (both (has_float (or_null string (place_label labels r.place))) _ (label-float (place_label labels r.place))
-    (both (has_float (or_null count_data (place_thread r.place))) false (count-float (place_thread r.place)) refl))))
+    (both (has_float (or_null count_data (place_thread r.place))) false (count-float (place_thread r.place)) refl)))))

@@ -57,6 +57,7 @@ fn place_value(
 {
     let first = event_value(alloc, trace, labels, row.first);
     let first_late = event_or_null(alloc, trace, labels, row.first_late);
+    let first_left = event_or_null(alloc, trace, labels, row.first_left);
     let first_lost = event_or_null(alloc, trace, labels, row.first_lost);
     let kind = Value::try_from_str(alloc, "place");
     let label = label_or_null(alloc, labels, row.place);
@@ -65,6 +66,7 @@ fn place_value(
         ("fences_dropped", Ok(Value::from(row.idle_fences))),
         ("first", first),
         ("first_late", first_late),
+        ("first_left", first_left),
         ("first_never_persisted", first_lost),
         ("flushes", Ok(Value::from(row.flushes))),
         ("flushes_dropped", Ok(Value::from(row.idle_flushes))),
@@ -73,6 +75,7 @@ fn place_value(
         ("kind", kind),
         ("label", label),
         ("late", Ok(Value::from(row.late))),
+        ("left", Ok(Value::from(row.left))),
         ("never_persisted", Ok(Value::from(row.lost))),
         ("stores", Ok(Value::from(row.stores))),
         ("thread", Ok(thread_or_null(row.place))),

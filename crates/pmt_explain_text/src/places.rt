@@ -75,7 +75,11 @@ fn add_places(section: &mut Section, told: &Telling<'_>, rows: &[PlaceRow], memb
 
 // Adds how many stores the place has, and what becomes of them.
 fn push_head(pen: &mut Pen, told: &Telling<'_>, row: &PlaceRow) {
-    pen.put(if row.lost > 0 { "error: " } else { "note: " });
+    pen.put(match standing_of(row) {
+        Standing::LosesSome | Standing::LosesAll => "error: ",
+        Standing::DelaysSome => "warning: ",
+        Standing::DelaysAll | Standing::Keeps => "note: ",
+    });
     push_place_name(pen, told, row.place);
     pen.put(": ");
     push_count(pen, row.stores, "store");

@@ -11,7 +11,7 @@ use pmt_pen::Pen;
 pub(crate) fn push_summary(pen: &mut Pen, told: &Telling<'_>) {
     let counts = summary_of(told.explanation);
     push_cut(pen, told);
-    push_counts(pen, &counts, told.trace.format().line_size());
+    push_counts(pen, told, &counts);
     push_ignored(pen, told, &counts);
     push_unknown(pen, &counts);
     push_choice(pen, told.screen.choice);
@@ -25,13 +25,13 @@ pub(crate) fn push_summary(pen: &mut Pen, told: &Telling<'_>) {
 }
 
 // Adds how much there is, and how much of it is faulty, or does nothing.
-fn push_counts(pen: &mut Pen, counts: &Summary, line_size: u64) {
+fn push_counts(pen: &mut Pen, told: &Telling<'_>, counts: &Summary) {
     push_count(pen, counts.events, "event");
     pen.put(", ");
     push_count(pen, counts.threads, "thread");
     pen.put(", ");
     push_count(pen, counts.cache_lines, "cache line");
-    pen.fill(" of # bytes\n", &[line_size]);
+    pen.fill(" of # bytes\n", &[told.trace.format().line_size()]);
     pen.fill(
         "  assertions that a crash can violate: # of #\n",
         &[counts.failing, counts.assertions],
@@ -40,8 +40,23 @@ fn push_counts(pen: &mut Pen, counts: &Summary, line_size: u64) {
         "  stores never persisted, which a crash at the end can lose: # of #\n",
         &[counts.never_persisted, counts.stores],
     );
+    push_late(pen, told, counts.stores);
     push_share(pen, "flushes", counts.flushes_dropped, counts.flushes);
     push_share(pen, "fences", counts.fences_dropped, counts.fences);
+}
+
+// Adds how many stores are saved late, if some are.
+fn push_late(pen: &mut Pen, told: &Telling<'_>, stores: u64) {
+    let mut late = 0u64;
+    for row in told.explanation.places.as_slice() {
+        late = late.saturating_add(row.late);
+    }
+    if late > 0 {
+        pen.fill(
+            "  stores saved late, which a crash can lose though their thread went on: # of #\n",
+            &[late, stores],
+        );
+    }
 }
 
 // Adds how many of them do nothing.
@@ -61,8 +76,8 @@ fn has_unflushed(told: &Telling<'_>) -> bool {
 }
 
 const UNRECORDED: &str =
-    "Where no flush follows, look for one of another address: of memory outside the recorded pool, as a variable on the stack, a trace
-has no flushes.
+    "If no flush follows, the program may flush a wrong address: flushes outside the recorded pool, as of a variable on the stack, are
+not in a trace.
 ";
 
 const LEGEND: &str = "

@@ -24,7 +24,7 @@ use Rattle.pmt_fates.specs.declared.fate.Fate.{Fate}
 use Rattle.pmt_fates.specs.declared.fate.Fate.TheVariants as fate
 use Rattle.pmt_fates.specs.declared.place_row.PlaceRow.{PlaceRow}
 use Rattle.pmt_fates.specs.Fates.{AreFates, fence_fate, flush_fate, op_fate}
-use Rattle.pmt_fates.specs.Places.{AddUp, ArePlaces, count_in, fate_at, is_fence_fate, is_flush_fate, is_same, is_store_fate, origin_in, place_items, row_in}
+use Rattle.pmt_fates.specs.Places.{AddUp, ArePlaces, count_in, fate_at, is_fence_fate, is_flush_fate, is_in_time, is_same, is_store_fate, origin_in, place_items, row_in}
 
 -- what is counted in a list
 abbrev one : Bool → ℕ
@@ -78,23 +78,26 @@ items-count T labels P (suc n) =
     )
 
 -- the stores, the flushes and the fences by what becomes of them
-four : (a b c : Bool) → is_store_fate (if a then fate.Lost else if b then fate.Ignored else if c then fate.Late else fate.InTime) ≡ true
-four true b c = refl
-four false true c = refl
-four false false true = refl
-four false false false = refl
+four : (a b c d : Bool) → is_store_fate (if a then fate.Lost else if b then fate.Ignored else if c then fate.Late else if d then fate.Left else fate.InTime) ≡ true
+four true b c d = refl
+four false true c d = refl
+four false false true d = refl
+four false false false true = refl
+four false false false false = refl
 
-four-flush : (a b c : Bool) → is_flush_fate (if a then fate.Lost else if b then fate.Ignored else if c then fate.Late else fate.InTime) ≡ false
-four-flush true b c = refl
-four-flush false true c = refl
-four-flush false false true = refl
-four-flush false false false = refl
+four-flush : (a b c d : Bool) → is_flush_fate (if a then fate.Lost else if b then fate.Ignored else if c then fate.Late else if d then fate.Left else fate.InTime) ≡ false
+four-flush true b c d = refl
+four-flush false true c d = refl
+four-flush false false true d = refl
+four-flush false false false true = refl
+four-flush false false false false = refl
 
-four-fence : (a b c : Bool) → is_fence_fate (if a then fate.Lost else if b then fate.Ignored else if c then fate.Late else fate.InTime) ≡ false
-four-fence true b c = refl
-four-fence false true c = refl
-four-fence false false true = refl
-four-fence false false false = refl
+four-fence : (a b c d : Bool) → is_fence_fate (if a then fate.Lost else if b then fate.Ignored else if c then fate.Late else if d then fate.Left else fate.InTime) ≡ false
+four-fence true b c d = refl
+four-fence false true c d = refl
+four-fence false false true d = refl
+four-fence false false false true = refl
+four-fence false false false false = refl
 
 flushes : (b : Bool) → (is_store_fate (flush_fate b) ≡ false) × (is_flush_fate (flush_fate b) ≡ true) × (is_fence_fate (flush_fate b) ≡ false)
 flushes true = (refl, refl, refl)
@@ -108,7 +111,11 @@ abbrev IsKind : Op → Fate → Type 0
 IsKind o f = (is_store_fate f ≡ is_store o) × (is_flush_fate f ≡ is_flush o) × (is_fence_fate f ≡ is_fence o)
 
 kind : (o : Op) (a b : Bool) (n s w : ℕ) → IsKind o (op_fate o a b n s w)
-kind (Store v) a b n s w = (four a (nat_lt n s) (nat_le 2 w), four-flush a (nat_lt n s) (nat_le 2 w), four-fence a (nat_lt n s) (nat_le 2 w))
+kind (Store v) a b n s w = (
+  four a (nat_lt n s) (nat_le 2 w) (nat_le 1 w),
+  four-flush a (nat_lt n s) (nat_le 2 w) (nat_le 1 w),
+  four-fence a (nat_lt n s) (nat_le 2 w) (nat_le 1 w),
+)
 kind (Clwb l) a b n s w = flushes b
 kind (ClflushOpt l) a b n s w = flushes b
 kind (Clflush l) a b n s w = flushes b
@@ -137,10 +144,11 @@ alike T told dropped fates x (suc n) = go (cases_lt n (length T.events))
         rw (none, empty) (refl, refl, refl)
 
 -- a store has one fate
-fate-one : (f : Fate) → one (is_store_fate f) ≡ one (is_same fate.Lost f) + one (is_same fate.Ignored f) + one (is_same fate.Late f) + one (is_same fate.InTime f)
+fate-one : (f : Fate) → one (is_store_fate f) ≡ one (is_same fate.Lost f) + one (is_same fate.Ignored f) + one (is_same fate.Late f) + one (is_in_time f)
 fate-one fate.Lost = refl
 fate-one fate.Ignored = refl
 fate-one fate.Late = refl
+fate-one fate.Left = refl
 fate-one fate.InTime = refl
 fate-one fate.Flush = refl
 fate-one fate.IdleFlush = refl
@@ -149,7 +157,7 @@ fate-one fate.IdleFence = refl
 fate-one fate.Claim = refl
 
 fates-one : (fates : List Fate) (ms : List ℕ) →
-    count_in fates is_store_fate ms ≡ count_in fates (is_same fate.Lost) ms + count_in fates (is_same fate.Ignored) ms + count_in fates (is_same fate.Late) ms + count_in fates (is_same fate.InTime) ms
+    count_in fates is_store_fate ms ≡ count_in fates (is_same fate.Lost) ms + count_in fates (is_same fate.Ignored) ms + count_in fates (is_same fate.Late) ms + count_in fates is_in_time ms
 fates-one fates [] = refl
 fates-one fates (i ∷ ms) =
     let step : (is : Fate → Bool) → count_in fates is (i ∷ ms) ≡ one (is (fate_at fates i)) + count_in fates is ms = λ is. count-cons (λ (j : ℕ). is (fate_at fates j)) i ms in
@@ -159,7 +167,7 @@ fates-one fates (i ∷ ms) =
       step (is_same fate.Lost),
       step (is_same fate.Ignored),
       step (is_same fate.Late),
-      step (is_same fate.InTime),
+      step is_in_time,
       fate-one (fate_at fates i),
       fates-one fates ms,
     )

@@ -15,9 +15,9 @@ abbrev pub is_listed : List ℕ → ℕ → Bool
 is_listed numbers i = list_any (λ (n : ℕ). n == i) numbers
 
 -- What becomes of a store of a trace with so many events: it is told as never persisted; or it is safe from no place of the trace on,
--- and left out; or it is safe after two fences or more of its thread; or sooner.
+-- and left out; or it is safe after two fences or more of its thread; or after one; or sooner.
 abbrev pub store_fate : Bool → ℕ → ℕ → ℕ → Fate
-store_fate is_told events safe waited = if is_told then fate.Lost else if nat_lt events safe then fate.Ignored else if nat_le 2 waited then fate.Late else fate.InTime
+store_fate is_told events safe waited = if is_told then fate.Lost else if nat_lt events safe then fate.Ignored else if nat_le 2 waited then fate.Late else if nat_le 1 waited then fate.Left else fate.InTime
 
 -- What becomes of a flush and of a fence: it does nothing, if it is dropped.
 abbrev pub flush_fate : Bool → Fate

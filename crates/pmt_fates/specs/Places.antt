@@ -33,6 +33,7 @@ abbrev pub is_same : Fate → Fate → Bool
 is_same fate.Lost fate.Lost = true
 is_same fate.Ignored fate.Ignored = true
 is_same fate.Late fate.Late = true
+is_same fate.Left fate.Left = true
 is_same fate.InTime fate.InTime = true
 is_same fate.Flush fate.Flush = true
 is_same fate.IdleFlush fate.IdleFlush = true
@@ -45,8 +46,15 @@ abbrev pub is_store_fate : Fate → Bool
 is_store_fate fate.Lost = true
 is_store_fate fate.Ignored = true
 is_store_fate fate.Late = true
+is_store_fate fate.Left = true
 is_store_fate fate.InTime = true
 is_store_fate f = false
+
+-- It becomes of a store that is persisted in time.
+abbrev pub is_in_time : Fate → Bool
+is_in_time fate.Left = true
+is_in_time fate.InTime = true
+is_in_time f = false
 
 abbrev pub is_flush_fate : Fate → Bool
 is_flush_fate fate.Flush = true
@@ -79,13 +87,15 @@ row_in fates g = record {
   lost = count_in fates (is_same fate.Lost) g.members.items;
   ignored = count_in fates (is_same fate.Ignored) g.members.items;
   late = count_in fates (is_same fate.Late) g.members.items;
-  in_time = count_in fates (is_same fate.InTime) g.members.items;
+  in_time = count_in fates is_in_time g.members.items;
+  left = count_in fates (is_same fate.Left) g.members.items;
   flushes = count_in fates is_flush_fate g.members.items;
   idle_flushes = count_in fates (is_same fate.IdleFlush) g.members.items;
   fences = count_in fates is_fence_fate g.members.items;
   idle_fences = count_in fates (is_same fate.IdleFence) g.members.items;
   first_lost = find_in fates (is_same fate.Lost) g.members.items;
   first_late = find_in fates (is_same fate.Late) g.members.items;
+  first_left = find_in fates (is_same fate.Left) g.members.items;
 }
 
 -- These are the rows, each as it was, in the order in which places are told.

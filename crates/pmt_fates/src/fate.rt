@@ -18,6 +18,8 @@ pub(crate) enum Fate {
     Ignored,
     // A store that is persisted, after two fences or more of its own thread.
     Late,
+    // A store that is persisted, after one fence of its own thread that leaves it unsafe.
+    Left,
     // A store that is persisted sooner.
     InTime,
     // A clwb, clflushopt or clflush that does something.
@@ -89,6 +91,8 @@ fn store_fate(is_told: bool, events: u64, safe: u64, waited: u64) -> Fate
         Fate::Ignored
     } else if waited >= 2 {
         Fate::Late
+    } else if waited >= 1 {
+        Fate::Left
     } else {
         Fate::InTime
     }

@@ -1,7 +1,7 @@
 //! What a place of the source has.
 
 ghost use Rattle.std.specs.Prelude.{◌≡◌, slice_index, length};
-ghost use Rattle.pmt_fates.specs.Places.{count_in, fate_at as fate_in, find_in, is_fence_fate as fences, is_flush_fate as flushes, is_same as same, is_store_fate as stores, row_in};
+ghost use Rattle.pmt_fates.specs.Places.{count_in, fate_at as fate_in, find_in, is_fence_fate as fences, is_flush_fate as flushes, is_in_time as timely, is_same as same, is_store_fate as stores, row_in};
 
 use crate::fate::Fate;
 use pmt_causes::{Group, Origin};
@@ -23,6 +23,8 @@ pub struct PlaceRow {
     pub late: u64,
     /// How many are persisted sooner.
     pub in_time: u64,
+    /// How many of these a fence of their own thread leaves unsafe before.
+    pub left: u64,
     /// How many of its events are clwb, clflushopt or clflush.
     pub flushes: u64,
     /// How many of these do nothing.
@@ -35,6 +37,8 @@ pub struct PlaceRow {
     pub first_lost: Option<u64>,
     /// The first store that is late.
     pub first_late: Option<u64>,
+    /// The first store in time that a fence of its own thread leaves unsafe before.
+    pub first_left: Option<u64>,
 }
 
 // What the place has whose events these are, where this becomes of each event.
@@ -49,13 +53,15 @@ pub(crate) fn row_of(group: &Group<Origin>, fates: &[Fate]) -> PlaceRow
         lost: count(members, fates, Fate::Lost),
         ignored: count(members, fates, Fate::Ignored),
         late: count(members, fates, Fate::Late),
-        in_time: count(members, fates, Fate::InTime),
+        in_time: count_in_time(members, fates),
+        left: count(members, fates, Fate::Left),
         flushes: count_flushes(members, fates),
         idle_flushes: count(members, fates, Fate::IdleFlush),
         fences: count_fences(members, fates),
         idle_fences: count(members, fates, Fate::IdleFence),
         first_lost: find(members, fates, Fate::Lost),
         first_late: find(members, fates, Fate::Late),
+        first_left: find(members, fates, Fate::Left),
     }
 }
 
@@ -86,6 +92,16 @@ fn count_stores(members: &[u64], fates: &[Fate]) -> u64
     members
         .iter()
         .filter(|number| is_store(fate_at(fates, **number)))
+        .count() as u64
+}
+
+// How many of these events are stores that are persisted in time.
+fn count_in_time(members: &[u64], fates: &[Fate]) -> u64
+    ensures { result ≡ count_in fates.now timely members.now }
+{
+    members
+        .iter()
+        .filter(|number| is_in_time(fate_at(fates, **number)))
         .count() as u64
 }
 
@@ -142,6 +158,7 @@ fn is_same(wanted: Fate, fate: Fate) -> bool
         Fate::Lost => matches!(fate, Fate::Lost),
         Fate::Ignored => matches!(fate, Fate::Ignored),
         Fate::Late => matches!(fate, Fate::Late),
+        Fate::Left => matches!(fate, Fate::Left),
         Fate::InTime => matches!(fate, Fate::InTime),
         Fate::Flush => matches!(fate, Fate::Flush),
         Fate::IdleFlush => matches!(fate, Fate::IdleFlush),
@@ -155,7 +172,14 @@ fn is_same(wanted: Fate, fate: Fate) -> bool
 fn is_store(fate: Fate) -> bool
     ensures { result ≡ stores fate }
 {
-    matches!(fate, Fate::Lost | Fate::Ignored | Fate::Late | Fate::InTime)
+    matches!(fate, Fate::Lost | Fate::Ignored | Fate::Late) || is_in_time(fate)
+}
+
+// Whether it becomes of a store that is persisted in time.
+fn is_in_time(fate: Fate) -> bool
+    ensures { result ≡ timely fate }
+{
+    matches!(fate, Fate::Left | Fate::InTime)
 }
 
 // Whether it becomes of a flush.
