@@ -21,6 +21,7 @@ kind_name kinds.Dropped = codes "dropped"
 kind_name kinds.Overwritten = codes "overwritten"
 kind_name kinds.Unwritten = codes "unwritten"
 kind_name kinds.Late = codes "late"
+kind_name kinds.Hint = codes "hint"
 
 abbrev pub is_same_kind : Kind → Kind → Bool
 is_same_kind kinds.Failure kinds.Failure = true
@@ -29,6 +30,7 @@ is_same_kind kinds.Dropped kinds.Dropped = true
 is_same_kind kinds.Overwritten kinds.Overwritten = true
 is_same_kind kinds.Unwritten kinds.Unwritten = true
 is_same_kind kinds.Late kinds.Late = true
+is_same_kind kinds.Hint kinds.Hint = true
 is_same_kind a b = false
 
 abbrev pub kind_allowed : Option Kind → Kind → Bool

@@ -24,6 +24,7 @@ use Rattle.pmt_explanation.specs.Asking.{asked_dropped, asked_numbers, asked_pai
 use Rattle.pmt_explanation.specs.Causing.{AreAskedLate, first_members}
 use Rattle.pmt_explanation.specs.Failing.{failing_events}
 use Rattle.pmt_explanation.specs.Framing.{AreFrameNumbers}
+use Rattle.pmt_explanation.specs.Hinting.{AreHints}
 use Rattle.pmt_explanation.specs.Ignoring.{lost_store, told_stores, overwriting, told_pairs}
 use Rattle.pmt_explanation.specs.Numbering.{AreLabelNumbers}
 use Rattle.pmt_explanation.specs.Showing.{IsShown}
@@ -36,6 +37,7 @@ pub record IsExplanation (a : Analysed) (labels : Labels) (o : Options) (x : Exp
   pub label_numbers : AreLabelNumbers labels (length a.trace.events) x.label_numbers.items
   pub frames : AreFrameNumbers labels (length a.trace.events) x.frames.items
   pub places : ArePlaces a.trace x.frames.items x.stores.items (map event_of x.dropped.items) x.places.items
+  pub hints : AreHints a.trace labels x.frames.items o.choice x.hints.items
   pub causes : AreFailureGroups a.trace x.frames.items x.asked_failing.items x.causes.items
   pub failures : All (IsShown a.trace) x.failures.items
   pub shown : map (λ (s : ShownFailure). s.event) x.failures.items ≡ take x.limit (first_members x.causes.items)
@@ -59,6 +61,7 @@ pub record AreParts (a : Analysed) (labels : Labels) (o : Options) (p : Parts) :
   pub label_numbers : AreLabelNumbers labels (length a.trace.events) p.label_numbers.items
   pub frames : AreFrameNumbers labels (length a.trace.events) p.frames.items
   pub places : ArePlaces a.trace p.frames.items p.lost.stores.items (map event_of p.found.dropped.items) p.found.places.items
+  pub hints : AreHints a.trace labels p.frames.items o.choice p.hints.items
   pub found : AreFound a.trace a.verdicts labels p.label_numbers.items p.frames.items o p.found
   pub stores : p.lost.stores.items ≡ told_stores a.trace o.ignored.items a.findings
   pub lost : AreLostGroups a.trace (asked_numbers a.trace labels o.choice kinds.NeverPersisted p.lost.stores.items) p.lost.groups.items

@@ -6,6 +6,7 @@ pub mod Explaining
 pub mod Failing
 pub mod Finding
 pub mod Framing
+pub mod Hinting
 pub mod Ignoring
 pub mod Labelling
 pub mod Numbering

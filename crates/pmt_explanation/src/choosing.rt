@@ -21,6 +21,8 @@ pub enum Kind {
     Unwritten,
     /// Stores that are persisted late.
     Late,
+    /// What is no error and mostly is a slip.
+    Hint,
 }
 
 impl Kind {
@@ -35,6 +37,7 @@ impl Kind {
             Kind::Overwritten => "overwritten",
             Kind::Unwritten => "unwritten",
             Kind::Late => "late",
+            Kind::Hint => "hint",
         }
     }
 }
@@ -77,6 +80,7 @@ fn is_same_kind(only: Kind, kind: Kind) -> bool
         Kind::Overwritten => matches!(kind, Kind::Overwritten),
         Kind::Unwritten => matches!(kind, Kind::Unwritten),
         Kind::Late => matches!(kind, Kind::Late),
+        Kind::Hint => matches!(kind, Kind::Hint),
     }
 }
 

@@ -11,6 +11,7 @@ use crate::choosing::Choice;
 use crate::failures::ShownFailure;
 use crate::found::{Found, found_of};
 use crate::frames::frame_numbers;
+use crate::hinting::hints_asked;
 use crate::ignoring::ByteRange;
 use crate::labels::Labels;
 use crate::losses::{Losses, losses_of};
@@ -20,6 +21,7 @@ use pmt_analysis::Analysis;
 use pmt_causes::{DroppedKey, FailureKey, Group, LateSpot, LostKey, Row};
 use pmt_explain::{Dropped, LostGroup, OverwrittenGroup};
 use pmt_fates::PlaceRow;
+use pmt_hints::Hint;
 use pmt_model::{OutOfMemory, Trace};
 use std::alloc::Global;
 
@@ -51,6 +53,8 @@ pub struct Explanation {
     pub frames: Vec<Option<u64>>,
     /// What each place of the source has in the trace: each innermost frame by its number, and each thread that has events without label.
     pub places: Vec<PlaceRow>,
+    /// The hints that are asked for, by kind and place.
+    pub hints: Vec<Hint>,
     /// Those of `asked_failing`, by cause and place.
     pub causes: Vec<Group<FailureKey>>,
     /// The first failure of each of the first `limit` causes in full, in the order of the causes.
@@ -90,6 +94,7 @@ pub struct Explanation {
 struct Parts {
     label_numbers: Vec<Option<u64>>,
     frames: Vec<Option<u64>>,
+    hints: Vec<Hint>,
     found: Found,
     lost: Losses,
     unwritten: Vec<Unwritten>,
@@ -125,6 +130,7 @@ fn parts_of(
     let label_numbers = label_numbers(alloc, labels, analysis.trace().len())?;
     let numbers = label_numbers.as_slice();
     let frames = frame_numbers(alloc, labels, numbers, analysis.trace().len())?;
+    let hints = hints_asked(alloc, analysis, labels, frames.as_slice(), &options.choice)?;
     let lost = losses_of(alloc, analysis, labels, frames.as_slice(), options)?;
     let found = found_of(
         alloc,
@@ -139,6 +145,7 @@ fn parts_of(
     Ok(Parts {
         label_numbers,
         frames,
+        hints,
         found,
         lost,
         unwritten,
@@ -154,6 +161,7 @@ fn explained(analysis: Analysis, limit: usize, parts: Parts) -> Explanation
     let Parts {
         label_numbers,
         frames,
+        hints,
         found,
         lost,
         unwritten,
@@ -179,6 +187,7 @@ fn explained(analysis: Analysis, limit: usize, parts: Parts) -> Explanation
         threads: found.effects.threads,
         labelled: found.effects.labelled,
         places: found.places,
+        hints,
         overwritten: lost.overwritten,
         ignored_overwritten: lost.ignored_pairs,
         unwritten,

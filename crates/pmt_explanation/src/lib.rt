@@ -14,6 +14,7 @@ mod failed;
 pub mod failures;
 mod found;
 pub mod frames;
+mod hinting;
 pub mod ignoring;
 pub mod labels;
 mod limit;

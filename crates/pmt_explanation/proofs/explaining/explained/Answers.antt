@@ -16,6 +16,7 @@ returns-clause-explained c = λ labels o p same.
       label_numbers = p.label_numbers;
       frames = p.frames;
       places = p.places;
+      hints = p.hints;
       causes = p.found.causes;
       failures = p.found.shown.each;
       shown = subst (λ k. map (λ (s : ShownFailure). s.event) failed.shown.items ≡ take k (first_members failed.causes.items)) (sym same) shown;
