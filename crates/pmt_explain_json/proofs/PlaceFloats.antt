@@ -1,4 +1,4 @@
--- What places have has no floats.
+-- What places have, and hints, have no floats.
 use Rattle.std.proofs.Common.{◌≡◌, ℕ, Option, None, Some, false, refl}
 use Rattle.serde_json.specs.Data.{Data, string}
 use Rattle.serde_json.specs.Written.{has_float}
@@ -6,6 +6,8 @@ use Rattle.pmt_model.specs.Traces.{Recording}
 use Rattle.pmt_fates.specs.declared.place_row.PlaceRow.{PlaceRow}
 use Rattle.pmt_explanation.specs.declared.labels.Labels.{Labels}
 use Rattle.pmt_explain_json.specs.Parts.{count_data, event_data, or_null}
+use Rattle.pmt_hints.specs.declared.hint.Hint.{Hint}
+use Rattle.pmt_explain_json.specs.Hints.{hint_data}
 use Rattle.pmt_explain_json.specs.Places.{place_data, place_label, place_thread}
 use Rattle.pmt_explain_json.proofs.NoFloats.{both, count-float, event-float, label-float, or_null-float}
 
@@ -17,3 +19,9 @@ place-float T labels r =
     (both (has_float (or_null (event_data T labels) r.first_lost)) _ (or_null-float (event_data T labels) (event-float T labels) r.first_lost)
     (both (has_float (or_null string (place_label labels r.place))) _ (label-float (place_label labels r.place))
     (both (has_float (or_null count_data (place_thread r.place))) false (count-float (place_thread r.place)) refl)))))
+
+pub hint-float : (T : Recording) (labels : Labels) (h : Hint) → has_float (hint_data T labels h) ≡ false
+hint-float T labels h =
+    both (has_float (event_data T labels h.first)) _ (event-float T labels h.first)
+    (both (has_float (or_null string (place_label labels h.place))) _ (label-float (place_label labels h.place))
+    (both (has_float (or_null count_data (place_thread h.place))) false (count-float (place_thread h.place)) refl))

@@ -15,6 +15,9 @@ pushed-3 s s1 s2 s3 a b c e f g = push-on s s2 s3 (a ++ b) c (push-on s s1 s2 a 
 pub pushed-4 : (s s1 s2 s3 s4 a b c d : List ℕ) → s1 ≡ s ++ a → s2 ≡ s1 ++ b → s3 ≡ s2 ++ c → s4 ≡ s3 ++ d → s4 ≡ s ++ (a ++ b ++ c ++ d)
 pushed-4 s s1 s2 s3 s4 a b c d e f g h = push-on s s3 s4 (a ++ b ++ c) d (pushed-3 s s1 s2 s3 a b c e f g) h
 
+pub pushed-5 : (s s1 s2 s3 s4 s5 a b c d e : List ℕ) → s1 ≡ s ++ a → s2 ≡ s1 ++ b → s3 ≡ s2 ++ c → s4 ≡ s3 ++ d → s5 ≡ s4 ++ e → s5 ≡ s ++ (a ++ b ++ c ++ d ++ e)
+pushed-5 s s1 s2 s3 s4 s5 a b c d e f g h i j = push-on s s4 s5 (a ++ b ++ c ++ d) e (pushed-4 s s1 s2 s3 s4 a b c d f g h i) j
+
 pub pushed-8 : (s s1 s2 s3 s4 s5 s6 s7 s8 a b c d k m n o : List ℕ) →
     s1 ≡ s ++ a → s2 ≡ s1 ++ b → s3 ≡ s2 ++ c → s4 ≡ s3 ++ d → s5 ≡ s4 ++ k → s6 ≡ s5 ++ m → s7 ≡ s6 ++ n → s8 ≡ s7 ++ o →
     s8 ≡ s ++ (a ++ b ++ c ++ d ++ k ++ m ++ n ++ o)

@@ -1,5 +1,6 @@
 pub mod Entries
 pub mod Groups
+pub mod Hints
 pub mod Lines
 pub mod Parts
 pub mod Places

@@ -21,6 +21,7 @@ more_data x = object_of
     ((codes "cause", count_data (length x.causes.items - x.limit))
     ∷ (codes "dropped", count_data (length x.asked_dropped.items - x.limit))
     ∷ (codes "failure", count_data (length x.causes.items - x.limit))
+    ∷ (codes "hint", count_data (length x.hints.items - x.limit))
     ∷ (codes "label", count_data (length x.labelled.items - x.limit))
     ∷ (codes "late", count_data (length x.late.items - x.limit))
     ∷ (codes "never_persisted", count_data (length x.lost.items - x.limit))

@@ -1,4 +1,4 @@
--- Places, late stores, and what threads and labels have, as JSON.
+-- Places, hints, late stores, and what threads and labels have, as JSON.
 use Rattle.std.specs.Prelude.{ℕ, List, [], ◌∷◌, ◌++◌, length, take, Option, None, Some, codes}
 use Rattle.std.specs.List.{flat_map}
 use Rattle.serde_json.specs.Data.{Data, string}
@@ -12,6 +12,7 @@ use Rattle.pmt_explanation.specs.declared.explaining.Explanation.{Explanation}
 use Rattle.pmt_explanation.specs.declared.labels.Labels.{Labels}
 use Rattle.pmt_explanation.specs.Framing.{frame_of}
 use Rattle.pmt_explanation.specs.Labelling.{label_of}
+use Rattle.pmt_explain_json.specs.Hints.{hint_line}
 use Rattle.pmt_explain_json.specs.Parts.{count_data, event_data, json_line, line_data, object_of, or_null}
 use Rattle.pmt_explain_json.specs.Places.{place_line}
 
@@ -66,10 +67,11 @@ thread_line r = json_line (thread_row_data r)
 abbrev pub label_line : Labels → Row ℕ → List ℕ
 label_line labels r = json_line (label_row_data labels r)
 
--- The places, the late stores, the threads and the labels: of each kind at most as many as the limit says, the first ones.
+-- The places, the hints, the late stores, the threads and the labels: of each kind at most as many as the limit says, the first ones.
 unfoldable pub table_lines : Explanation → Labels → List ℕ
 table_lines x labels =
     flat_map (place_line x.analysis.trace labels) (take x.limit x.places.items)
+    ++ flat_map (hint_line x.analysis.trace labels) (take x.limit x.hints.items)
     ++ flat_map (late_line x.analysis.trace labels) (take x.limit x.late.items)
     ++ flat_map thread_line (take x.limit x.threads.items)
     ++ flat_map (label_line labels) (take x.limit x.labelled.items)

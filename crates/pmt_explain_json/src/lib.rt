@@ -6,6 +6,7 @@
 mod causes;
 mod entries;
 mod failures;
+mod hints;
 pub mod laws;
 mod lines;
 mod objects;

@@ -78,6 +78,10 @@ pub(crate) fn more_value(alloc: Global, explanation: &Explanation) -> Result<Val
             Value::from(explanation.causes.len().saturating_sub(limit))
         ),
         (
+            "hint",
+            Value::from(explanation.hints.len().saturating_sub(limit))
+        ),
+        (
             "label",
             Value::from(explanation.labelled.len().saturating_sub(limit))
         ),

@@ -1,4 +1,4 @@
-//! Places, late stores, and what threads and labels have, as JSON.
+//! Places, hints, late stores, and what threads and labels have, as JSON.
 ghost use Rattle.std.specs.Prelude.{◌≡◌, ◌++◌, IfOk, OnOk};
 ghost use Rattle.std.specs.List.{flat_map};
 ghost use Rattle.serde_json.specs.Data.{string};
@@ -6,6 +6,7 @@ ghost use Rattle.serde_json.specs.View.{view};
 ghost use Rattle.pmt_explain_json.specs.Parts.{line_data, or_null};
 ghost use Rattle.pmt_explain_json.specs.Tables.{label_line, label_row_data, late_data, late_line, spot_label, spot_line, table_lines, thread_line, thread_row_data};
 
+use crate::hints::push_hints;
 use crate::lines::push_value;
 use crate::objects::{object_made, object_value};
 use crate::parts::{event_value, frame_value, label_value, line_value};
@@ -16,7 +17,7 @@ use pmt_model::{OutOfMemory, Trace};
 use serde_json::Value;
 use std::alloc::Global;
 
-// Adds the rows of the places, the late stores, and the rows of the threads and of the labels.
+// Adds the rows of the places, the hints, the late stores, and the rows of the threads and of the labels.
 pub(crate) fn push_tables(
     alloc: Global,
     text: &mut Vec<u8>,
@@ -28,10 +29,12 @@ pub(crate) fn push_tables(
     let trace = explanation.analysis.trace();
     let limit = explanation.limit;
     let places = first(explanation.places.as_slice(), limit);
+    let hints = first(explanation.hints.as_slice(), limit);
     let late = first(explanation.late.as_slice(), limit);
     let threads = first(explanation.threads.as_slice(), limit);
     let labelled = first(explanation.labelled.as_slice(), limit);
     push_places(alloc, text, trace, labels, places)?;
+    push_hints(alloc, text, trace, labels, hints)?;
     push_late_groups(alloc, text, trace, labels, late)?;
     push_thread_rows(alloc, text, threads)?;
     push_label_rows(alloc, text, labels, labelled)?;
