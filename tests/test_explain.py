@@ -9,7 +9,7 @@ import sys
 from checks import Checks, add_tests
 from crowded import random_trace
 from explain_faults import BAD_LABELS, BAD_RANGES, BAD_WORDS, HEADER, REFUSED, SAVED
-from explained import KINDS, Explained, judged
+from explained import KINDS, Explained, judged, with_events
 from explained_text import SCREEN, wrong_screen, wrong_text
 from machine import spelled, text_of
 from program import TOP, find
@@ -21,6 +21,20 @@ TRACES = 400
 
 def setUpModule():
     find()
+
+
+def with_halves(choose, trace):
+    """The trace, at times with two stores by one thread to both sides of a line's end."""
+    if choose.random() < 0.7:
+        return trace
+    thread, end = choose.randrange(2), 0x1000 + trace.size
+    below, above = choose.choice((1, 4, 7)), choose.choice((1, 1, 2, 4))
+    halves = [("store", thread, end - below, bytes(below)), ("store", thread, end, bytes(above))]
+    choose.shuffle(halves)
+    for half in halves:
+        at = choose.randrange(len(trace.events) + 1) if half is halves[0] else choose.randrange(at, min(at + 3, len(trace.events) + 1))
+        trace = with_events(trace, at, [half])
+    return trace
 
 
 def random_words(choose, trace):
@@ -56,6 +70,7 @@ def random_choice(choose, trace, labels):
 def compare(program, folder, choose):
     """What is wrong with the answer to one random trace, if anything, and that trace."""
     head, trace = random_trace(choose)
+    trace = with_halves(choose, trace)
     ignored, labels, limit = random_words(choose, trace)
     file, names = folder / "trace", folder / "labels"
     file.write_bytes(text_of([head, *map(spelled, trace.events)]))
@@ -192,7 +207,7 @@ class Explain(Checks):
         colored = self.explain("--color", "always", file).stdout
         self.expect_equal("colors take no place", re.sub(rb"\x1b\[[0-9;]*m", b"", colored), plain)
         heads = re.findall(rb"^\x1b\[1(?:;3[0-9])?m([a-z ]+:)\x1b\[0m", colored, re.M)
-        self.expect_equal("what is colored", heads, re.findall(rb"^(error:|warning:|note:|places:|table:|  fix:)", plain, re.M))
+        self.expect_equal("what is colored", heads, re.findall(rb"^(error:|warning:|note:|hints?:|places:|table:|  fix:)", plain, re.M))
         self.expect("JSON has none", b"\x1b" not in self.explain("--json", "--color", "always", file).stdout)
         for known, wanted in (({}, True), ({"NO_COLOR": "1"}, False), ({"NO_COLOR": ""}, True), ({"TERM": "dumb"}, False), ({"NO_COLOR": "1" * 100}, False)):
             shown = self.at_terminal(file, known)

@@ -8,10 +8,11 @@ import itertools
 import json
 
 import grouped
+import hinted
 import placed
 from machine import FENCES, FLUSHES, Trace, entries_at, is_empty_fence, is_kept, least, spelled
 
-KINDS = ("failure", "never_persisted", "dropped", "overwritten", "unwritten", "late")
+KINDS = ("failure", "never_persisted", "dropped", "overwritten", "unwritten", "late", "hint")
 ANY_FLUSH = ("clflush", *FLUSHES)
 
 
@@ -282,6 +283,7 @@ class Explained:
             "overwritten": self.overwritten(),
             "unwritten": self.unwritten(),
             "place": list(placed.entries(self)),
+            "hint": list(hinted.entries(self)),
             "late": [self.late_entry(*group) for group in grouped.late(self)],
             "thread": [self.row_entry("thread", *row) for row in grouped.thread_rows(self.trace)],
             "label": [self.row_entry("label", *row) for row in grouped.label_rows(self)],

@@ -6,6 +6,7 @@ The findings are those of explained.py, groups and tables those of grouped.py.
 import re
 
 import grouped
+import hinted
 import placed as by_place
 from explained import NOTHING
 from machine import FENCES, FLUSHES, spelled
@@ -333,7 +334,7 @@ def idle_lines(explained):
 
 def found_nothing(explained):
     """Whether something is asked for that no finding meets."""
-    found = (explained.causes, explained.never_persisted(), explained.dropped(), explained.overwritten(), explained.unwritten(), grouped.late(explained))
+    found = (explained.causes, explained.never_persisted(), explained.dropped(), explained.overwritten(), explained.unwritten(), grouped.late(explained), hinted.hints(explained))
     return explained.asked != NOTHING and not any(found)
 
 
@@ -350,6 +351,8 @@ def wrong_text(explained, told):
     for heading, wanted in (*((heading, of(explained)) for heading, of in sections), *tables(explained)):
         if below(lines, heading) != wanted:
             return f"{heading} wanted {wanted}, in\n{told.decode()}"
+    if below(lines, hinted.HEADING) != list(hinted.lines(explained)):
+        return f"hints: wanted {list(hinted.lines(explained))}, in\n{told.decode()}"
     if [line for line in lines if line.startswith("guess: ")] != by_place.guess_lines(explained):
         return f"the guess: wanted {by_place.guess_lines(explained)}, in\n{told.decode()}"
     wrong = wrong_late(explained, lines) or wrong_places(explained, lines)
@@ -377,6 +380,7 @@ def wrong_screen(explained, told):
         "overwritten": explained.overwritten(),
         "left unsafe": [] if explained.is_whole() else grouped.late(explained),
         "places": list(by_place.heads(explained)),
+        "hint": hinted.hints(explained),
     }
     for name, entries in found.items():
         if entries and not any(name in line for line in lines[5:]):

@@ -11,7 +11,7 @@ struct Head {
     color: &'static [u8],
 }
 
-const HEADS: [Head; 6] = [
+const HEADS: [Head; 8] = [
     Head {
         word: b"error:",
         color: b"\x1b[1;31m",
@@ -23,6 +23,14 @@ const HEADS: [Head; 6] = [
     Head {
         word: b"note:",
         color: b"\x1b[1;36m",
+    },
+    Head {
+        word: b"hint:",
+        color: b"\x1b[1;36m",
+    },
+    Head {
+        word: b"hints:",
+        color: b"\x1b[1m",
     },
     Head {
         word: b"table:",

@@ -15,6 +15,7 @@ pub const KINDS: &[&str] = &[
     "overwritten",
     "unwritten",
     "late",
+    "hint",
 ];
 
 /// Which findings are told.
@@ -81,6 +82,7 @@ fn kind_of(word: Option<&str>) -> Option<Kind> {
         "overwritten" => Some(Kind::Overwritten),
         "unwritten" => Some(Kind::Unwritten),
         "late" => Some(Kind::Late),
+        "hint" => Some(Kind::Hint),
         _ => None,
     }
 }

@@ -10,7 +10,7 @@ const COLORS: &[&str] = &["auto", "always", "never"];
 
 // The help of --only, with what stands in KINDS on two lines.
 const ONLY: &str =
-    "Tell findings of this kind alone{n}[possible values: failure, never_persisted, dropped,{n}overwritten, unwritten, late]";
+    "Tell findings of this kind alone{n}[possible values: failure, never_persisted, dropped,{n}overwritten, unwritten, late, hint]";
 
 /// How `explain` is used.
 pub const USAGE: &str =

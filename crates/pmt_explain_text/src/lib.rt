@@ -8,6 +8,7 @@ mod dropped;
 mod failures;
 mod fixes;
 mod guesses;
+mod hints;
 mod ignored;
 mod late;
 mod lost;

@@ -188,7 +188,7 @@ const BETWEEN: &str =
     "          Flush its cache line in between, and fence by the thread that flushes it.\n";
 
 // The most events that are searched for the next fence of a thread.
-const NEAR: u64 = 10_000;
+pub(crate) const NEAR: u64 = 10_000;
 
 // The next fence of the thread after the event and before the other one, if it comes soon.
 pub(crate) fn next_fence(

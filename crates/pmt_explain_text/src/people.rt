@@ -3,6 +3,7 @@
 use crate::dropped::dropped_section;
 use crate::failures::failures_section;
 use crate::guesses::guesses_section;
+use crate::hints::hints_section;
 use crate::late::late_section;
 use crate::lost::lost_section;
 use crate::overwritten::overwritten_section;
@@ -39,6 +40,7 @@ pub fn text(
         failures_section(&told),
         places_section(&told),
         lost_section(&told),
+        hints_section(&told),
         dropped_section(&told),
         overwritten_section(&told),
         late_section(&told),

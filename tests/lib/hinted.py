@@ -1,0 +1,130 @@
+"""What `explain` hints at, by the definitions: three sets of events, and their groups by kind and place.
+
+What a run can reach, and so what is kept, is that of machine.py. Places are those of placed.py.
+"""
+import functools
+
+from grouped import grouped
+from machine import FENCES, FLUSHES, is_kept
+from placed import name_of, place
+
+HEADING = "hints: no rule forbids these, and most are slips; the status does not count them:"
+WORDS = {
+    "split_word": "a word is stored in two cache lines, of which a crash can keep one",
+    "stored_after_flush": "a store comes after the flush of its cache line, which misses it",
+    "open_at_store": "a flush is unfenced at a store to another line, which a crash can keep alone",
+}
+OTHERS = {"split_word": "other part event", "stored_after_flush": "flush event", "open_at_store": "store event"}
+FIXES = {
+    "split_word": "Lay the word out in one cache line, or let a log or a checksum vouch for both parts.",
+    "open_at_store": "If that store may not be saved first, fence before it; isOrderedBefore claims the order.",
+}
+
+
+def own(trace, thread, words, numbers):
+    """Those of these events that the thread makes by one of these words."""
+    return [number for number in numbers if trace.event(number)[1] == thread and trace.event(number)[0] in words]
+
+
+def until_fence(trace, number):
+    """The events after this one up to the next fence of its thread, without that."""
+    later = range(number + 1, len(trace.events) + 1)
+    return range(number + 1, min(own(trace, trace.event(number)[1], FENCES, later), default=len(trace.events) + 1))
+
+
+# Each set tells of an event the one that it goes with, or None where it is not in the set.
+
+
+def half_before(explained, number):
+    """Split word: a store, and the one that its thread made before it, from one place. The bytes of one follow those of the other, at
+    most 8 together, and the later bytes begin a line."""
+    trace = explained.trace
+    before = own(trace, trace.event(number)[1], ("store",), range(1, number))
+    if trace.event(number)[0] != "store" or not before or place(explained, before[-1]) != place(explained, number):
+        return None
+    (_, _, low, part), (_, _, high, rest) = sorted((trace.event(before[-1]), trace.event(number)), key=lambda event: event[2])
+    is_split = low + len(part) == high and high % trace.size == 0 and len(part) + len(rest) <= 8
+    return before[-1] if is_split else None
+
+
+def flush_before(explained, number):
+    """Stored after its flush: a store to a line that its thread has flushed and not fenced since. No flush of the line comes before the next
+    fence of the thread."""
+    trace = explained.trace
+    word, thread = trace.event(number)[:2]
+    if word != "store":
+        return None
+    line = trace.line(number)
+    flushes = [other for other in own(trace, thread, FLUSHES, range(1, number)) if trace.line(other) == line and number in until_fence(trace, other)]
+    again = [other for other in until_fence(trace, number) if trace.is_flush_of(other, line, ("clflush", *FLUSHES))]
+    return flushes[-1] if flushes and not again else None
+
+
+def store_past(trace, number):
+    """The next store by the thread of a flush to another line that comes before the thread's next fence, if one does."""
+    stores = [other for other in own(trace, trace.event(number)[1], ("store",), until_fence(trace, number)) if trace.line(other) != trace.line(number)]
+    return stores[0] if stores else None
+
+
+@functools.lru_cache(maxsize=1)
+def kept_flushes(explained):
+    """The flushes that are kept, by place."""
+    found = {}
+    for number in explained.trace.numbers:
+        if explained.trace.event(number)[0] in FLUSHES and is_kept(explained.trace, number):
+            found.setdefault(place(explained, number), []).append(number)
+    return found
+
+
+def store_elsewhere(explained, number):
+    """Open at a store: a flush that is kept, and that its thread has not fenced when it stores to another line. It is told where that is so of
+    each kept flush of its place."""
+    flushes = kept_flushes(explained).get(place(explained, number), [])
+    is_told = number in flushes and all(store_past(explained.trace, flush) for flush in flushes)
+    return store_past(explained.trace, number) if is_told else None
+
+
+SETS = {"split_word": half_before, "stored_after_flush": flush_before, "open_at_store": store_elsewhere}
+
+
+@functools.lru_cache(maxsize=1)
+def hints(explained):
+    """Of each hint its kind, place and events: those of one kind with most events first, and of as many that with the lowest one."""
+    found = []
+    for kind, goes_with in SETS.items():
+        events = [number for number in explained.trace.numbers if explained.is_asked("hint", number) and goes_with(explained, number)]
+        found += [(kind, key, numbers) for key, numbers in grouped((place(explained, number), number) for number in events)]
+    return found
+
+
+def entries(explained):
+    """What the JSON has of them."""
+    for kind, (origin, name), numbers in hints(explained):
+        yield {"kind": "hint", "hint": kind, "count": len(numbers), "first": explained.event(numbers[0]), "label": None, "thread": None, origin: name}
+
+
+# In words
+
+
+def named(explained, number):
+    label = explained.labels.get(number)
+    return f"event {number}" + (f" ({label})" if label else "")
+
+
+def fix(explained, kind, number):
+    """What to do about the event."""
+    if kind != "stored_after_flush":
+        return FIXES[kind]
+    trace, fence = explained.trace, until_fence(explained.trace, number).stop
+    at = f", {named(explained, fence)}" if fence <= len(trace.events) else ""
+    line, thread = explained.address(trace.line(number)), trace.event(number)[1]
+    return f"Flush cache line {line} by thread {thread} after {named(explained, number)}, before its next fence{at}."
+
+
+def lines(explained):
+    """Two lines for each hint."""
+    for kind, key, numbers in hints(explained):
+        times = "1 time" if len(numbers) == 1 else f"{len(numbers)} times"
+        other = f"{OTHERS[kind]} {SETS[kind](explained, numbers[0])}"
+        yield f"hint: {name_of(key)}: {times} {WORDS[kind]}; first: event {numbers[0]}, {other}"
+        yield f"  fix:    {fix(explained, kind, numbers[0])}"
