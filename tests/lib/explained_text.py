@@ -334,7 +334,7 @@ def idle_lines(explained):
 
 def found_nothing(explained):
     """Whether something is asked for that no finding meets."""
-    found = (explained.causes, explained.never_persisted(), explained.dropped(), explained.overwritten(), explained.unwritten(), grouped.late(explained), hinted.hints(explained))
+    found = (explained.causes, explained.never_persisted(), explained.dropped(), explained.overwritten(), explained.unwritten(), grouped.late(explained), hinted.hints(explained), hinted.left(explained))
     return explained.asked != NOTHING and not any(found)
 
 
@@ -380,7 +380,7 @@ def wrong_screen(explained, told):
         "overwritten": explained.overwritten(),
         "left unsafe": [] if explained.is_whole() else grouped.late(explained),
         "places": list(by_place.heads(explained)),
-        "hint": hinted.hints(explained),
+        "hint": [*hinted.hints(explained), *hinted.left(explained)],
     }
     for name, entries in found.items():
         if entries and not any(name in line for line in lines[5:]):

@@ -1,4 +1,4 @@
-"""What `explain` hints at, by the definitions: three sets of events, and their groups by kind and place.
+"""What `explain` hints at, by the definitions: three sets of events, their groups by kind and place, and places by what becomes of their stores.
 
 What a run can reach, and so what is kept, is that of machine.py. Places are those of placed.py.
 """
@@ -6,7 +6,7 @@ import functools
 
 from grouped import grouped
 from machine import FENCES, FLUSHES, is_kept
-from placed import name_of, place
+from placed import name_of, place, rows
 
 HEADING = "hints: no rule forbids these, and most are slips; the status does not count them:"
 WORDS = {
@@ -121,6 +121,25 @@ def fix(explained, kind, number):
     return f"Flush cache line {line} by thread {thread} after {named(explained, number)}, before its next fence{at}."
 
 
+@functools.lru_cache(maxsize=1)
+def left(explained):
+    """The places without another hint that lose and delay no store, and each of whose stores one fence of its thread leaves unsafe, if hints
+    at all places are asked for."""
+    asks_all = all(value is None for name, value in explained.asked.items() if name != "only") and explained.asked["only"] in (None, "hint")
+    hinted = {key for _, key, _ in hints(explained)}
+    places = [(key, row) for key, row in rows(explained) if key not in hinted and not row["never_persisted"] and not row["late"]]
+    return [(key, row) for key, row in places if asks_all and 0 < row["left"] == row["in_time"]]
+
+
+def left_lines(explained):
+    """Two lines for each such place."""
+    for key, row in left(explained):
+        count, number = row["left"], row["first_left"]
+        stores = "1 store is" if count == 1 else f"{count} stores are"
+        yield f"hint: {name_of(key)}: {stores} saved one fence late, and a crash can keep what the fence before saves without them; first: event {number}"
+        yield f"  fix:    {fix(explained, 'stored_after_flush', number)}"
+
+
 def lines(explained):
     """Two lines for each hint."""
     for kind, key, numbers in hints(explained):
@@ -128,3 +147,4 @@ def lines(explained):
         other = f"{OTHERS[kind]} {SETS[kind](explained, numbers[0])}"
         yield f"hint: {name_of(key)}: {times} {WORDS[kind]}; first: event {numbers[0]}, {other}"
         yield f"  fix:    {fix(explained, kind, numbers[0])}"
+    yield from left_lines(explained)

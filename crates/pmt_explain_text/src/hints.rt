@@ -1,5 +1,6 @@
 //! What no rule forbids and mostly is a slip, in words.
 
+use crate::left::{add_left, count_left};
 use crate::members::line_of_store;
 use crate::parts::{NEAR, push_count, push_own_flush, push_place_name};
 use crate::screen::Section;
@@ -18,7 +19,7 @@ pub(crate) fn hints_section(told: &Telling<'_>) -> Section {
     let mut section = Section::new(
         told.alloc,
         HEADING,
-        hints.len(),
+        hints.len().saturating_add(count_left(told)),
         "hints",
         "--only hint --limit all",
     );
@@ -33,6 +34,7 @@ pub(crate) fn hints_section(told: &Telling<'_>) -> Section {
         }
         before = Some(hint.kind);
     }
+    add_left(&mut section, told, is_brief);
     section
 }
 

@@ -11,6 +11,7 @@ mod guesses;
 mod hints;
 mod ignored;
 mod late;
+mod left;
 mod lost;
 mod members;
 mod memory;
