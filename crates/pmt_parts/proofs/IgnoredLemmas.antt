@@ -1,0 +1,56 @@
+-- Where no range is ignored.
+use Rattle.std.proofs.Common.{◌≡◌, ℕ, zero, suc, ◌≤◌, inl, inr, false, List, [], ◌∷◌, length, refl, arith}
+use Rattle.std.specs.Prelude.{slice_get}
+use Rattle.std.specs.List.{AllByRecursion}
+use Rattle.pmt_model.specs.declared.event.Event.{Event}
+use Rattle.pmt_model.specs.declared.event.Op.{Op}
+use Rattle.pmt_model.specs.declared.event.Op.TheVariants as ops
+use Rattle.pmt_model.specs.Traces.{Recording, IsEventIn, IsOp, event}
+use Rattle.pmt_explanation.specs.Ignoring.{are_ignored, is_op_ignored, is_event_ignored, is_ignored}
+use Rattle.pmt_part_laws.specs.Parts.{IsWellFormed}
+use Rattle.pmt_parts.specs.Laws.{PartOfAll}
+
+none-ignored : (a : ℕ) (bytes : List ℕ) → 1 ≤ length bytes → are_ignored [] a bytes ≡ false
+none-ignored a [] some = absurd (omega (arith, some))
+none-ignored a (b ∷ bytes) some = refl
+
+op-told : (op : Op) → IsOp op → is_op_ignored [] op ≡ false
+op-told (ops.Store w) is = none-ignored w.addr w.bytes is.some
+op-told (ops.Clwb a) is = refl
+op-told (ops.ClflushOpt a) is = refl
+op-told (ops.Clflush a) is = refl
+op-told ops.Sfence is = refl
+op-told ops.Mfence is = refl
+op-told (ops.IsPersist r) is = refl
+op-told (ops.IsOrderedBefore r q) is = refl
+
+get-told : (T : Recording) (es : List Event) (i : ℕ) → AllByRecursion (IsEventIn T.format) es → is_event_ignored [] (slice_get es i) ≡ false
+get-told T [] i all = refl
+get-told T (e ∷ es) zero all = op-told e.op all.0.event.op
+get-told T (e ∷ es) (suc i) all = get-told T es i all.1
+
+told : (T : Recording) (k : ℕ) → IsWellFormed T → is_ignored T [] k ≡ false
+told T zero well = refl
+told T (suc i) well = get-told T T.events i well.each
+
+pub part_of_all : PartOfAll
+part_of_all T q r K well = (
+  λ part. record {
+    order = part.order;
+    within = part.within;
+    rising = part.rising;
+    just = λ k. (
+      λ has. elim ((part.just k).0 has) [ inl taken ↦ inl taken.0 | inr x ↦ inr x ],
+      λ x. (part.just k).1 (elim x [ inl carried ↦ inl (carried, told T k well) | inr late ↦ inr late ]),
+    );
+  },
+  λ part. record {
+    order = part.order;
+    within = part.within;
+    rising = part.rising;
+    just = λ k. (
+      λ has. elim ((part.just k).0 has) [ inl carried ↦ inl (carried, told T k well) | inr x ↦ inr x ],
+      λ x. (part.just k).1 (elim x [ inl taken ↦ inl taken.0 | inr late ↦ inr late ]),
+    );
+  },
+)

@@ -1,0 +1,9 @@
+pub mod CarryLemmas
+pub mod PickLemmas
+pub mod ChosenLemmas
+pub mod GrowLemmas
+pub mod FollowLemmas
+pub mod IgnoredLemmas
+pub mod AsideLemmas
+pub mod MetLemmas
+pub mod PieceLemmas

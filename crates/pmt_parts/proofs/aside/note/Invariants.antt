@@ -1,0 +1,7 @@
+use Rattle.std.proofs.Common.{ℕ, ◌≤◌, ◌<◌, ◌⊎◌}
+use Rattle.std.specs.Prelude.{◌↔◌}
+use Rattle.pmt_parts.specs.Aside.{HasByte}
+use Rattle.pmt_parts.proofs.aside.note.Given as goal
+
+abbrev pub invariant-loop-byte : goal.invariant-loop-byte
+invariant-loop-byte l = (b : ℕ) → HasByte l.written.keys b ↔ (HasByte l.fn.written.keys b ⊎ ((l.store.addr ≤ b) × (b < l.byte)))

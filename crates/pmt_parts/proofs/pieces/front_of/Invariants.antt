@@ -1,0 +1,6 @@
+use Rattle.std.proofs.Common.{◌≡◌, ◌<◌, take}
+use Rattle.pmt_parts.specs.Cutting.{line_count}
+use Rattle.pmt_parts.proofs.pieces.front_of.Given as goal
+
+abbrev pub invariant-loop-index : goal.invariant-loop-index
+invariant-loop-index l = (line_count (take l.index l.bytes) ≡ l.lines) × (l.lines < l.most)

@@ -1,0 +1,6 @@
+pub mod Making
+pub mod Picking
+pub mod Cutting
+pub mod Reading
+pub mod Aside
+pub mod Laws
