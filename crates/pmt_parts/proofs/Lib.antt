@@ -7,3 +7,4 @@ pub mod IgnoredLemmas
 pub mod AsideLemmas
 pub mod MetLemmas
 pub mod PieceLemmas
+pub mod TextLemmas

@@ -1,7 +1,8 @@
-//! What a part without the ignored stores of its carry owes to the whole.
+//! What a part without the ignored stores of its carry owes to the whole, and what pieces of a text do.
 
 ghost use Rattle.pmt_parts.specs.Aside.{AsideByWhole, AsideIsAll};
 ghost use Rattle.pmt_parts.specs.Laws.{PartCarriesAt, PartOfAll};
+ghost use Rattle.pmt_parts.specs.LongTexts.{EventsOfPieces};
 
 /// Where no range is ignored, a part is what pmt_part_laws calls so, and all that stands there holds of it.
 pub fn part_of_all()
@@ -21,4 +22,9 @@ pub fn aside_by_whole()
 /// Each isOrderedBefore whose verdict the part does not know is set aside.
 pub fn aside_is_all()
     ensures { AsideIsAll }
+{}
+
+/// Where a piece of whole lines is judged a trace behind the header of a text of any length, that text has just its events there.
+pub fn events_of_pieces()
+    ensures { EventsOfPieces }
 {}

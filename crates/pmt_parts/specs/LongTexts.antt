@@ -1,0 +1,36 @@
+-- A text of any length, and its pieces as texts of their own.
+use Rattle.std.specs.Prelude.{◌≡◌, ℕ, ◌+◌, ◌⊎◌, false, List, [], ◌∷◌, ◌++◌, length, Some, None, Result, Ok, Err}
+use Rattle.pmt_model.specs.declared.event.Event.{Event}
+use Rattle.pmt_model.specs.Values.{Layout}
+use Rattle.pmt_model.specs.Traces.{Recording}
+use Rattle.pmt_text.specs.declared.kind.TextKind.{TextKind}
+use Rattle.pmt_text.specs.Coming.{Items, ends_with, fault_at, rest_fault, text_lines, format_in, judged, whole}
+use Rattle.pmt_text.specs.Judging.{line_judged}
+use Rattle.pmt_text.specs.OneLine.{IsOneLine}
+use Rattle.pmt_parts.specs.Cutting.{EndsLine}
+
+-- A line is refused as of the kind, or it is an item.
+abbrev pub long_item : {A : Type 0} → ℕ → Result A TextKind → Items A → Items A
+long_item number (Err kind) later = ends_with (Some (fault_at number kind))
+long_item number (Ok x) later = record { items = x ∷ later.items; fault = later.fault }
+
+-- Lines by this rule, of which the first has this number: as many as there are.
+unfoldable pub long_coming : {A : Type 0} → (List ℕ → Result A TextKind) → ℕ → List (List ℕ) → Items A
+long_coming rule number [] = ends_with None
+long_coming rule number (rest ∷ []) = ends_with (rest_fault false number rest)
+long_coming rule number (line ∷ next ∷ tail) = long_item number (rule line) (long_coming rule (number + 1) (next ∷ tail))
+
+-- What comes from the bytes after the header of a text of any length, where the first of these lines has this number.
+abbrev pub body_coming : Layout → ℕ → List ℕ → Items Event
+body_coming f number bytes = long_coming (line_judged f) number (text_lines bytes)
+
+-- These items, and then what comes later.
+abbrev pub items_then : {A : Type 0} → List A → Items A → Items A
+items_then xs later = record { items = xs ++ later.items; fault = later.fault }
+
+-- Where a piece of whole lines is judged a trace behind the header of the whole, the whole has just the events of that trace there, a line
+-- for each, and then what comes from the rest.
+abbrev pub EventsOfPieces : Type 0
+EventsOfPieces =
+    (head piece rest : List ℕ) (f : Layout) (B : Recording) (number : ℕ) → IsOneLine head → format_in head ≡ Some f → (piece ≡ []) ⊎ EndsLine piece → judged (head ++ 10 ∷ piece) ≡ whole B →
+    (B.format ≡ f) × (body_coming f number (piece ++ rest) ≡ items_then B.events (body_coming f (number + length B.events) rest))
