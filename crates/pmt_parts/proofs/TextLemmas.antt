@@ -1,19 +1,21 @@
 -- The events of a text of any length, piece by piece.
-use Rattle.std.proofs.Common.{◌≡◌, ℕ, suc, ◌+◌, ◌⊎◌, inl, inr, Bool, true, false, cond, ◌==◌, nat_lt, if◌then◌else◌, List, [], ◌∷◌, ◌++◌, length, Option, Some, None, Result, Ok, Err, append_assoc, refl, sym, ap, subst, ◌∙◌, arith}
+use Rattle.std.proofs.Common.{◌≡◌, ℕ, suc, ◌+◌, ◌<◌, ◌≤◌, ◌⊎◌, length-append, append-nil, lt-ltb, inl, inr, Bool, true, false, cond, ◌==◌, nat_lt, if◌then◌else◌, List, [], ◌∷◌, ◌++◌, length, Option, Some, None, Result, Ok, Err, append_assoc, refl, sym, ap, subst, ◌∙◌, arith}
 use Rattle.std.specs.List.{onto_first}
 use Rattle.pmt_model.specs.declared.event.Event.{Event}
 use Rattle.pmt_model.specs.Values.{Layout}
 use Rattle.pmt_model.specs.Traces.{Recording, event_limit}
 use Rattle.pmt_text.specs.declared.kind.TextKind.{TextKind}
-use Rattle.pmt_text.specs.declared.kind.TextKind.TheVariants.{TooManyEvents}
+use Rattle.pmt_text.specs.declared.kind.TextKind.TheVariants.{Truncated, TooManyEvents}
+use Rattle.pmt_text.specs.declared.kind.TextError.{TextError}
+use Rattle.pmt_text.specs.declared.kind.SourceError.TheVariants.{Text}
 use Rattle.pmt_text.specs.declared.kind.SourceError.{SourceError}
-use Rattle.pmt_text.specs.Coming.{Items, Coming, ends_with, fault_at, item_then, lines_coming, text_lines, header_then, format_in, judged, whole}
+use Rattle.pmt_text.specs.Coming.{Items, Coming, ends_with, fault_at, item_then, rest_fault, lines_coming, text_lines, header_then, format_in, judged, whole}
 use Rattle.pmt_text.specs.Judging.{line_judged}
 use Rattle.pmt_text.proofs.ComingLemmas.{text_lines-nonempty}
 use Rattle.pmt_text.proofs.ReaderLemmas.{judged-lines}
 use Rattle.pmt_text.proofs.TextLemmas.{first_line}
-use Rattle.pmt_parts.specs.Cutting.{EndsLine}
-use Rattle.pmt_parts.specs.LongTexts.{long_item, long_coming, body_coming, items_then, EventsOfPieces}
+use Rattle.pmt_parts.specs.Cutting.{EndsLine, line_count}
+use Rattle.pmt_parts.specs.LongTexts.{long_item, long_coming, body_coming, items_then, EventsOfPieces, FaultsOfPieces}
 
 -- ---- Lines
 
@@ -125,3 +127,104 @@ events_of_pieces head piece rest f B number one format whole_lines is = (
 
     follow : Follows (line_judged f) number split.lines (text_lines rest) B.events
     follow = lines-follow (line_judged f) 2 0 number split.lines (text_lines rest) B.events (text_lines-nonempty rest) items
+
+-- ---- Faults
+
+-- a fault at a line is the same one so many lines later
+same-fault : (number later m : ℕ) (kind : TextKind) (t : TextError) → later ≡ number + m → Some (fault_at number kind) ≡ Some (Text t) → Some (fault_at later kind) ≡ Some (Text (record { line = t.line + m; kind = t.kind }))
+same-fault number later m kind t place e =
+    let one : record { line = number; kind = kind } ≡ t = cc in
+    ap (λ n. Some (fault_at n kind)) place ∙ ap (λ (u : TextError). Some (Text (record { line = u.line + m; kind = u.kind }))) one
+
+-- What holds of the last lines holds of all.
+abbrev Shifts : {A : Type 0} → (List ℕ → Result A TextKind) → ℕ → TextError → List (List ℕ) → List (List ℕ) → ℕ → Type 0
+Shifts rule m t short long before =
+    (lines_coming rule false 2 before short).fault ≡ Some (Text t) → (long_coming rule (2 + before + m) long).fault ≡ Some (Text (record { line = t.line + m; kind = t.kind }))
+
+item-shifts : {A : Type 0} (m before : ℕ) (t : TextError) (j : Result A TextKind) (short long : Items A) → before < event_limit → (short.fault ≡ Some (Text t) → long.fault ≡ Some (Text (record { line = t.line + m; kind = t.kind }))) →
+    (item_then (2 + before) before j short).fault ≡ Some (Text t) → (long_item (2 + before + m) j long).fault ≡ Some (Text (record { line = t.line + m; kind = t.kind }))
+item-shifts m before t (Err kind) short long few rest e = same-fault (2 + before) (2 + before + m) m kind t refl e
+item-shifts m before t (Ok x) short long few rest e =
+    rest (sym (ap (λ b. (if b then record { items = x ∷ short.items; fault = short.fault } else ends_with (Some (fault_at (2 + before) TooManyEvents))).fault) (lt-ltb before event_limit few)) ∙ e)
+
+lines-shift : {A : Type 0} (rule : List ℕ → Result A TextKind) (m : ℕ) (t : TextError) (ls short long : List (List ℕ)) (before : ℕ) → before + length ls ≤ event_limit → (short ≡ [] → ⊥) → (long ≡ [] → ⊥) →
+    ((b : ℕ) → Shifts rule m t short long b) → Shifts rule m t (ls ++ short) (ls ++ long) before
+lines-shift rule m t [] short long before few some also last e = last before e
+lines-shift rule m t (l ∷ ls) short long before few some also last e =
+    let next : 2 + before + m + 1 ≡ 2 + (before + 1) + m = omega arith in
+    let rest = lines-shift rule m t ls short long (before + 1) (omega (arith, few)) some also last in
+    ap (λ i. i.fault) (long-line rule (2 + before + m) l (ls ++ long) (some-lines ls long also))
+    ∙ item-shifts m before t (rule l) (lines_coming rule false 2 (before + 1) (ls ++ short)) (long_coming rule (2 + before + m + 1) (ls ++ long)) (omega (arith, few))
+    (λ f. ap (λ n. (long_coming rule n (ls ++ long)).fault) next ∙ rest f) (sym (ap (λ i. i.fault) (short-line rule 2 before l (ls ++ short) (some-lines ls short some))) ∙ e)
+
+-- lines and a last one
+record IsEnded (lines : List (List ℕ)) : Type 0 where
+  front : List (List ℕ)
+  last : List ℕ
+  whole : lines ≡ front ++ last ∷ []
+
+ended-lines : (l : List ℕ) (ls : List (List ℕ)) → IsEnded (l ∷ ls)
+ended-lines l [] = record { front = []; last = l; whole = refl }
+ended-lines l (next ∷ ls) = let x = ended-lines next ls in record { front = l ∷ x.front; last = x.last; whole = ap (λ ys. l ∷ ys) x.whole }
+
+short-rest : {A : Type 0} (rule : List ℕ → Result A TextKind) (before : ℕ) (rest : List ℕ) → lines_coming rule false 2 before (rest ∷ []) ≡ ends_with (rest_fault false (2 + before) rest)
+unfolding lines_coming
+short-rest rule before rest = refl
+
+long-rest : {A : Type 0} (rule : List ℕ → Result A TextKind) (number : ℕ) (rest : List ℕ) → long_coming rule number (rest ∷ []) ≡ ends_with (rest_fault false number rest)
+unfolding long_coming
+long-rest rule number rest = refl
+
+-- of a last line without LF
+rest-shifts : {A : Type 0} (rule : List ℕ → Result A TextKind) (m : ℕ) (t : TextError) (rest : List ℕ) (before : ℕ) → Shifts rule m t (rest ∷ []) (rest ∷ []) before
+rest-shifts rule m t rest before e = ap (λ i. i.fault) (long-rest rule (2 + before + m) rest) ∙ go rest (sym (ap (λ i. i.fault) (short-rest rule before rest)) ∙ e)
+  where
+    go : (bytes : List ℕ) → rest_fault false (2 + before) bytes ≡ Some (Text t) → rest_fault false (2 + before + m) bytes ≡ Some (Text (record { line = t.line + m; kind = t.kind }))
+    go [] none = absurd cc
+    go (b ∷ bytes) is = same-fault (2 + before) (2 + before + m) m Truncated t refl is
+
+-- as many lines stand there as end, and one
+lines-length : (bytes : List ℕ) → length (text_lines bytes) ≡ suc (line_count bytes)
+lines-length [] = refl
+lines-length (b ∷ bytes) = go (b == 10) (text_lines bytes) (text_lines-nonempty bytes) (lines-length bytes)
+  where
+    go : (t : Bool) (parts : List (List ℕ)) → (parts ≡ [] → ⊥) → length parts ≡ suc (line_count bytes) → length (cond t ([] ∷ parts) (onto_first b parts)) ≡ suc (if t then suc (line_count bytes) else line_count bytes)
+    go true parts some is = ap (λ n. suc n) is
+    go false [] some is = absurd (some refl)
+    go false (part ∷ parts) some is = is
+
+pub faults_of_pieces : FaultsOfPieces
+faults_of_pieces head piece rest f t m one format few whole_lines is = go whole_lines
+  where
+    came : (lines_coming (line_judged f) false 2 0 (text_lines piece)).fault ≡ Some (Text t)
+    came = ap (λ (c : Coming). c.fault) (ap (λ o. header_then o false (text_lines piece)) (sym format) ∙ sym (judged-lines (head ++ 10 ∷ piece) head piece (first_line head piece one))) ∙ is
+
+    Wanted : List (List ℕ) → Type 0
+    Wanted lines = (long_coming (line_judged f) (2 + m) lines).fault ≡ Some (Text (record { line = t.line + m; kind = t.kind }))
+
+    place : 2 + 0 + m ≡ 2 + m
+    place = omega arith
+
+    by : (ls short long : List (List ℕ)) → length ls ≤ event_limit → (short ≡ [] → ⊥) → (long ≡ [] → ⊥) → ((b : ℕ) → Shifts (line_judged f) m t short long b) → text_lines piece ≡ ls ++ short → Wanted (ls ++ long)
+    by ls short long fewer some also last split =
+        subst (λ n. (long_coming (line_judged f) n (ls ++ long)).fault ≡ Some (Text (record { line = t.line + m; kind = t.kind }))) place
+        (lines-shift (line_judged f) m t ls short long 0 (omega (arith, fewer)) some also last (subst (λ lines. (lines_coming (line_judged f) false 2 0 lines).fault ≡ Some (Text t)) split came))
+
+    ends : (lines : List (List ℕ)) → (lines ≡ [] → ⊥) → IsEnded lines
+    ends [] some = absurd (some refl)
+    ends (l ∷ ls) some = ended-lines l ls
+
+    none-shifts : (tail : List (List ℕ)) (b : ℕ) → Shifts (line_judged f) m t ([] ∷ []) tail b
+    none-shifts tail b e = let none : None ≡ Some (Text t) = sym (ap (λ i. i.fault) (short-end (line_judged f) 2 b)) ∙ e in absurd cc
+
+    go : EndsLine piece ⊎ (rest ≡ []) → Wanted (text_lines (piece ++ rest))
+    go (inl ends_line) =
+        let split = lines-of piece rest (inr ends_line) in
+        let long : length (split.lines ++ [] ∷ []) ≡ suc (line_count piece) = ap (λ ls. length ls) (sym split.own) ∙ lines-length piece in
+        subst Wanted (sym split.both) (by split.lines ([] ∷ []) (text_lines rest) (omega (arith, long, few, length-append split.lines ([] ∷ []))) (λ e. cc) (text_lines-nonempty rest) (none-shifts (text_lines rest)) split.own)
+    go (inr none) =
+        let x = ends (text_lines piece) (text_lines-nonempty piece) in
+        let long : length (x.front ++ x.last ∷ []) ≡ suc (line_count piece) = ap (λ ls. length ls) (sym x.whole) ∙ lines-length piece in
+        let all : piece ++ rest ≡ piece = ap (λ ys. piece ++ ys) none ∙ append-nil piece in
+        subst Wanted (sym (ap text_lines all ∙ x.whole))
+        (by x.front (x.last ∷ []) (x.last ∷ []) (omega (arith, long, few, length-append x.front (x.last ∷ []))) (λ e. cc) (λ e. cc) (rest-shifts (line_judged f) m t x.last) x.whole)

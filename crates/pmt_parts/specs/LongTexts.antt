@@ -1,13 +1,15 @@
 -- A text of any length, and its pieces as texts of their own.
-use Rattle.std.specs.Prelude.{◌≡◌, ℕ, ◌+◌, ◌⊎◌, false, List, [], ◌∷◌, ◌++◌, length, Some, None, Result, Ok, Err}
+use Rattle.std.specs.Prelude.{◌≡◌, ℕ, ◌+◌, ◌≤◌, ◌⊎◌, false, List, [], ◌∷◌, ◌++◌, length, Some, None, Result, Ok, Err}
 use Rattle.pmt_model.specs.declared.event.Event.{Event}
 use Rattle.pmt_model.specs.Values.{Layout}
-use Rattle.pmt_model.specs.Traces.{Recording}
+use Rattle.pmt_model.specs.Traces.{Recording, event_limit}
 use Rattle.pmt_text.specs.declared.kind.TextKind.{TextKind}
+use Rattle.pmt_text.specs.declared.kind.TextError.{TextError}
+use Rattle.pmt_text.specs.declared.kind.SourceError.TheVariants.{Text}
 use Rattle.pmt_text.specs.Coming.{Items, ends_with, fault_at, rest_fault, text_lines, format_in, judged, whole}
 use Rattle.pmt_text.specs.Judging.{line_judged}
 use Rattle.pmt_text.specs.OneLine.{IsOneLine}
-use Rattle.pmt_parts.specs.Cutting.{EndsLine}
+use Rattle.pmt_parts.specs.Cutting.{EndsLine, line_count}
 
 -- A line is refused as of the kind, or it is an item.
 abbrev pub long_item : {A : Type 0} → ℕ → Result A TextKind → Items A → Items A
@@ -34,3 +36,10 @@ abbrev pub EventsOfPieces : Type 0
 EventsOfPieces =
     (head piece rest : List ℕ) (f : Layout) (B : Recording) (number : ℕ) → IsOneLine head → format_in head ≡ Some f → (piece ≡ []) ⊎ EndsLine piece → judged (head ++ 10 ∷ piece) ≡ whole B →
     (B.format ≡ f) × (body_coming f number (piece ++ rest) ≡ items_then B.events (body_coming f (number + length B.events) rest))
+
+-- Where a piece is refused behind the header, the whole is refused for the same: the line's number is that there and the number of lines,
+-- besides the header, that stand before the piece. The piece has no more lines than a trace has events, and is whole lines or the last one.
+abbrev pub FaultsOfPieces : Type 0
+FaultsOfPieces =
+    (head piece rest : List ℕ) (f : Layout) (t : TextError) (m : ℕ) → IsOneLine head → format_in head ≡ Some f → line_count piece ≤ event_limit → EndsLine piece ⊎ (rest ≡ []) →
+    (judged (head ++ 10 ∷ piece)).fault ≡ Some (Text t) → (body_coming f (2 + m) (piece ++ rest)).fault ≡ Some (Text (record { line = t.line + m; kind = t.kind }))

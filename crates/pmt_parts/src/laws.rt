@@ -2,7 +2,7 @@
 
 ghost use Rattle.pmt_parts.specs.Aside.{AsideByWhole, AsideIsAll};
 ghost use Rattle.pmt_parts.specs.Laws.{PartCarriesAt, PartOfAll};
-ghost use Rattle.pmt_parts.specs.LongTexts.{EventsOfPieces};
+ghost use Rattle.pmt_parts.specs.LongTexts.{EventsOfPieces, FaultsOfPieces};
 
 /// Where no range is ignored, a part is what pmt_part_laws calls so, and all that stands there holds of it.
 pub fn part_of_all()
@@ -27,4 +27,9 @@ pub fn aside_is_all()
 /// Where a piece of whole lines is judged a trace behind the header of a text of any length, that text has just its events there.
 pub fn events_of_pieces()
     ensures { EventsOfPieces }
+{}
+
+/// Where a piece is refused behind that header, the text is refused for the same, so many lines later as stand before the piece.
+pub fn faults_of_pieces()
+    ensures { FaultsOfPieces }
 {}
