@@ -23,6 +23,7 @@ OFFERED = {
     ("pmtrim", "draw", "--la"): ["--labels"],
     ("pmtrim", "image", "--po"): ["--pool"],
     ("pmtrim", "stat", "--comp"): ["--compare", "--compare-labels"],
+    ("pmtrim", "parts", "--o"): ["--out", "--overlap"],
     ("pmtrim-replay", "--of"): ["--off"],
     ("pmtrim-suite", "re"): ["record", "report"],
     ("pmtrim-suite", "report", "--fail-on", "o"): ["overwritten"],

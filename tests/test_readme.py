@@ -3,7 +3,7 @@ from checks import Checks, add_tests
 from documents import outputs_of
 from program import TOP, find
 
-DOCUMENTS = ("README.md", "docs/COMMANDS.md", "docs/MODEL.md", "docs/FORMAT.md", "docs/EXPLAIN.md", "docs/REPLAY.md", "docs/SLICE.md", "docs/STAT.md")
+DOCUMENTS = ("README.md", "docs/COMMANDS.md", "docs/MODEL.md", "docs/FORMAT.md", "docs/EXPLAIN.md", "docs/REPLAY.md", "docs/SLICE.md", "docs/STAT.md", "docs/PARTS.md")
 
 
 def setUpModule():

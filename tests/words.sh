@@ -23,7 +23,7 @@ judge() {
   fi
 }
 
-for command in '' check explain trim fronts record draw image slice stat; do
+for command in '' check explain trim fronts record draw image slice stat parts; do
   expect 0 'Statuses: ' ${command:+"$command"} --help
   expect 0 'Example: pmtrim' ${command:+"$command"} --help
 done

@@ -85,7 +85,7 @@ impl Fault {
 
     /// The fault that says what this one says and below it what the other one says, with the status of this one. Where memory is
     /// refused to that, it is `OutOfMemory`.
-    pub(crate) fn with_reason(self, alloc: Global, reason: &Fault) -> Fault {
+    pub fn with_reason(self, alloc: Global, reason: &Fault) -> Fault {
         match self.text_with(alloc, reason) {
             Ok(text) => match self.status() {
                 2 => Fault::Absent(text),

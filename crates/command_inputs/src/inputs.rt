@@ -45,14 +45,17 @@ pub fn trace_of<O: Opener, I: Read>(
     reader: &mut I,
 ) -> Result<Trace, Fault> {
     let bytes = bytes_of(alloc, input, files, reader)?;
-    match taken(alloc, bytes.as_slice()) {
+    match text_trace(alloc, bytes.as_slice()) {
         Ok(trace) => Ok(trace),
         Err(error) => Err(taken_fault(alloc, input, bytes.as_slice(), error)?),
     }
 }
 
-// The trace with this text.
-fn taken(alloc: Global, bytes: &[u8]) -> Result<Trace, TakeError> {
+/// The trace with this text.
+///
+/// # Errors
+/// `Source` with the fault of the text, `OutOfMemory`.
+pub fn text_trace(alloc: Global, bytes: &[u8]) -> Result<Trace, TakeError> {
     let mut source = TextSource::new(alloc, Counted::new(Cursor::new(bytes)));
     take_trace(alloc, &mut source)
 }
@@ -125,7 +128,7 @@ pub fn taken_fault(
     error: TakeError,
 ) -> Result<Fault, Fault> {
     match error {
-        TakeError::Source(SourceError::Text(fault)) => refused(alloc, input, text, fault),
+        TakeError::Source(SourceError::Text(fault)) => piece_fault(alloc, input, text, 0, fault),
         TakeError::Source(SourceError::TooMany) => Ok(too_long(alloc, input)?),
         TakeError::Source(SourceError::Read | SourceError::Failed) => {
             Ok(Fault::Run(RunError::Read))
@@ -136,11 +139,25 @@ pub fn taken_fault(
     }
 }
 
-// The fault of the trace's line that is refused.
-fn refused(alloc: Global, input: Input<'_>, text: &[u8], fault: TextError) -> Result<Fault, Fault> {
+/// The fault of the input's line that is refused, where this text is the header and a piece of the input that has so many lines before it,
+/// beside the header.
+///
+/// # Errors
+/// `OutOfMemory`.
+pub fn piece_fault(
+    alloc: Global,
+    input: Input<'_>,
+    text: &[u8],
+    before: u64,
+    fault: TextError,
+) -> Result<Fault, Fault> {
     let grammar = Grammar::of_trace(line_of_text(text, 1));
     let line = line_of_text(text, fault.line);
-    Ok(refused_text(alloc, input, &grammar, line, fault)?)
+    let whole = TextError {
+        line: fault.line.saturating_add(before),
+        kind: fault.kind,
+    };
+    Ok(refused_text(alloc, input, &grammar, line, whole)?)
 }
 
 /// The fault of this line of the input, which was refused for this: what it is in place of a trace or a script, or else the place, the

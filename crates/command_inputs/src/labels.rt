@@ -12,8 +12,10 @@ use std::alloc::{AllocError, Global};
 enum LabelError<'a> {
     // It does not end.
     Truncated,
-    // This field is no number of an event.
+    // This field is no number of an event of a trace.
     Event(&'a [u8]),
+    // This field is no number of an event, however many there are.
+    Number(&'a [u8]),
     // Its number does not come after this one.
     Order(u64),
     // No text follows.
@@ -37,6 +39,14 @@ impl LabelError<'_> {
                 Ok(Wrong {
                     what: format!(in alloc; "'{shown}' is no number of an event")?,
                     allowed: "a label is 'EVENT TEXT': a decimal number from 1 to 1000000 without leading zeros, a space and a text",
+                })
+            }
+            LabelError::Number(field) => {
+                let shown = shown(alloc, field)?;
+                let shown = shown.as_str();
+                Ok(Wrong {
+                    what: format!(in alloc; "'{shown}' is no number of an event")?,
+                    allowed: "a label is 'EVENT TEXT': a decimal number from 1 without leading zeros, a space and a text",
                 })
             }
             LabelError::Order(before) => Ok(Wrong {
@@ -74,7 +84,7 @@ pub fn read_labels(alloc: Global, name: &str, text: &[u8]) -> Result<Labels, Fau
         let Some((line, later)) = split_line(rest) else {
             return Err(refused(alloc, name, number, rest, LabelError::Truncated));
         };
-        match judged(line, before) {
+        match trace_label(line, before) {
             Ok((event, label)) => {
                 insert(alloc, &mut labels, event, label)?;
                 before = event;
@@ -86,12 +96,41 @@ pub fn read_labels(alloc: Global, name: &str, text: &[u8]) -> Result<Labels, Fau
     Ok(labels)
 }
 
+/// The event and the text of this line of a labels file, whose number, from 1, comes after this one. There may be any number of events.
+///
+/// # Errors
+/// A fault that names the line and what is wrong there; `OutOfMemory`.
+pub fn label_of<'a>(
+    alloc: Global,
+    name: &str,
+    number: u64,
+    line: &'a [u8],
+    before: u64,
+) -> Result<(u64, &'a str), Fault> {
+    let Some((line, _)) = split_line(line) else {
+        return Err(refused(alloc, name, number, line, LabelError::Truncated));
+    };
+    match label_in(line, before) {
+        Ok((event, label)) => Ok((event, label)),
+        Err(error) => Err(refused(alloc, name, number, line, error)),
+    }
+}
+
+// The event and the text of a line, which is of an event of a trace.
+fn trace_label(line: &[u8], before: u64) -> Result<(u64, &str), LabelError<'_>> {
+    let (field, _) = split_field(line);
+    match read_number(10, field) {
+        Some(event) if event >= 1 && event <= 1_000_000 => label_in(line, before),
+        _ => Err(LabelError::Event(field)),
+    }
+}
+
 // The event and the text of a line, where its number comes after this one.
-fn judged(line: &[u8], before: u64) -> Result<(u64, &str), LabelError<'_>> {
+fn label_in(line: &[u8], before: u64) -> Result<(u64, &str), LabelError<'_>> {
     let (field, rest) = split_field(line);
     let event = match read_number(10, field) {
-        Some(event) if event >= 1 && event <= 1_000_000 => event,
-        _ => return Err(LabelError::Event(field)),
+        Some(event) if event >= 1 => event,
+        _ => return Err(LabelError::Number(field)),
     };
     if event <= before {
         return Err(LabelError::Order(before));

@@ -26,11 +26,13 @@ pub use crate::cuts::cut_of;
 pub use crate::fault::{Fault, no_failure};
 pub use crate::input::{Input, STANDARD_INPUT};
 pub use crate::inputs::{
-    bytes_of, create_fault, labels_of, open_fault, opened, read_file, taken_fault, trace_of,
+    bytes_of, create_fault, labels_of, open_fault, opened, piece_fault, read_file, taken_fault,
+    text_trace, trace_of,
 };
+pub use crate::labels::label_of;
 pub use crate::opener::{OpenError, Opener, SystemFiles};
 pub use crate::origin::read_origin;
-pub use crate::outputs::{Output, check_apart, write_named, write_outputs};
+pub use crate::outputs::{Output, check_apart, remove_all, write_named, write_outputs};
 pub use crate::ranges::{asked_range, read_ranges};
 pub use crate::reading::{read_whole, reason, system_fault};
 pub use crate::reasons::{open_input, reasoned, write_output};

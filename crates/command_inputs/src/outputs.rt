@@ -129,7 +129,8 @@ fn write_output<O: Opener>(alloc: Global, files: &O, output: &Output) -> Result<
     }
 }
 
-fn remove_all<O: Opener>(files: &O, outputs: &[Output]) {
+/// Removes the files, those that are there.
+pub fn remove_all<O: Opener>(files: &O, outputs: &[Output]) {
     for output in outputs {
         files.remove(output.name.as_str());
     }

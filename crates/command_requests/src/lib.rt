@@ -5,6 +5,7 @@ mod drawing;
 mod explaining;
 mod imaging;
 mod measuring;
+mod parting;
 mod request;
 mod slicing;
 
@@ -12,6 +13,7 @@ pub use crate::drawing::Drawing;
 pub use crate::explaining::{Color, ExplainWords, Form};
 pub use crate::imaging::{AddressStores, AskedCrash, ImageRequest, ImageWords, ListWords};
 pub use crate::measuring::{StatForm, StatWords};
+pub use crate::parting::PartsWords;
 pub use crate::request::{CheckWords, FrontsWords, RecordWords, Request, TraceWords};
 pub use crate::slicing::{SliceSubject, SliceWords};
 

@@ -4,6 +4,7 @@ use crate::drawing::Drawing;
 use crate::explaining::ExplainWords;
 use crate::imaging::{ImageWords, ListWords};
 use crate::measuring::StatWords;
+use crate::parting::PartsWords;
 use crate::slicing::SliceWords;
 use std::alloc::{AllocError, Global};
 
@@ -32,6 +33,8 @@ pub enum Request<'a> {
     Slice(SliceWords<'a>),
     /// The figures of a trace.
     Stat(StatWords<'a>),
+    /// The parts of a trace of any length.
+    Parts(PartsWords<'a>),
     /// The trace that some scripts record.
     Record(RecordWords<'a>),
 }
@@ -132,6 +135,7 @@ impl<'a> Request<'a> {
             Request::ImageList(words) => words.file.is_none(),
             Request::Slice(words) => words.file.is_none(),
             Request::Stat(words) => words.file.is_none(),
+            Request::Parts(words) => words.file.is_none(),
             Request::Show(_) | Request::Record(_) => false,
         }
     }

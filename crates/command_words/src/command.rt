@@ -3,6 +3,7 @@ use crate::arguments::{Made, flag, out_file, trace_file, value, verbose, with};
 use crate::draw_words::draw_command;
 use crate::explain_command::explain_command;
 use crate::image_words::image_command;
+use crate::parts_words::parts_command;
 use crate::slice_words::slice_command;
 use crate::stat_words::stat_command;
 use clap::{Arg, ArgAction, Command};
@@ -24,8 +25,9 @@ pub fn commands<'a>(alloc: Global) -> Made<'a> {
     let trimming = with_command(with_command(explaining, trim(alloc)), fronts(alloc));
     let drawing = with_command(with_command(trimming, record(alloc)), draw_command(alloc));
     let imaging = with_command(drawing, image_command(alloc));
+    let slicing = with_command(imaging, slice_command(alloc));
     with_command(
-        with_command(imaging, slice_command(alloc)),
+        with_command(slicing, parts_command(alloc)),
         stat_command(alloc),
     )
 }
@@ -43,7 +45,7 @@ fn program<'a>(alloc: Global) -> Made<'a> {
     Ok(
         command
             .override_usage(
-                "pmtrim < TRACE\n       pmtrim check [--labels FILE] [--limit N] [--quiet] [--out FILE] [FILE]\n       pmtrim explain [--ignore A:N].. [--limit N] [--only KIND] .. [--labels FILE]\n                      [--json | --html [--source DIR]] [--out FILE] [FILE]\n       pmtrim trim [--stream | --out FILE] [FILE]\n       pmtrim fronts [--out FILE] FILE PLACE\n       pmtrim record [--out FILE] SCRIPT..\n       pmtrim draw [--failure N | --around I | --from I --to J] [--line A].. [--labels FILE]\n                   [--out FILE] [FILE]\n       pmtrim image (--failure N | --at PLACE [--all] [--line A:K]..) [--pool BASE --origin A]\n                    [--out FILE] [FILE]\n       pmtrim image --list [--at PLACES] [--off K] [--out FILE] [FILE]\n       pmtrim slice (--failure N | --store N) [[--labels FILE] --out FILE] [FILE]\n       pmtrim stat [--labels FILE] [--compare OTHER] [--budget FILE] [--json | --write-budget]\n                   [--out FILE] [FILE]",
+                "pmtrim < TRACE\n       pmtrim check [--labels FILE] [--limit N] [--quiet] [--out FILE] [FILE]\n       pmtrim explain [--ignore A:N].. [--limit N] [--only KIND] .. [--labels FILE]\n                      [--json | --html [--source DIR]] [--out FILE] [FILE]\n       pmtrim trim [--stream | --out FILE] [FILE]\n       pmtrim fronts [--out FILE] FILE PLACE\n       pmtrim record [--out FILE] SCRIPT..\n       pmtrim draw [--failure N | --around I | --from I --to J] [--line A].. [--labels FILE]\n                   [--out FILE] [FILE]\n       pmtrim image (--failure N | --at PLACE [--all] [--line A:K]..) [--pool BASE --origin A]\n                    [--out FILE] [FILE]\n       pmtrim image --list [--at PLACES] [--off K] [--out FILE] [FILE]\n       pmtrim slice (--failure N | --store N) [[--labels FILE] --out FILE] [FILE]\n       pmtrim stat [--labels FILE] [--compare OTHER] [--budget FILE] [--json | --write-budget]\n                   [--out FILE] [FILE]\n       pmtrim parts [--events N] [--overlap N] [--ignore A:N].. [--labels FILE] --out PREFIX [FILE]",
             )
             .about(
                 "Checks traces of persistent memory events, and trims the flushes and fences that no crash can{n}show. With no words it trims the trace on standard input.",

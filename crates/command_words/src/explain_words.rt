@@ -97,8 +97,11 @@ fn options_of(alloc: Global, given: &ArgMatches<'_>, choice: Choice) -> Result<O
     })
 }
 
-// The ranges that these words name.
-fn ignored_of(alloc: Global, ranges: &[&str]) -> Result<Vec<ByteRange>, Fault> {
+/// The ranges that these words of `--ignore` name.
+///
+/// # Errors
+/// A usage fault that names the first word that is no range; `OutOfMemory`.
+pub fn ignored_of(alloc: Global, ranges: &[&str]) -> Result<Vec<ByteRange>, Fault> {
     let mut ignored = Vec::new(alloc);
     for text in ranges {
         let range = asked_range(alloc, "--ignore <A:N>", text)?;

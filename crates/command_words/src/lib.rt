@@ -9,6 +9,7 @@ mod explain_command;
 mod explain_words;
 mod image_list_words;
 mod image_words;
+mod parts_words;
 mod request;
 mod slice_words;
 mod stat_words;

@@ -4,6 +4,7 @@ use crate::command::commands;
 use crate::draw_words::drawing_of;
 use crate::explain_words::explain_words;
 use crate::image_words::image_request;
+use crate::parts_words::parts_words;
 use crate::slice_words::slice_words;
 use crate::stat_words::stat_words;
 use clap::error::ErrorKind;
@@ -51,6 +52,7 @@ fn asked<'a>(alloc: Global, matches: &ArgMatches<'a>) -> Result<Request<'a>, Fau
         Some(("image", given)) => image(alloc, given),
         Some(("slice", given)) => Ok(Request::Slice(slice_words(alloc, given)?)),
         Some(("stat", given)) => Ok(Request::Stat(stat_words(alloc, given)?)),
+        Some(("parts", given)) => Ok(Request::Parts(parts_words(alloc, given)?)),
         Some(("draw", given)) => Ok(Request::Draw(drawing_of(alloc, given)?)),
         Some((_, given)) => trim(alloc, given),
         None => Ok(Request::Trim(TraceWords {

@@ -12,6 +12,7 @@ use command_draw::draw;
 use command_explain::run_explain;
 use command_image::{run_image, run_list};
 use command_inputs::{Fault, Opener, Recalls, write_answer, write_named};
+use command_parts::run_parts;
 use command_requests::Request;
 use command_slice::run_slice;
 use command_stat::run_stat;
@@ -145,6 +146,7 @@ where
         Request::ImageList(words) => run_list(alloc, words, files, input, out),
         Request::Slice(words) => run_slice(alloc, words, files, input, out),
         Request::Stat(words) => run_stat(alloc, words, files, input, out),
+        Request::Parts(words) => run_parts(alloc, words, files, input, out),
         Request::Record(words) => record(rt, files, words.scripts.as_slice(), out, recalls),
     }
 }

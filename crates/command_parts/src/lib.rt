@@ -1,0 +1,11 @@
+//! The command `parts`: a trace of any length, cut into parts that answer for it.
+#![tactic(auto)]
+
+mod carried;
+mod files;
+mod labels;
+mod parts;
+mod reading;
+mod told;
+
+pub use crate::parts::run_parts;
