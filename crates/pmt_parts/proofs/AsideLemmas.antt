@@ -1,6 +1,6 @@
 -- Assertions that are set aside, by the part and by the whole.
 use Rattle.std.proofs.Common.{◌≡◌, ℕ, ◌<◌, ◌≤◌, List, sym, subst, ◌∙◌, arith}
-use Rattle.pmt_model.specs.Machine.{Stores, writes}
+use Rattle.pmt_model.specs.Machine.{Stores}
 use Rattle.pmt_model.specs.Traces.{Recording}
 use Rattle.pmt_model.specs.Selections.{cut, matching_place}
 use Rattle.pmt_laws.proofs.Histories.{act-within}

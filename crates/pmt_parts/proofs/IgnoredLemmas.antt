@@ -5,7 +5,7 @@ use Rattle.std.specs.List.{AllByRecursion}
 use Rattle.pmt_model.specs.declared.event.Event.{Event}
 use Rattle.pmt_model.specs.declared.event.Op.{Op}
 use Rattle.pmt_model.specs.declared.event.Op.TheVariants as ops
-use Rattle.pmt_model.specs.Traces.{Recording, IsEventIn, IsOp, event}
+use Rattle.pmt_model.specs.Traces.{Recording, IsEventIn, IsOp}
 use Rattle.pmt_explanation.specs.Ignoring.{are_ignored, is_op_ignored, is_event_ignored, is_ignored}
 use Rattle.pmt_part_laws.specs.Parts.{IsWellFormed}
 use Rattle.pmt_parts.specs.Laws.{PartOfAll}

@@ -1,5 +1,5 @@
 -- One more event is met.
-use Rattle.std.proofs.Common.{◌≡◌, ℕ, zero, suc, ◌+◌, ◌<◌, ◌≤◌, inl, inr, true, false, List, [], ◌∷◌, ◌++◌, length, get_or, Some, refl, sym, ap, subst, ◌∙◌, true≢false, arith}
+use Rattle.std.proofs.Common.{◌≡◌, ℕ, zero, suc, ◌<◌, ◌≤◌, inl, inr, true, List, [], ◌∷◌, ◌++◌, length, get_or, Some, refl, sym, ap, subst, ◌∙◌, true≢false, arith}
 use Rattle.std.specs.Prelude.{◌⊎◌, ◌↔◌, nat_eq, slice_get}
 use Rattle.std.specs.List.{list_any}
 use Rattle.std.proofs.lemmas.Bool.{cases_lt}
@@ -9,7 +9,7 @@ use Rattle.pmt_model.specs.declared.event.Op.{Op}
 use Rattle.pmt_model.specs.declared.event.Op.TheVariants as ops
 use Rattle.pmt_model.specs.Values.{Written, Span, Layout, line_of}
 use Rattle.pmt_model.specs.Machine.{Stores, writes}
-use Rattle.pmt_model.specs.Traces.{Recording, event, IsAct, act_of}
+use Rattle.pmt_model.specs.Traces.{Recording, IsAct, act_of}
 use Rattle.pmt_model.specs.Selections.{Has}
 use Rattle.pmt_model.specs.Assertions.{InSpan}
 use Rattle.pmt_laws.proofs.Histories.{act-unique}

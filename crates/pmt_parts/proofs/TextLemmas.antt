@@ -1,21 +1,18 @@
 -- The events of a text of any length, piece by piece.
-use Rattle.std.proofs.Common.{◌≡◌, ℕ, suc, ◌+◌, ◌<◌, ◌≤◌, ◌⊎◌, length-append, append-nil, lt-ltb, inl, inr, Bool, true, false, cond, ◌==◌, nat_lt, if◌then◌else◌, List, [], ◌∷◌, ◌++◌, length, Option, Some, None, Result, Ok, Err, append_assoc, refl, sym, ap, subst, ◌∙◌, arith}
+use Rattle.std.proofs.Common.{◌≡◌, ℕ, suc, ◌+◌, ◌<◌, ◌≤◌, ◌⊎◌, length-append, append-nil, lt-ltb, inl, inr, Bool, true, false, cond, ◌==◌, nat_lt, if◌then◌else◌, List, [], ◌∷◌, ◌++◌, length, Some, None, Result, Ok, Err, append_assoc, refl, sym, ap, subst, ◌∙◌, arith}
 use Rattle.std.specs.List.{onto_first}
-use Rattle.pmt_model.specs.declared.event.Event.{Event}
-use Rattle.pmt_model.specs.Values.{Layout}
-use Rattle.pmt_model.specs.Traces.{Recording, event_limit}
+use Rattle.pmt_model.specs.Traces.{event_limit}
 use Rattle.pmt_text.specs.declared.kind.TextKind.{TextKind}
 use Rattle.pmt_text.specs.declared.kind.TextKind.TheVariants.{Truncated, TooManyEvents}
 use Rattle.pmt_text.specs.declared.kind.TextError.{TextError}
 use Rattle.pmt_text.specs.declared.kind.SourceError.TheVariants.{Text}
-use Rattle.pmt_text.specs.declared.kind.SourceError.{SourceError}
-use Rattle.pmt_text.specs.Coming.{Items, Coming, ends_with, fault_at, item_then, rest_fault, lines_coming, text_lines, header_then, format_in, judged, whole}
+use Rattle.pmt_text.specs.Coming.{Items, Coming, ends_with, fault_at, item_then, rest_fault, lines_coming, text_lines, header_then, whole}
 use Rattle.pmt_text.specs.Judging.{line_judged}
 use Rattle.pmt_text.proofs.ComingLemmas.{text_lines-nonempty}
 use Rattle.pmt_text.proofs.ReaderLemmas.{judged-lines}
 use Rattle.pmt_text.proofs.TextLemmas.{first_line}
 use Rattle.pmt_parts.specs.Cutting.{EndsLine, line_count}
-use Rattle.pmt_parts.specs.LongTexts.{long_item, long_coming, body_coming, items_then, EventsOfPieces, FaultsOfPieces}
+use Rattle.pmt_parts.specs.LongTexts.{long_item, long_coming, items_then, EventsOfPieces, FaultsOfPieces}
 
 -- ---- Lines
 
