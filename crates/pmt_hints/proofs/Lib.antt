@@ -1,4 +1,6 @@
 pub mod FlagLemmas
+pub mod NearLemmas
+pub mod NumberLemmas
 pub mod OpenAtLemmas
 pub mod SplitLemmas
 pub mod StepLemmas

@@ -61,7 +61,7 @@ flush-decides T n number t l x (Flushes u k) same is = go (cases_eq u t) (cases_
     go (inr apart) either = inr (λ f. let both = act-unique T (suc n) (Flushes u k) (Flushes t l) is f in apart (cc), rw (ne_eqb u t apart) refl)
 
 -- those of a line by any thread
-no-flush : (T : Recording) (i l : ℕ) (a : Act) → IsAct T i a → ((t : ℕ) → a ≢ Flushes t l) → a ≢ Clflushes l → ¬ IsFlushOf T l i
+pub no-flush : (T : Recording) (i l : ℕ) (a : Act) → IsAct T i a → ((t : ℕ) → a ≢ Flushes t l) → a ≢ Clflushes l → ¬ IsFlushOf T l i
 no-flush T i l a is no_flush no_clflush (ByFlush t flush) = no_flush t (act-unique T i a (Flushes t l) is flush)
 no-flush T i l a is no_flush no_clflush (ByClflush flush) = no_clflush (act-unique T i a (Clflushes l) is flush)
 

@@ -33,7 +33,7 @@ FencesFrom T n fences = (t : ℕ) → t < 256 → IsFirst (λ k. (n < k) × IsAc
 abbrev pub FlushesFrom : Recording → ℕ → Numbers → Type 0
 FlushesFrom T n flushes = (l : ℕ) → IsFirst (λ k. (n < k) × IsFlushOf T l k) (past_of T) (number_at (past_of T) flushes l)
 
-flush-within : (T : Recording) (l k : ℕ) → IsFlushOf T l k → k ≤ length T.events
+pub flush-within : (T : Recording) (l k : ℕ) → IsFlushOf T l k → k ≤ length T.events
 flush-within T l k (ByFlush t is) = (act-within T k (Flushes t l) is).1
 flush-within T l k (ByClflush is) = (act-within T k (Clflushes l) is).1
 
@@ -88,7 +88,7 @@ pub own-store : (T : Recording) (i t l : ℕ) (e : Event) → event T i ≡ Some
 own-store T i t l e here s = let same : s.0 ≡ e = same_Some s.0 e (sym s.2 ∙ here) in (ap (λ (d : Event). d.thread) (sym same) ∙ s.3, ap (act T.format) (sym same) ∙ s.4)
 
 -- a fence is no flush and no store
-fence-no_flush : (T : Recording) (t l i : ℕ) → IsAct T i (Fences t) → IsFlushOf T l i → ⊥
+pub fence-no_flush : (T : Recording) (t l i : ℕ) → IsAct T i (Fences t) → IsFlushOf T l i → ⊥
 fence-no_flush T t l i fence (ByFlush u flush) = let e = act-unique T i (Fences t) (Flushes u l) fence flush in cc
 fence-no_flush T t l i fence (ByClflush flush) = let e = act-unique T i (Fences t) (Clflushes l) fence flush in cc
 

@@ -1,5 +1,6 @@
 pub mod Flagging
 pub mod Hints
+pub mod Near
 pub mod Numbers
 pub mod Placing
 pub mod Splitting

@@ -5,7 +5,11 @@
 
 mod flushers;
 pub mod hint;
+mod near;
+mod near_open;
+mod near_stores;
 mod next_stores;
+mod numbers;
 pub mod open_at;
 mod per_thread;
 pub mod split_word;

@@ -3,7 +3,6 @@
 ghost use Rattle.std.specs.Prelude.{◌≡◌, ◌<◌, ◌||◌, ℕ, length, filter, IfOk, OnOk};
 ghost use Rattle.pmt_model.specs.Traces.{act_of, event};
 ghost use Rattle.pmt_model.specs.Keeping.{IsKeep};
-ghost use Rattle.pmt_model.specs.Selections.{IsRising};
 ghost use Rattle.pmt_flags.specs.Flags.{is_kept_at};
 ghost use Rattle.pmt_hints.specs.Hints.{AreThose, IsOpenAtStore, IsOpenFlush, IsToldOpen};
 ghost use Rattle.pmt_hints.specs.Flagging.{AreFlags};
@@ -11,7 +10,9 @@ ghost use Rattle.pmt_hints.specs.Stepping.{open_so};
 ghost use Rattle.pmt_hints.specs.Telling.{AreClosed, closed_at, closing as closing_in, is_closed as is_closed_in, is_place, place_of as place_in, told_so};
 ghost use Rattle.pmt_causes.specs.declared.failure_keys.Origin.{Origin};
 
+use crate::near_open::near_open;
 use crate::next_stores::NextStores;
+use crate::numbers::selection_of;
 use crate::per_thread::PerThread;
 use pmt_causes::{Origin, origin_of};
 use pmt_model::{Format, Op, OutOfMemory, Selection, Trace, line_of};
@@ -24,7 +25,7 @@ type Closed = HashMap<Origin, bool>;
 /// The flushes that are kept, and that their thread has not fenced when it stores to another line: what it stores there may persist
 /// before what was flushed. `kept` is what is kept of the trace.
 ///
-/// It takes one look at each event, and one at each event that is kept.
+/// It takes a few looks at each event, and one at each event that is kept.
 ///
 /// # Errors
 /// Where memory was refused.
@@ -44,7 +45,7 @@ pub fn open_at_store(
 /// Those of these flushes that are told: at whose place each flush that is kept is one. `labels` are the numbers of the labels of the
 /// events, in order; an event past their end has none. A place is a label, or without one a thread.
 ///
-/// It takes one look at each event, and two at each event that is kept, with a look-up each.
+/// It takes a few looks at each event, and two at each event that is kept, with a look-up each.
 ///
 /// # Errors
 /// Where memory was refused.
@@ -62,17 +63,6 @@ pub fn told_open(
     let closed = closed_places(alloc, trace, labels, numbers, flags.as_slice())?;
     let told = told_numbers(alloc, trace, labels, numbers, flags.as_slice(), &closed)?;
     Ok(selection_of(told))
-}
-
-// The selection of these numbers.
-fn selection_of(numbers: Vec<u64>) -> Selection
-    requires { IsRising 0 numbers.items }
-    ensures { result ≡ numbers.items }
-{
-    let Ok(selection) = Selection::from_numbers(numbers) else {
-        unreachable!()
-    };
-    selection
 }
 
 // The places that have a flush among these numbers which is not flagged.
@@ -200,6 +190,16 @@ fn is_flagged(flags: &[bool], number: u64) -> bool
 
 // Of each event whether it is a flush that its thread has not fenced when it stores to another line.
 fn open_flushes(alloc: Global, trace: &Trace) -> Result<Vec<bool>, OutOfMemory>
+    ensures { IfOk result (λ flags. AreFlags (IsOpenFlush trace.now) (length trace.now.events) flags.items) }
+{
+    match near_open(alloc, trace)? {
+        Some(flags) => Ok(flags),
+        None => all_open(alloc, trace),
+    }
+}
+
+// The same, however far away what tells of them stands.
+fn all_open(alloc: Global, trace: &Trace) -> Result<Vec<bool>, OutOfMemory>
     ensures { IfOk result (λ flags. AreFlags (IsOpenFlush trace.now) (length trace.now.events) flags.items) }
 {
     let format = trace.format();

@@ -3,13 +3,12 @@
 ghost use Rattle.std.specs.Prelude.{◌≡◌, ◌<◌, ◌&&◌, ◌||◌, ℕ, length, IfOk};
 ghost use Rattle.pmt_model.specs.Traces.{event};
 ghost use Rattle.pmt_hints.specs.Hints.{AreThose, IsSplitWord};
-ghost use Rattle.pmt_hints.specs.Flagging.{AreFlags};
 ghost use Rattle.pmt_hints.specs.Splitting.{event_part, is_same_place, joins as joins_in, op_part, split_so, store_of_thread};
 ghost use Rattle.pmt_hints.specs.Numbers.{of_thread};
 
+use crate::numbers::{push_if, selection_of};
 use crate::per_thread::PerThread;
 use pmt_causes::origin_of;
-use pmt_flags::marked_numbers;
 use pmt_model::{Format, Op, OutOfMemory, Selection, Trace};
 use std::alloc::Global;
 
@@ -24,7 +23,7 @@ pub(crate) struct Part {
 /// line before or after: their bytes follow one another, at most 8 together, and meet at a line's first byte. `labels` are the numbers
 /// of the labels of the events, in order; an event past their end has none. A place is a label, or without one a thread.
 ///
-/// It takes two looks at each event.
+/// It takes one look at each event.
 ///
 /// # Errors
 /// Where memory was refused.
@@ -35,30 +34,30 @@ pub fn split_words(
 ) -> Result<Selection, OutOfMemory>
     ensures { IfOk result (AreThose (IsSplitWord trace.now labels.now)) }
 {
-    let flags = split_flags(alloc, trace, labels)?;
-    marked_numbers(alloc, flags.as_slice())
+    let numbers = split_numbers(alloc, trace, labels)?;
+    Ok(selection_of(numbers))
 }
 
-// Of each event whether it is such a store.
-fn split_flags(
+// The numbers of such stores.
+fn split_numbers(
     alloc: Global,
     trace: &Trace,
     labels: &[Option<u64>],
-) -> Result<Vec<bool>, OutOfMemory>
-    ensures { IfOk result (λ flags. AreFlags (IsSplitWord trace.now labels.now) (length trace.now.events) flags.items) }
+) -> Result<Vec<u64>, OutOfMemory>
+    ensures { IfOk result (λ numbers. AreThose (IsSplitWord trace.now labels.now) numbers.items) }
 {
     let events = trace.events();
     let mut stores = PerThread::new(0);
-    let mut flags = Vec::with_capacity(alloc, events.len())?;
+    let mut numbers = Vec::new(alloc);
     for index in 0..events.len() {
         let event = events[index];
         let number = index as u64 + 1;
         let earlier = stores.get(event.thread);
-        let flag = is_split(trace, labels, earlier, event.thread, event.op, number);
-        flags.push(flag)?;
+        let is_told = is_split(trace, labels, earlier, event.thread, event.op, number);
+        push_if(&mut numbers, is_told, number)?;
         note_store(&mut stores, event.thread, event.op, number);
     }
-    Ok(flags)
+    Ok(numbers)
 }
 
 // Whether the op with this number by the thread is a store whose bytes join those of its store at `earlier`, from the same place.

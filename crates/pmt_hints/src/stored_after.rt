@@ -9,6 +9,8 @@ ghost use Rattle.pmt_hints.specs.Flagging.{AreFlags};
 ghost use Rattle.pmt_hints.specs.Stepping.{after_open, left_so};
 
 use crate::flushers::{LastFlushes, last_flush, note_flush};
+use crate::near_stores::near_stores;
+use crate::numbers::selection_of;
 use crate::per_thread::PerThread;
 use pmt_flags::marked_numbers;
 use pmt_model::{Format, Op, OutOfMemory, Selection, Trace, line_of};
@@ -21,11 +23,21 @@ type NextFlushes = HashMap<u64, u64>;
 /// The stores to a line that their thread has flushed before and not fenced since, and of which no flush of the line stands between the
 /// store and that thread's next fence: the flush came too early for them.
 ///
-/// It takes two looks at each event, each with one look-up.
+/// It takes a few looks at each event. Where these do not tell, it takes two more, each with one look-up.
 ///
 /// # Errors
 /// Where memory was refused.
 pub fn stored_after_flush(alloc: Global, trace: &Trace) -> Result<Selection, OutOfMemory>
+    ensures { IfOk result (AreThose (IsStoredAfterFlush trace.now)) }
+{
+    match near_stores(alloc, trace)? {
+        Some(numbers) => Ok(selection_of(numbers)),
+        None => all_stores(alloc, trace),
+    }
+}
+
+// The same, however far away what tells of them stands.
+fn all_stores(alloc: Global, trace: &Trace) -> Result<Selection, OutOfMemory>
     ensures { IfOk result (AreThose (IsStoredAfterFlush trace.now)) }
 {
     let open = after_open_flush(alloc, trace)?;

@@ -1,15 +1,12 @@
-use Rattle.std.proofs.Common.{length, subst, sym}
-use Rattle.pmt_hints.specs.Hints.{IsAfterOpenFlush, IsStoredAfterFlush}
-use Rattle.pmt_hints.specs.Flagging.{AreFlags}
-use Rattle.pmt_hints.proofs.FlagLemmas.{those-told}
-use Rattle.pmt_hints.proofs.StoredAfterLemmas.{stored-bound}
+use Rattle.std.proofs.Common.{sym, subst}
+use Rattle.pmt_hints.specs.Hints.{AreThose, IsStoredAfterFlush}
+use Rattle.pmt_hints.proofs.NearLemmas.{some-told}
 use Rattle.pmt_hints.proofs.stored_after.stored_after_flush.Goals as goal
 
-pub left_by_flushes-requires : goal.left_by_flushes-requires
-left_by_flushes-requires c = subst (AreFlags (IsAfterOpenFlush c.args.trace.now) (length c.args.trace.now.events)) (sym c.as_slice.ensures.value) c.in_ok-open.ensures
+pub selection_of-requires : goal.selection_of-requires
+selection_of-requires c = (some-told c.in_ok-numbers.field-0 (λ ns. AreThose (IsStoredAfterFlush c.args.trace.now) ns.items) c.in-Some.numbers c.in_ok-numbers.ensures c.in-Some.is).rising
 
-pub returns : goal.returns
-returns c =
-    let T = c.args.trace.now in
-    those-told (IsStoredAfterFlush T) (length T.events) c.in_ok-flags.flags.items c.as_slice-2.result.now c.marked_numbers.result (stored-bound T) c.in_ok-flags.ensures c.as_slice-2.ensures.value c.marked_numbers.ensures.rising
-    c.marked_numbers.ensures.just
+pub returns-in-Some : goal.returns-in-Some
+returns-in-Some c =
+    subst (AreThose (IsStoredAfterFlush c.args.trace.now)) (sym c.selection_of.ensures)
+    (some-told c.in_ok-numbers.field-0 (λ ns. AreThose (IsStoredAfterFlush c.args.trace.now) ns.items) c.in-Some.numbers c.in_ok-numbers.ensures c.in-Some.is)

@@ -1,5 +1,5 @@
 use Rattle.pmt_flags.proofs.FlagLemmas.{rising-no_fall}
-use Rattle.pmt_hints.proofs.open_at.selection_of.Goals as goal
+use Rattle.pmt_hints.proofs.numbers.selection_of.Goals as goal
 
 pub unreachable-requires : goal.unreachable-requires
 unreachable-requires c =

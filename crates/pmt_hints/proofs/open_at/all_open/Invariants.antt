@@ -3,7 +3,7 @@ use Rattle.std.specs.Prelude.{◌↔◌, slice_get, Some}
 use Rattle.pmt_hints.specs.Hints.{IsOpenFlush}
 use Rattle.pmt_hints.proofs.StoredAfterLemmas.{FencesFrom}
 use Rattle.pmt_hints.proofs.OpenAtLemmas.{StoresFrom}
-use Rattle.pmt_hints.proofs.open_at.open_flushes.Given as goal
+use Rattle.pmt_hints.proofs.open_at.all_open.Given as goal
 
 abbrev pub invariant-loop-index : goal.invariant-loop-index
 invariant-loop-index l = record {

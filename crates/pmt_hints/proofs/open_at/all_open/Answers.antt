@@ -8,7 +8,7 @@ use Rattle.pmt_hints.specs.Hints.{IsOpenFlush}
 use Rattle.pmt_explain.proofs.FollowingLemmas.{told-set}
 use Rattle.pmt_hints.proofs.StoredAfterLemmas.{FencesFrom, fences-down, fences-end}
 use Rattle.pmt_hints.proofs.OpenAtLemmas.{StoresFrom, flush-thread, open-told, stores-down, stores-end}
-use Rattle.pmt_hints.proofs.open_at.open_flushes.Goals as goal
+use Rattle.pmt_hints.proofs.open_at.all_open.Goals as goal
 
 pub loop-index-init : goal.loop-index-init
 loop-index-init c =

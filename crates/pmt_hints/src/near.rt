@@ -1,0 +1,159 @@
+//! What comes near an event, before it or after it.
+
+ghost use Rattle.std.specs.Prelude.{◌≡◌, ◌≤◌, ◌<◌, ◌↔◌, suc, true, length, IfSome};
+ghost use Rattle.pmt_model.specs.Traces.{act_of};
+ghost use Rattle.pmt_hints.specs.Near.{before_by, after_by, past_by, HasOpenFlush, IsLeft, StoresPast};
+
+use pmt_model::{Format, Op, Trace, line_of};
+
+// How many looks there are for each event, and how many for all of them besides.
+pub(crate) const LOOKS: usize = 8;
+
+pub(crate) const FIRST_LOOKS: usize = 4096;
+
+// Whether the thread has flushed the line before the event at this index and not fenced since; none where so many looks at events
+// do not tell. What is left of them stays.
+pub(crate) fn is_flushed_before(
+    trace: &Trace,
+    thread: u8,
+    line: u64,
+    index: usize,
+    looks: &mut usize,
+) -> Option<bool>
+    requires { index ≤ length trace.now.events }
+    ensures { IfSome result (λ b. (b ≡ true) ↔ HasOpenFlush trace.now thread line (suc index)) }
+{
+    let format = trace.format();
+    let events = trace.events();
+    let low = index.saturating_sub(*looks);
+    for step in (low..index).rev() {
+        let event = events[step];
+        let told = told_before(format, thread, line, event.thread, event.op);
+        if told.is_some() {
+            *looks = looks.saturating_sub(index - step);
+            return told;
+        }
+    }
+    *looks = looks.saturating_sub(index - low);
+    if low == 0 { Some(false) } else { None }
+}
+
+// What the op of the thread `own` tells, if it comes before the event and no later one tells.
+#[inline(always)]
+fn told_before(format: Format, thread: u8, line: u64, own: u8, op: Op) -> Option<bool>
+    ensures { result ≡ before_by (act_of format own op) thread line }
+{
+    match op {
+        Op::Clwb(addr) | Op::ClflushOpt(addr) => {
+            if own == thread && line_of(format, addr) == line {
+                Some(true)
+            } else {
+                None
+            }
+        }
+        Op::Sfence | Op::Mfence => { if own == thread { Some(false) } else { None } }
+        Op::Store(_) | Op::Clflush(_) | Op::IsPersist(_) | Op::IsOrderedBefore(_, _) => None,
+    }
+}
+
+// Whether no flush of the line comes after the event at this index before the thread fences; none where so many looks at events
+// do not tell. What is left of them stays.
+pub(crate) fn is_left_after(
+    trace: &Trace,
+    thread: u8,
+    line: u64,
+    index: usize,
+    looks: &mut usize,
+) -> Option<bool>
+    requires { index < length trace.now.events }
+    ensures { IfSome result (λ b. (b ≡ true) ↔ IsLeft trace.now thread line (suc index)) }
+{
+    let format = trace.format();
+    let events = trace.events();
+    let high = events.len().min(index.saturating_add(*looks));
+    for step in index + 1..high {
+        let event = events[step];
+        let told = told_after(format, thread, line, event.thread, event.op);
+        if told.is_some() {
+            *looks = looks.saturating_sub(step - index);
+            return told;
+        }
+    }
+    *looks = looks.saturating_sub(high - index);
+    if high == events.len() {
+        Some(true)
+    } else {
+        None
+    }
+}
+
+// What the op of the thread `own` tells, if it comes after the event and no earlier one tells.
+#[inline(always)]
+fn told_after(format: Format, thread: u8, line: u64, own: u8, op: Op) -> Option<bool>
+    ensures { result ≡ after_by (act_of format own op) thread line }
+{
+    match op {
+        Op::Clwb(addr) | Op::ClflushOpt(addr) | Op::Clflush(addr) => {
+            if line_of(format, addr) == line {
+                Some(false)
+            } else {
+                None
+            }
+        }
+        Op::Sfence | Op::Mfence => { if own == thread { Some(true) } else { None } }
+        Op::Store(_) | Op::IsPersist(_) | Op::IsOrderedBefore(_, _) => None,
+    }
+}
+
+// Whether the thread stores to another line after the event at this index and before it fences; none where so many looks at events
+// do not tell. What is left of them stays.
+pub(crate) fn stores_past(
+    trace: &Trace,
+    thread: u8,
+    line: u64,
+    index: usize,
+    looks: &mut usize,
+) -> Option<bool>
+    requires { index < length trace.now.events }
+    ensures { IfSome result (λ b. (b ≡ true) ↔ StoresPast trace.now thread line (suc index)) }
+{
+    let format = trace.format();
+    let events = trace.events();
+    let high = events.len().min(index.saturating_add(*looks));
+    for step in index + 1..high {
+        let event = events[step];
+        let told = told_past(format, thread, line, event.thread, event.op);
+        if told.is_some() {
+            *looks = looks.saturating_sub(step - index);
+            return told;
+        }
+    }
+    *looks = looks.saturating_sub(high - index);
+    if high == events.len() {
+        Some(false)
+    } else {
+        None
+    }
+}
+
+// What the op of the thread `own` tells, if it comes after the event and no earlier one tells.
+#[inline(always)]
+fn told_past(format: Format, thread: u8, line: u64, own: u8, op: Op) -> Option<bool>
+    ensures { result ≡ past_by (act_of format own op) own thread line }
+{
+    match op {
+        Op::Store(store) => {
+            if own == thread && line_of(format, store.addr()) != line {
+                Some(true)
+            } else {
+                None
+            }
+        }
+        Op::Sfence | Op::Mfence => { if own == thread { Some(false) } else { None } }
+        Op::Clwb(_)
+        | Op::ClflushOpt(_)
+        | Op::Clflush(_)
+        | Op::IsPersist(_)
+        | Op::IsOrderedBefore(_, _) => None,
+    }
+}
