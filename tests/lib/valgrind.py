@@ -5,6 +5,7 @@ Every trace must be accepted by PROGRAM. What else must stand in it is written o
 tests/lib/valgrind do, is the file's last bytes, or is what pmtrace.h wrote of the same program.
 """
 import functools
+import os
 import pathlib
 import re
 import resource
@@ -357,9 +358,10 @@ class Tests:
         self.is_cut("the 257th thread", trace, "513 a trace has at most 256 threads at one time, and here is the 257th\n")
         trace, status, _, faults = self.record("events", [program, "events", pool], "--labels", "no")
         self.expect("a million events", status == 0 and text_of(trace).count("\n") == 1000001, text_of(trace).count("\n"))
-        told = f"{trace}: the trace ends after event 1000000: a trace has at most 1000000 events\n" in faults
+        told = f"{trace}: the trace ends after event 1000000: a trace has at most 1000000 events\npmtrim-record: --parts records a run of any length\n" in faults
         self.expect("a million events: told", told and "events after the end of the trace: 24003" in faults, faults)
         self.is_cut("a million events", trace, "1000000 a trace has at most 1000000 events\n")
+        self.parts(program, pool)
         limit = lambda: resource.setrlimit(resource.RLIMIT_FSIZE, (100000, 100000))
         trace, status, _, faults = self.record("disk", [program, "events", pool], preexec_fn=limit, restore_signals=False)
         ended = re.search(r"the trace ends after event (\d+): File too large", faults)
@@ -370,6 +372,25 @@ class Tests:
         for place, reason in (("/dev/full", "No space left on device"), (self.folder / "none/trace", "No such file or directory")):
             _, _, faults = run([RECORD, "--trace", place, "--labels", "no", program, "saves", pool])
             self.expect(f"a trace at {place}", reason in faults, faults)
+
+    def parts(self, program, pool):
+        """A run of 1,050,003 events, in parts: all events are answered for, each by one part, and the last labels are those of the last events."""
+        trace, known = self.folder / "long.trace", {**os.environ, "PMTRIM": str(self.program)}
+        status, _, faults = run([RECORD, "--parts", "--trace", trace, program, "long", pool], env=known)
+        self.expect("a run in parts", status == 0 and "parts 2 events 1050003 aside 0" in faults and not trace.exists(), f"{status} {faults}")
+        beside = [trace.with_name(f"long.{number:04}.trace") for number in (1, 2)]
+        answers = [next(line.split()[1:] for line in text_of(part.with_name(f"{part.name}.part")).splitlines() if line.startswith("answers ")) for part in beside]
+        firsts, lasts = zip(*((int(first), int(last)) for first, last in answers))
+        self.expect("each event is answered for once", firsts == (1, lasts[0] + 1) and lasts[1] == 1050003, answers)
+        for part in beside:
+            status, report = self.accept(part)
+            labels = text_of(part.with_name(f"{part.name}.labels")).splitlines()
+            last = text_of(part).count("\n") - 1
+            self.expect(f"{part.name}: labels", labels[-1].startswith(f"{last} ends.c:"), labels[-1])
+        self.expect("all is saved by the end", status == 0 and "never-persisted" not in report, report[:200])
+        status, _, faults = run([RECORD, "--parts", "--trace", trace, program, "events", pool], env=known)
+        right = status == 2 and trace.exists() and "--ignore 0x0:64 leaves them out" in faults and f"pmtrim parts --out {trace.with_suffix('')}" in faults
+        self.expect("stores that are never flushed", right, f"{status} {faults}")
 
     # Labels
 

@@ -68,6 +68,7 @@ Bool take_option(const HChar *word) {
     } else if VG_BOOL_CLO (word, "--record-children", options.children) {
     } else if VG_BOOL_CLO (word, "--process", options.process) {
     } else if VG_BOOL_CLO (word, "--one-trace", options.one_trace) {
+    } else if VG_BOOL_CLO (word, "--whole", options.whole) {
     } else if VG_BINT_CLO (word, "--first-process", options.first_process, 0, 2147483647) {
     } else if VG_BINT_CLO (word, "--switch-every", options.switch_every, 0, 1000000) {
     } else if VG_BINT_CLO (word, "--seed", options.seed, 0, 1000000) {

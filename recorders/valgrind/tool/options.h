@@ -36,6 +36,7 @@ typedef struct {
     Bool children;
     Bool process;      /* what program a process is and how it ends is written beside its trace */
     Bool one_trace;    /* all processes write one trace */
+    Bool whole;        /* the trace may have more events and labels than pmtrim reads at once */
     Int first_process; /* set with parent_trace: the number of the process in which the program began */
     Int switch_every; /* a thread gives way after one in so many fences and flushes; 0: never */
     Int seed;

@@ -195,7 +195,8 @@ static void write_labels(void) {
 }
 
 static void put_label(const HChar *label) {
-    if (common->trace.now.written[LABEL_FILE] + (ULong)common->trace.now.waiting[LABEL_FILE] + LONGEST_LINE > MOST_LABEL_BYTES) {
+    ULong bytes = common->trace.now.written[LABEL_FILE] + (ULong)common->trace.now.waiting[LABEL_FILE];
+    if (bytes + LONGEST_LINE > MOST_LABEL_BYTES && !options.whole) {
         write_labels();
         end_labels("pmtrim reads at most 67108864 bytes of labels (--callers 0 makes them shorter)");
         return;
@@ -238,8 +239,10 @@ static void end_full(const HChar *why) {
 }
 
 static Bool has_room(void) {
-    if (event_count() == MOST_EVENTS)
+    if (event_count() == MOST_EVENTS && !options.whole) {
         end_full("a trace has at most 1000000 events");
+        VG_(printf)("pmtrim-record: --parts records a run of any length\n");
+    }
     return recording == RECORDING;
 }
 

@@ -126,6 +126,8 @@ static void add_next(ULong ignored) {
         add("; %s", why_empty());
         return;
     }
+    if (options.whole)
+        return;
     add("; next: pmtrim explain ");
     if (options.labels) {
         add("--labels ");

@@ -75,6 +75,9 @@ int main(int count, char **words) {
                 return 8;
             pthread_join(begun, NULL);
         }
+    if (strcmp(what, "long") == 0)
+        for (unsigned long number = 1; number <= 350000; number++)
+            save_value((int)(number % 4000) + 1, number);
     if (strcmp(what, "events") == 0)
         for (int round = 0; round < 125; round++)
             for (int word = 0; word < 8192; word++)
