@@ -211,6 +211,15 @@ def walk_places(pages, trace):
     return ""
 
 
+def wrong_entries(shown, told):
+    """What is wrong with a page's entries, by those of the JSON: it has all failures by event, and the JSON the first one of each cause."""
+    members = sorted(event for entry in told if entry["kind"] == "cause" for event in entry["events"])
+    others, failures = [entry for entry in shown if entry["kind"] != "failure"], [entry for entry in shown if entry["kind"] == "failure"]
+    right = others == [entry for entry in told if entry["kind"] != "failure"]
+    right = right and [entry["event"]["event"] for entry in failures] == members and all(entry in failures for entry in told if entry["kind"] == "failure")
+    return "" if right else f"{shown}, and not {told}"
+
+
 def cases(pages):
     file = pages.folder / "small.trace"
     for index, (head, trace) in enumerate(small_traces()):
@@ -219,7 +228,7 @@ def cases(pages):
         wrong = wrong_columns(trace, blocks["columns"])
         told = [json.loads(line) for line in pages.explain("--json", "--limit", "1000", file=file).splitlines()]
         yield f"columns of small trace {index}", wrong and f"{wrong} of\n{file.read_text()}{blocks['columns']}"
-        yield f"entries of small trace {index}", "" if told == blocks["explained"] else f"{blocks['explained']}, and not {told}"
+        yield f"entries of small trace {index}", wrong_entries(blocks["explained"], told)
         wrong = walk_places(pages, trace)
         yield f"crashes of small trace {index}", wrong and f"{wrong}\n{file.read_text()}"
         yield f"console of small trace {index}", pages.faults(page)

@@ -129,6 +129,7 @@ class Tests:
 
     def __init__(self, program, folder):
         self.program = program
+        self.known = {**os.environ, "PMTRIM": str(program)}
         self.recorder = RECORD
         self.run = run
         self.folder = folder
@@ -375,8 +376,8 @@ class Tests:
 
     def parts(self, program, pool):
         """A run of 1,050,003 events, in parts: all events are answered for, each by one part, and the last labels are those of the last events."""
-        trace, known = self.folder / "long.trace", {**os.environ, "PMTRIM": str(self.program)}
-        status, _, faults = run([RECORD, "--parts", "--trace", trace, program, "long", pool], env=known)
+        trace = self.folder / "long.trace"
+        status, _, faults = run([RECORD, "--parts", "--trace", trace, program, "long", pool], env=self.known)
         self.expect("a run in parts", status == 0 and "parts 2 events 1050003 aside 0" in faults and not trace.exists(), f"{status} {faults}")
         beside = [trace.with_name(f"long.{number:04}.trace") for number in (1, 2)]
         answers = [next(line.split()[1:] for line in text_of(part.with_name(f"{part.name}.part")).splitlines() if line.startswith("answers ")) for part in beside]
@@ -388,7 +389,7 @@ class Tests:
             last = text_of(part).count("\n") - 1
             self.expect(f"{part.name}: labels", labels[-1].startswith(f"{last} ends.c:"), labels[-1])
         self.expect("all is saved by the end", status == 0 and "never-persisted" not in report, report[:200])
-        status, _, faults = run([RECORD, "--parts", "--trace", trace, program, "events", pool], env=known)
+        status, _, faults = run([RECORD, "--parts", "--trace", trace, program, "events", pool], env=self.known)
         right = status == 2 and trace.exists() and "--ignore 0x0:64 leaves them out" in faults and f"pmtrim parts --out {trace.with_suffix('')}" in faults
         self.expect("stores that are never flushed", right, f"{status} {faults}")
 
@@ -459,7 +460,7 @@ class Tests:
 
     def yes_or_no(self):
         shown = re.findall(r"^  (--[a-z-]+)(\[=yes\|no\]| yes\|no)", run([RECORD, "--help"])[1], re.M)
-        self.expect("options that take yes or no", len(shown) == 8, shown)
+        self.expect("options that take yes or no", len(shown) == 9, shown)
         for name, word in shown:
             bare = word.startswith("[")
             for words, wanted, fault in (
@@ -468,7 +469,7 @@ class Tests:
                 ([f"{name}=no", "true"], 0, ""),
                 ([f"{name}=on", "true"], 2, f"{name} takes yes or no, not on"),
             ):
-                status, _, told = run([RECORD, "--trace", self.folder / "words.trace", *words])
+                status, _, told = run([RECORD, "--trace", self.folder / "words.trace", *words], env=self.known)
                 self.expect(f"{' '.join(words)}, as the help has it", status == wanted and fault in told, f"{status} {told}")
 
 
