@@ -95,17 +95,21 @@ static Int frames_of(const Addr *addresses, UInt count, Frame *frames, Act act) 
     return found;
 }
 
-/* The functions alone, of a program without lines. */
+static void set_symbol(Frame *frame, Addr address) {
+    frame->place[0] = '\0';
+    VG_(strncpy)(frame->function, symbol_at(address), FUNCTION_BYTES - 1);
+    frame->function[FUNCTION_BYTES - 1] = '\0';
+}
+
+/* The functions alone, of a program without lines; one of the C library where there is no other. */
 static Int symbols_of(const Addr *addresses, UInt count, Frame *frames) {
     Int found = 0;
     UInt at;
-    for (at = 0; at < count && (at == 0 || is_in_object(addresses[at])); at++) {
-        if (at > 0 && is_in_c_library(addresses[at]))
-            continue;
-        frames[found].place[0] = '\0';
-        VG_(strncpy)(frames[found].function, symbol_at(addresses[at]), FUNCTION_BYTES - 1);
-        frames[found++].function[FUNCTION_BYTES - 1] = '\0';
-    }
+    for (at = 0; at < count && (at == 0 || is_in_object(addresses[at])); at++)
+        if (!is_in_c_library(addresses[at]))
+            set_symbol(&frames[found++], addresses[at]);
+    if (found == 0)
+        set_symbol(&frames[found++], addresses[0]);
     return found;
 }
 
