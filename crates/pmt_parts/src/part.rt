@@ -1,5 +1,5 @@
 //! One part of a trace, and the next one made from it.
-ghost use Rattle.std.specs.Prelude.{◌≡◌, suc, ◌+◌, ◌-◌, ◌^◌, ◌<◌, ◌≤◌, ◌++◌, List, Some, length, min, not, filter, true, IfOk, OnOk};
+ghost use Rattle.std.specs.Prelude.{◌≡◌, ◌⊎◌, suc, ◌+◌, ◌-◌, ◌^◌, ◌<◌, ◌≤◌, ◌++◌, List, Some, length, min, not, filter, true, false, IfOk, OnOk};
 ghost use Rattle.pmt_model.specs.Pushing.{with_event};
 ghost use Rattle.pmt_model.specs.Selections.{IsRising, matching_place};
 ghost use Rattle.pmt_model.specs.Traces.{Recording, event as event_at, event_limit, IsEventIn};
@@ -48,7 +48,8 @@ impl Part {
 
     /// Whether it has room for these events, and they are in its format.
     pub fn takes(&self, block: &Trace) -> bool
-        ensures { result ≡ true → (length self.now.trace.events + length block.now.events ≤ event_limit) × (self.now.trace.format ≡ block.now.format) × (self.now.end + length block.now.events < 2 ^ 64) }
+        ensures taken { result ≡ true → (length self.now.trace.events + length block.now.events ≤ event_limit) × (self.now.trace.format ≡ block.now.format) × (self.now.end + length block.now.events < 2 ^ 64) }
+        ensures refused { result ≡ false → (event_limit < length self.now.trace.events + length block.now.events) ⊎ (¬ (self.now.trace.format ≡ block.now.format)) ⊎ (2 ^ 64 ≤ self.now.end + length block.now.events) }
     {
         let has_room = self.trace.len() + block.len() <= Trace::LIMIT;
         let is_numbered = self.end <= u64::MAX - block.len() as u64;
