@@ -12,7 +12,7 @@ pub mod kind;
 pub mod laws;
 pub mod line;
 pub(crate) mod line_reader;
-pub(crate) mod line_text;
+pub mod line_text;
 pub mod list_source;
 pub mod number;
 pub(crate) mod piece;

@@ -53,7 +53,7 @@ fn low_digit(byte: u8) -> u8
 
 /// Puts the byte in front of what stands from `at` on; so do the others with what they put. Each answers where that begins.
 #[inline(always)]
-fn put(line: &mut [u8; LINE_ROOM], at: usize, byte: u8) -> usize
+pub fn put(line: &mut [u8; LINE_ROOM], at: usize, byte: u8) -> usize
     requires room { 1 ≤ at }
     requires within { at ≤ 128 }
     ensures puts { Puts line.old at (byte ∷ []) 1 result line.new }
@@ -65,7 +65,7 @@ fn put(line: &mut [u8; LINE_ROOM], at: usize, byte: u8) -> usize
 
 /// Puts the word.
 #[inline(always)]
-fn put_word(line: &mut [u8; LINE_ROOM], at: usize, word: &[u8]) -> usize
+pub fn put_word(line: &mut [u8; LINE_ROOM], at: usize, word: &[u8]) -> usize
     requires room { length word.now ≤ at }
     requires within { at ≤ 128 }
     ensures { Puts line.old at word.now (length word.now) result line.new }
@@ -81,7 +81,7 @@ fn put_word(line: &mut [u8; LINE_ROOM], at: usize, word: &[u8]) -> usize
 
 /// Puts the number in base 10, of at most 20 digits.
 #[inline(always)]
-fn put_decimal(line: &mut [u8; LINE_ROOM], at: usize, number: u64) -> usize
+pub fn put_decimal(line: &mut [u8; LINE_ROOM], at: usize, number: u64) -> usize
     requires room { 20 ≤ at }
     requires within { at ≤ 128 }
     ensures { Puts line.old at (numeral 10 number) 20 result line.new }
