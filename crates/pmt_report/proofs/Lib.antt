@@ -1,6 +1,8 @@
 pub mod Decimals
 pub mod Pushing
 pub mod EntryLemmas
+pub mod NextLemmas
+pub mod ChunkLemmas
 pub mod ListingLemmas
 pub mod TakingLemmas
 pub mod BoundLemmas

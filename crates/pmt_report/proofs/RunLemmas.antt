@@ -18,6 +18,7 @@ use Rattle.pmt_report.specs.Runs.{IsAnalysisFault, IsComputed, WritesText, Runs,
 use Rattle.pmt_analysis.specs.Analysing.{Analysed, IsAnalysed}
 use Rattle.pmt_report.specs.declared.checked.CheckedTrace.{CheckedTrace}
 use Rattle.pmt_report.specs.Checking.{IsFoundIn}
+use Rattle.pmt_report.specs.Chunking.{WritesReport}
 use Rattle.pmt_report.specs.Checks.{TellsCheck, IsReportOf, is_failure, is_loss, report_for, unanswered}
 
 -- an answer that was computed and then written
@@ -31,6 +32,17 @@ runs-written IsAnswer IsFault coming old new text (Err TooMany) computed writes 
 runs-written IsAnswer IsFault coming old new text (Err Read) computed writes = absurd writes
 runs-written IsAnswer IsFault coming old new text (Err (PastEnd events)) computed writes = absurd writes
 runs-written IsAnswer IsFault coming old new text (Err OutOfMemory) computed writes = absurd writes
+
+-- a report that was computed and then written, or for which no memory was found
+runs-reported : (coming : Option Coming) (old new : Option (List ℕ)) (text : List ℕ) (e : RunError) → IsComputed IsReportOf coming text → WritesReport old new text (Err e)
+    → Runs IsReportOf IsAnalysisFault coming old new (Err e)
+runs-reported coming old new text (Write written) computed writes = (text, computed, writes.0, writes.1)
+runs-reported coming old new text BadWorkers computed writes = absurd writes
+runs-reported coming old new text (Text f) computed writes = absurd writes
+runs-reported coming old new text TooMany computed writes = absurd writes
+runs-reported coming old new text Read computed writes = absurd writes
+runs-reported coming old new text (PastEnd events) computed writes = absurd writes
+runs-reported coming old new text OutOfMemory computed writes = (_, writes)
 
 -- a write never tells that the number of workers is bad
 pub written-untold : (old new : Option (List ℕ)) (text : List ℕ) (result : Result (Unit {0}) RunError) → WritesText old new text result → tells_workers result ≡ false
@@ -97,12 +109,12 @@ module _ (coming : Option Coming) (old new : Option (List ℕ)) (T : Recording) 
   computed : IsComputed IsReportOf coming text
   computed = record { trace = T; all = comes; answer = record { analysis = found_in T c; right = right; of_trace = refl; report = reported } }
 
-  pub check-told : (done : Result (Unit {0}) RunError) (answer : Result Bool RunError) → WritesText old new text done → unanswered answer ≡ done → IfOk answer (λ a. a ≡ failed) → TellsCheck coming old new answer
+  pub check-told : (done : Result (Unit {0}) RunError) (answer : Result Bool RunError) → WritesReport old new text done → unanswered answer ≡ done → IfOk answer (λ a. a ≡ failed) → TellsCheck coming old new answer
   check-told done (Ok b) writes same tells = record {
     analysis = found_in T c;
     right = right;
     all = comes;
-    written = subst (Appends old new) reported (subst (WritesText old new text) (sym same) writes);
+    written = subst (Appends old new) reported (subst (WritesReport old new text) (sym same) writes);
     judged = tells ∙ judged;
   }
-  check-told done (Err e) writes same tells = runs-written IsReportOf IsAnalysisFault coming old new text (Err e) computed (subst (WritesText old new text) (sym same) writes)
+  check-told done (Err e) writes same tells = runs-reported coming old new text e computed (subst (WritesReport old new text) (sym same) writes)

@@ -43,6 +43,11 @@ abbrev pub verdicts_from : ℕ → List Verdict → List Verdict
 verdicts_from number [] = []
 verdicts_from number (v ∷ verdicts) = if nat_lt v.event number then verdicts_from number verdicts else v ∷ verdicts
 
+-- Whether the verdict is of an event before the first of these findings, or none is left.
+abbrev pub is_before : Verdict → List Finding → Bool
+is_before verdict [] = true
+is_before verdict (f ∷ findings) = nat_lt verdict.event (reported_at f)
+
 -- The entries of findings in report order and of verdicts in event order: the verdicts of earlier events stand before a finding.
 unfoldable pub entries : List Finding → List Verdict → List ℕ
 entries [] verdicts = flat_map verdict_entry verdicts

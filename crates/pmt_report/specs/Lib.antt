@@ -9,3 +9,4 @@ pub mod Blockwise
 pub mod Checking
 pub mod Runs
 pub mod FrontsOf
+pub mod Chunking

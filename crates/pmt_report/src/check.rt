@@ -4,14 +4,14 @@ ghost use Rattle.std.specs.List.{list_any};
 ghost use Rattle.pmt_text.specs.Counting.{failure_count, inner_device};
 ghost use Rattle.pmt_flags.specs.Flags.{marked_from};
 ghost use Rattle.pmt_analysis.specs.Workers.{is_worker_count};
+ghost use Rattle.pmt_report.specs.Chunking.{WritesReport};
 ghost use Rattle.pmt_report.specs.Checks.{TellsCheck, has_failed, is_failure, is_loss, report_for, unanswered};
 ghost use Rattle.pmt_report.specs.Reports.{report};
 ghost use Rattle.pmt_report.specs.Runs.{coming_from_reader, run_read_faults, tells_workers, write_faults};
 
 use crate::checked::{CheckedTrace, checked};
 use crate::fault::RunError;
-use crate::output::write_answer;
-use crate::report::report_of;
+use crate::report::{report_of, write_report};
 use pmt_analysis::Analysis;
 use pmt_flags::marked_count;
 use pmt_model::{Finding, OutOfMemory, Verdict};
@@ -45,24 +45,28 @@ pub fn run_check<T: Threads + Wait + Sync, R: Read, W: Write>(
 {
     let (reader, found) = checked(rt, alloc, workers, reader);
     match found {
-        Ok(checked) => match text_of(alloc, &checked) {
-            Ok(text) => {
-                let done = write_answer(writer, text.as_slice());
-                (reader, answered(done, is_failed(&checked.swept)))
-            }
-            Err(_) => (reader, Err(RunError::OutOfMemory)),
-        },
+        Ok(checked) => {
+            let done = write_found(alloc, writer, &checked);
+            (reader, answered(done, is_failed(&checked.swept)))
+        }
         Err(error) => (reader, Err(error)),
     }
 }
 
-// The report of what was found.
-fn text_of(alloc: Global, checked: &CheckedTrace) -> Result<Vec<u8>, OutOfMemory>
-    ensures { IfOk result (λ text. text.items ≡ report checked.now.events checked.now.swept.lines checked.now.swept.findings.items checked.now.swept.verdicts.items (length (marked_from 0 checked.now.swept.kept.items))) }
+// Writes the report of what was found.
+fn write_found<W: Write>(
+    alloc: Global,
+    writer: &mut Counted<W>,
+    checked: &CheckedTrace,
+) -> Result<(), RunError>
+    requires writes { failure_count writer.old < 2 ^ 64 - 1 }
+    ensures written { WritesReport (W.contents (inner_device writer.old)) (W.contents (inner_device writer.new)) (report checked.now.events checked.now.swept.lines checked.now.swept.findings.items checked.now.swept.verdicts.items (length (marked_from 0 checked.now.swept.kept.items))) result }
+    ensures failures { failure_count writer.new ≡ failure_count writer.old + write_faults result }
 {
     let swept = &checked.swept;
-    report_of(
+    write_report(
         alloc,
+        writer,
         checked.events,
         swept.lines as u64,
         swept.findings.as_slice(),

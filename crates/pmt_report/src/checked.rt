@@ -1,5 +1,5 @@
 //! What a check finds in the events of a source. They are taken block by block, and no block is kept.
-ghost use Rattle.std.specs.Prelude.{◌≡◌, ◌==◌, ◌+◌, ◌-◌, ◌^◌, ◌<◌, true, not, length, IfOk, IfErr, IfSome, OnOk};
+ghost use Rattle.std.specs.Prelude.{◌≡◌, ◌==◌, ◌+◌, ◌-◌, ◌^◌, ◌<◌, ◌≤◌, true, not, length, IfOk, IfErr, IfSome, OnOk};
 ghost use Rattle.pmt_laws.specs.Passing.{with_events};
 ghost use Rattle.pmt_model.specs.Pushing.{empty};
 ghost use Rattle.pmt_model.specs.Traces.{Recording, IsTrace};
@@ -24,8 +24,11 @@ use std::alloc::Global;
 use std::io::Read;
 use std::thread::{Threads, join_mut};
 
-// So many events are read while those before them are swept.
+// So many events are read while those before them are swept, where two threads do so.
 const BLOCK: u64 = 16_384;
+
+// So many are read by one thread before it sweeps them: they stay in the processor's cache, and their memory is had again for the next ones.
+const SMALL_BLOCK: u64 = 1_024;
 
 /// What a sweep found, and how many events it took.
 #[derive(Drop)]
@@ -89,6 +92,13 @@ fn checked_from<T: Threads + Sync, S: EventSource>(
     Ok(checked)
 }
 
+// How many events are read at once.
+fn block_size(two: bool) -> u64
+    ensures { 1 ≤ result }
+{
+    if two { BLOCK } else { SMALL_BLOCK }
+}
+
 // A sweep of all events of the source.
 fn taken_whole<T: Threads + Sync, S: EventSource>(
     rt: &T,
@@ -101,9 +111,10 @@ fn taken_whole<T: Threads + Sync, S: EventSource>(
     ensures told { TellsTaken (S.state source.old) result (S.state source.new) }
     ensures failures { CountsReads (S.failures source.old) (told_by result) (S.failures source.new) }
 {
-    let block = take_block(alloc, source, BLOCK)?;
+    let most = block_size(two);
+    let block = take_block(alloc, source, most)?;
     let mut sweeper = Sweeper::new(alloc, block.format())?;
-    match take_others(rt, alloc, block, &mut sweeper, source, two) {
+    match take_others(rt, alloc, block, &mut sweeper, source, most, two) {
         Ok(events) => Ok(Taken { events, sweeper }),
         Err(error) => {
             let_go(sweeper);
@@ -122,24 +133,26 @@ fn take_others<T: Threads + Sync, S: EventSource>(
     first: Trace,
     sweeper: &mut Sweeper,
     source: &mut S,
+    most: u64,
     two: bool,
 ) -> Result<u64, TakeError>
     requires fresh { HasSwept (empty first.format) sweeper.old }
-    requires first { let shown = shown_by S.coming S.state S.known_format S.failures S.room in (before : Shown) × IsTakenSoFar before (shown source.old) first (length first.events == BLOCK) }
-    ensures taken { let shown = shown_by S.coming S.state S.known_format S.failures S.room in (before : Shown) → IsTakenSoFar before (shown source.old) first (length first.events == BLOCK) → IfOk result (λ n. (T : Recording) × HasSwept T sweeper.new × (n ≡ length T.events) × ComesWhole before.coming T) }
-    ensures fault { let shown = shown_by S.coming S.state S.known_format S.failures S.room in (before : Shown) → IsTakenSoFar before (shown source.old) first (length first.events == BLOCK) → IfErr (told_by result) (λ e. IfSome before.coming (λ c. IsFaultOf c e)) }
-    ensures told { let shown = shown_by S.coming S.state S.known_format S.failures S.room in (before : Shown) → IsTakenSoFar before (shown source.old) first (length first.events == BLOCK) → TellsTaken before.state result (S.state source.new) }
-    ensures failures { let shown = shown_by S.coming S.state S.known_format S.failures S.room in (before : Shown) → IsTakenSoFar before (shown source.old) first (length first.events == BLOCK) → CountsReads before.failures (told_by result) (S.failures source.new) }
+    requires some { 1 ≤ most }
+    requires first { let shown = shown_by S.coming S.state S.known_format S.failures S.room in (before : Shown) × IsTakenSoFar before (shown source.old) first (length first.events == most) }
+    ensures taken { let shown = shown_by S.coming S.state S.known_format S.failures S.room in (before : Shown) → IsTakenSoFar before (shown source.old) first (length first.events == most) → IfOk result (λ n. (T : Recording) × HasSwept T sweeper.new × (n ≡ length T.events) × ComesWhole before.coming T) }
+    ensures fault { let shown = shown_by S.coming S.state S.known_format S.failures S.room in (before : Shown) → IsTakenSoFar before (shown source.old) first (length first.events == most) → IfErr (told_by result) (λ e. IfSome before.coming (λ c. IsFaultOf c e)) }
+    ensures told { let shown = shown_by S.coming S.state S.known_format S.failures S.room in (before : Shown) → IsTakenSoFar before (shown source.old) first (length first.events == most) → TellsTaken before.state result (S.state source.new) }
+    ensures failures { let shown = shown_by S.coming S.state S.known_format S.failures S.room in (before : Shown) → IsTakenSoFar before (shown source.old) first (length first.events == most) → CountsReads before.failures (told_by result) (S.failures source.new) }
 {
     let mut events = first.len() as u64;
-    let mut more = is_full(&first);
+    let mut more = is_full(&first, most);
     let mut block = first;
     'take: while more {
-        let (swept, next) = sweep_and_take(rt, alloc, &block, sweeper, source, two);
+        let (swept, next) = sweep_and_take(rt, alloc, &block, sweeper, source, most, two);
         let next = next?;
         swept?;
         events += next.len() as u64;
-        more = is_full(&next);
+        more = is_full(&next, most);
         block = next;
     }
     sweeper.take(block.events())?;
@@ -147,10 +160,10 @@ fn take_others<T: Threads + Sync, S: EventSource>(
 }
 
 // Whether the block has as many events as were asked for, so that more may come.
-fn is_full(block: &Trace) -> bool
-    ensures { result ≡ (length block.now.events == BLOCK) }
+fn is_full(block: &Trace, most: u64) -> bool
+    ensures { result ≡ (length block.now.events == most) }
 {
-    block.len() as u64 == BLOCK
+    block.len() as u64 == most
 }
 
 // Sweeps the events that were read, and reads the next ones: at once, if two threads are to do so.
@@ -160,11 +173,12 @@ fn sweep_and_take<T: Threads + Sync, S: EventSource>(
     block: &Trace,
     sweeper: &mut Sweeper,
     source: &mut S,
+    most: u64,
     two: bool,
 ) -> (Result<(), OutOfMemory>, Result<Trace, TakeError>)
     requires { (T : Recording) × HasSwept T sweeper.old × IsTrace (with_events T block.now.events) }
     ensures swept { (T : Recording) → HasSwept T sweeper.old → IsTrace (with_events T block.now.events) → OnOk result.0 (HasSwept (with_events T block.now.events) sweeper.new) }
-    ensures block { let shown = shown_by S.coming S.state S.known_format S.failures S.room in IfOk result.1 (TakesBlock BLOCK (shown source.old) (shown source.new)) }
+    ensures block { let shown = shown_by S.coming S.state S.known_format S.failures S.room in IfOk result.1 (TakesBlock most (shown source.old) (shown source.new)) }
     ensures fault { IfErr (told_by result.1) (λ e. IfSome (S.coming source.old) (λ c. IsFaultOf c e)) }
     ensures told { TellsRefusal (S.state source.old) result.1 (S.state source.new) }
     ensures failures { CountsReads (S.failures source.old) (told_by result.1) (S.failures source.new) }
@@ -173,11 +187,11 @@ fn sweep_and_take<T: Threads + Sync, S: EventSource>(
         return join_mut(
             rt,
             &mut || sweeper.take(block.events()),
-            &mut || take_block(alloc, source, BLOCK),
+            &mut || take_block(alloc, source, most),
         );
     }
     let swept = sweeper.take(block.events());
-    (swept, take_block(alloc, source, BLOCK))
+    (swept, take_block(alloc, source, most))
 }
 
 // What the sweep has found.

@@ -5,6 +5,8 @@
 
 pub mod check;
 mod checked;
+mod chunks;
+mod entry;
 pub mod fault;
 mod first_lines;
 mod fronts;

@@ -1,13 +1,17 @@
-use Rattle.std.proofs.Common.{◌∙◌}
+use Rattle.std.proofs.Common.{length, refl}
 use Rattle.pmt_text.specs.Counting.{inner_device}
+use Rattle.pmt_flags.specs.Flags.{marked_from}
 use Rattle.pmt_report.specs.Checking.{IsCheckOf}
+use Rattle.pmt_report.specs.Reports.{report}
 use Rattle.pmt_report.specs.Runs.{coming_from_reader}
 use Rattle.pmt_report.proofs.RunLemmas.{check-told}
 use Rattle.pmt_report.proofs.check.run_check.Goals as goal
 
-pub returns-in-Ok-text_of-clause-told : goal.returns-in-Ok-text_of-clause-told
-returns-in-Ok-text_of-clause-told g c =
+pub returns-in-Ok-clause-told : goal.returns-in-Ok-clause-told
+returns-in-Ok-clause-told g c =
     let coming = coming_from_reader (g.R.Read.remaining (inner_device c.args.reader)) in
     let told : IsCheckOf coming c.in-Ok.checked = rw c.in-Ok.is at c.checked-reader.ensures.right in
-    check-told coming (g.W.Write.contents (inner_device c.args.writer.now)) (g.W.Write.contents (inner_device c.write_answer-done.new.writer)) told.0 c.in-Ok.checked c.as_slice.result.now c.is_failed.result told.1 told.2
-    (c.as_slice.ensures.value ∙ c.in-Ok-text_of.ensures) c.is_failed.ensures c.write_answer-done.result c.answered.result c.write_answer-done.ensures.written c.answered.ensures.same c.answered.ensures.answer
+    let swept = c.in-Ok.checked.swept in
+    check-told coming (g.W.Write.contents (inner_device c.args.writer.now)) (g.W.Write.contents (inner_device c.write_found-done.new.writer)) told.0 c.in-Ok.checked
+    (report c.in-Ok.checked.events swept.lines swept.findings.items swept.verdicts.items (length (marked_from 0 swept.kept.items))) c.is_failed.result told.1 told.2
+    refl c.is_failed.ensures c.write_found-done.result c.answered.result c.write_found-done.ensures.written c.answered.ensures.same c.answered.ensures.answer

@@ -6,7 +6,6 @@ use Rattle.pmt_laws.specs.Passing.{with_events}
 use Rattle.pmt_taking.specs.declared.taking.TakeError.TheVariants.{OutOfMemory}
 use Rattle.pmt_taking.specs.Blocks.{TakesBlock, shown_by}
 use Rattle.pmt_pass.specs.Passing.{HasSwept}
-use Rattle.pmt_report.specs.declared.checked.TheConstants.{BLOCK}
 use Rattle.pmt_text.specs.Sources.{CountsReads}
 use Rattle.pmt_report.specs.Blockwise.{IsTakenSoFar}
 use Rattle.pmt_report.proofs.BlockLemmas.{next-block, untold_fault, next-trace, untold, uncounted, unfaulted, refused-fault, refused-told, refused-counted}
@@ -133,17 +132,17 @@ take-preserved g c =
     let said = c.sweep_and_take-swept.ensures in
     let next = c.in_ok-next.next in
     let is : c.sweep_and_take-swept.result.1 ≡ Ok next = c.in_ok-next.was in
-    let block : TakesBlock BLOCK mid now next = rw is at said.block in
+    let block : TakesBlock c.args.most mid now next = rw is at said.block in
     let counts : CountsReads mid.failures untold_fault now.failures = rw is at said.failures in
     let first = c.requires.first in
     let so_far = (c.take.invariant.3 first.0 first.1).on c.take-test.true in
     let done : c.sweep_and_take-swept.result.0 ≡ Ok c.in_ok-swept.field-0 = c.in_ok-swept.was in (
       T,
       rw done at (said.swept c.take.invariant.0 c.take.invariant.1 c.take.invariant.2),
-      next-trace BLOCK first.0 mid now T next so_far block c.take.invariant.2 c.len.ensures.is_trace,
+      next-trace c.args.most first.0 mid now T next so_far block c.take.invariant.2 c.len.ensures.is_trace,
       (λ before known.
           subst (IsTakenSoFar before now (with_events T next.events)) (sym c.is_full-more-in-take.ensures)
-          (next-block BLOCK before mid now T next ((c.take.invariant.3 before known).on c.take-test.true) block counts)),
+          (next-block c.args.most before mid now T next ((c.take.invariant.3 before known).on c.take-test.true) block counts)),
       omega (arith, c.take.invariant.4, c.len.ensures.value, length-append c.take.invariant.0.events c.take.block.events),
     )
 

@@ -4,7 +4,6 @@ use Rattle.pmt_model.specs.Traces.{Recording, IsTrace}
 use Rattle.pmt_laws.specs.Passing.{with_events}
 use Rattle.pmt_taking.specs.Blocks.{Shown, shown_by}
 use Rattle.pmt_pass.specs.Passing.{HasSwept}
-use Rattle.pmt_report.specs.declared.checked.TheConstants.{BLOCK}
 use Rattle.pmt_report.specs.Blockwise.{IsTakenSoFar}
 use Rattle.pmt_report.proofs.checked.take_others.Given as goal
 
@@ -12,7 +11,7 @@ abbrev pub invariant-take : goal.invariant-take
 invariant-take g l =
     let source = g.S.EventSource in
     let shown = shown_by source.coming source.state source.known_format source.failures source.room in
-    (T : Recording) × HasSwept T l.sweeper × IsTrace (with_events T l.block.events) × ((before : Shown) → IsTakenSoFar before (shown l.fn.source) l.fn.first (length l.fn.first.events == BLOCK) → IsTakenSoFar before (shown l.source) (with_events T l.block.events) l.more) × (l.events ≡ length T.events + length l.block.events)
+    (T : Recording) × HasSwept T l.sweeper × IsTrace (with_events T l.block.events) × ((before : Shown) → IsTakenSoFar before (shown l.fn.source) l.fn.first (length l.fn.first.events == l.fn.most) → IsTakenSoFar before (shown l.source) (with_events T l.block.events) l.more) × (l.events ≡ length T.events + length l.block.events)
 
 abbrev pub decreases-take : goal.decreases-take
 decreases-take g l = if l.more then suc (g.S.EventSource.room l.source) else 0

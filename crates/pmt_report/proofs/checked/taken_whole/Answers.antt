@@ -3,7 +3,6 @@ use Rattle.pmt_model.specs.Values.{Layout}
 use Rattle.pmt_model.specs.Pushing.{empty}
 use Rattle.pmt_taking.specs.Blocks.{shown_by}
 use Rattle.pmt_pass.specs.Passing.{HasSwept}
-use Rattle.pmt_report.specs.declared.checked.TheConstants.{BLOCK}
 use Rattle.pmt_report.specs.declared.checked.Taken.{Taken}
 use Rattle.pmt_report.proofs.BlockLemmas.{first-block, fault-kept, told-kept, counts-kept}
 use Rattle.pmt_report.proofs.checked.taken_whole.Goals as goal
@@ -17,7 +16,7 @@ take_others-requires-clause-first g c =
     let shown = shown_by source.coming source.state source.known_format source.failures source.room in
     let old = shown c.args.source.now in
     let said = c.in_ok-block.ensures in
-    let known = first-block BLOCK old (shown c.take_block.new.source) c.in_ok-block.block (g.met.S.EventSource.few c.args.source.now) said.block said.failures in
+    let known = first-block c.block_size-most.result old (shown c.take_block.new.source) c.in_ok-block.block (g.met.S.EventSource.few c.args.source.now) said.block said.failures in
     λ bounds lives. (old, known)
 
 pub returns-in-Ok-clause-taken : goal.returns-in-Ok-clause-taken
@@ -26,7 +25,7 @@ returns-in-Ok-clause-taken g c =
     let shown = shown_by source.coming source.state source.known_format source.failures source.room in
     let old = shown c.args.source.now in
     let said = c.in_ok-block.ensures in
-    let known = first-block BLOCK old (shown c.take_block.new.source) c.in_ok-block.block (g.met.S.EventSource.few c.args.source.now) said.block said.failures in
+    let known = first-block c.block_size-most.result old (shown c.take_block.new.source) c.in_ok-block.block (g.met.S.EventSource.few c.args.source.now) said.block said.failures in
     let whole = c.in-Ok.ensures.taken old known in
     (whole.0, record { swept = whole.1; counted = whole.2 }, whole.3)
 
@@ -36,7 +35,7 @@ returns-in-Ok-clause-told g c =
     let shown = shown_by source.coming source.state source.known_format source.failures source.room in
     let old = shown c.args.source.now in
     let said = c.in_ok-block.ensures in
-    let known = first-block BLOCK old (shown c.take_block.new.source) c.in_ok-block.block (g.met.S.EventSource.few c.args.source.now) said.block said.failures in
+    let known = first-block c.block_size-most.result old (shown c.take_block.new.source) c.in_ok-block.block (g.met.S.EventSource.few c.args.source.now) said.block said.failures in
     c.in-Ok.ensures.told old known
 
 pub returns-in-Ok-clause-failures : goal.returns-in-Ok-clause-failures
@@ -45,7 +44,7 @@ returns-in-Ok-clause-failures g c =
     let shown = shown_by source.coming source.state source.known_format source.failures source.room in
     let old = shown c.args.source.now in
     let said = c.in_ok-block.ensures in
-    let known = first-block BLOCK old (shown c.take_block.new.source) c.in_ok-block.block (g.met.S.EventSource.few c.args.source.now) said.block said.failures in
+    let known = first-block c.block_size-most.result old (shown c.take_block.new.source) c.in_ok-block.block (g.met.S.EventSource.few c.args.source.now) said.block said.failures in
     c.in-Ok.ensures.failures old known
 
 pub returns-in-Err-clause-fault : goal.returns-in-Err-clause-fault
@@ -54,7 +53,7 @@ returns-in-Err-clause-fault g c =
     let shown = shown_by source.coming source.state source.known_format source.failures source.room in
     let old = shown c.args.source.now in
     let said = c.in_ok-block.ensures in
-    let known = first-block BLOCK old (shown c.take_block.new.source) c.in_ok-block.block (g.met.S.EventSource.few c.args.source.now) said.block said.failures in
+    let known = first-block c.block_size-most.result old (shown c.take_block.new.source) c.in_ok-block.block (g.met.S.EventSource.few c.args.source.now) said.block said.failures in
     fault-kept ℕ Taken old.coming c.in-Err.error (c.in-Err.ensures.fault old known)
 
 pub returns-in-Err-clause-told : goal.returns-in-Err-clause-told
@@ -63,7 +62,7 @@ returns-in-Err-clause-told g c =
     let shown = shown_by source.coming source.state source.known_format source.failures source.room in
     let old = shown c.args.source.now in
     let said = c.in_ok-block.ensures in
-    let known = first-block BLOCK old (shown c.take_block.new.source) c.in_ok-block.block (g.met.S.EventSource.few c.args.source.now) said.block said.failures in
+    let known = first-block c.block_size-most.result old (shown c.take_block.new.source) c.in_ok-block.block (g.met.S.EventSource.few c.args.source.now) said.block said.failures in
     told-kept ℕ Taken old.state _ c.in-Err.error (c.in-Err.ensures.told old known)
 
 pub returns-in-Err-clause-failures : goal.returns-in-Err-clause-failures
@@ -72,5 +71,5 @@ returns-in-Err-clause-failures g c =
     let shown = shown_by source.coming source.state source.known_format source.failures source.room in
     let old = shown c.args.source.now in
     let said = c.in_ok-block.ensures in
-    let known = first-block BLOCK old (shown c.take_block.new.source) c.in_ok-block.block (g.met.S.EventSource.few c.args.source.now) said.block said.failures in
+    let known = first-block c.block_size-most.result old (shown c.take_block.new.source) c.in_ok-block.block (g.met.S.EventSource.few c.args.source.now) said.block said.failures in
     counts-kept ℕ Taken old.failures _ c.in-Err.error (c.in-Err.ensures.failures old known)

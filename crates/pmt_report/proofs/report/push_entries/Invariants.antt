@@ -1,7 +1,9 @@
-use Rattle.std.proofs.Common.{◌≡◌, ◌++◌, drop}
+use Rattle.std.proofs.Common.{◌≡◌, ◌+◌, ◌++◌, length}
 use Rattle.pmt_report.specs.Entries.{entries}
 use Rattle.pmt_report.proofs.report.push_entries.Given as goal
 
-abbrev pub invariant-loop-finding : goal.invariant-loop-finding
-invariant-loop-finding l =
-    l.text.items ++ entries (drop l.finding-index l.findings) l.rest ≡ l.initial.text.items ++ entries l.findings l.initial.rest
+abbrev pub invariant-loop-findings : goal.invariant-loop-findings
+invariant-loop-findings l = l.text.items ++ entries l.findings l.verdicts ≡ l.initial.text.items ++ entries l.initial.findings l.initial.verdicts
+
+abbrev pub decreases-loop-findings : goal.decreases-loop-findings
+decreases-loop-findings l = length l.findings + length l.verdicts
