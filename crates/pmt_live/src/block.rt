@@ -16,8 +16,8 @@ pub(crate) struct Block {
 const EMPTY: Block = Block { places: [0; 16] };
 
 // The place of the line that its block tells, if it tells one.
-pub(crate) fn told(block: Block, line: u64) -> Option<usize>
-    ensures told { result ≡ place_told block line }
+pub(crate) fn told(block: &Block, line: u64) -> Option<usize>
+    ensures told { result ≡ place_told block.now line }
     ensures small { IfSome result (λ place. place < 2 ^ 32) }
 {
     match block.places[line as usize % 16] {

@@ -20,6 +20,8 @@ pub struct LinePlaces {
     lines: Vec<u64>,
     // The block that was found last: mostly the next line is of the same. Nothing is promised of it.
     last: usize,
+    // The place that was found last: often the next line is the same. Nothing is promised of it.
+    recent: u32,
 }
 
 impl Model for LinePlaces {
@@ -43,6 +45,7 @@ impl LinePlaces {
             blocks: Vec::new(alloc),
             lines: Vec::new(alloc),
             last: 0,
+            recent: 0,
         }
     }
 
@@ -73,13 +76,32 @@ impl LinePlaces {
         ensures unique { OnOk result (IsDistinct nat_eq self.new) }
         ensures same { OnErr result (self.new ≡ self.old) }
     {
+        let recent = self.recent as usize;
+        match self.lines.get(recent) {
+            Some(known) if *known == line => return Ok((recent, false)),
+            _ => {}
+        }
+        self.insert_other(line)
+    }
+
+    // As `insert`, by the block of the line.
+    fn insert_other(&mut self, line: u64) -> Result<(usize, bool), OutOfMemory>
+        ensures here { IfOk result (λ found. IsPlaceOf line found.0 self.new) }
+        ensures small { IfOk result (λ found. found.0 < 2 ^ 32) }
+        ensures added { IfOk result (λ found. found.1 ≡ not (list_any (nat_eq line) self.old)) }
+        ensures lines { OnOk result (self.new ≡ insert_key nat_eq self.old line) }
+        ensures unique { OnOk result (IsDistinct nat_eq self.new) }
+        ensures same { OnErr result (self.new ≡ self.old) }
+    {
         let number = line / 16;
         let at = reach(&mut self.numbers, &mut self.blocks, self.last, number)?;
         self.last = at;
-        if let Some(place) = told(self.blocks[at], line) {
+        if let Some(place) = told(&self.blocks[at], line) {
+            self.recent = place as u32;
             return Ok((place, false));
         }
         let place = put(&mut self.blocks, &mut self.lines, at, line)?;
+        self.recent = place as u32;
         Ok((place, true))
     }
 
@@ -106,11 +128,11 @@ impl LinePlaces {
         ensures { IsFound line self.now result }
     {
         match self.numbers.get_index(block) {
-            Some(known) if *known == line / 16 => return told(self.blocks[block], line),
+            Some(known) if *known == line / 16 => return told(&self.blocks[block], line),
             _ => {}
         }
         match self.numbers.get_index_of(&(line / 16)) {
-            Some(at) => told(self.blocks[at], line),
+            Some(at) => told(&self.blocks[at], line),
             None => None,
         }
     }

@@ -1,7 +1,7 @@
 use Rattle.std.proofs.Common.{None, Some, sym, ap, not, arith}
 use Rattle.std.proofs.lemmas.Option.{slice_get_within}
 use Rattle.pmt_live.proofs.BlockLemmas.{found-by, inserted-known, inserted-new}
-use Rattle.pmt_live.proofs.line_places.LinePlaces.insert.Goals as goal
+use Rattle.pmt_live.proofs.line_places.LinePlaces.insert_other.Goals as goal
 
 pub returns-in-Some-clause-here : goal.returns-in-Some-clause-here
 returns-in-Some-clause-here c =
