@@ -6,7 +6,7 @@ use Rattle.pmt_model.specs.Machine.{Act, Stores, Flushes, Clflushes, Fences, Ass
 use Rattle.pmt_model.specs.Traces.{Recording, IsAct, history, has_line, lines_of, count_at}
 use Rattle.pmt_model.specs.Fronts.{front, mark, front_at}
 use Rattle.pmt_model.specs.Selections.{Has, always_stays}
-use Rattle.pmt_model.specs.Keeping.{IsUsefulFlush, IsKept, IsKeep}
+use Rattle.pmt_model.specs.Keeping.{IsUsefulFlush, IsKept}
 use Rattle.pmt_model.specs.Keeping.IsKept.{Stays, ByFence, ByFlush, ByClflush}
 use Rattle.pmt_laws.proofs.Histories.{act-unique, act-within, history-act, history-step, length-history, front-mono}
 use Rattle.pmt_laws.proofs.KeepLemmas.{front-at_fence, raising-is-kept}

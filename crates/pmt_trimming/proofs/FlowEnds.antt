@@ -236,7 +236,7 @@ module _ {first now : Option Coming} {old mid : SourceState} {known : Option Lay
       let same : new_known ≡ Some f.trace.format = subst (λ k. KeepsFormat k new_known) f.source.in_format kept in
       subst (λ k. IsGivenIn k (Ok (Some e))) same given
 
-  module _ (e : Event) (less : ℕ) (is : IsEventIn f.trace.format e) (fewer : less < room) (t : Stream) (piece : List ℕ) (out : IsOut (with_event f.trace e) (f.text ++ t.text.items)) (same : piece ≡ t.text.items) where
+  module _ (e : Event) (less : ℕ) (is : IsEventIn f.trace.format e) (fewer : less < room) (t : Stream) (piece : List ℕ) (out : IsOut (with_event f.trace e) (f.text ++ t.queue.text)) (same : piece ≡ t.queue.text) where
     out' : IsOut (with_event f.trace e) (f.text ++ piece)
     out' = let P : List ℕ → Type 0 = λ bytes. IsOut (with_event f.trace e) (f.text ++ bytes) in subst P (sym same) out
 
@@ -268,7 +268,7 @@ module _ {first now : Option Coming} {old mid : SourceState} {known : Option Lay
     piece-streams many format more next later (Source x) given writes = absurd writes
 
     pub flow-more : (many : ℕ) → many ≡ has + 1 → (next : Option Coming) (new : SourceState) (new_known : Option Layout) (new_reads : Option ℕ) (later : Option (List ℕ)) (new_faults more : ℕ) →
-        SoFar (showed first old reads) (shows next new new_known new_reads less) (with_event f.trace e) → IsStreamOf (with_event f.trace e) t (f.text ++ t.text.items) → Appends after later piece × (more ≡ written + length piece) →
+        SoFar (showed first old reads) (shows next new new_known new_reads less) (with_event f.trace e) → IsStreamOf (with_event f.trace e) t (f.text ++ t.queue.text) → Appends after later piece × (more ≡ written + length piece) →
         new_faults ≡ mid_faults + 0 → Flow first next old new new_known had many reads new_reads less before later faults new_faults t more
     flow-more many one next new new_known new_reads later new_faults more source stream writes unfailed = record {
       trace = with_event f.trace e;

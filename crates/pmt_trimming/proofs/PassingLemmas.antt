@@ -5,7 +5,7 @@ use Rattle.std.proofs.lemmas.Bool.{cases_lt, true≢false, lt-ltb, ltb-true}
 use Rattle.std.proofs.lemmas.List.{length-append}
 use Rattle.std.proofs.lemmas.Option.{same_Some}
 use Rattle.pmt_model.specs.declared.event.Event.{Event}
-use Rattle.pmt_model.specs.Machine.{Act, Flushes, Clflushes, Fences}
+use Rattle.pmt_model.specs.Machine.{Act, Flushes, Clflushes, Fences, Asserts}
 use Rattle.pmt_model.specs.Traces.{Recording, act, IsAct, history, count_at, event_limit, lines_of, with_line}
 use Rattle.pmt_model.specs.Fronts.{front_at}
 use Rattle.pmt_model.specs.Pushing.{with_event}
@@ -17,10 +17,11 @@ use Rattle.pmt_laws.proofs.PassLemmas.{clflush_is_kept}
 use Rattle.pmt_laws.proofs.DecidedLemmas.{decided_stays, act-more, act-less, history-more}
 use Rattle.pmt_live.specs.declared.live.LiveLines.{LiveLines}
 use Rattle.pmt_live.specs.Live.{IsLive, IsLiveWith, HasRoom}
+use Rattle.pmt_live.proofs.LiveLemmas.{live-assert}
 use Rattle.pmt_trimming.specs.declared.pass.Mark.{Mark}
 use Rattle.pmt_trimming.specs.declared.pass.Mark.TheVariants as marks
 use Rattle.pmt_trimming.specs.declared.pass.Pass.{Pass}
-use Rattle.pmt_trimming.specs.Passing.{TellsMark, mark_from, AreMarks, IsPassOf}
+use Rattle.pmt_trimming.specs.Passing.{TellsMark, mark_from, AreMarks, HasJudged, IsPassOf}
 
 -- ---- The last event
 
@@ -106,23 +107,39 @@ tells-flush T e t l is = record {
 
 module _ (T : Recording) (e : Event) (a : Act) (is : act T.format e ≡ a) (p : Pass) (before : IsPassOf T p) where
   -- what is the same whatever the event is, where these are the marks of the events so far
-  pub passed-marks : (q : Pass) (list : List Mark) (m : Mark) → q.format ≡ p.format → q.settled ≡ p.settled → q.marks.items ≡ list ++ m ∷ [] → length list ≡ length p.marks.items →
-      IsLive (a ∷ history T (length T.events)) q.live → AreMarks (with_event T e) p.settled list → TellsMark (with_event T e) (suc (length T.events)) m → IsPassOf (with_event T e) q
-  passed-marks q list m format settled pushed size live told last = record {
+  pub judged-marks : (q : Pass) (m : Mark) → q.format ≡ p.format → q.settled ≡ p.settled → length q.marks.items ≡ length p.marks.items →
+      IsLive (a ∷ history T (length T.events)) q.live → AreMarks (with_event T e) p.settled q.marks.items → TellsMark (with_event T e) (suc (length T.events)) m → HasJudged (with_event T e) q m
+  judged-marks q m format settled size live told last = record {
     format = format ∙ before.format;
     live = rw (history-last T e a is) live;
-    all = omega (arith, settled, ap length pushed, length-append list (m ∷ []), size, before.all, length-last T e);
-    marks = rw (settled, pushed)
-        (marks-push (with_event T e) p.settled list m (omega (arith, size, before.all, length-last T e)) told (subst (λ k. TellsMark (with_event T e) k m) (sym (length-last T e)) last));
+    all = omega (arith, settled, size, before.all, length-last T e);
+    marks = rw settled told;
     before = rw settled (λ k h. (decided_stays T (e ∷ []) k (before.before k h)).0);
+    last = subst (λ k. TellsMark (with_event T e) k m) (sym (length-last T e)) last;
   }
 
   -- and where the event is no fence
-  pub passed : (q : Pass) (m : Mark) → q.format ≡ p.format → q.settled ≡ p.settled → q.marks.items ≡ p.marks.items ++ m ∷ [] → IsLive (a ∷ history T (length T.events)) q.live →
-      ((o : (k : ℕ) × IsOpenFlush T k) → a ≡ Fences o.1.thread → ⊥) → TellsMark (with_event T e) (suc (length T.events)) m → IsPassOf (with_event T e) q
-  passed q m format settled pushed live none last =
-      passed-marks q p.marks.items m format settled pushed refl live
-      (λ i x at. tells-more T e (suc (p.settled + i)) x (λ o open_ fence. none (suc (p.settled + i), o) (sym is ∙ fence)) (before.marks i x at)) last
+  pub judged : (q : Pass) (m : Mark) → q.format ≡ p.format → q.settled ≡ p.settled → q.marks.items ≡ p.marks.items → IsLive (a ∷ history T (length T.events)) q.live →
+      ((o : (k : ℕ) × IsOpenFlush T k) → a ≡ Fences o.1.thread → ⊥) → TellsMark (with_event T e) (suc (length T.events)) m → HasJudged (with_event T e) q m
+  judged q m format settled same live none last =
+      judged-marks q m format settled (ap length same) live
+      (rw same (λ i x at. tells-more T e (suc (p.settled + i)) x (λ o open_ fence. none (suc (p.settled + i), o) (sym is ∙ fence)) (before.marks i x at))) last
+
+-- an assertion is kept, and changes nothing
+pub judged-assert : (T : Recording) (e : Event) (p q : Pass) → act T.format e ≡ Asserts → q ≡ p → IsPassOf T p → HasJudged (with_event T e) q marks.Kept
+judged-assert T e p q is same before =
+    judged T e Asserts is p before q marks.Kept (ap (λ (x : Pass). x.format) same) (ap (λ (x : Pass). x.settled) same) (ap (λ (x : Pass). x.marks.items) same)
+    (rw same (live-assert (lines_of (history T (length T.events))) (history T (length T.events)) p.live before.live)) (λ o fence. cc) (tells-stays T e Asserts is refl)
+
+-- the mark comes after the others
+pub passed : (T : Recording) (p q : Pass) (m : Mark) → HasJudged T p m → q.format ≡ p.format → q.live ≡ p.live → q.settled ≡ p.settled → q.marks.items ≡ p.marks.items ++ m ∷ [] → IsPassOf T q
+passed T p q m before format live settled pushed = record {
+  format = format ∙ before.format;
+  live = rw live before.live;
+  all = omega (arith, settled, ap length pushed, length-append p.marks.items (m ∷ []), before.all);
+  marks = rw (settled, pushed) (marks-push T p.settled p.marks.items m before.all before.marks before.last);
+  before = rw settled before.before;
+}
 
 -- a store finds room
 pub room-left : (T : Recording) (p : Pass) (l : ℕ) (live : LiveLines) → IsPassOf T p → p.settled + length p.marks.items < event_limit →

@@ -1,8 +1,8 @@
 -- Queues of lines.
-use Rattle.std.proofs.Common.{◌≡◌, ℕ, suc, ◌+◌, ◌≤◌, Bool, List, [], ◌∷◌, ◌++◌, length, drop, sum, refl, ap, ap₂, ◌∙◌, arith, append_assoc, length-append, length-drop}
-use Rattle.std.proofs.lemmas.List.{drop-append-le, take-append-le, take_all}
+use Rattle.std.proofs.Common.{◌≡◌, ℕ, suc, ◌+◌, ◌≤◌, Bool, List, [], ◌∷◌, ◌++◌, length, take, drop, sum, refl, ap, ap₂, ◌∙◌, arith, append_assoc, length-append, length-drop}
+use Rattle.std.proofs.lemmas.List.{drop-append-le, length-take-le, take-append-le, take_all}
 use Rattle.std.proofs.lemmas.List.Sums.{sum_by-append, sum_by-cons}
-use Rattle.pmt_trimming.specs.LineQueues.{cut_by, AreCut, kept_text, kept_texts, Pops}
+use Rattle.pmt_trimming.specs.LineQueues.{cut_by, AreCut, IsQueue, kept_text, kept_texts, Pops}
 
 -- a line more
 cut-more : (lengths bytes line : List ℕ) → sum lengths ≡ length bytes → cut_by (lengths ++ length line ∷ []) (bytes ++ line) ≡ cut_by lengths bytes ++ line ∷ []
@@ -21,13 +21,36 @@ queue-more old_lengths lengths start n old_bytes bytes line all len more longer 
     ∙ ap (cut_by (old_lengths ++ length line ∷ [])) (drop-append-le start old_bytes line (omega (arith, all)))
     ∙ cut-more old_lengths (drop start old_bytes) line (omega (arith, all, length-drop start old_bytes))
 
--- they are still cut where the bytes of lines that have left are given up
-pub still-cut : (lengths : List ℕ) (start n : ℕ) (old new : List ℕ) → AreCut lengths start old → drop n new ≡ drop start old → n ≤ length new → AreCut lengths n new
-still-cut lengths start n old new all rest within = omega (arith, all, within, length-drop start old, length-drop n new, ap length rest)
+-- they are a queue still where the bytes of lines that have left are given up
+pub still-queue : (lengths : List ℕ) (end start n : ℕ) (old new : List ℕ) → IsQueue lengths end start old → drop n new ≡ drop start old → end ≤ n → n ≤ length new → IsQueue lengths end n new
+still-queue lengths end start n old new queue rest before within = record { before = before; cut = omega (arith, queue.cut, within, length-drop start old, length-drop n new, ap length rest) }
 
 -- and where a line comes
-pub cut-with : (lengths longer : List ℕ) (start : ℕ) (bytes more line : List ℕ) → AreCut lengths start bytes → longer ≡ lengths ++ length line ∷ [] → more ≡ bytes ++ line → AreCut longer start more
-cut-with lengths longer start bytes more line all lengths_are bytes_are = omega (arith, all, ap sum lengths_are, sum_by-append (λ x. x) lengths (length line ∷ []), ap length bytes_are, length-append bytes line)
+pub queue-with : (lengths longer : List ℕ) (end start : ℕ) (bytes more line : List ℕ) → IsQueue lengths end start bytes → longer ≡ lengths ++ length line ∷ [] → more ≡ bytes ++ line → IsQueue longer end start more
+queue-with lengths longer end start bytes more line queue lengths_are bytes_are = record {
+  before = queue.before;
+  cut = omega (arith, queue.cut, ap sum lengths_are, sum_by-append (λ x. x) lengths (length line ∷ []), ap length bytes_are, length-append bytes line);
+}
+
+-- the text before them stays
+pub text-kept : (lengths : List ℕ) (end start : ℕ) (bytes more line : List ℕ) → IsQueue lengths end start bytes → more ≡ bytes ++ line → take end more ≡ take end bytes
+text-kept lengths end start bytes more line queue is = ap (take end) is ∙ take-append-le end bytes line (omega (arith, queue.before, queue.cut))
+
+-- no line
+pub none-cut : (lengths bytes : List ℕ) → cut_by lengths bytes ≡ [] → lengths ≡ []
+none-cut [] bytes is = refl
+none-cut (n ∷ lengths) bytes is = absurd (cc)
+
+pub none-left : (lengths bytes : List ℕ) → lengths ≡ [] → cut_by lengths bytes ≡ []
+none-left lengths bytes none = ap (λ (ns : List ℕ). cut_by ns bytes) none
+
+-- where there is none, more may come to the text
+pub no-line : (lengths bytes : List ℕ) (end : ℕ) (new : List ℕ) → cut_by lengths bytes ≡ [] → end ≡ length new → IsQueue lengths end end new
+no-line lengths bytes end new none all = rw (none-cut lengths bytes none) (record { before = omega arith; cut = omega (arith, all) })
+
+pub no-queue : (lengths : List ℕ) (end start : ℕ) (bytes less new : List ℕ) → cut_by lengths (drop start bytes) ≡ [] → IsQueue lengths end start bytes → less ≡ take end bytes → new ≡ less → IsQueue lengths end end new
+no-queue lengths end start bytes less new none queue cut same =
+    no-line lengths (drop start bytes) end new none (omega (arith, queue.before, queue.cut, ap length same, ap length cut, length-take-le end bytes (omega (arith, queue.before, queue.cut))))
 
 -- as many lines as lengths
 pub length-cut : (lengths bytes : List ℕ) → length (cut_by lengths bytes) ≡ length lengths

@@ -7,13 +7,13 @@ use Rattle.std.proofs.lemmas.Option.{same_Some, none-some}
 use Rattle.pmt_model.specs.Machine.{Flushes, Clflushes, Fences}
 use Rattle.pmt_model.specs.Traces.{Recording}
 use Rattle.pmt_model.specs.Keeping.{IsKept, Stays, ByFence, ByFlush, ByClflush}
-use Rattle.pmt_laws.specs.Passing.{IsDecided}
+use Rattle.pmt_laws.specs.Passing.{IsDecided, IsOpenFlush}
 use Rattle.pmt_laws.proofs.Histories.{act-within}
 use Rattle.pmt_laws.proofs.DecidedLemmas.{open_is_dropped}
 use Rattle.pmt_trimming.specs.declared.pass.Mark.{Mark}
 use Rattle.pmt_trimming.specs.declared.pass.Mark.TheVariants as marks
 use Rattle.pmt_trimming.specs.declared.pass.Pass.{Pass}
-use Rattle.pmt_trimming.specs.Passing.{TellsMark, AreMarks, decision_by, flag_by, IsPassOf, Settles, AreFlags}
+use Rattle.pmt_trimming.specs.Passing.{TellsMark, AreMarks, decision_by, flag_by, HasJudged, IsPassOf, Settles, AreFlags}
 
 -- the mark of the oldest event
 first-told : (T : Recording) (settled : ℕ) (list : List Mark) (m : Mark) → 0 < length list → m ≡ get_or list 0 m → AreMarks T settled list → TellsMark T (suc settled) m
@@ -65,6 +65,50 @@ passing-less T p q m kept some read is before format lines dropped settled = rec
     early k h (inl late) =
         let e : suc p.settled ≡ k = omega (arith, settled) in
         subst (IsDecided T) e (decided-first T (suc p.settled) m kept is (first-told T p.settled p.marks.items m some read before.marks)).0
+
+-- ---- An event that comes while none waits
+
+no-marks : (list : List Mark) → length list ≡ 0 → list ≡ []
+no-marks [] none = refl
+no-marks (x ∷ list) none = absurd (omega arith)
+
+none-at : (i : ℕ) (m : Mark) → slice_get {X = Mark} [] i ≡ Some m → ⊥
+none-at i m at = cc
+
+-- it is given out
+pub alone-passed : (T : Recording) (p q : Pass) (m : Mark) (kept : Bool) → HasJudged T p m → length p.marks.items ≡ 0 → decision_by m ≡ Some kept →
+    q.format ≡ p.format → q.live ≡ p.live → q.marks.items ≡ p.marks.items → q.settled ≡ p.settled + 1 → IsPassOf T q
+alone-passed T p q m kept judged none is format lines same settled = record {
+  format = format ∙ judged.format;
+  live = rw lines judged.live;
+  all = omega (arith, ap length same, none, settled, judged.all);
+  marks = rw (same, no-marks p.marks.items none) (λ i x at. absurd (none-at i x at));
+  before = λ k h. early k h (cases_lt p.settled k);
+}
+  where
+    early : (k : ℕ) → k ≤ q.settled → (p.settled < k) ⊎ (k ≤ p.settled) → IsDecided T k
+    early k h (inr low) = judged.before k low
+    early k h (inl late) =
+        let e : length T.events ≡ k = omega (arith, settled, none, judged.all) in
+        subst (IsDecided T) e (decided-first T (length T.events) m kept is judged.last).0
+
+pub alone-some : (T : Recording) (p : Pass) (m : Mark) (kept : Bool) (old : ℕ) → HasJudged T p m → length p.marks.items ≡ 0 → decision_by m ≡ Some kept → p.settled ≡ old → Settles T old (Some kept) (p.settled + 1)
+alone-some T p m kept old judged none is same =
+    let at : length T.events ≡ suc old = omega (arith, none, same, judged.all) in
+    let first = subst (λ k. IsDecided T k × ((kept ≡ true) ↔ IsKept T k)) at (decided-first T (length T.events) m kept is judged.last) in
+    (omega (arith, same), omega (arith, at), first.0, first.1)
+
+-- or waits
+pub alone-none : (T : Recording) (p : Pass) (m : Mark) (old : ℕ) → HasJudged T p m → length p.marks.items ≡ 0 → decision_by m ≡ None → p.settled ≡ old → Settles T old None p.settled
+alone-none T p m old judged none is same = go m is judged.last
+  where
+    at : length T.events ≡ suc old
+    at = omega (arith, none, same, judged.all)
+
+    go : (x : Mark) → decision_by x ≡ None → TellsMark T (length T.events) x → Settles T old None p.settled
+    go marks.Open e o = (same, inr (subst (IsOpenFlush T) at o))
+    go marks.Kept e o = absurd (cc)
+    go marks.Dropped e o = absurd (cc)
 
 -- ---- At the end
 

@@ -21,7 +21,10 @@ use Rattle.pmt_laws.proofs.Histories.{act-within}
 use Rattle.pmt_laws.proofs.CutLemmas.{has-above}
 use Rattle.pmt_trimming.specs.Passing.{AreFlags, Settles}
 use Rattle.pmt_trimming.specs.Streaming.{IsBeforeOpen, IsOut, OutComesFirst, IsTextOfTrimmed}
-use Rattle.pmt_trimming.specs.Leaving.{HaveLeft, kept_line, kept_lines}
+use Rattle.pmt_trimming.specs.declared.pass.Mark.{Mark}
+use Rattle.pmt_trimming.specs.declared.pass.Pass.{Pass}
+use Rattle.pmt_trimming.specs.declared.stream.Stream.{Stream}
+use Rattle.pmt_trimming.specs.Leaving.{EndsWithKept, HaveLeft, IsStreamOf, kept_line, kept_lines}
 use Rattle.pmt_trimming.specs.LineQueues.{kept_text, kept_texts, Pops}
 use Rattle.pmt_trimming.proofs.HeadlineLemmas.{keep-is-trimmed}
 use Rattle.pmt_flags.specs.Flags.{marked_from}
@@ -410,25 +413,75 @@ pub left-all : (T : Recording) (place : ℕ) (flags : List Bool) (waiting : List
 left-all T place flags waiting text rest are is left =
     let P : List ℕ → Type 0 = λ bytes. IsTextOfTrimmed T (text ++ bytes) in subst P (sym is) (left-finish T place flags waiting text are left)
 
+-- the text is told otherwise
+pub left-same : (T : Recording) (place : ℕ) (waiting : List Event) (text other : List ℕ) → text ≡ other → HaveLeft T place waiting other → HaveLeft T place waiting text
+left-same T place waiting text other is left = rw is left
+
+pub left-after : (T : Recording) (place : ℕ) (waiting : List Event) (base text other : List ℕ) → text ≡ other → HaveLeft T place waiting (base ++ other) → HaveLeft T place waiting (base ++ text)
+left-after T place waiting base text other is left = rw is left
+
+-- the kept lines end the text
+pub left-whole : (T : Recording) (place : ℕ) (waiting : List Event) (text : List ℕ) (lines : List (List ℕ)) (whole : List ℕ) → lines ≡ map event_text waiting → EndsWithKept T place text lines whole →
+    HaveLeft T place waiting text → IsTextOfTrimmed T whole
+left-whole T place waiting text lines whole are ends left =
+    let flags = ends.0 in
+    let rest : kept_texts flags lines ≡ kept_lines flags waiting = ap (kept_texts flags) are ∙ texts-lines flags waiting in
+    subst (IsTextOfTrimmed T) (sym (ends.2 ∙ ap (λ (bytes : List ℕ). text ++ bytes) rest)) (left-finish T place flags waiting text ends.1 left)
+
+-- or a text that is gone
+pub left-ended : (T : Recording) (place : ℕ) (waiting : List Event) (text none : List ℕ) (lines : List (List ℕ)) (rest : List ℕ) → lines ≡ map event_text waiting → none ≡ [] → EndsWithKept T place none lines rest →
+    HaveLeft T place waiting text → IsTextOfTrimmed T (text ++ rest)
+left-ended T place waiting text none lines rest are gone ends left =
+    let flags = ends.0 in
+    let is : rest ≡ kept_lines flags waiting = ends.2 ∙ ap (λ (bytes : List ℕ). bytes ++ kept_texts flags lines) gone ∙ ap (kept_texts flags) are ∙ texts-lines flags waiting in
+    left-all T place flags waiting text rest ends.1 is left
+
+-- the text of a stream is gone
+pub stream-cleared : (T : Recording) (s t : Stream) (text : List ℕ) → t.pass ≡ s.pass → t.queue.lines ≡ s.queue.lines → t.queue.text ≡ [] → IsStreamOf T s text → IsStreamOf T t (text ++ t.queue.text)
+stream-cleared T s t text same lines gone is = record {
+  pass = rw same is.pass;
+  waiting = is.waiting;
+  lines = lines ∙ is.lines;
+  left = rw (same, gone, append-nil text) is.left;
+}
+
 -- ---- An event that comes while none waits
 
 none-mapped : (waiting : List Event) → [] ≡ map event_text waiting → waiting ≡ []
 none-mapped [] is = refl
 none-mapped (e ∷ waiting) is = cc
 
-pub left-alone : (T : Recording) (e : Event) (place next all : ℕ) (waiting : List Event) (lines : List (List ℕ)) (text : List ℕ) → lines ≡ [] → lines ≡ map event_text waiting → next ≡ place →
-    ((k : ℕ) → k ≤ place → IsDecided T k) → place + all ≡ length T.events → HaveLeft T place waiting text → HaveLeft (with_event T e) next (e ∷ []) text
-left-alone T e place next all waiting lines text none are same decided within left =
+-- a pass of a stream in which none waits has no mark
+pub no-marks : (T : Recording) (p : Pass) (waiting : List Event) (lines : List (List ℕ)) (text : List ℕ) → lines ≡ [] → lines ≡ map event_text waiting → p.settled + length p.marks.items ≡ length T.events →
+    HaveLeft T p.settled waiting text → p.marks.items ≡ []
+no-marks T p waiting lines text none are all left = go p.marks.items size
+  where
+    alone : waiting ≡ []
+    alone = none-mapped waiting (sym none ∙ are)
+
+    past : 0 ≡ length T.events - p.settled
+    past = sym (ap length alone) ∙ ap length left.others ∙ length-drop p.settled T.events
+
+    size : length p.marks.items ≡ 0
+    size = omega (arith, past, all)
+
+    go : (list : List Mark) → length list ≡ 0 → list ≡ []
+    go [] short = refl
+    go (m ∷ list) short = absurd (omega arith)
+
+pub left-alone : (T : Recording) (e : Event) (place all : ℕ) (waiting : List Event) (lines : List (List ℕ)) (text : List ℕ) → lines ≡ [] → lines ≡ map event_text waiting →
+    ((k : ℕ) → k ≤ place → IsDecided T k) → place + all ≡ length T.events → HaveLeft T place waiting text → HaveLeft (with_event T e) place (e ∷ []) text
+left-alone T e place all waiting lines text none are decided within left =
     let alone : waiting ≡ [] = none-mapped waiting (sym none ∙ are) in
-    left-next T e place next all waiting (e ∷ []) text same (sym (ap (λ (es : List Event). es ++ e ∷ []) alone)) decided within left
+    left-next T e place place all waiting (e ∷ []) text refl (sym (ap (λ (es : List Event). es ++ e ∷ []) alone)) decided within left
 
 -- it leaves at once
-pub alone-left : (T : Recording) (place next : ℕ) (kept : Bool) (result : Option Bool) (e : Event) (base text longer : List ℕ) → result ≡ Some kept → Settles T place result next →
+pub alone-left : (T : Recording) (place next : ℕ) (kept : Bool) (e : Event) (base text longer : List ℕ) → Settles T place (Some kept) next →
     longer ≡ text ++ kept_text kept (event_text e) → HaveLeft T place (e ∷ []) (base ++ text) → HaveLeft T next [] (base ++ longer)
-alone-left T place next kept result e base text longer told settles is left =
+alone-left T place next kept e base text longer settles is left =
     let more : base ++ longer ≡ (base ++ text) ++ kept_line kept e =
     ap (λ (bytes : List ℕ). base ++ bytes) is ∙ sym (append_assoc base text (kept_text kept (event_text e))) ∙ ap (λ (bytes : List ℕ). (base ++ text) ++ bytes) (kept-is kept e) in
-    left-pop T place next kept result e (e ∷ []) [] (base ++ text) (base ++ longer) told settles refl more left
+    left-pop T place next kept (Some kept) e (e ∷ []) [] (base ++ text) (base ++ longer) refl settles refl more left
 
 -- all that has come has left
 pub none-left : (T : Recording) (place all : ℕ) (text : List ℕ) → place + all ≡ length T.events → HaveLeft T place [] text → (place ≡ length T.events) ⊎ IsOpenFlush T (suc place)

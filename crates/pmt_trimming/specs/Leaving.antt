@@ -9,7 +9,8 @@ use Rattle.pmt_text.specs.Spelling.{event_text, spelling}
 use Rattle.pmt_trimming.specs.declared.stream.Stream.{Stream}
 use Rattle.pmt_trimming.specs.declared.stream_error.StreamError.{StreamError}
 use Rattle.pmt_trimming.specs.declared.stream_error.StreamError.TheVariants.{Source, OutOfMemory, Write}
-use Rattle.pmt_trimming.specs.Passing.{IsPassOf}
+use Rattle.pmt_trimming.specs.Passing.{IsPassOf, AreFlags}
+use Rattle.pmt_trimming.specs.LineQueues.{kept_texts}
 use Rattle.pmt_trimming.specs.Streaming.{IsOut, IsTextOfTrimmed}
 
 -- The rising numbers of what is kept among the first events.
@@ -28,7 +29,7 @@ pub record HaveLeft (T : Recording) (place : ℕ) (waiting : List Event) (text :
 pub record IsStreamOf (T : Recording) (s : Stream) (text : List ℕ) : Type 0 where
   pub pass : IsPassOf T s.pass
   pub waiting : List Event
-  pub lines : s.waiting ≡ map event_text waiting
+  pub lines : s.queue.lines ≡ map event_text waiting
   pub left : HaveLeft T s.pass.settled waiting text
 
 -- It is the stream of some events.
@@ -37,7 +38,7 @@ IsStream s = (T : Recording) × (text : List ℕ) × IsStreamOf T s text
 
 -- And its text is the last that has left.
 abbrev pub IsStreamSoFar : Stream → Type 0
-IsStreamSoFar s = (T : Recording) × (text : List ℕ) × IsStreamOf T s (text ++ s.text.items)
+IsStreamSoFar s = (T : Recording) × (text : List ℕ) × IsStreamOf T s (text ++ s.queue.text)
 
 -- The line of an event that is kept; none of one that is not.
 abbrev pub kept_line : Bool → Event → List ℕ
@@ -49,6 +50,10 @@ abbrev pub kept_lines : List Bool → List Event → List ℕ
 kept_lines [] events = []
 kept_lines (b ∷ flags) [] = []
 kept_lines (b ∷ flags) (e ∷ events) = kept_line b e ++ kept_lines flags events
+
+-- The text is longer by the lines of those events after event place that are kept, one of these lines for each.
+abbrev pub EndsWithKept : Recording → ℕ → List ℕ → List (List ℕ) → List ℕ → Type 0
+EndsWithKept T place text lines longer = (flags : List Bool) × AreFlags T place flags × (longer ≡ text ++ kept_texts flags lines)
 
 -- A piece is out after so many bytes, or its first bytes are.
 abbrev pub WritesPiece : Option (List ℕ) → Option (List ℕ) → List ℕ → ℕ → Result ℕ StreamError → Type 0

@@ -1,4 +1,4 @@
--- Lines that lie in a row, and what leaves their front.
+-- A text and lines after it, that lie in a row, and what leaves the front of the lines.
 use Rattle.std.specs.Prelude.{◌≡◌, ℕ, ◌+◌, ◌<◌, ◌≤◌, ◌⊎◌, Bool, true, false, List, [], ◌∷◌, ◌++◌, length, take, drop, sum}
 
 -- These bytes, cut into lines of these lengths.
@@ -10,9 +10,19 @@ cut_by (n ∷ lengths) bytes = take n bytes ∷ cut_by lengths (drop n bytes)
 abbrev pub AreCut : List ℕ → ℕ → List ℕ → Type 0
 AreCut lengths start bytes = start + sum lengths ≡ length bytes
 
--- The bytes before this place, whose lines have left, are fewer than 4096, or no more than half of all.
-abbrev pub HasLittleLeft : ℕ → List ℕ → Type 0
-HasLittleLeft start bytes = (start < 4096) ⊎ (start + start ≤ length bytes)
+-- The text, and the lines after it.
+pub record Queued : Type 0 where
+  pub text : List ℕ
+  pub lines : List (List ℕ)
+
+-- The first bytes are the text, and those from the start on are just those of the lines.
+pub record IsQueue (lengths : List ℕ) (end start : ℕ) (bytes : List ℕ) : Type 0 where
+  pub before : end ≤ start
+  pub cut : AreCut lengths start bytes
+
+-- The bytes between the text and the start, whose lines have left, are fewer than 4096, or no more than half of all.
+abbrev pub HasLittleLeft : ℕ → ℕ → List ℕ → Type 0
+HasLittleLeft end start bytes = (start < end + 4096) ⊎ (start + start ≤ length bytes + (end + end))
 
 -- A line that is kept; nothing of one that is not.
 abbrev pub kept_text : Bool → List ℕ → List ℕ

@@ -43,6 +43,15 @@ pub record IsPassOf (T : Recording) (p : Pass) : Type 0 where
   pub marks : AreMarks T p.settled p.marks.items
   pub before : (k : ℕ) → k ≤ p.settled → IsDecided T k
 
+-- The pass has taken the events of this trace but the last, of which the mark tells.
+pub record HasJudged (T : Recording) (p : Pass) (mark : Mark) : Type 0 where
+  pub format : p.format ≡ T.format
+  pub live : IsLive (history T (length T.events)) p.live
+  pub all : suc (p.settled + length p.marks.items) ≡ length T.events
+  pub marks : AreMarks T p.settled p.marks.items
+  pub before : (k : ℕ) → k ≤ p.settled → IsDecided T k
+  pub last : TellsMark T (length T.events) mark
+
 -- It has taken the events of some trace.
 abbrev pub IsPassing : Pass → Type 0
 IsPassing p = (T : Recording) × IsPassOf T p

@@ -1,13 +1,13 @@
 //! The pass forward over the events of a trace, which decides what is kept.
 
-ghost use Rattle.std.specs.Prelude.{◌≡◌, ℕ, ◌+◌, ◌<◌, ◌≤◌, length, map, IfOk, OnOk};
-ghost use Rattle.pmt_model.specs.Machine.{Stores, Flushes, Clflushes, Fences, Asserts};
+ghost use Rattle.std.specs.Prelude.{◌≡◌, ℕ, ◌+◌, ◌<◌, ◌≤◌, [], length, map, IfOk, OnOk};
+ghost use Rattle.pmt_model.specs.Machine.{Stores, Flushes, Clflushes, Fences};
 ghost use Rattle.pmt_model.specs.Pushing.{empty, with_event};
 ghost use Rattle.pmt_model.specs.Traces.{Recording, act, event_limit};
 ghost use Rattle.pmt_model.specs.Values.{Written};
 ghost use Rattle.pmt_model.specs.declared.event.Event.{Event};
 ghost use Rattle.pmt_live.specs.Fencing.{number_of};
-ghost use Rattle.pmt_trimming.specs.Passing.{IsPassOf, IsPassing, taken, Settles, AreFlags, AreMarks, mark_from, decision_by, flag_by};
+ghost use Rattle.pmt_trimming.specs.Passing.{HasJudged, IsPassOf, IsPassing, taken, Settles, AreFlags, AreMarks, mark_from, decision_by, flag_by};
 ghost use Rattle.pmt_trimming.specs.Fencing.{HaveMarks, AreDecided};
 
 use pmt_live::{LiveLines, OpenFlush};
@@ -65,80 +65,109 @@ impl Pass {
         ensures follows { (T : Recording) → IsPassOf T self.old → OnOk result (IsPassOf (with_event T event.now) self.new) }
         ensures settled { self.new.settled ≡ self.old.settled }
     {
+        let mark = self.judge(event)?;
+        self.marks.push_back(mark)?;
+        Ok(())
+    }
+
+    /// Takes the next event where all before it are given out, and gives it out if it is decided.
+    ///
+    /// # Errors
+    /// Where memory was refused. What the pass holds then is not told.
+    #[inline(always)]
+    pub(crate) fn take_alone(&mut self, event: &Event) -> Result<Option<bool>, OutOfMemory>
+        requires passing { IsPassing self.old }
+        requires alone { self.old.marks.items ≡ [] }
+        requires room { taken self.old < event_limit }
+        ensures follows { (T : Recording) → IsPassOf T self.old → OnOk result (IsPassOf (with_event T event.now) self.new) }
+        ensures settles { (T : Recording) → IsPassOf T self.old → IfOk result (λ told. Settles (with_event T event.now) self.old.settled told self.new.settled) }
+    {
+        let mark = self.judge(event)?;
+        match decision(mark) {
+            Some(kept) => {
+                self.settled += 1;
+                Ok(Some(kept))
+            }
+            None => {
+                self.marks.push_back(mark)?;
+                Ok(None)
+            }
+        }
+    }
+
+    // Judges the next event: its mark is still to come after those of the others.
+    #[inline(always)]
+    fn judge(&mut self, event: &Event) -> Result<Mark, OutOfMemory>
+        requires passing { IsPassing self.old }
+        requires room { taken self.old < event_limit }
+        ensures follows { (T : Recording) → IsPassOf T self.old → IfOk result (λ mark. HasJudged (with_event T event.now) self.new mark) }
+        ensures settled { self.new.settled ≡ self.old.settled }
+        ensures size { length self.new.marks.items ≡ length self.old.marks.items }
+    {
         let thread = event.thread;
         let op = event.op;
         match op {
-            Op::Store(store) => self.take_store(line_of(self.format, store.addr())),
-            Op::Clwb(addr) => self.take_flush(thread, line_of(self.format, addr)),
-            Op::ClflushOpt(addr) => self.take_flush(thread, line_of(self.format, addr)),
-            Op::Clflush(addr) => self.take_clflush(line_of(self.format, addr)),
-            Op::Sfence => self.take_fence(thread),
-            Op::Mfence => self.take_fence(thread),
-            Op::IsPersist(_) => self.take_assertion(),
-            Op::IsOrderedBefore(_, _) => self.take_assertion(),
+            Op::Store(store) => self.judge_store(line_of(self.format, store.addr())),
+            Op::Clwb(addr) => self.judge_flush(thread, line_of(self.format, addr)),
+            Op::ClflushOpt(addr) => self.judge_flush(thread, line_of(self.format, addr)),
+            Op::Clflush(addr) => self.judge_clflush(line_of(self.format, addr)),
+            Op::Sfence => Ok(self.judge_fence(thread)),
+            Op::Mfence => Ok(self.judge_fence(thread)),
+            Op::IsPersist(_) => Ok(Mark::Kept),
+            Op::IsOrderedBefore(_, _) => Ok(Mark::Kept),
         }
     }
 
     // A store to the line.
     #[inline(always)]
-    fn take_store(&mut self, line: u64) -> Result<(), OutOfMemory>
+    fn judge_store(&mut self, line: u64) -> Result<Mark, OutOfMemory>
         requires passing { IsPassing self.old }
         requires room { taken self.old < event_limit }
-        ensures follows { (T : Recording) (e : Event) (w : Written) → act T.format e ≡ Stores line w → IsPassOf T self.old → OnOk result (IsPassOf (with_event T e) self.new) }
+        ensures follows { (T : Recording) (e : Event) (w : Written) → act T.format e ≡ Stores line w → IsPassOf T self.old → IfOk result (λ mark. HasJudged (with_event T e) self.new mark) }
         ensures settled { self.new.settled ≡ self.old.settled }
+        ensures size { length self.new.marks.items ≡ length self.old.marks.items }
     {
         let place = self.live.place_of(line)?;
         self.live.store(place);
-        self.marks.push_back(Mark::Kept)?;
-        Ok(())
+        Ok(Mark::Kept)
     }
 
     // A flush of the line by the thread.
-    fn take_flush(&mut self, thread: u8, line: u64) -> Result<(), OutOfMemory>
+    fn judge_flush(&mut self, thread: u8, line: u64) -> Result<Mark, OutOfMemory>
         requires passing { IsPassing self.old }
         requires room { taken self.old < event_limit }
-        ensures follows { (T : Recording) (e : Event) → act T.format e ≡ Flushes thread line → IsPassOf T self.old → OnOk result (IsPassOf (with_event T e) self.new) }
+        ensures follows { (T : Recording) (e : Event) → act T.format e ≡ Flushes thread line → IsPassOf T self.old → IfOk result (λ mark. HasJudged (with_event T e) self.new mark) }
         ensures settled { self.new.settled ≡ self.old.settled }
+        ensures size { length self.new.marks.items ≡ length self.old.marks.items }
     {
         let place = self.live.place_of(line)?;
         let number = (self.settled + self.marks.len() as u64 + 1) as u32;
         self.live.flush(thread, place, number)?;
-        self.marks.push_back(Mark::Open)?;
-        Ok(())
+        Ok(Mark::Open)
     }
 
     // A clflush of the line.
-    fn take_clflush(&mut self, line: u64) -> Result<(), OutOfMemory>
+    fn judge_clflush(&mut self, line: u64) -> Result<Mark, OutOfMemory>
         requires passing { IsPassing self.old }
-        ensures follows { (T : Recording) (e : Event) → act T.format e ≡ Clflushes line → IsPassOf T self.old → OnOk result (IsPassOf (with_event T e) self.new) }
+        ensures follows { (T : Recording) (e : Event) → act T.format e ≡ Clflushes line → IsPassOf T self.old → IfOk result (λ mark. HasJudged (with_event T e) self.new mark) }
         ensures settled { self.new.settled ≡ self.old.settled }
+        ensures size { length self.new.marks.items ≡ length self.old.marks.items }
     {
         let place = self.live.place_of(line)?;
         let rises = self.live.clflush(place);
-        self.marks.push_back(mark_of(rises))?;
-        Ok(())
+        Ok(mark_of(rises))
     }
 
     // A fence by the thread.
-    fn take_fence(&mut self, thread: u8) -> Result<(), OutOfMemory>
+    fn judge_fence(&mut self, thread: u8) -> Mark
         requires passing { IsPassing self.old }
-        ensures follows { (T : Recording) (e : Event) → act T.format e ≡ Fences thread → IsPassOf T self.old → OnOk result (IsPassOf (with_event T e) self.new) }
+        ensures follows { (T : Recording) (e : Event) → act T.format e ≡ Fences thread → IsPassOf T self.old → HasJudged (with_event T e) self.new result }
         ensures settled { self.new.settled ≡ self.old.settled }
+        ensures size { length self.new.marks.items ≡ length self.old.marks.items }
     {
         let rises = self.live.fence(thread);
         mark_decided(&mut self.marks, self.settled, self.live.decided());
-        self.marks.push_back(mark_of(rises))?;
-        Ok(())
-    }
-
-    // An assertion.
-    fn take_assertion(&mut self) -> Result<(), OutOfMemory>
-        requires passing { IsPassing self.old }
-        ensures follows { (T : Recording) (e : Event) → act T.format e ≡ Asserts → IsPassOf T self.old → OnOk result (IsPassOf (with_event T e) self.new) }
-        ensures settled { self.new.settled ≡ self.old.settled }
-    {
-        self.marks.push_back(Mark::Kept)?;
-        Ok(())
+        mark_of(rises)
     }
 
     /// Gives out the oldest event that was not given out, if it is decided: whether it is kept. Where it is not, it is a flush

@@ -1,11 +1,11 @@
-//! The events of a stream: those that wait, and the text of those that leave.
+//! The events of a trace that comes: the lines of those that wait, and the text of those that have left.
 ghost use Rattle.std.specs.Prelude.{◌≡◌, ◌++◌, ◌<◌, ◌≤◌, ℕ, Bool, List, [], ◌∷◌, IfOk, IfSome, OnOk};
 ghost use Rattle.pmt_model.specs.Pushing.{empty, with_event};
 ghost use Rattle.pmt_model.specs.Traces.{Recording, event_limit};
-ghost use Rattle.pmt_trimming.specs.Passing.{taken};
+ghost use Rattle.pmt_trimming.specs.Passing.{IsPassOf, taken};
 ghost use Rattle.pmt_trimming.specs.Streaming.{IsOut, IsTextOfTrimmed};
 ghost use Rattle.pmt_text.specs.Spelling.{event_text};
-ghost use Rattle.pmt_trimming.specs.Leaving.{IsStream, IsStreamOf, IsStreamSoFar};
+ghost use Rattle.pmt_trimming.specs.Leaving.{EndsWithKept, IsStream, IsStreamOf, IsStreamSoFar};
 ghost use Rattle.pmt_trimming.specs.LineQueues.{kept_text, kept_texts};
 
 use crate::line_queue::LineQueue;
@@ -14,26 +14,24 @@ use pmt_model::{Event, Format, OutOfMemory};
 use pmt_text::write::{LINE_ROOM, push_header, spell_event};
 use std::alloc::Global;
 
-/// The lines of the events that have come and not left, in their order, and what leaves with the newest one.
+/// The text of the events that have left, and after it the lines of those that have come and not left, in their order.
 #[derive(Drop)]
 pub(crate) struct Stream {
     pub(crate) pass: Pass,
-    pub(crate) waiting: LineQueue,
-    pub(crate) text: Vec<u8>,
+    pub(crate) queue: LineQueue,
 }
 
 impl Stream {
     // No event has come; the header leaves.
     pub(crate) fn new(alloc: Global, format: Format) -> Result<Self, OutOfMemory>
-        ensures stream { IfOk result (λ s. IsStreamOf (empty format) s s.text.items) }
-        ensures out { IfOk result (λ s. IsOut (empty format) s.text.items) }
+        ensures stream { IfOk result (λ s. IsStreamOf (empty format) s s.queue.text) }
+        ensures out { IfOk result (λ s. IsOut (empty format) s.queue.text) }
     {
         let mut text = Vec::new(alloc);
         push_header(&mut text, format)?;
         Ok(Stream {
             pass: Pass::new(alloc, format)?,
-            waiting: LineQueue::new(alloc),
-            text,
+            queue: LineQueue::new(alloc, text),
         })
     }
 
@@ -42,14 +40,15 @@ impl Stream {
         requires stream { IsStream self.old }
         requires line { IfSome line (λ bytes. bytes.now ≡ event_text event.now) }
         requires room { taken self.old.pass < event_limit }
-        ensures stream { (T : Recording) (text : List ℕ) → IsStreamOf T self.old text → OnOk result (IsStreamOf (with_event T event.now) self.new (text ++ self.new.text.items)) }
-        ensures out { (T : Recording) (text : List ℕ) → IsStreamOf T self.old text → OnOk result (IsOut (with_event T event.now) (text ++ self.new.text.items)) }
+        ensures stream { (T : Recording) (text : List ℕ) → IsStreamOf T self.old text → OnOk result (IsStreamOf (with_event T event.now) self.new (text ++ self.new.queue.text)) }
+        ensures out { (T : Recording) (text : List ℕ) → IsStreamOf T self.old text → OnOk result (IsOut (with_event T event.now) (text ++ self.new.queue.text)) }
     {
-        self.text.clear();
+        self.queue.clear_text();
         self.take_more(event, line)
     }
 
     // As `take`, and what leaves comes after the text.
+    #[inline(always)]
     pub(crate) fn take_more(
         &mut self,
         event: &Event,
@@ -58,146 +57,160 @@ impl Stream {
         requires stream { IsStreamSoFar self.old }
         requires line { IfSome line (λ bytes. bytes.now ≡ event_text event.now) }
         requires room { taken self.old.pass < event_limit }
-        ensures stream { (T : Recording) (text : List ℕ) → IsStreamOf T self.old (text ++ self.old.text.items) → OnOk result (IsStreamOf (with_event T event.now) self.new (text ++ self.new.text.items)) }
-        ensures out { (T : Recording) (text : List ℕ) → IsStreamOf T self.old (text ++ self.old.text.items) → OnOk result (IsOut (with_event T event.now) (text ++ self.new.text.items)) }
+        ensures stream { (T : Recording) (text : List ℕ) → IsStreamOf T self.old (text ++ self.old.queue.text) → OnOk result (IsStreamOf (with_event T event.now) self.new (text ++ self.new.queue.text)) }
+        ensures out { (T : Recording) (text : List ℕ) → IsStreamOf T self.old (text ++ self.old.queue.text) → OnOk result (IsOut (with_event T event.now) (text ++ self.new.queue.text)) }
     {
-        if self.waiting.is_empty() {
+        if self.queue.is_empty() {
             return self.take_alone(event, line);
         }
-        wait(&mut self.waiting, event, line)?;
-        self.pass.take(event)?;
-        self.leave()
+        self.take_behind(event, line)
     }
 
     // As `take_more`, where no event waits: it leaves at once, or it waits.
+    #[inline(always)]
     fn take_alone(&mut self, event: &Event, line: Option<&[u8]>) -> Result<(), OutOfMemory>
         requires stream { IsStreamSoFar self.old }
-        requires alone { self.old.waiting ≡ [] }
+        requires alone { self.old.queue.lines ≡ [] }
         requires line { IfSome line (λ bytes. bytes.now ≡ event_text event.now) }
         requires room { taken self.old.pass < event_limit }
-        ensures stream { (T : Recording) (text : List ℕ) → IsStreamOf T self.old (text ++ self.old.text.items) → OnOk result (IsStreamOf (with_event T event.now) self.new (text ++ self.new.text.items)) }
-        ensures out { (T : Recording) (text : List ℕ) → IsStreamOf T self.old (text ++ self.old.text.items) → OnOk result (IsOut (with_event T event.now) (text ++ self.new.text.items)) }
+        ensures stream { (T : Recording) (text : List ℕ) → IsStreamOf T self.old (text ++ self.old.queue.text) → OnOk result (IsStreamOf (with_event T event.now) self.new (text ++ self.new.queue.text)) }
+        ensures out { (T : Recording) (text : List ℕ) → IsStreamOf T self.old (text ++ self.old.queue.text) → OnOk result (IsOut (with_event T event.now) (text ++ self.new.queue.text)) }
     {
-        self.pass.take(event)?;
-        match self.pass.next_settled() {
+        match self.pass.take_alone(event)? {
             Some(kept) => {
-                put(&mut self.text, kept, event, line)?;
+                put(&mut self.queue, kept, event, line)?;
                 Ok(())
             }
             None => {
-                wait(&mut self.waiting, event, line)?;
+                wait(&mut self.queue, event, line)?;
                 Ok(())
             }
         }
     }
 
+    // As `take_more`: it waits behind the others, and leaves with them.
+    #[inline(never)]
+    fn take_behind(&mut self, event: &Event, line: Option<&[u8]>) -> Result<(), OutOfMemory>
+        requires stream { IsStreamSoFar self.old }
+        requires line { IfSome line (λ bytes. bytes.now ≡ event_text event.now) }
+        requires room { taken self.old.pass < event_limit }
+        ensures stream { (T : Recording) (text : List ℕ) → IsStreamOf T self.old (text ++ self.old.queue.text) → OnOk result (IsStreamOf (with_event T event.now) self.new (text ++ self.new.queue.text)) }
+        ensures out { (T : Recording) (text : List ℕ) → IsStreamOf T self.old (text ++ self.old.queue.text) → OnOk result (IsOut (with_event T event.now) (text ++ self.new.queue.text)) }
+    {
+        wait(&mut self.queue, event, line)?;
+        self.pass.take(event)?;
+        self.leave();
+        Ok(())
+    }
+
     // The decided events at the front leave.
-    fn leave(&mut self) -> Result<(), OutOfMemory>
+    #[inline(always)]
+    fn leave(&mut self)
         requires stream { IsStreamSoFar self.old }
         requires room { taken self.old.pass ≤ event_limit }
-        ensures stream { (T : Recording) (text : List ℕ) → IsStreamOf T self.old (text ++ self.old.text.items) → OnOk result (IsStreamOf T self.new (text ++ self.new.text.items)) }
-        ensures out { (T : Recording) (text : List ℕ) → IsStreamOf T self.old (text ++ self.old.text.items) → OnOk result (IsOut T (text ++ self.new.text.items)) }
+        ensures stream { (T : Recording) (text : List ℕ) → IsStreamOf T self.old (text ++ self.old.queue.text) → IsStreamOf T self.new (text ++ self.new.queue.text) }
+        ensures out { (T : Recording) (text : List ℕ) → IsStreamOf T self.old (text ++ self.old.queue.text) → IsOut T (text ++ self.new.queue.text) }
     {
         while let Some(kept) = self.pass.next_settled() {
-            self.waiting.pop_into(kept, &mut self.text)?;
+            self.queue.pop(kept);
         }
-        Ok(())
     }
 
     // All has come: the text of the kept events that still wait.
     pub(crate) fn finish(self, alloc: Global) -> Result<Vec<u8>, OutOfMemory>
         ensures { IfOk result (λ rest. (T : Recording) (text : List ℕ) → IsStreamOf T self text → IsTextOfTrimmed T (text ++ rest.items)) }
     {
-        let Stream {
-            pass,
-            waiting,
-            text: _,
-        } = self;
-        let flags = pass.finish(alloc)?;
-        let mut rest = Vec::new(alloc);
-        put_kept(&mut rest, flags.as_slice(), waiting)?;
-        Ok(rest)
+        let Stream { pass, mut queue } = self;
+        queue.clear_text();
+        text_of(alloc, pass, queue)
     }
 
     // All has come: the text, and after it that of the kept events that still wait.
     pub(crate) fn into_text(self, alloc: Global) -> Result<Vec<u8>, OutOfMemory>
-        ensures { IfOk result (λ whole. (T : Recording) → IsStreamOf T self self.text.items → IsTextOfTrimmed T whole.items) }
+        ensures { IfOk result (λ whole. (T : Recording) → IsStreamOf T self self.queue.text → IsTextOfTrimmed T whole.items) }
     {
-        let Stream {
-            pass,
-            waiting,
-            mut text,
-        } = self;
-        let flags = pass.finish(alloc)?;
-        put_kept(&mut text, flags.as_slice(), waiting)?;
-        Ok(text)
+        let Stream { pass, queue } = self;
+        text_of(alloc, pass, queue)
     }
+}
+
+// The text of the queue, and after it the lines of the events that the pass keeps of those that it holds.
+fn text_of(alloc: Global, pass: Pass, mut queue: LineQueue) -> Result<Vec<u8>, OutOfMemory>
+    ensures { IfOk result (λ whole. (T : Recording) → IsPassOf T pass → EndsWithKept T pass.settled queue.text queue.lines whole.items) }
+{
+    let flags = pass.finish(alloc)?;
+    pop_kept(&mut queue, flags.as_slice());
+    Ok(queue.into_text())
 }
 
 // Puts the line of the event after the text, where it is kept. It is spelled where none was given.
 #[inline(always)]
 fn put(
-    text: &mut Vec<u8>,
+    queue: &mut LineQueue,
     kept: bool,
     event: &Event,
     line: Option<&[u8]>,
 ) -> Result<(), OutOfMemory>
-    requires { IfSome line (λ bytes. bytes.now ≡ event_text event.now) }
-    ensures { OnOk result (text.new.items ≡ text.old.items ++ kept_text kept (event_text event.now)) }
+    requires alone { queue.old.lines ≡ [] }
+    requires line { IfSome line (λ bytes. bytes.now ≡ event_text event.now) }
+    ensures text { OnOk result (queue.new.text ≡ queue.old.text ++ kept_text kept (event_text event.now)) }
+    ensures lines { OnOk result (queue.new.lines ≡ []) }
 {
     if !kept {
         return Ok(());
     }
     match line {
-        Some(bytes) => text.extend_from_slice(bytes),
-        None => put_spelled(text, *event),
+        Some(bytes) => queue.put(bytes),
+        None => put_spelled(queue, *event),
     }
 }
 
 // Puts the spelled line of the event after the text.
-fn put_spelled(text: &mut Vec<u8>, event: Event) -> Result<(), OutOfMemory>
-    ensures { OnOk result (text.new.items ≡ text.old.items ++ event_text event) }
+fn put_spelled(queue: &mut LineQueue, event: Event) -> Result<(), OutOfMemory>
+    requires { queue.old.lines ≡ [] }
+    ensures text { OnOk result (queue.new.text ≡ queue.old.text ++ event_text event) }
+    ensures lines { OnOk result (queue.new.lines ≡ []) }
 {
     let mut room = [0; LINE_ROOM];
-    text.extend_from_slice(spell_event(&mut room, &event))
+    queue.put(spell_event(&mut room, &event))
 }
 
 // The line of the event waits. It is spelled where none was given that fits the queue.
 #[inline(always)]
-fn wait(waiting: &mut LineQueue, event: &Event, line: Option<&[u8]>) -> Result<(), OutOfMemory>
+fn wait(queue: &mut LineQueue, event: &Event, line: Option<&[u8]>) -> Result<(), OutOfMemory>
     requires { IfSome line (λ bytes. bytes.now ≡ event_text event.now) }
-    ensures { OnOk result (waiting.new ≡ waiting.old ++ event_text event.now ∷ []) }
+    ensures text { OnOk result (queue.new.text ≡ queue.old.text) }
+    ensures lines { OnOk result (queue.new.lines ≡ queue.old.lines ++ event_text event.now ∷ []) }
 {
     if let Some(bytes) = line {
         if bytes.len() < 256 {
-            return waiting.push(bytes);
+            return queue.push(bytes);
         }
     }
-    wait_spelled(waiting, *event)
+    wait_spelled(queue, *event)
 }
 
 // The line of the event is spelled, and waits.
-fn wait_spelled(waiting: &mut LineQueue, event: Event) -> Result<(), OutOfMemory>
-    ensures { OnOk result (waiting.new ≡ waiting.old ++ event_text event ∷ []) }
+fn wait_spelled(queue: &mut LineQueue, event: Event) -> Result<(), OutOfMemory>
+    ensures text { OnOk result (queue.new.text ≡ queue.old.text) }
+    ensures lines { OnOk result (queue.new.lines ≡ queue.old.lines ++ event_text event ∷ []) }
 {
     let mut room = [0; LINE_ROOM];
-    waiting.push(spell_event(&mut room, &event))
+    queue.push(spell_event(&mut room, &event))
 }
 
-// Puts the lines whose flag is set after the text.
-fn put_kept(text: &mut Vec<u8>, flags: &[bool], mut lines: LineQueue) -> Result<(), OutOfMemory>
-    ensures { OnOk result (text.new.items ≡ text.old.items ++ kept_texts flags.now lines) }
+// Puts the lines whose flag is set at the end of the text.
+fn pop_kept(queue: &mut LineQueue, flags: &[bool])
+    ensures { queue.new.text ≡ queue.old.text ++ kept_texts flags.now queue.old.lines }
 {
     for kept in flags {
-        add_line(text, *kept, &mut lines)?;
+        pop_flagged(queue, *kept);
     }
-    Ok(())
 }
 
-// The first of the lines, where it is kept. It is gone then.
-fn add_line(text: &mut Vec<u8>, kept: bool, lines: &mut LineQueue) -> Result<(), OutOfMemory>
-    ensures { OnOk result ((flags : List Bool) → text.new.items ++ kept_texts flags lines.new ≡ text.old.items ++ kept_texts (kept ∷ flags) lines.old) }
+// The first of the lines, where it is kept. It is gone from the lines then.
+fn pop_flagged(queue: &mut LineQueue, kept: bool)
+    ensures { (flags : List Bool) → queue.new.text ++ kept_texts flags queue.new.lines ≡ queue.old.text ++ kept_texts (kept ∷ flags) queue.old.lines }
 {
-    lines.pop_into(kept, text)?;
-    Ok(())
+    queue.pop(kept);
 }

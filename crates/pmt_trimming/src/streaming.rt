@@ -41,7 +41,7 @@ pub fn trim_stream<S: EventSource, W: Write>(
     let Ok(mut stream) = Stream::new(alloc, format) else {
         return Err(StreamError::OutOfMemory);
     };
-    let mut written = match write_piece(out, stream.text.as_slice(), 0) {
+    let mut written = match write_piece(out, stream.queue.text(), 0) {
         Ok(written) => written,
         Err(fault) => return Err(fault),
     };
@@ -51,7 +51,7 @@ pub fn trim_stream<S: EventSource, W: Write>(
                 let Ok(()) = stream.take(&event, source.last_line()) else {
                     return close(out, written, Err(StreamError::OutOfMemory));
                 };
-                match write_piece(out, stream.text.as_slice(), written) {
+                match write_piece(out, stream.queue.text(), written) {
                     Ok(more) => written = more,
                     Err(fault) => return Err(fault),
                 }

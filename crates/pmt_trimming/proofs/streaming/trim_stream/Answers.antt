@@ -43,7 +43,7 @@ write_piece-requires-in-Ok-Some-clause-fits g c =
     let said = c.in-Ok-Some.ensures in
     let fewer = rw c.in-Ok-Some.field-0-is at said.room in
     let given = rw c.in-Ok-Some.field-0-is at said.in_format in
-    piece-fits f _ _ (event-in f _ _ said.kept given) fewer c.take-in-Ok-Some.new.self _ (c.in-Ok-take.ensures.out f.trace f.text f.stream.stream) c.as_slice-in-Ok-Some.ensures.value
+    piece-fits f _ _ (event-in f _ _ said.kept given) fewer c.take-in-Ok-Some.new.self _ (c.in-Ok-take.ensures.out f.trace f.text f.stream.stream) c.text-in-Ok-Some.ensures
 
 pub take-preserved : goal.take-preserved
 take-preserved g c =
@@ -58,7 +58,7 @@ take-preserved g c =
     let counted = rw c.in-Ok-Some.field-0-is at said.failures in
     let more = rw c.in-Ok-Some.field-0-is at said.given in
     let came = c.in-Ok-take.ensures in
-    flow-more f _ _ (event-in f _ _ said.kept given) fewer c.take-in-Ok-Some.new.self _ (came.out f.trace f.text f.stream.stream) c.as_slice-in-Ok-Some.ensures.value _ more _ _ _ _ _ _ _
+    flow-more f _ _ (event-in f _ _ said.kept given) fewer c.take-in-Ok-Some.new.self _ (came.out f.trace f.text f.stream.stream) c.text-in-Ok-Some.ensures _ more _ _ _ _ _ _ _
     (so_far-more _ _ (shown c.next.new.self) f.trace c.in-Ok-Some.event f.source taken told said.kept counted fewer) (came.stream f.trace f.text f.stream.stream)
     c.in-Ok-write_piece-2.ensures.written c.in-Ok-write_piece-2.ensures.failures
 
@@ -70,13 +70,13 @@ returns-in-Err-write_piece-2-clause-streams g c =
     let given = rw c.in-Ok-Some.field-0-is at said.in_format in
     let taken = rw c.in-Ok-Some.field-0-is at said.taken in
     let more = rw c.in-Ok-Some.field-0-is at said.given in
-    piece-streams f _ _ (event-in f _ _ said.kept given) fewer c.take-in-Ok-Some.new.self _ (c.in-Ok-take.ensures.out f.trace f.text f.stream.stream) c.as_slice-in-Ok-Some.ensures.value _ _ more _ _
+    piece-streams f _ _ (event-in f _ _ said.kept given) fewer c.take-in-Ok-Some.new.self _ (c.in-Ok-take.ensures.out f.trace f.text f.stream.stream) c.text-in-Ok-Some.ensures _ _ more _ _
     c.in-Err-write_piece-2.fault taken c.in-Err-write_piece-2.ensures.written
 
 pub returns-in-Err-write_piece-clause-streams : goal.returns-in-Err-write_piece-clause-streams
 returns-in-Err-write_piece-clause-streams g c =
     let taken = c.in-Ok.ensures.taken in
-    first-streams _ (g.S.EventSource.coming c.format.new.self) _ _ _ c.in-Ok.format _ _ c.in-Ok-new.stream.text.items _ c.in-Err-write_piece.fault c.in-Ok.ensures.given taken.1 taken.0 c.in-Ok-new.ensures.out c.as_slice.ensures.value
+    first-streams _ (g.S.EventSource.coming c.format.new.self) _ _ _ c.in-Ok.format _ _ c.in-Ok-new.stream.queue.text _ c.in-Err-write_piece.fault c.in-Ok.ensures.given taken.1 taken.0 c.in-Ok-new.ensures.out c.text.ensures
     c.in-Err-write_piece.ensures.written
 
 pub take-init : goal.take-init
@@ -86,14 +86,14 @@ take-init g c =
     let first = showed (source.coming c.args.source.now) (source.state c.args.source.now) (source.failures c.args.source.now) in
     let said = c.in-Ok.ensures in
     let writes = c.in-Ok-write_piece.ensures.written in
-    let size = ap length c.as_slice.ensures.value in
+    let size = ap length c.text.ensures in
     record {
       trace = empty c.in-Ok.format;
-      text = c.in-Ok-new.stream.text.items;
+      text = c.in-Ok-new.stream.queue.text;
       source = so_far-none first (shown c.format.new.self) c.in-Ok.format said.taken said.told said.known said.failures (g.met.S.EventSource.few c.format.new.self);
       given = (let none = c.in-Ok.ensures.given in omega (arith, none));
       stream = record { trace = search rules; stream = c.in-Ok-new.ensures.stream; out = c.in-Ok-new.ensures.out; many = omega (arith, size, writes.1) };
-      out = subst (λ (bytes : List ℕ). Appends (g.W.Write.contents (inner_device c.args.out.now)) (g.W.Write.contents (inner_device c.write_piece.new.out)) bytes) c.as_slice.ensures.value writes.0;
+      out = subst (λ (bytes : List ℕ). Appends (g.W.Write.contents (inner_device c.args.out.now)) (g.W.Write.contents (inner_device c.write_piece.new.out)) bytes) c.text.ensures writes.0;
       unfailed = search rules;
     }
 

@@ -8,7 +8,7 @@ abbrev pub invariant-loop-stream : goal.invariant-loop-stream
 invariant-loop-stream g l =
     let source = g.S.EventSource in
     let shown = shown_by source.coming source.state source.known_format source.failures source.room in
-    (T : Recording) × SoFar (shown l.fn.source) (shown l.source) T × IsStreamOf T l.stream l.stream.text.items
+    (T : Recording) × SoFar (shown l.fn.source) (shown l.source) T × IsStreamOf T l.stream l.stream.queue.text
 
 abbrev pub decreases-loop-stream : goal.decreases-loop-stream
 decreases-loop-stream g l = g.S.EventSource.room l.source

@@ -1,11 +1,8 @@
-use Rattle.std.proofs.Common.{◌≡◌, sym, ap, ◌∙◌}
-use Rattle.pmt_model.specs.Machine.{Stores}
-use Rattle.pmt_model.specs.Values.{line_of}
-use Rattle.pmt_model.specs.Traces.{act_of}
+use Rattle.std.proofs.Common.{refl}
+use Rattle.pmt_model.specs.Pushing.{with_event}
+use Rattle.pmt_trimming.proofs.PassingLemmas.{passed}
 use Rattle.pmt_trimming.proofs.pass.Pass.take.Goals as goal
 
-pub returns-in-Store-clause-follows : goal.returns-in-Store-clause-follows
-returns-in-Store-clause-follows c = λ T before.
-    let w = c.in-Store.store in
-    let line : line_of T.format w.addr ≡ c.line_of.result = ap (λ f. line_of f w.addr) (sym before.format) ∙ ap (line_of c.args.self.now.format) (sym c.addr.ensures.value) ∙ sym c.line_of.ensures in
-    c.take_store.ensures.follows T c.args.event.now w (ap (act_of T.format c.args.event.now.thread) c.in-Store.is ∙ ap (λ l. Stores l w) line) before
+pub returns-clause-follows : goal.returns-clause-follows
+returns-clause-follows c = λ T before.
+    passed (with_event T c.args.event.now) c.judge.new.self _ c.in_ok-mark.mark (c.in_ok-mark.ensures.follows T before) refl refl refl c.in_ok-push_back.ensures.items

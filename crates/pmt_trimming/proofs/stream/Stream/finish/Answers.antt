@@ -1,11 +1,9 @@
-use Rattle.std.proofs.Common.{◌∙◌, List, ℕ, Bool, ap, ◌++◌}
-use Rattle.pmt_trimming.specs.LineQueues.{kept_texts}
-use Rattle.pmt_trimming.proofs.StreamLemmas.{left-all, texts-lines}
+use Rattle.std.proofs.Common.{◌∙◌}
+use Rattle.std.proofs.lemmas.Result.{IfOk-weaker}
+use Rattle.pmt_trimming.proofs.StreamLemmas.{left-ended}
 use Rattle.pmt_trimming.proofs.stream.Stream.finish.Goals as goal
 
 pub returns : goal.returns
-returns c = λ T text is.
-    let flags = c.in_ok-flags.flags.items in
-    left-all T _ flags is.waiting text _ (c.in_ok-flags.ensures T is.pass)
-    (c.in_ok-put_kept.ensures ∙ ap (λ (bytes : List ℕ). bytes ++ kept_texts c.as_slice.result.now c.args.self.waiting) c.new-rest.ensures.items
-    ∙ ap (λ (bs : List Bool). kept_texts bs c.args.self.waiting) c.as_slice.ensures.value ∙ ap (λ (ls : List (List ℕ)). kept_texts flags ls) is.lines ∙ texts-lines flags is.waiting) is.left
+returns c =
+    IfOk-weaker c.text_of.result _ _
+    (λ rest ends T text is. left-ended T _ is.waiting text _ _ rest.items (c.clear_text.ensures.lines ∙ is.lines) c.clear_text.ensures.text (ends T is.pass) is.left) c.text_of.ensures

@@ -23,7 +23,7 @@ pub loop-kept-preserved : goal.loop-kept-preserved
 loop-kept-preserved c = λ T text is.
     let before = c.loop-kept.invariant T text is in
     let told = c.next_settled.ensures.settles T before.pass in
-    let popped = left-popped T _ _ _ _ before.waiting _ _ text c.loop-kept.self.text.items _ c.in-Some.is told before.lines c.in_ok-pop_into.ensures before.left in
+    let popped = left-popped T _ _ _ _ before.waiting _ _ text c.loop-kept.self.queue.text _ c.in-Some.is told before.lines c.pop.ensures before.left in
     record { pass = c.next_settled.ensures.passing T before.pass; waiting = popped.0; lines = popped.1; left = popped.2 }
 
 pub returns-clause-stream : goal.returns-clause-stream
@@ -35,7 +35,7 @@ returns-clause-stream c = λ T text is.
       pass = c.next_settled.ensures.passing T before.pass;
       waiting = before.waiting;
       lines = before.lines;
-      left = subst (λ (n : ℕ). HaveLeft T n before.waiting (text ++ c.loop-kept.self.text.items)) (sym none.0) before.left;
+      left = subst (λ (n : ℕ). HaveLeft T n before.waiting (text ++ c.loop-kept.self.queue.text)) (sym none.0) before.left;
     }
 
 pub returns-clause-out : goal.returns-clause-out

@@ -1,16 +1,22 @@
 use Rattle.std.proofs.Common.{◌≡◌, [], refl, inl, arith}
 use Rattle.pmt_model.specs.Pushing.{empty}
-use Rattle.pmt_trimming.proofs.StreamLemmas.{left-none, left-is_out}
+use Rattle.pmt_trimming.proofs.StreamLemmas.{left-none, left-same, left-is_out}
 use Rattle.pmt_trimming.proofs.stream.Stream.new.Goals as goal
 
 pub returns-clause-stream : goal.returns-clause-stream
 returns-clause-stream c =
     let pass = c.in_ok-new.ensures in
     let start : c.in_ok-new.field-0.settled ≡ 0 = omega (arith, pass.all) in
-    record { pass = pass; waiting = []; lines = c.new-2.ensures; left = left-none c.args.format _ [] _ _ start refl c.new-text.ensures.items c.in_ok-push_header.ensures }
+    record {
+      pass = pass;
+      waiting = [];
+      lines = c.new-2.ensures.lines;
+      left = left-same (empty c.args.format) c.in_ok-new.field-0.settled [] _ _ c.new-2.ensures.text (left-none c.args.format _ [] _ _ start refl c.new-text.ensures.items c.in_ok-push_header.ensures);
+    }
 
 pub returns-clause-out : goal.returns-clause-out
 returns-clause-out c =
     let pass = c.in_ok-new.ensures in
     let start : c.in_ok-new.field-0.settled ≡ 0 = omega (arith, pass.all) in
-    left-is_out (empty c.args.format) _ _ _ pass.before (inl start) (left-none c.args.format _ [] _ _ start refl c.new-text.ensures.items c.in_ok-push_header.ensures)
+    left-is_out (empty c.args.format) _ _ _ pass.before (inl start)
+    (left-same (empty c.args.format) c.in_ok-new.field-0.settled [] _ _ c.new-2.ensures.text (left-none c.args.format _ [] _ _ start refl c.new-text.ensures.items c.in_ok-push_header.ensures))

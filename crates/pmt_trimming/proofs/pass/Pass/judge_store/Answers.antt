@@ -2,8 +2,8 @@ use Rattle.std.proofs.Common.{length, refl}
 use Rattle.pmt_model.specs.Machine.{Stores}
 use Rattle.pmt_model.specs.Traces.{history, lines_of, with_line}
 use Rattle.pmt_live.proofs.LiveLemmas.{has-place, place-in}
-use Rattle.pmt_trimming.proofs.PassingLemmas.{passed, tells-stays, room-left}
-use Rattle.pmt_trimming.proofs.pass.Pass.take_store.Goals as goal
+use Rattle.pmt_trimming.proofs.PassingLemmas.{judged, tells-stays, room-left}
+use Rattle.pmt_trimming.proofs.pass.Pass.judge_store.Goals as goal
 
 pub store-requires-clause-place : goal.store-requires-clause-place
 store-requires-clause-place c =
@@ -20,5 +20,5 @@ returns-clause-follows c = λ T e w is before.
     let h = history T (length T.events) in
     let l = c.args.line in
     let known = c.in_ok-place.ensures.live (lines_of h) h before.live in
-    passed T e (Stores l w) is c.args.self.now before _ _ refl refl c.in_ok-push_back.ensures.items
+    judged T e (Stores l w) is c.args.self.now before _ _ refl refl refl
     (c.store.ensures (with_line l (lines_of h)) h l w (place-in (with_line l (lines_of h)) h l c.in_ok-place.place _ c.in_ok-place.ensures.here known) known) (λ o fence. cc) (tells-stays T e (Stores l w) is refl)

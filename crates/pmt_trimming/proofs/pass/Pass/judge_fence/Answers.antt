@@ -4,9 +4,9 @@ use Rattle.pmt_model.specs.declared.event.Op.TheVariants.{Sfence}
 use Rattle.pmt_model.specs.Machine.{Fences}
 use Rattle.pmt_model.specs.Traces.{history, lines_of}
 use Rattle.pmt_model.specs.Pushing.{with_event}
-use Rattle.pmt_trimming.proofs.PassingLemmas.{passed-marks, tells-fence, last-act}
+use Rattle.pmt_trimming.proofs.PassingLemmas.{judged-marks, tells-fence, last-act}
 use Rattle.pmt_trimming.proofs.FencingLemmas.{fence-have, fence-decided, live-at_fence}
-use Rattle.pmt_trimming.proofs.pass.Pass.take_fence.Goals as goal
+use Rattle.pmt_trimming.proofs.pass.Pass.judge_fence.Goals as goal
 
 pub fence-rises-requires : goal.fence-rises-requires
 fence-rises-requires c = let of = c.requires.passing in (lines_of (history of.0 (length of.0.events)), history of.0 (length of.0.events), of.1.live)
@@ -25,7 +25,7 @@ returns-clause-follows c = λ T e is before.
     let n = length T.events in
     let t = c.args.thread in
     let tells = c.fence-rises.ensures.decides (with_event T e) (lines_of (history T n)) n (last-act T e (Fences t) is) (live-at_fence T e c.args.self.now before) in
-    passed-marks T e (Fences t) is c.args.self.now before _ c.mark_decided.new.marks.items _ refl refl c.in_ok-push_back.ensures.items c.mark_decided.ensures.size
+    judged-marks T e (Fences t) is c.args.self.now before _ _ refl refl c.mark_decided.ensures.size
     (c.fence-rises.ensures.live (lines_of (history T n)) (history T n) before.live)
     (c.mark_decided.ensures.marks (with_event T e) (rw c.decided.ensures (fence-decided T e t is c.args.self.now before _ _ tells)))
     (rw c.mark_of.ensures (tells-fence T e t c.fence-rises.result is tells.fence_is_kept))
