@@ -1,17 +1,18 @@
 //! Drawing a trace.
 ghost use Rattle.std.specs.Prelude.{◌≡◌, IfOk};
 
-use crate::told::told_of;
 use command_inputs::{Fault, Input, Opener, bytes_of, labels_of, taken_fault, write_named};
-use command_requests::Drawing;
+use command_requests::{AskedEvents, Drawing};
 use pmt_causes::Group;
-use pmt_draw::{
-    Known, Label, Picture, Refusal, Span, View, about_of, picture_of, refusal_of, svg_text,
-};
+use pmt_draw::{Label, svg_text};
 use pmt_explain::{LostGroup, OverwrittenGroup};
 use pmt_explain_run::explain;
 use pmt_explanation::{Choice, Explanation, Kind, Labels, Options, Unwritten};
 use pmt_model::OutOfMemory;
+use pmt_picture::{
+    Known, Picture, Refusal, Subject, about_of, first_subject, lines_of_addresses, picture_of,
+    refusal_of,
+};
 use pmt_taking::TakeError;
 use pmt_text::{Counted, TextSource};
 use std::alloc::{AllocError, Global};
@@ -49,8 +50,14 @@ fn svg_asked(
     labels: &Labels,
     bytes: &[u8],
 ) -> Result<String, Fault> {
-    match explained(alloc, labels, drawing.view.span, bytes) {
-        Ok(explanation) => svg_of(alloc, &explanation, &drawing.view, labels),
+    match explained(alloc, labels, drawing.events, bytes) {
+        Ok(explanation) => svg_of(
+            alloc,
+            &explanation,
+            drawing.events,
+            drawing.lines.as_slice(),
+            labels,
+        ),
         Err(error) => {
             let input = Input::new("draw", drawing.file);
             Err(taken_fault(alloc, input, bytes, error)?)
@@ -58,28 +65,30 @@ fn svg_asked(
     }
 }
 
-// The explanation of the trace with this text, with what a picture of the span needs.
+// The explanation of the trace with this text, with what a picture of these events needs.
 fn explained(
     alloc: Global,
     labels: &Labels,
-    span: Span,
+    asked: AskedEvents,
     bytes: &[u8],
 ) -> Result<Explanation, TakeError> {
     let options = Options {
         ignored: Vec::new(alloc),
         limit: 0,
-        choice: needed_by(span),
+        choice: needed_by(asked),
     };
     let mut source = TextSource::new(alloc, Counted::new(Cursor::new(bytes)));
     explain(alloc, &mut source, labels, &options)
 }
 
-// The findings that a picture of the span needs: to draw what is told first all of them, and else those of the signs.
-fn needed_by(span: Span) -> Choice {
+// The findings that a picture of these events needs: to draw what is told first all of them, and else those of the signs.
+fn needed_by(asked: AskedEvents) -> Choice {
     Choice {
-        only: match span {
-            Span::First => None,
-            Span::Failure(_) | Span::Around(_) | Span::Between { .. } => Some(Kind::Dropped),
+        only: match asked {
+            AskedEvents::First => None,
+            AskedEvents::Failure(_) | AskedEvents::Around(_) | AskedEvents::Between { .. } => {
+                Some(Kind::Dropped)
+            }
         },
         thread: None,
         range: None,
@@ -98,11 +107,7 @@ pub fn first_picture(
     explanation: &Explanation,
     labels: &Labels,
 ) -> Result<String, Fault> {
-    let view = View {
-        span: Span::First,
-        kept: Vec::new(alloc),
-    };
-    svg_of(alloc, explanation, &view, labels)
+    svg_of(alloc, explanation, AskedEvents::First, &[], labels)
 }
 
 // The events and groups of an explanation that a picture marks, by kind.
@@ -158,22 +163,43 @@ impl Marked {
     }
 }
 
-// The picture of what is explained, of which the view speaks.
-fn picture(alloc: Global, explanation: &Explanation, view: &View) -> Result<Picture, Fault> {
+// The picture of what is asked for, with the lines of these addresses.
+fn picture(
+    alloc: Global,
+    explanation: &Explanation,
+    asked: AskedEvents,
+    addresses: &[u64],
+) -> Result<Picture, Fault> {
     let mut marked = Marked::new(alloc);
     marked.add(alloc, explanation)?;
     let known = marked.known(explanation);
-    match refusal_of(known, view.span, view.kept.as_slice()) {
+    let lines = lines_of_addresses(alloc, known.trace.format(), addresses)?;
+    let subject = subject_of(known, asked, lines.as_slice());
+    match refusal_of(known, subject, addresses) {
         Some(refusal) => Err(refused(alloc, refusal, known.trace.len())?),
-        None => Ok(told_picture(alloc, known, view)?),
+        None => Ok(picture_about(alloc, known, subject, lines.as_slice())?),
     }
 }
 
-// The picture of the view, with the events that tell of what it is about.
-fn told_picture(alloc: Global, known: Known<'_>, view: &View) -> Result<Picture, OutOfMemory> {
-    let mut about = about_of(alloc, known, view)?;
-    about.told = told_of(alloc, known.trace, &about)?;
-    picture_of(alloc, known, view, about)
+// What a picture of these events is about.
+fn subject_of(known: Known<'_>, asked: AskedEvents, lines: &[u64]) -> Subject {
+    match asked {
+        AskedEvents::First => first_subject(known, lines),
+        AskedEvents::Failure(number) => Subject::Failure(number),
+        AskedEvents::Around(number) => Subject::Around(number),
+        AskedEvents::Between { first, last } => Subject::Between { first, last },
+    }
+}
+
+// The picture of the subject, with these lines.
+fn picture_about(
+    alloc: Global,
+    known: Known<'_>,
+    subject: Subject,
+    lines: &[u64],
+) -> Result<Picture, OutOfMemory> {
+    let about = about_of(alloc, known, subject, lines)?;
+    picture_of(alloc, known, about, lines)
 }
 
 // What is never persisted, by line, in the order of its causes.
@@ -248,14 +274,15 @@ fn refused(alloc: Global, refusal: Refusal, events: usize) -> Result<Fault, Allo
     Fault::usage(alloc, message.as_str())
 }
 
-// The text of the picture of what is explained, with these labels.
+// The text of the picture of what is asked for, with these labels.
 fn svg_of(
     alloc: Global,
     explanation: &Explanation,
-    view: &View,
+    asked: AskedEvents,
+    addresses: &[u64],
     labels: &Labels,
 ) -> Result<String, Fault> {
-    let drawn = picture(alloc, explanation, view)?;
+    let drawn = picture(alloc, explanation, asked, addresses)?;
     let shown = drawn_labels(alloc, &drawn, labels)?;
     Ok(svg_text(alloc, &drawn, shown.as_slice())?)
 }

@@ -2,6 +2,5 @@
 #![tactic(auto)]
 
 mod drawing;
-mod told;
 
 pub use crate::drawing::{draw, first_picture};

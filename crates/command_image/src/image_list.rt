@@ -2,8 +2,8 @@
 ghost use Rattle.std.specs.Prelude.{◌≡◌, IfOk};
 
 use command_inputs::{Fault, Input, Opener, create_fault, system_fault, trace_of};
-use command_requests::ListWords;
-use pmt_image::{LineStores, Walk, has_place, is_turn, push_crash};
+use command_requests::{ListWords, has_place};
+use pmt_image::{LineStores, Walk, is_turn, push_crash};
 use pmt_model::Trace;
 use pmt_report::RunError;
 use std::alloc::Global;

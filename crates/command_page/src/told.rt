@@ -9,8 +9,15 @@ use pmt_model::OutOfMemory;
 use pmt_page::explained_text;
 use std::alloc::Global;
 
+// How many events the failed assertions of a page may take together: each takes a pass over those before it.
+const MOST_PASSED: u64 = 10_000_000;
+
+// So many failed assertions a page has in any case, if they have room.
+const LEAST_FAILURES: usize = 10;
+
 /// What is told of the trace in at most so many bytes on the page, as JSON: of each kind as many entries as the words name, or 1,000; where
-/// these have no room 1,000, 100, 10 or 1 of each, or else the summary alone. The explanation has those entries then, or more.
+/// these have no room 1,000, 100, 10 or 1 of each, or else the summary alone. If the words name no number, there are as many failed assertions
+/// as have 10,000,000 events before them, counted for each, or ten. The explanation has those entries then, or more.
 ///
 /// # Errors
 /// Where memory was refused; what the explanation has then is not said.
@@ -21,35 +28,13 @@ pub fn told_within(
     words: &ExplainWords<'_>,
     most: usize,
 ) -> Result<Vec<u8>, OutOfMemory> {
-    show_each_failure(alloc, explanation)?;
+    explanation.limit = words.page_limit.max(explanation.limit);
+    explanation.failures = each_failure(alloc, explanation, words)?;
     let text = text_of(alloc, explanation, labels, words)?;
     if size_on_page(text.as_slice()) <= most {
-        with_more(alloc, explanation, labels, words, text, most)
-    } else {
-        with_fewer(alloc, explanation, labels, words, text, most)
+        return Ok(text);
     }
-}
-
-// The text with more entries of each kind, if the page is to have as many and they have room.
-fn with_more(
-    alloc: Global,
-    explanation: &mut Explanation,
-    labels: &Labels,
-    words: &ExplainWords<'_>,
-    mut text: Vec<u8>,
-    most: usize,
-) -> Result<Vec<u8>, OutOfMemory> {
-    for limit in [100, 1_000] {
-        if explanation.limit < limit && limit <= words.page_limit {
-            show(alloc, explanation, limit)?;
-            let longer = text_of(alloc, explanation, labels, words)?;
-            if size_on_page(longer.as_slice()) > most {
-                break;
-            }
-            text = longer;
-        }
-    }
-    Ok(text)
+    with_fewer(alloc, explanation, labels, words, text, most)
 }
 
 // The text, which has no room, with fewer entries of each kind.
@@ -63,7 +48,8 @@ fn with_fewer(
 ) -> Result<Vec<u8>, OutOfMemory> {
     for limit in [1_000, 100, 10, 1, 0] {
         if limit < explanation.limit {
-            show(alloc, explanation, limit)?;
+            explanation.limit = limit;
+            explanation.failures.truncate(limit);
             text = text_of(alloc, explanation, labels, words)?;
             if size_on_page(text.as_slice()) <= most {
                 break;
@@ -73,36 +59,32 @@ fn with_fewer(
     Ok(text)
 }
 
-// Puts each failed assertion that is asked for, up to the explanation's limit, in the place of the first one of each cause: on the page
-// one goes from each to the next.
-fn show_each_failure(alloc: Global, explanation: &mut Explanation) -> Result<(), OutOfMemory> {
-    explanation.failures = each_failure(alloc, explanation)?;
-    Ok(())
-}
-
-// Gives the explanation, which has each failed assertion up to its limit, those up to another limit. All else that it tells is the same
-// for every limit.
-fn show(alloc: Global, explanation: &mut Explanation, limit: usize) -> Result<(), OutOfMemory> {
-    let shown = explanation.failures.len();
-    explanation.limit = limit;
-    if limit < shown {
-        explanation.failures.truncate(limit);
-        return Ok(());
-    }
-    if shown == explanation.asked_failing.len() {
-        return Ok(());
-    }
-    show_each_failure(alloc, explanation)
-}
-
-// Each failed assertion that is asked for, up to the limit.
+// Each failed assertion that is asked for, in the place of the first one of each cause: on the page one goes from each to the next.
 fn each_failure(
     alloc: Global,
     explanation: &Explanation,
+    words: &ExplainWords<'_>,
 ) -> Result<Vec<ShownFailure>, OutOfMemory> {
     let safe = SafePlaces::of(alloc, explanation.analysis.trace())?;
     let asked = explanation.asked_failing.as_slice();
-    shown_failures(alloc, &safe, asked, explanation.limit)
+    shown_failures(alloc, &safe, asked, most_failures(explanation, words))
+}
+
+// How many failed assertions the page has at most.
+fn most_failures(explanation: &Explanation, words: &ExplainWords<'_>) -> usize {
+    if words.is_limited {
+        return explanation.limit;
+    }
+    let mut passed = 0u64;
+    let mut count = 0usize;
+    for number in explanation.asked_failing.as_slice() {
+        passed = passed.saturating_add(*number);
+        if passed > MOST_PASSED {
+            break;
+        }
+        count = count.saturating_add(1);
+    }
+    explanation.limit.min(count.max(LEAST_FAILURES))
 }
 
 // What the explanation tells.

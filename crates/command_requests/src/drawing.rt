@@ -1,12 +1,25 @@
 //! What `draw` is asked for.
 
-use pmt_draw::View;
+/// Which events are drawn. Events go by their numbers, from 1.
+#[derive(Clone, Copy)]
+pub enum AskedEvents {
+    /// What is told of the trace first.
+    First,
+    /// What led to the failure of the assertion with this number.
+    Failure(u64),
+    /// The events around this one.
+    Around(u64),
+    /// The events from `first` to `last`.
+    Between { first: u64, last: u64 },
+}
 
 /// What `draw` is asked for.
 #[derive(Drop)]
 pub struct Drawing<'a> {
-    /// Which events, and which lines.
-    pub view: View,
+    /// Which events.
+    pub events: AskedEvents,
+    /// Addresses whose lines are drawn; every line, if there are none.
+    pub lines: Vec<u64>,
     /// The file of the labels.
     pub labels: Option<&'a str>,
     /// The file that is written; none for standard output.

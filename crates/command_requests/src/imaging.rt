@@ -1,6 +1,7 @@
 //! What `image` is asked for.
+ghost use Rattle.std.specs.Prelude.{◌≡◌, ◌&&◌, nat_le};
+ghost use Rattle.std.specs.List.{list_any};
 
-use pmt_image::PlaceRange;
 use pmt_model::Addr;
 
 /// So many stores of the line of this address: its first ones.
@@ -38,6 +39,24 @@ pub struct ImageWords<'a> {
     pub out: Option<&'a str>,
     /// The trace; none for standard input.
     pub file: Option<&'a str>,
+}
+
+/// Places from `first` to `last`, both among them.
+#[derive(Clone, Copy)]
+pub struct PlaceRange {
+    /// The first.
+    pub first: u64,
+    /// The last.
+    pub last: u64,
+}
+
+/// Whether one of the ranges has the place.
+pub fn has_place(ranges: &[PlaceRange], place: u64) -> bool
+    ensures { result ≡ list_any (λ x. nat_le x.first place && nat_le place x.last) ranges.now }
+{
+    ranges
+        .iter()
+        .any(|range| range.first <= place && place <= range.last)
 }
 
 /// What `image --list` is asked for.

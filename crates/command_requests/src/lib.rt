@@ -9,9 +9,11 @@ mod parting;
 mod request;
 mod slicing;
 
-pub use crate::drawing::Drawing;
+pub use crate::drawing::{AskedEvents, Drawing};
 pub use crate::explaining::{Color, ExplainWords, Form};
-pub use crate::imaging::{AddressStores, AskedCrash, ImageRequest, ImageWords, ListWords};
+pub use crate::imaging::{
+    AddressStores, AskedCrash, ImageRequest, ImageWords, ListWords, PlaceRange, has_place,
+};
 pub use crate::measuring::{StatForm, StatWords};
 pub use crate::parting::PartsWords;
 pub use crate::request::{CheckWords, FrontsWords, RecordWords, Request, TraceWords};

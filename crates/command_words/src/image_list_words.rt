@@ -2,8 +2,7 @@
 use crate::arguments::{bad_word, number_of, out_name, trace_name};
 use clap::ArgMatches;
 use command_inputs::Fault;
-use command_requests::ListWords;
-use pmt_image::PlaceRange;
+use command_requests::{ListWords, PlaceRange};
 use pmt_text::number::read_number;
 use std::alloc::{AllocError, Global};
 

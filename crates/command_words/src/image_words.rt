@@ -1,87 +1,65 @@
 //! The words of `image`.
-use crate::arguments::{
-    Made, bad_word, event_of, flag, number_of, out_file, out_name, trace_file, trace_name, value,
-    values, with,
-};
+use crate::arguments::{bad_word, event_of, number_of, out_name, trace_name};
+use crate::described::{CommandText, OUT_FILE, TRACE_FILE, Word, WordKind};
 use crate::image_list_words::list_words;
-use clap::{ArgMatches, Command};
+use clap::ArgMatches;
 use command_inputs::{Fault, read_origin};
 use command_requests::{AddressStores, AskedCrash, ImageRequest, ImageWords};
 use pmt_model::Addr;
 use pmt_text::number::{read_address, read_number};
 use std::alloc::Global;
 
-/// The words of `image`.
-pub fn image_command<'a>(alloc: Global) -> Made<'a> {
-    let command = Command::new(alloc, "image")
-        .override_usage(
-            "pmtrim image (--failure N | --at PLACE [--all] [--line A:K]..) [--pool BASE --origin A]\n                    [--out FILE] [FILE]\n       pmtrim image --list [--at PLACES] [--off K] [--out FILE] [FILE]",
-        )
-        .about("Writes the pool's file as a crash leaves it, or lists crashes.")
-        .after_help(
-            "A crash at a place leaves each line the stores that no crash can lose, with --all all its stores,{n}and the line of address A its first K. Without --pool and --origin the pool is FILE.base, and{n}FILE.origin has the address of its first byte.{n}The list has the crashes at each place that leave all lines but K the stores that no crash can lose,{n}and those that leave all but K all their stores: a line each, of the words that image takes. Without{n}--at the places are those after a fence or a clflush, and those after a store, or at the beginning,{n}with no store coming next.{n}Statuses: 0 done; 2 wrong words, or no crash leaves so many stores; 3 trace or pool refused; 4 file{n}fault; 5 out of memory{n}Example: pmtrim image --failure 7 --out crashed.pool run.trace",
-        );
-    let listing = with_list(alloc, Ok(command));
-    with_files(alloc, with_crash(alloc, listing))
-}
-
-// Which list.
-fn with_list<'a>(alloc: Global, command: Made<'a>) -> Made<'a> {
-    let list = flag(
-        alloc,
-        "list",
-        "List the crashes near places, and write no pool",
-    );
-    let off = value(
-        alloc,
-        "off",
-        "K",
-        "With --list: how many lines may be off (1)",
-    );
-    with(with(command, list), off)
-}
-
-// Which crash.
-fn with_crash<'a>(alloc: Global, command: Made<'a>) -> Made<'a> {
-    let failure = value(
-        alloc,
-        "failure",
-        "N",
-        "The crash that violates the assertion of event N, as explain tells it",
-    );
-    let at = value(
-        alloc,
-        "at",
-        "PLACE",
-        "A crash after PLACE events; with --list places, as 12,40-60",
-    );
-    let all = flag(alloc, "all", "Leave each line all its stores");
-    let line = values(
-        alloc,
-        "line",
-        "A:K",
-        "Leave the line of address A its first K stores, as 0x1000:2; may be repeated,{n}and the last one of a line counts",
-    );
-    with(with(with(with(command, failure), at), all), line)
-}
-
-// Which files.
-fn with_files<'a>(alloc: Global, command: Made<'a>) -> Made<'a> {
-    let pool = value(
-        alloc,
-        "pool",
-        "BASE",
-        "The pool's file before the trace began; wants --origin",
-    );
-    let origin = value(
-        alloc,
-        "origin",
-        "A",
-        "The address of the pool's first byte (hexadecimal); wants --pool",
-    );
-    let based = with(with(command, pool), origin);
-    with(with(based, out_file(alloc)), trace_file(alloc))
-}
+/// The command `image`.
+pub const IMAGE: CommandText<'static> = CommandText {
+    name: "image",
+    usage: "pmtrim image (--failure N | --at PLACE [--all] [--line A:K]..) [--pool BASE --origin A]\n                    [--out FILE] [FILE]\n       pmtrim image --list [--at PLACES] [--off K] [--out FILE] [FILE]",
+    about: "Writes the pool's file as a crash leaves it, or lists crashes.",
+    after: "A crash at a place leaves each line the stores that no crash can lose, with --all all its stores,{n}and the line of address A its first K. Without --pool and --origin the pool is FILE.base, and{n}FILE.origin has the address of its first byte.{n}The list has the crashes at each place that leave all lines but K the stores that no crash can lose,{n}and those that leave all but K all their stores: a line each, of the words that image takes. Without{n}--at the places are those after a fence or a clflush, and those after a store, or at the beginning,{n}with no store coming next.{n}Statuses: 0 done; 2 wrong words, or no crash leaves so many stores; 3 trace or pool refused; 4 file{n}fault; 5 out of memory{n}Example: pmtrim image --failure 7 --out crashed.pool run.trace",
+    words: &[
+        Word {
+            name: "list",
+            kind: WordKind::Flag,
+            help: "List the crashes near places, and write no pool",
+        },
+        Word {
+            name: "off",
+            kind: WordKind::Value("K"),
+            help: "With --list: how many lines may be off (1)",
+        },
+        Word {
+            name: "failure",
+            kind: WordKind::Value("N"),
+            help: "The crash that violates the assertion of event N, as explain tells it",
+        },
+        Word {
+            name: "at",
+            kind: WordKind::Value("PLACE"),
+            help: "A crash after PLACE events; with --list places, as 12,40-60",
+        },
+        Word {
+            name: "all",
+            kind: WordKind::Flag,
+            help: "Leave each line all its stores",
+        },
+        Word {
+            name: "line",
+            kind: WordKind::Values("A:K"),
+            help: "Leave the line of address A its first K stores, as 0x1000:2; may be repeated,{n}and the last one of a line counts",
+        },
+        Word {
+            name: "pool",
+            kind: WordKind::Value("BASE"),
+            help: "The pool's file before the trace began; wants --origin",
+        },
+        Word {
+            name: "origin",
+            kind: WordKind::Value("A"),
+            help: "The address of the pool's first byte (hexadecimal); wants --pool",
+        },
+        OUT_FILE,
+        TRACE_FILE,
+    ],
+};
 
 /// What these words ask for.
 ///

@@ -3,6 +3,7 @@
 
 mod arguments;
 mod command;
+mod described;
 mod draw_words;
 mod explain_choice;
 mod explain_command;
@@ -10,6 +11,7 @@ mod explain_words;
 mod image_list_words;
 mod image_words;
 mod parts_words;
+mod plain_commands;
 mod request;
 mod slice_words;
 mod stat_words;

@@ -1,67 +1,48 @@
 //! The words of `stat`.
-use crate::arguments::{Made, flag, out_file, out_name, trace_file, trace_name, value, with};
-use clap::{ArgMatches, Command};
+use crate::arguments::{out_name, trace_name};
+use crate::described::{CommandText, LABELS, OUT_FILE, TRACE_FILE, Word, WordKind};
+use clap::ArgMatches;
 use command_inputs::Fault;
 use command_requests::{StatForm, StatWords};
 use std::alloc::Global;
 
-/// The words of `stat`.
-pub fn stat_command<'a>(alloc: Global) -> Made<'a> {
-    let command = Command::new(alloc, "stat")
-        .override_usage(
-            "pmtrim stat [--labels FILE] [--compare OTHER [--compare-labels FILE]] [--budget FILE]\n                   [--json] [--out FILE] [FILE]\n       pmtrim stat --write-budget [--labels FILE] [--out FILE] [FILE]",
-        )
-        .about(
-            "Counts events, how full fences are, and what each place pays for flushes and fences.",
-        )
-        .after_help(
-            "A place is the innermost frame of a label, as 'leaves.c:141 split', or of events without label their{n}thread. With --budget a place that pays more than the file allows is told, and the status is 1. A{n}line of a budget is 'FLUSHES IDLE FENCES IDLE PLACE': the most flushes, how many of them may do{n}nothing, and the same of fences.{n}Statuses: 0 done; 1 a place is over the budget; 2 wrong words; 3 trace, labels or budget refused; 4{n}file fault; 5 out of memory{n}Example: pmtrim stat --labels run.trace.labels --budget flushes.budget run.trace",
-        );
-    let labelled = with(
-        Ok(command),
-        value(
-            alloc,
-            "labels",
-            "FILE",
-            "Names of events: lines 'EVENT TEXT'",
-        ),
-    );
-    let compared = with(
-        with(
-            labelled,
-            value(
-                alloc,
-                "compare",
-                "OTHER",
-                "Show the trace OTHER beside this one, and what changed",
-            ),
-        ),
-        value(
-            alloc,
-            "compare-labels",
-            "FILE",
-            "Names of the events of OTHER",
-        ),
-    );
-    let judged = with(
-        with(
-            compared,
-            value(
-                alloc,
-                "budget",
-                "FILE",
-                "What each place may pay; end with status 1 where one pays more",
-            ),
-        ),
-        flag(
-            alloc,
-            "write-budget",
-            "Write the budget that just allows what each place pays",
-        ),
-    );
-    let formed = with(judged, flag(alloc, "json", "Write JSON, an object a line"));
-    with(with(formed, out_file(alloc)), trace_file(alloc))
-}
+/// The command `stat`.
+pub const STAT: CommandText<'static> = CommandText {
+    name: "stat",
+    usage: "pmtrim stat [--labels FILE] [--compare OTHER [--compare-labels FILE]] [--budget FILE]\n                   [--json] [--out FILE] [FILE]\n       pmtrim stat --write-budget [--labels FILE] [--out FILE] [FILE]",
+    about: "Counts events, how full fences are, and what each place pays for flushes and fences.",
+    after: "A place is the innermost frame of a label, as 'leaves.c:141 split', or of events without label their{n}thread. With --budget a place that pays more than the file allows is told, and the status is 1. A{n}line of a budget is 'FLUSHES IDLE FENCES IDLE PLACE': the most flushes, how many of them may do{n}nothing, and the same of fences.{n}Statuses: 0 done; 1 a place is over the budget; 2 wrong words; 3 trace, labels or budget refused; 4{n}file fault; 5 out of memory{n}Example: pmtrim stat --labels run.trace.labels --budget flushes.budget run.trace",
+    words: &[
+        LABELS,
+        Word {
+            name: "compare",
+            kind: WordKind::Value("OTHER"),
+            help: "Show the trace OTHER beside this one, and what changed",
+        },
+        Word {
+            name: "compare-labels",
+            kind: WordKind::Value("FILE"),
+            help: "Names of the events of OTHER",
+        },
+        Word {
+            name: "budget",
+            kind: WordKind::Value("FILE"),
+            help: "What each place may pay; end with status 1 where one pays more",
+        },
+        Word {
+            name: "write-budget",
+            kind: WordKind::Flag,
+            help: "Write the budget that just allows what each place pays",
+        },
+        Word {
+            name: "json",
+            kind: WordKind::Flag,
+            help: "Write JSON, an object a line",
+        },
+        OUT_FILE,
+        TRACE_FILE,
+    ],
+};
 
 /// What these words ask for.
 ///

@@ -1,9 +1,7 @@
 //! A band of a picture: columns that stand side by side, with the rows that have something there.
-use crate::bars::{Bar, Row};
 use crate::layout::{GAP, LANE, LEFT, NAME, STRIP, TAG, THREAD, content};
-use crate::picture::Picture;
-use crate::spans::line_of_op;
 use pmt_model::OutOfMemory;
+use pmt_picture::{Bar, Picture, Row, line_of_op};
 use std::alloc::{AllocError, Global};
 
 /// The most threads that have a row of their own.

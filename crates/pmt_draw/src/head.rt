@@ -1,13 +1,9 @@
 //! What stands over the drawing: what it is about, and what is left out.
-use crate::crash::Crash;
 use crate::layout::{EDGE, LINE, Layout};
-use crate::picture::{MOST_CRASHES, Picture};
 use crate::shapes::push_shape;
-use crate::spans::address_of;
-use crate::subject::Subject;
-use crate::view::Span;
 use crate::words::{push_assertion, push_cause, push_claim, push_event, push_reason, push_shown};
 use pmt_pen::Pen;
+use pmt_picture::{Crash, MOST_CRASHES, Picture, Subject, address_of};
 
 // The width of a letter of the told lines, in tenths of a pixel.
 const LETTER: u64 = 79;
@@ -55,7 +51,10 @@ fn push_headline(pen: &mut Pen, picture: &Picture) {
             "The assertion of event # speaks of bytes that no store has written",
             &[number],
         ),
-        Subject::Events => match (picture.columns.first(), picture.columns.last()) {
+        Subject::Start | Subject::Around(_) | Subject::Between { .. } => match (
+            picture.columns.first(),
+            picture.columns.last(),
+        ) {
             (Some(first), Some(last)) => pen.fill("Events # to #", &[first.number, last.number]),
             _ => pen.put("No events"),
         },
@@ -110,7 +109,7 @@ fn push_left(pen: &mut Pen, picture: &Picture, letters: u64, top: u64) -> u64 {
     let rows = picture.rows.len() as u64;
     let mut words = Pen::new(pen.alloc());
     words.fill("Drawn: # of # events", &[columns, picture.events]);
-    if picture.is_told && picture.cut == 0 {
+    if picture.subject.is_finding() && picture.cut == 0 {
         words.put(", all that tell of it");
     }
     words.fill(
@@ -138,22 +137,28 @@ fn push_cut(words: &mut Pen, picture: &Picture) {
         Subject::Failure(number) => push_more(words, picture, "failure", number),
         Subject::Lost(group) => push_more(words, picture, "store", group.first),
         Subject::Late(number) => push_more(words, picture, "store", number),
-        Subject::Dropped(_) | Subject::Overwritten(_) | Subject::Unwritten(_) | Subject::Events => {
-            push_asked(words, picture)
-        }
+        Subject::Dropped(event) => push_more(words, picture, "", event.event),
+        Subject::Overwritten(pair) => push_more(words, picture, "", pair.later),
+        Subject::Unwritten(number) => push_more(words, picture, "", number),
+        Subject::Between { first, last } => push_asked(words, picture, first, last),
+        Subject::Start | Subject::Around(_) => {}
     }
 }
 
-// Adds how to see more than what tells of the event with this number.
+// Adds how to see more than what tells of the event with this number, of which the option of `slice` writes all, if there is one.
 fn push_more(words: &mut Pen, picture: &Picture, option: &str, number: u64) {
     if picture.cut > 0 {
         let all = picture.cut.saturating_add(picture.columns.len() as u64);
         words.fill(
-            " Of the # events that tell of it, # have no room: 'pmtrim slice --",
+            " Of the # events that tell of it, # have no room",
             &[all, picture.cut],
         );
-        words.put(option);
-        words.fill(" #' writes all.", &[number]);
+        if !option.is_empty() {
+            words.put(": 'pmtrim slice --");
+            words.put(option);
+            words.fill(" #' writes all", &[number]);
+        }
+        words.put(".");
     }
     if picture.events > picture.columns.len() as u64 {
         words.fill(" '--around #' draws all events near it.", &[number]);
@@ -161,20 +166,18 @@ fn push_more(words: &mut Pen, picture: &Picture, option: &str, number: u64) {
 }
 
 // Adds what of the events that were asked for is not drawn.
-fn push_asked(words: &mut Pen, picture: &Picture) {
-    if let Span::Between { first, last } = picture.span {
-        if picture.cut > 0 {
-            words.fill(
-                " Of the events # to # that were asked for, # have no room.",
-                &[first, last, picture.cut],
-            );
-        }
-        if last > picture.events {
-            words.fill(
-                " Event # was asked for, and the trace ends at event #.",
-                &[last, picture.events],
-            );
-        }
+fn push_asked(words: &mut Pen, picture: &Picture, first: u64, last: u64) {
+    if picture.cut > 0 {
+        words.fill(
+            " Of the events # to # that were asked for, # have no room.",
+            &[first, last, picture.cut],
+        );
+    }
+    if last > picture.events {
+        words.fill(
+            " Event # was asked for, and the trace ends at event #.",
+            &[last, picture.events],
+        );
     }
 }
 

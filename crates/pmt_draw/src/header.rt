@@ -3,10 +3,9 @@ use crate::labels::{Label, label_of, push_cut, room_of};
 use crate::layout::Layout;
 use crate::marks::push_mark;
 use crate::page::Page;
-use crate::picture::{Column, Picture};
-use crate::spans::{address_of, line_of_op};
 use crate::words::{push_event_words, push_reason, word_of};
 use pmt_pen::Pen;
+use pmt_picture::{Column, Picture, address_of, line_of_op};
 
 // The most letters of a label that stands upright.
 const LABEL_LETTERS: u64 = 28;

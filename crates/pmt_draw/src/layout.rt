@@ -1,7 +1,7 @@
 //! Where things stand on the page, in pixels. All sums stop at the greatest number.
 use crate::band::{Band, Start};
-use crate::picture::Picture;
 use pmt_model::OutOfMemory;
+use pmt_picture::Picture;
 use std::alloc::Global;
 
 /// The room left of the columns, where the rows are named.

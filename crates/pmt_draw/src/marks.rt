@@ -1,8 +1,8 @@
 //! The marks of events.
-use crate::picture::Column;
 use crate::shapes::push_shape;
 use pmt_model::Op;
 use pmt_pen::Pen;
+use pmt_picture::Column;
 use pmt_reasons::Reason;
 
 /// What the mark of a flush or fence says besides.

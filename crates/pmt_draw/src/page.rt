@@ -2,7 +2,7 @@
 use crate::band::Band;
 use crate::labels::Label;
 use crate::layout::Layout;
-use crate::picture::Picture;
+use pmt_picture::Picture;
 
 /// What a band is drawn of.
 #[derive(Clone, Copy)]

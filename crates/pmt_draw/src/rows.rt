@@ -1,13 +1,11 @@
 //! The rows of the lines: their names, what is asserted of them, their flushes and the bars of their stores.
-use crate::asserted::Role;
 use crate::band::lane_top;
-use crate::bars::Row;
 use crate::layout::{EDGE, LEFT};
 use crate::marks::{push_small_flush, worth_of};
 use crate::page::Page;
 use crate::segments::push_bar;
-use crate::spans::address_of;
 use pmt_pen::Pen;
+use pmt_picture::{Role, Row, address_of};
 
 /// Adds the rows of the lines that have something in the band.
 pub fn push_rows(pen: &mut Pen, page: Page<'_>) {

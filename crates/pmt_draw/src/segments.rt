@@ -1,12 +1,11 @@
 //! The bars of stores: a part for each state, with its words.
-use crate::bars::{Bar, Flush, Saver};
 use crate::layout::BAR;
 use crate::page::Page;
-use crate::picture::Column;
 use crate::shapes::push_shape;
 use crate::words::push_event_words;
 use pmt_model::Op;
 use pmt_pen::Pen;
+use pmt_picture::{Bar, Column, Flush, Saver};
 
 // The width of a letter in a bar, in tenths of a pixel.
 const LETTER: u64 = 67;

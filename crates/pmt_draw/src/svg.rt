@@ -6,13 +6,13 @@ use crate::labels::Label;
 use crate::layout::{EDGE, Layout};
 use crate::legend::{legend_height, push_legend};
 use crate::page::{Page, rows_height};
-use crate::picture::Picture;
 use crate::rows::push_rows;
 use crate::style::{PATTERNS, STYLE};
 use crate::threads::push_threads;
 use crate::veil::{NAME_LINE, push_crashes};
 use pmt_model::OutOfMemory;
 use pmt_pen::Pen;
+use pmt_picture::Picture;
 use std::alloc::Global;
 
 // The room between two bands, and round the legend.

@@ -1,10 +1,9 @@
 //! The rows of the threads, and how long each flush waits for a fence of its thread.
 use crate::layout::{LEFT, THREAD};
 use crate::page::Page;
-use crate::picture::{Column, Picture};
 use crate::shapes::push_shape;
-use crate::waiting::waits_for_fence;
 use pmt_pen::Pen;
+use pmt_picture::{Column, Picture, waits_for_fence};
 
 /// Adds the rows of the threads, without the marks of their events.
 pub fn push_threads(pen: &mut Pen, page: Page<'_>) {

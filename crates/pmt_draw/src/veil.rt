@@ -1,12 +1,11 @@
 //! The crashes: a line through the band, with the stores that are lost and the one that is kept.
 use crate::band::lane_top;
-use crate::bars::Bar;
-use crate::crash::Crash;
 use crate::layout::BAR;
 use crate::page::Page;
 use crate::shapes::push_shape;
 use crate::words::{push_assertion, push_cause, push_shown};
 use pmt_pen::Pen;
+use pmt_picture::{Bar, Crash};
 
 /// The height of a crash's name.
 pub const NAME_LINE: u64 = 16;

@@ -1,9 +1,8 @@
 //! The words of the picture.
-use crate::crash::{Assertion, Crash};
 use crate::labels::{Label, label_of};
-use crate::picture::Column;
 use pmt_model::{Event, Op};
 use pmt_pen::Pen;
+use pmt_picture::{Assertion, Column, Crash};
 use pmt_reasons::{Cause, Reason};
 use pmt_text::write_event;
 

@@ -16,7 +16,7 @@ pub mod walk;
 
 pub use crate::copying::{CopyFault, ImageFault, Stop, check_pool, write_image};
 pub use crate::crash::{CountFault, Crash, LineStores, crash_at, crash_of_failure};
-pub use crate::listing::{PlaceRange, has_place, is_turn, push_crash};
+pub use crate::listing::{is_turn, push_crash};
 pub use crate::near::NearCrashes;
 pub use crate::pool::Pool;
 pub use crate::walk::Walk;

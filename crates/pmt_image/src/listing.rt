@@ -1,30 +1,12 @@
 //! Which crashes are listed, and how one is told.
-ghost use Rattle.std.specs.Prelude.{◌≡◌, ◌++◌, ◌&&◌, nat_le, OnOk};
-ghost use Rattle.std.specs.List.{flat_map, list_any};
+ghost use Rattle.std.specs.Prelude.{◌≡◌, ◌++◌, OnOk};
+ghost use Rattle.std.specs.List.{flat_map};
 ghost use Rattle.pmt_model.specs.Traces.{Recording};
 ghost use Rattle.pmt_image.specs.Listing.{all_words, crash_words, line_words, turns, is_kind, stores_act, raises_act, HaveAllCrashes};
 
 use crate::crash::LineStores;
 use pmt_model::{Op, OutOfMemory, Trace};
 use pmt_text::write::push_number;
-
-/// Places from `first` to `last`, both among them.
-#[derive(Clone, Copy)]
-pub struct PlaceRange {
-    /// The first.
-    pub first: u64,
-    /// The last.
-    pub last: u64,
-}
-
-/// Whether one of the ranges has the place.
-pub fn has_place(ranges: &[PlaceRange], place: u64) -> bool
-    ensures { result ≡ list_any (λ x. nat_le x.first place && nat_le place x.last) ranges.now }
-{
-    ranges
-        .iter()
-        .any(|range| range.first <= place && place <= range.last)
-}
 
 /// Whether what crashes leave turns at the place: it comes right after a fence or a clflush; or the last event of some stores, or the
 /// beginning, comes before it, and an event that is no store, or the end, after it.

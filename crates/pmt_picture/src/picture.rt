@@ -1,22 +1,24 @@
 //! The picture as values: which events and lines are drawn, and what is told of each.
 ghost use Rattle.std.specs.Prelude.{IfOk};
-ghost use Rattle.pmt_draw.specs.Columns.{AreColumns, AreTold};
+ghost use Rattle.pmt_picture.specs.Columns.{AreColumns};
 
 use crate::about::About;
 use crate::asserted::{Asserted, asserted_of};
 use crate::bars::{Drawn, Row, row_of};
 use crate::crash::{Crash, crash_of};
 use crate::known::Known;
+use crate::nearby::next_fence;
 use crate::numbered::{Numbers, is_listed};
-use crate::spans::{line_of_op, lines_of_addresses};
-use crate::story::{Story, story_of};
+use crate::spans::line_of_op;
 use crate::subject::Subject;
-use crate::view::{MOST_ROWS, Span, View};
-use crate::waiting::{is_fence, waits_for_fence};
+use crate::waiting::waits_for_fence;
 use pmt_explain::safe_places;
 use pmt_model::{Event, Format, OutOfMemory, Trace};
 use pmt_reasons::Reason;
 use std::alloc::Global;
+
+/// The most lines that a picture shows.
+pub const MOST_ROWS: usize = 30;
 
 /// The most crashes that a picture shows.
 pub const MOST_CRASHES: usize = 12;
@@ -45,14 +47,10 @@ pub struct Picture {
     pub events: u64,
     /// How many lines are stored or flushed in the trace.
     pub lines: u64,
-    /// Which events were asked for.
-    pub span: Span,
-    /// How many of them, or of those that tell of the subject, have no room.
-    pub cut: u64,
     /// What the picture is about.
     pub subject: Subject,
-    /// Whether the events are those that tell of the subject.
-    pub is_told: bool,
+    /// How many of the events that are asked for, or tell of the subject, have no room.
+    pub cut: u64,
     /// The events that are drawn, by rising number.
     pub columns: Vec<Column>,
     /// The lines that are drawn, by rising address.
@@ -72,11 +70,7 @@ impl Picture {
     pub fn focus(&self) -> Option<&Crash> {
         match self.subject {
             Subject::Failure(_) | Subject::Lost(_) => self.crashes.first(),
-            Subject::Dropped(_)
-            | Subject::Overwritten(_)
-            | Subject::Late(_)
-            | Subject::Unwritten(_)
-            | Subject::Events => None,
+            _ => None,
         }
     }
 
@@ -92,91 +86,53 @@ impl Picture {
     }
 }
 
-/// The picture of what the view of this trace is about. Its events are those that tell of it, where they are given.
+/// The picture of what is known of the trace and of what it is about: the events that tell of it, and the lines that they touch. Of events
+/// that are asked for it has the kept lines, all being kept if none is named.
 ///
 /// # Errors
 /// Where memory was refused.
 pub fn picture_of(
     alloc: Global,
     known: Known<'_>,
-    view: &View,
     about: About,
+    kept: &[u64],
 ) -> Result<Picture, OutOfMemory>
-    ensures { IfOk result (λ p. AreTold known.entry.trace.now about.told p.columns.items) }
+    ensures { IfOk result (λ p. AreColumns known.entry.trace.now about.told.numbers.items p.columns.items) }
 {
-    let empty = empty_picture(alloc, known, view.span, about.subject);
     let About {
         subject,
         crash,
         told,
     } = about;
-    match told {
-        Some(told) => {
-            let mut picture = empty;
-            picture.is_told = true;
-            picture.cut = told.all.saturating_sub(told.numbers.len() as u64);
-            filled(alloc, known, picture, told.numbers.as_slice(), &[], crash)
-        }
-        None => {
-            let kept = lines_of_addresses(alloc, known.trace.format(), view.kept.as_slice())?;
-            let story = story_of(alloc, known.trace, view.span, kept.as_slice(), subject)?;
-            let mut picture = empty;
-            picture.cut = story.cut;
-            filled(
-                alloc,
-                known,
-                picture,
-                story.numbers.as_slice(),
-                kept.as_slice(),
-                crash,
-            )
-        }
-    }
-}
-
-// The picture of the subject, without events.
-fn empty_picture(alloc: Global, known: Known<'_>, span: Span, subject: Subject) -> Picture {
-    Picture {
-        format: known.trace.format(),
-        events: known.trace.len() as u64,
-        lines: known.lines,
-        span,
-        cut: 0,
-        subject,
-        is_told: false,
-        columns: Vec::new(alloc),
-        rows: Vec::new(alloc),
-        hidden: 0,
-        asserted: [None, None],
-        crashes: Vec::new(alloc),
-        untold: 0,
-    }
-}
-
-// The picture with these events, the lines that they touch, of those that are kept, and the crash of its subject.
-fn filled(
-    alloc: Global,
-    known: Known<'_>,
-    empty: Picture,
-    numbers: &[u64],
-    kept: &[u64],
-    crash: Option<Crash>,
-) -> Result<Picture, OutOfMemory>
-    ensures { IfOk result (λ p. AreColumns known.entry.trace.now numbers.now p.columns.items) }
-{
-    let mut picture = empty;
-    picture.columns = columns_of(alloc, known, numbers)?;
-    picture.asserted = asserted_in(known.trace, crash.as_ref());
-    let touched = touched_lines(alloc, known.trace, picture.columns.as_slice(), kept);
+    let numbers = told.numbers.as_slice();
+    let columns = columns_of(alloc, known, numbers)?;
+    let asserted = asserted_in(known.trace, crash.as_ref());
+    let kept = if subject.is_finding() { &[] } else { kept };
+    let touched = touched_lines(alloc, known.trace, columns.as_slice(), kept);
     let lines = chosen_lines(alloc, &touched)?;
-    picture.hidden = touched.as_slice().len().saturating_sub(lines.len()) as u64;
-    picture.crashes = match crash {
+    let crashes = match crash {
         Some(crash) => vec![in alloc; crash]?,
         None => crashes_among(alloc, known, numbers)?,
     };
-    picture.untold = untold_of(picture.columns.as_slice(), picture.crashes.as_slice());
-    picture.rows = rows_in(alloc, known.trace, lines.as_slice(), numbers, &picture)?;
-    Ok(picture)
+    let shown = Shown {
+        columns: numbers,
+        lines: lines.as_slice(),
+        is_told: subject.is_finding(),
+    };
+    let rows = rows_in(alloc, known.trace, shown, crashes.as_slice())?;
+    Ok(Picture {
+        format: known.trace.format(),
+        events: known.trace.len() as u64,
+        lines: known.lines,
+        subject,
+        cut: told.all.saturating_sub(numbers.len() as u64),
+        hidden: touched.as_slice().len().saturating_sub(lines.len()) as u64,
+        asserted,
+        untold: untold_of(columns.as_slice(), crashes.as_slice()),
+        columns,
+        rows,
+        crashes,
+    })
 }
 
 // The bytes of the assertion that the crash violates.
@@ -224,19 +180,6 @@ fn fence_after(trace: &Trace, number: u64, last: u64) -> Option<u64> {
     } else {
         None
     }
-}
-
-// The next fence of the thread after this event and up to the last one.
-fn next_fence(trace: &Trace, thread: u8, number: u64, last: u64) -> Option<u64> {
-    let events = trace.events();
-    for index in number as usize..(last as usize).min(events.len()) {
-        let event = events[index];
-        let op = event.op;
-        if event.thread == thread && is_fence(&op) {
-            return Some(index as u64 + 1);
-        }
-    }
-    None
 }
 
 // The first crashes of the failed assertions among these events, by their places.
@@ -299,29 +242,39 @@ fn chosen_lines(alloc: Global, touched: &Numbers) -> Result<Vec<u64>, OutOfMemor
     lines.rising()
 }
 
-// The rows of these lines, up to the last of these events, with the crashes of the picture.
+// The events and lines that are drawn.
+#[derive(Clone, Copy)]
+struct Shown<'a> {
+    // The numbers of the events, rising.
+    columns: &'a [u64],
+    // The lines, rising.
+    lines: &'a [u64],
+    // Whether the events are those that tell of a finding.
+    is_told: bool,
+}
+
+// The rows of the lines, up to the last of the events, where these crashes are drawn.
 fn rows_in(
     alloc: Global,
     trace: &Trace,
-    lines: &[u64],
-    numbers: &[u64],
-    picture: &Picture,
+    shown: Shown<'_>,
+    crashes: &[Crash],
 ) -> Result<Vec<Row>, OutOfMemory> {
     let safe = safe_places(alloc, trace)?;
     let mut places = Numbers::new(alloc);
-    for crash in &picture.crashes {
+    for crash in crashes {
         places.push(crash.failure.place);
     }
     let places = places.rising()?;
     let drawn = Drawn {
         trace,
         safe: safe.as_slice(),
-        columns: numbers,
+        columns: shown.columns,
         places: places.as_slice(),
-        is_told: picture.is_told,
+        is_told: shown.is_told,
     };
     let mut rows = Vec::new(alloc);
-    for line in lines {
+    for line in shown.lines {
         rows.push(row_of(alloc, drawn, *line)?)?;
     }
     Ok(rows)

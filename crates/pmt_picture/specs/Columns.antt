@@ -1,10 +1,9 @@
 -- The columns of a picture are events of the trace.
-use Rattle.std.specs.Prelude.{◌≡◌, ℕ, List, Option, Some, map}
+use Rattle.std.specs.Prelude.{◌≡◌, ℕ, List, Some, map}
 use Rattle.std.specs.List.{All}
 use Rattle.pmt_model.specs.declared.event.Event.{Event}
 use Rattle.pmt_model.specs.Traces.{Recording, event}
-use Rattle.pmt_draw.specs.declared.about.Told.{Told}
-use Rattle.pmt_draw.specs.declared.picture.Column.{Column}
+use Rattle.pmt_picture.specs.declared.picture.Column.{Column}
 
 -- The column shows the event with its number.
 abbrev pub IsEvent : Recording → Column → Type 0
@@ -21,9 +20,3 @@ numbers_of cs = map (λ c. c.number) cs
 pub record AreColumns (T : Recording) (ns : List ℕ) (cs : List Column) : Type 0 where
   pub events : All (IsEvent T) cs
   pub numbers : All (HasEvent T) ns → numbers_of cs ≡ ns
-
--- The columns show the events that are given, if any are.
-pub record AreTold (T : Recording) (told : Option Told) (cs : List Column) : Type 0 where
-  pub drawn : List ℕ
-  pub columns : AreColumns T drawn cs
-  pub given : (t : Told) → told ≡ Some t → drawn ≡ t.numbers.items

@@ -4,8 +4,8 @@ use Rattle.std.proofs.lemmas.List.{map-append}
 use Rattle.std.proofs.lemmas.List.Elements.{All-nil, All-push, All-pop}
 use Rattle.pmt_model.specs.declared.event.Event.{Event}
 use Rattle.pmt_model.specs.Traces.{Recording, event}
-use Rattle.pmt_draw.specs.declared.picture.Column.{Column}
-use Rattle.pmt_draw.specs.Columns.{IsEvent, HasEvent, AreColumns}
+use Rattle.pmt_picture.specs.declared.picture.Column.{Column}
+use Rattle.pmt_picture.specs.Columns.{IsEvent, HasEvent, AreColumns}
 
 pub columns-none : (T : Recording) → AreColumns T [] []
 columns-none T = record { events = All-nil (IsEvent T); numbers = λ all. refl }

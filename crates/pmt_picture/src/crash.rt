@@ -34,7 +34,11 @@ pub struct Crash {
 ///
 /// # Errors
 /// Where memory was refused.
-pub fn crash_of(alloc: Global, trace: &Trace, number: u64) -> Result<Option<Crash>, OutOfMemory> {
+pub(crate) fn crash_of(
+    alloc: Global,
+    trace: &Trace,
+    number: u64,
+) -> Result<Option<Crash>, OutOfMemory> {
     let Some(failure) = failure(alloc, trace, number)? else {
         return Ok(None);
     };
@@ -60,7 +64,7 @@ pub fn crash_of(alloc: Global, trace: &Trace, number: u64) -> Result<Option<Cras
 ///
 /// # Errors
 /// Where memory was refused.
-pub fn crash_at_end(
+pub(crate) fn crash_at_end(
     alloc: Global,
     known: Known<'_>,
     group: LostGroup,

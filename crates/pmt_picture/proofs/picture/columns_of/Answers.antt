@@ -1,9 +1,9 @@
 use Rattle.std.proofs.Common.{◌+◌, ◌++◌, ◌∷◌, [], take, get_or, sym, ◌∙◌, subst}
 use Rattle.std.proofs.lemmas.List.{take_more}
-use Rattle.pmt_draw.specs.declared.picture.Column.{Column}
-use Rattle.pmt_draw.specs.Columns.{AreColumns}
-use Rattle.pmt_draw.proofs.ColumnLemmas.{columns-more, columns-skip}
-use Rattle.pmt_draw.proofs.picture.columns_of.Goals as goal
+use Rattle.pmt_picture.specs.declared.picture.Column.{Column}
+use Rattle.pmt_picture.specs.Columns.{AreColumns}
+use Rattle.pmt_picture.proofs.ColumnLemmas.{columns-more, columns-skip}
+use Rattle.pmt_picture.proofs.picture.columns_of.Goals as goal
 
 pub loop-number-preserved-in_default : goal.loop-number-preserved-in_default
 loop-number-preserved-in_default c =

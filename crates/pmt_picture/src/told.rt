@@ -1,23 +1,45 @@
-//! The events that tell of a finding: those of its slice, as far as a picture has room for them.
-use pmt_draw::{About, Crash, Subject, Told};
+//! The events that a picture has: of a failed assertion, and of stores that are lost or late, those of their slices, as far as there is room.
+use crate::asked::{around, between};
+use crate::crash::Crash;
+use crate::noted::{dropped_told, overwritten_told, unwritten_told};
+use crate::subject::Subject;
 use pmt_model::{OutOfMemory, Trace};
 use pmt_slices::{slice_of, store_sliced, story_of};
 use std::alloc::Global;
 
-// The most events of slices that a picture shows.
-const MOST_TOLD: usize = 24;
+/// The most events of a finding that a picture shows.
+pub(crate) const MOST_TOLD: usize = 24;
 
-// The events that tell of what a picture is about; none where it has no slice.
+/// The events that a picture has.
+#[derive(Drop)]
+pub struct Told {
+    /// Their numbers, rising.
+    pub numbers: Vec<u64>,
+    /// How many there would be, if there were room for all.
+    pub all: u64,
+}
+
+/// The events that a picture of the subject has, which has this crash.
+///
+/// # Errors
+/// Where memory was refused.
 pub(crate) fn told_of(
     alloc: Global,
     trace: &Trace,
-    about: &About,
-) -> Result<Option<Told>, OutOfMemory> {
-    match (about.subject, &about.crash) {
-        (Subject::Failure(number), Some(crash)) => failure_told(alloc, trace, number, crash),
-        (Subject::Lost(_), Some(crash)) => stores_told(alloc, trace, crash.lost.as_slice()),
-        (Subject::Late(store), None) => stores_told(alloc, trace, &[store]),
-        _ => Ok(None),
+    subject: Subject,
+    crash: Option<&Crash>,
+    kept: &[u64],
+) -> Result<Told, OutOfMemory> {
+    match subject {
+        Subject::Failure(number) => failure_told(alloc, trace, number, crash),
+        Subject::Lost(_) => lost_told(alloc, trace, crash),
+        Subject::Late(store) => stores_told(alloc, trace, &[store]),
+        Subject::Dropped(dropped) => dropped_told(alloc, trace, dropped),
+        Subject::Overwritten(pair) => overwritten_told(alloc, trace, pair),
+        Subject::Unwritten(number) => unwritten_told(alloc, trace, number),
+        Subject::Start => between(alloc, trace, kept, 1, u64::MAX),
+        Subject::Around(number) => around(alloc, trace, kept, number),
+        Subject::Between { first, last } => between(alloc, trace, kept, first, last),
     }
 }
 
@@ -26,16 +48,16 @@ fn failure_told(
     alloc: Global,
     trace: &Trace,
     number: u64,
-    crash: &Crash,
-) -> Result<Option<Told>, OutOfMemory> {
+    crash: Option<&Crash>,
+) -> Result<Told, OutOfMemory> {
     let Some(slice) = slice_of(alloc, trace, number)? else {
-        return Ok(None);
+        return stores_told(alloc, trace, &[]);
     };
     let needed = needed_of(alloc, trace, number, crash)?;
-    Ok(Some(Told {
+    Ok(Told {
         numbers: shown_of(alloc, slice.numbers(), needed.as_slice())?,
         all: slice.len() as u64,
-    }))
+    })
 }
 
 // The events of the assertion's story, and as many of the stores that the crash loses as have room beside them.
@@ -43,9 +65,12 @@ fn needed_of(
     alloc: Global,
     trace: &Trace,
     number: u64,
-    crash: &Crash,
+    crash: Option<&Crash>,
 ) -> Result<Vec<u64>, OutOfMemory> {
     let mut needed = Vec::new(alloc);
+    let Some(crash) = crash else {
+        return Ok(needed);
+    };
     if let Some(story) = story_of(alloc, trace, number, &crash.failure)? {
         needed.extend_from_slice(story.numbers())?;
     }
@@ -71,8 +96,16 @@ fn shown_of(alloc: Global, numbers: &[u64], needed: &[u64]) -> Result<Vec<u64>, 
     Ok(shown)
 }
 
+// The slices of the stores that the crash loses.
+fn lost_told(alloc: Global, trace: &Trace, crash: Option<&Crash>) -> Result<Told, OutOfMemory> {
+    match crash {
+        Some(crash) => stores_told(alloc, trace, crash.lost.as_slice()),
+        None => stores_told(alloc, trace, &[]),
+    }
+}
+
 // The slices of these stores, which are lost or late: of the first ones, as far as a picture has room.
-fn stores_told(alloc: Global, trace: &Trace, stores: &[u64]) -> Result<Option<Told>, OutOfMemory> {
+fn stores_told(alloc: Global, trace: &Trace, stores: &[u64]) -> Result<Told, OutOfMemory> {
     let mut numbers = Vec::new(alloc);
     for store in stores {
         let Some(slice) = store_sliced(alloc, trace, *store)? else {
@@ -85,7 +118,7 @@ fn stores_told(alloc: Global, trace: &Trace, stores: &[u64]) -> Result<Option<To
         numbers = joined;
     }
     let all = numbers.len() as u64;
-    Ok(Some(Told { numbers, all }))
+    Ok(Told { numbers, all })
 }
 
 // The numbers of both lists, rising and each once.

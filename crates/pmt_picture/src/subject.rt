@@ -1,8 +1,6 @@
 //! What a picture is about.
 use crate::known::Known;
-use crate::related::touches_any;
-use crate::spans::concerns;
-use crate::view::Span;
+use crate::spans::{concerns, touches_any};
 use pmt_explain::{Dropped, LostGroup, Overwriting};
 use pmt_model::Trace;
 
@@ -21,23 +19,33 @@ pub enum Subject {
     Late(u64),
     /// The assertion with this number, on bytes that no store has written by then.
     Unwritten(u64),
-    /// The events that are asked for, or the first ones.
-    Events,
+    /// The first events.
+    Start,
+    /// The events around this one.
+    Around(u64),
+    /// The events from `first` to `last`.
+    Between { first: u64, last: u64 },
 }
 
-/// What the picture of this span is about. Of the trace's findings it is the first that speaks of the kept lines, in the order in which
-/// they are told: failures, stores that are never persisted, what is dropped, what is written over, what is saved late, what was never
-/// stored. All lines are kept, if none is named.
-pub fn subject_of(known: Known<'_>, span: Span, kept: &[u64]) -> Subject {
-    match span {
-        Span::First => first_subject(known, kept),
-        Span::Failure(number) => Subject::Failure(number),
-        Span::Around(_) | Span::Between { .. } => Subject::Events,
+impl Subject {
+    /// Whether it is a finding, of which certain events tell.
+    pub fn is_finding(self) -> bool {
+        match self {
+            Subject::Failure(_)
+            | Subject::Lost(_)
+            | Subject::Dropped(_)
+            | Subject::Overwritten(_)
+            | Subject::Late(_)
+            | Subject::Unwritten(_) => true,
+            Subject::Start | Subject::Around(_) | Subject::Between { .. } => false,
+        }
     }
 }
 
-// The first of the findings that speaks of the kept lines.
-fn first_subject(known: Known<'_>, kept: &[u64]) -> Subject {
+/// Of the trace's findings the first that speaks of the kept lines, in the order in which they are told: failures, stores that are never
+/// persisted, what is dropped, what is written over, what is saved late, what was never stored; or else the first events. All lines are
+/// kept, if none is named.
+pub fn first_subject(known: Known<'_>, kept: &[u64]) -> Subject {
     for number in known.failing {
         if is_kept_event(known.trace, *number, kept) {
             return Subject::Failure(*number);
@@ -76,7 +84,7 @@ fn last_subject(known: Known<'_>, kept: &[u64]) -> Subject {
             return Subject::Unwritten(*number);
         }
     }
-    Subject::Events
+    Subject::Start
 }
 
 // Whether the line is kept, all being kept where none is named.
@@ -106,17 +114,17 @@ pub enum Refusal {
     AbsentLine(u64),
 }
 
-/// Why nothing is drawn, where the span or a kept address is not of this trace.
-pub fn refusal_of(known: Known<'_>, span: Span, kept: &[u64]) -> Option<Refusal> {
-    let number = match span {
-        Span::First => 0,
-        Span::Failure(number) | Span::Around(number) => number,
-        Span::Between { first, last: _ } => first,
+/// Why nothing is drawn, where the subject or a kept address is not of this trace.
+pub fn refusal_of(known: Known<'_>, subject: Subject, kept: &[u64]) -> Option<Refusal> {
+    let number = match subject {
+        Subject::Failure(number) | Subject::Around(number) => number,
+        Subject::Between { first, last: _ } => first,
+        _ => 0,
     };
     if number > known.trace.len() as u64 {
         return Some(Refusal::PastEnd(number));
     }
-    if let Span::Failure(_) = span {
+    if let Subject::Failure(_) = subject {
         match known.pass(number) {
             None => return Some(Refusal::NoAssertion(number)),
             Some(true) => return Some(Refusal::Passes(number)),

@@ -1,7 +1,7 @@
 //! The lines that an event speaks of.
 use crate::asserted::asserted_of;
 use crate::numbered::Numbers;
-use pmt_model::{Format, Op, OutOfMemory, line_of};
+use pmt_model::{Format, Op, OutOfMemory, Trace, line_of};
 use std::alloc::Global;
 
 /// The line of the op, if it stores to one or flushes one.
@@ -27,6 +27,17 @@ pub fn concerns(format: Format, op: &Op, lines: &[u64]) -> bool {
                     return true;
                 }
             }
+        }
+    }
+    false
+}
+
+/// Whether an event stores to the line, flushes it or asserts anything of it.
+pub fn touches_any(trace: &Trace, line: u64) -> bool {
+    for event in trace.events() {
+        let op = event.op;
+        if concerns(trace.format(), &op, &[line]) {
+            return true;
         }
     }
     false

@@ -1,0 +1,177 @@
+//! Commands as tables say them, made by clap.
+use clap::{Arg, ArgAction, Command};
+use std::alloc::{AllocError, Global};
+
+/// A command of the program.
+#[derive(Clone, Copy)]
+pub struct CommandText<'a> {
+    /// Its name.
+    pub name: &'a str,
+    /// How it is used.
+    pub usage: &'a str,
+    /// What it does.
+    pub about: &'a str,
+    /// What its help ends with.
+    pub after: &'a str,
+    /// Its words, in the order of the help.
+    pub words: &'a [Word<'a>],
+}
+
+/// A word of a command: an option, or a word that stands alone.
+#[derive(Clone, Copy)]
+pub struct Word<'a> {
+    /// Its name.
+    pub name: &'a str,
+    /// What it is.
+    pub kind: WordKind<'a>,
+    /// What its help says.
+    pub help: &'a str,
+}
+
+/// What a word of a command is.
+#[derive(Clone, Copy)]
+pub enum WordKind<'a> {
+    /// An option without a value.
+    Flag,
+    /// The same, which does not stand with the flag of this name.
+    Rival(&'a str),
+    /// An option with a value, which help shows by this name.
+    Value(&'a str),
+    /// The same, which must be given.
+    Needed(&'a str),
+    /// The same, which may be given more than once.
+    Values(&'a str),
+    /// An option with a value of the list, which help shows by this name; the first of them where it is not given.
+    OneOf(&'a str, &'a [&'a str]),
+    /// The same without a value where it is not given; its help says which there are.
+    AnyOf(&'a str, &'a [&'a str]),
+    /// A word that stands alone, and may be left out.
+    Lone,
+    /// The same, which must be given.
+    NeededLone,
+    /// One to 256 words that stand alone.
+    ManyLone,
+}
+
+/// The file of the trace.
+pub const TRACE_FILE: Word<'static> = Word {
+    name: "FILE",
+    kind: WordKind::Lone,
+    help: "The trace; standard input, if none is given, or -",
+};
+
+/// The file that is written.
+pub const OUT_FILE: Word<'static> = Word {
+    name: "out",
+    kind: WordKind::Value("FILE"),
+    help: "Write to FILE; to standard output, if none is given, or -",
+};
+
+/// Whether the reason stands below a fault's line.
+pub const VERBOSE: Word<'static> = Word {
+    name: "verbose",
+    kind: WordKind::Flag,
+    help: "Say the file and the reason below the line of a fault, as at a terminal",
+};
+
+/// What events are called.
+pub const LABELS: Word<'static> = Word {
+    name: "labels",
+    kind: WordKind::Value("FILE"),
+    help: "Names of events: lines 'EVENT TEXT'",
+};
+
+/// A command, or that memory was refused when it was made.
+pub type Made<'a> = Result<Command<'a>, AllocError>;
+
+/// The command with one of its own more, of this text.
+pub fn with_text<'a>(alloc: Global, command: Made<'a>, text: &CommandText<'a>) -> Made<'a> {
+    with_command(command, command_of(alloc, text))
+}
+
+// The command with one of its own.
+fn with_command<'a>(command: Made<'a>, own: Made<'a>) -> Made<'a> {
+    command?.subcommand(own?)
+}
+
+// The command of this text.
+fn command_of<'a>(alloc: Global, text: &CommandText<'a>) -> Made<'a> {
+    let command = Command::new(alloc, text.name)
+        .override_usage(text.usage)
+        .about(text.about)
+        .after_help(text.after);
+    with_words(alloc, Ok(command), text.words)
+}
+
+// The command with these words.
+fn with_words<'a>(alloc: Global, command: Made<'a>, words: &[Word<'a>]) -> Made<'a> {
+    let mut made = command;
+    for word in words {
+        made = with(made, argument_of(alloc, word));
+    }
+    made
+}
+
+// The command with an argument more.
+fn with<'a>(command: Made<'a>, argument: Result<Arg<'a>, AllocError>) -> Made<'a> {
+    command?.arg(argument?)
+}
+
+// The argument of the word.
+fn argument_of<'a>(alloc: Global, word: &Word<'a>) -> Result<Arg<'a>, AllocError> {
+    let argument = Arg::new(alloc, word.name).help(word.help);
+    match word.kind {
+        WordKind::Lone => Ok(argument),
+        WordKind::NeededLone => Ok(argument.required(true)),
+        WordKind::ManyLone => Ok(
+            argument
+                .required(true)
+                .action(ArgAction::Append)
+                .num_args(1..=256),
+        ),
+        _ => option_of(with_letter(argument, word.name), word),
+    }
+}
+
+// The argument with the name of the option and its letter.
+fn with_letter<'a>(argument: Arg<'a>, name: &'a str) -> Arg<'a> {
+    let named = argument.long(name);
+    match name {
+        "workers" => named.short('j'),
+        "quiet" => named.short('q'),
+        "verbose" => named.short('v'),
+        "out" => named.short('o'),
+        _ => named,
+    }
+}
+
+// The argument as the option that the word is.
+fn option_of<'a>(argument: Arg<'a>, word: &Word<'a>) -> Result<Arg<'a>, AllocError> {
+    match word.kind {
+        WordKind::Rival(other) => argument.action(ArgAction::SetTrue).conflicts_with(other),
+        WordKind::Value(shown) => Ok(argument.value_name(shown)),
+        WordKind::Needed(shown) => Ok(argument.value_name(shown).required(true)),
+        WordKind::Values(shown) => Ok(argument.value_name(shown).action(ArgAction::Append)),
+        WordKind::OneOf(shown, values) => Ok(
+            argument
+                .value_name(shown)
+                .value_parser(values)
+                .default_value(first_of(values)),
+        ),
+        WordKind::AnyOf(shown, values) => Ok(
+            argument
+                .value_name(shown)
+                .value_parser(values)
+                .hide_possible_values(true),
+        ),
+        _ => Ok(argument.action(ArgAction::SetTrue)),
+    }
+}
+
+// The first of these values.
+fn first_of<'a>(values: &'a [&'a str]) -> &'a str {
+    match values.first() {
+        Some(value) => value,
+        None => "",
+    }
+}
