@@ -1,10 +1,12 @@
 """What `explain` says: the JSON and the texts of small random traces against explained.py, and texts, entries and faults by hand."""
 import json
 import os
+import pathlib
 import random
 import re
 import subprocess
 import sys
+import tempfile
 
 from checks import Checks, add_tests
 from crowded import random_trace
@@ -13,8 +15,11 @@ from explained import KINDS, Explained, judged, with_events
 from explained_text import SCREEN, wrong_screen, wrong_text
 from machine import spelled, text_of
 from program import TOP, find
+from schemas import complaints, names_of, wrongs
+from traces import all_traces
 
 TEXTS = TOP / "examples/explain"
+SCHEMA = TOP / "docs/explain.schema.json"
 PLACES = (TOP / "examples", TOP / "tests/traces")
 TRACES = 400
 
@@ -67,8 +72,8 @@ def random_choice(choose, trace, labels):
     return asked, words
 
 
-def compare(program, folder, choose):
-    """What is wrong with the answer to one random trace, if anything, and that trace."""
+def compare(program, folder, choose, told):
+    """What is wrong with the answer to one random trace, if anything, and that trace; lines of JSON are added to what was told."""
     head, trace = random_trace(choose)
     trace = with_halves(choose, trace)
     ignored, labels, limit = random_words(choose, trace)
@@ -80,6 +85,7 @@ def compare(program, folder, choose):
     words = [word for start, length in ignored for word in ("--ignore", f"{start:#x}:{length}")]
     words += ["--limit", str(limit)] * (limit != 10) + ["--labels", names] * bool(labels) + chosen
     done = subprocess.run([program, "explain", *words, "--json", file], capture_output=True, timeout=120)
+    told.update(lines_of(done))
     status = int(bool(explained.failing()) or any(not explained.is_ignored(store) for store in explained.lost_stores()))
     wrong = None
     if (done.returncode, done.stderr) != (status, b""):
@@ -138,14 +144,25 @@ def many_failures():
     return f"pmtrace 1\n{stores}{claims}"
 
 
+def lines_of(done):
+    """The lines that a program wrote, each once."""
+    return dict.fromkeys(done.stdout.decode().removesuffix("\n").split("\n"))
+
+
+def refused(lines):
+    """The first of these lines that the schema refuses, each with why."""
+    return [told for told in zip(lines, complaints(SCHEMA, lines), strict=True) if told[1]][:3]
+
+
 class Explain(Checks):
     """What is told, as text and as JSON."""
 
     def test_random_traces(self):
-        choose, folder = random.Random(17), self.new_folder()
+        choose, folder, told = random.Random(17), self.new_folder(), {}
         for number in range(TRACES):
-            wrong, trace = compare(self.program, folder, choose)
+            wrong, trace = compare(self.program, folder, choose, told)
             self.expect(f"random trace {number}", wrong is None, f"{wrong}\nof {trace}")
+        self.expect_equal("the schema", refused(told), [])
 
     def check_text(self, path):
         """A text NAME.text is what is said of the trace NAME.trace; a first line '$ WORD ..' has further words."""
@@ -251,6 +268,74 @@ class Explain(Checks):
 
 
 add_tests(Explain, Explain.check_text, {f"text_of_{path.stem}": path for path in sorted(TEXTS.glob("*.text"))})
+
+
+# Labels of any letters, what is asked for, and traces that reach the bounds of numbers.
+ODD_LABELS = ("\u2028\U0001f600 \"\\ < main", " < main file.c:9", "file.c:7 call", "</script>\x85")
+CHOICES = (
+    [],
+    *(["--only", kind] for kind in KINDS),
+    ["--limit", "0"],
+    ["--limit", "all"],
+    ["--label", "c:", "--limit", str(2**64)],
+    ["--from", "1", "--to", str(2**64 - 1), "--thread", "0", "--range", "0x0:281474976710656"],
+    ["--ignore", "0x1000:8"],
+)
+BOUNDS = (
+    "pmtrace 1\n" + 999_999 * "sfence 255\n" + "store 255 0xffffffffffff ff\n",
+    "pmtrace 2 256\nstore 0 0x0 00\nisPersist 255 0x0 4096\nisOrderedBefore 0 0x0 4096 0xfffffffff000 4096\nstore 0 0x0 00\n",
+    NEVER_STORED,
+    many_failures(),
+)
+
+
+class Schema(Checks):
+    """Lines of JSON are as docs/explain.schema.json says, and lines that are not are refused."""
+
+    @classmethod
+    def setUpClass(cls):
+        with tempfile.TemporaryDirectory() as name:
+            cls.file, found = pathlib.Path(name) / "t", {}
+            texts = [trace.read_text() for trace in all_traces()]
+            for text in (*texts, *BOUNDS):
+                cls.file.write_text(text)
+                found |= cls.told()
+            for text in texts:
+                found |= cls.told_of_cut(text)
+        cls.lines = list(found)
+
+    @classmethod
+    def told(cls, *words):
+        done = subprocess.run([os.environ["PMTRIM"], "explain", "--json", *words, cls.file], capture_output=True, timeout=120)
+        return lines_of(done)
+
+    @classmethod
+    def told_of_cut(cls, text):
+        """The lines of the trace as one that was cut, with labels, by all choices and of each failure."""
+        cls.file.write_text(text)
+        events, names = text.count("\n") - 1, cls.file.with_name("l")
+        cls.file.with_name("t.cut").write_text(f"{events} it was cut\n")
+        names.write_text("".join(f"{number} {ODD_LABELS[number % 4]}\n" for number in range(1, events + 1) if number % 5))
+        found = {line: None for words in CHOICES for line in cls.told("--labels", names, *words)}
+        failing = {event for entry in map(json.loads, found) if entry["kind"] == "cause" for event in entry["events"]}
+        return found | {line: None for event in sorted(failing)[:20] for line in cls.told("--failure", str(event))}
+
+    def test_lines(self):
+        """Each name of the schema is in a line, so it knows no more than is written."""
+        self.expect_equal("the schema", refused(self.lines), [])
+        unseen = [name for name in names_of(json.loads(SCHEMA.read_text())) if not any(f'"{name}"' in line for line in self.lines)]
+        self.expect_equal("names that no line has", unseen, [])
+
+    def test_wrong_lines(self):
+        """Of each set of kinds, causes, reasons and mends one line, with each thing in it wrong in turn."""
+        short = sorted((line for line in self.lines if len(line) < 3000), key=len)
+        longest = {tuple(re.findall(r'"(?:kind|why|assertion|hint|reason|mend|cause)":"\w+"', line)): line for line in short}
+        wrong = [(f"{told} in {line}", json.dumps(value)) for line in longest.values() for told, value in wrongs(json.loads(line))]
+        judged_lines = zip(wrong, complaints(SCHEMA, [line for _, line in wrong]), strict=True)
+        self.expect_equal("wrong lines that are accepted", [name for (name, _), told in judged_lines if not told][:5], [])
+        line = next(line for line in self.lines if '"reason":"useless"' in line)
+        told = complaints(SCHEMA, [line.replace('"useless"', '"forgotten"')])[0][0]
+        self.expect("what is told", told.startswith("$.reason.reason: 'forgotten' is not one of"), told)
 
 
 class Faults(Checks):

@@ -16,10 +16,11 @@ SCREEN = 40
 MOST = 8
 DROPPED = "note: flushes and fences that do nothing, most first:"
 OVERWRITTEN = "note: stores overwritten before any flush of their cache line, those with other bytes first:"
+OVERWRITTEN_PLACES = "note: stores overwritten before any flush of their cache line, by the place of the line's first one:"
 SAVED_LATE = "  stores saved late, which a crash can lose though their thread went on: "
 LATE = "note: stores that two fences or more of their own thread left unsafe, most first:"
-THREADS = "table: what each thread makes, and how many of its flushes and fences do nothing:"
-LABELS = "table: what is made at each source place, those first where most does nothing:"
+THREADS = "table: what threads make whose flushes and fences do nothing, and how many do:"
+LABELS = "table: source places whose flushes and fences do nothing, those first where most does:"
 NOTHING_FOUND = "Nothing of what is asked for was found."
 COLUMNS = "   stores  flushes   fences  do nothing"
 REASONS = {
@@ -82,10 +83,10 @@ def table_lines(rows):
 
 
 def tables(explained):
-    """The tables by thread, where there are several, and by label; none where something is asked for."""
+    """The tables by thread, where there are several, and by label, of those with something that does nothing; none where something is asked for."""
     rows = grouped.thread_rows(explained.trace)
-    threads = [(f"thread {thread}", counts) for thread, counts in rows] if len(rows) > 1 else []
-    labels = [(f"at {text}", counts) for text, counts in grouped.label_rows(explained)]
+    threads = [(f"thread {thread}", counts) for thread, counts in rows if counts[3]] if len(rows) > 1 else []
+    labels = [(f"at {text}", counts) for text, counts in grouped.label_rows(explained) if counts[3]]
     return [(THREADS, table_lines(threads)), (LABELS, table_lines(labels))] if explained.asked == NOTHING else [(THREADS, []), (LABELS, [])]
 
 
@@ -104,6 +105,18 @@ def overwritten_lines(explained):
         f"  {times(group['count'])} in cache line {group['cache_line']}, {group['count'] - group['same']} with other bytes,"
         f" first {placed(group['earlier'])} by {placed(group['later'])}"
         for group in overwritten_groups(explained)
+    ]
+
+
+def overwritten_places(explained):
+    """A line for each place with the overwritten stores of the cache lines whose first one is from there: most with other bytes first."""
+    found = {}
+    for group in explained.overwritten():
+        row = found.setdefault(by_place.place(explained, group["earlier"]["event"]), [0, 0, 0, group["earlier"]["event"], group["later"]["event"]])
+        row[:3] = [row[0] + group["count"], row[1] + group["count"] - group["same"], row[2] + 1]
+    return [
+        f"  {by_place.name_of(key)}: {times(count)} in {plural(lines, 'cache line')}, {differing} with other bytes, first event {earlier} by event {later}"
+        for key, (count, differing, lines, earlier, later) in sorted(found.items(), key=lambda item: (-item[1][1], -item[1][0]))
     ]
 
 
@@ -251,7 +264,10 @@ def wrong_losses(explained, entries):
     return None if told == wanted else f"never persisted: wanted {wanted}, in {told}"
 
 
-PLACE = re.compile(r"(error|warning|note): .*: \d+ stores?: \d+ never persisted, \d+ saved late, \d+ in time(, \d+ ignored)?$")
+PLACE = re.compile(
+    r"(error|warning|note): .*: \d+ stores?: \d+ never persisted, \d+ saved late, \d+ in time(, \d+ ignored)?$"
+    r"|error: cache line 0x[0-9a-f]+ is never flushed: \d+ places lose all that they store to it, \d+ stores: "
+)
 
 
 def wrong_late(explained, lines):
@@ -261,6 +277,20 @@ def wrong_late(explained, lines):
     wanted = [f"{SAVED_LATE}{late} of {stores}"] if late else []
     told = [line for line in lines if line.startswith(SAVED_LATE)]
     return None if told == wanted else f"saved late: wanted {wanted}, in {told}"
+
+
+def but_lines(explained, name, store):
+    """What a place says of the flush that the thread of its store makes instead: of another line, before its next fence, where it flushes the
+    store's line not at all before."""
+    trace, (_, thread, *_) = explained.trace, explained.trace.event(store)
+    own = [number for number in range(store + 1, explained.end + 1) if trace.event(number)[1] == thread]
+    fence = next((number for number in own if trace.event(number)[0] in FENCES), None)
+    if fence is None or name == "store" and explained.cause(store, explained.end)["cause"] != "unflushed":
+        return []
+    flushes = [number for number in own if number < fence and trace.event(number)[0] in grouped.ANY_FLUSH]
+    if not flushes or any(trace.line(number) == trace.line(store) for number in flushes):
+        return []
+    return [f"  but:    before its next fence its thread flushes another line: {named(explained, flushes[0])}"]
 
 
 def wrong_places(explained, lines):
@@ -279,6 +309,8 @@ def wrong_places(explained, lines):
             return f"a place: wanted {first} .. {draw}, in {entry}"
         if not any(line.startswith("  fix:    ") for line in entry):
             return f"a place without a fix: {entry}"
+        if [line for line in entry if line.startswith("  but:")] != but_lines(explained, name, number):
+            return f"what is flushed instead: wanted {but_lines(explained, name, number)}, in {entry}"
         if name == "late" and entry[2] != f"  why:    {grouped.fences_waited(explained.trace, number)} fences of its thread left it unsafe":
             return f"why a store of a place is late: {entry}"
     return None
@@ -382,6 +414,9 @@ def wrong_screen(explained, told):
         "places": list(by_place.heads(explained)),
         "hint": [*hinted.hints(explained), *hinted.left(explained)],
     }
+    told = [line for line in below(lines, OVERWRITTEN_PLACES) if not line.startswith("... ")]
+    if told != overwritten_places(explained)[: len(told)] or told and not explained.labels:
+        return f"overwritten by place: wanted {overwritten_places(explained)}, in\n{told}"
     for name, entries in found.items():
         if entries and not any(name in line for line in lines[5:]):
             return f"nothing of what {name}:\n{told.decode()}"

@@ -79,12 +79,38 @@ def stores_in_words(count):
     return f"{count} store" if count == 1 else f"{count} stores"
 
 
+def shared_lines(explained):
+    """Of each place that loses all it stores to one line, which nothing flushes, that line, where another place does so too."""
+    trace = explained.trace
+    flushed = {trace.line(number) for number in trace.numbers if trace.event(number)[0] in ANY_FLUSH}
+    stored = {}
+    for store in explained.lost_stores():
+        if not explained.is_ignored(store):
+            stored.setdefault(place(explained, store), set()).add(trace.line(store))
+    alone = {key: min(stored[key]) for key, row in rows(explained) if standing(row)[0] == 3 and len(stored[key]) == 1 and not stored[key] & flushed}
+    return {key: line for key, line in alone.items() if list(alone.values()).count(line) > 1}
+
+
+def shared_head(explained, line, sharing):
+    """The line that tells the places that share a line."""
+    names = ", ".join(name_of(key) for key, _ in sharing[:MOST]) + (f" and {len(sharing) - MOST} more" if len(sharing) > MOST else "")
+    stores = stores_in_words(sum(row["never_persisted"] for _, row in sharing))
+    return f"error: cache line {explained.address(line)} is never flushed: {len(sharing)} places lose all that they store to it, {stores}: {names}"
+
+
 def heads(explained):
-    """Of each place that loses or delays stores the line that tells it, and the event that stands below."""
+    """Of each place that loses or delays stores the line that tells it, and the event that stands below. Places that lose all to one line
+    which nothing flushes are told once."""
     if not explained.is_whole():
         return
+    lines, told_lines = shared_lines(explained), set()
     for key, row in rows(explained):
-        if standing(row)[0] < 4:
+        if key in lines:
+            if lines[key] not in told_lines:
+                told_lines.add(lines[key])
+                sharing = [(other, found) for other, found in rows(explained) if lines.get(other) == lines[key]]
+                yield shared_head(explained, lines[key], sharing), ("store", row["first_never_persisted"])
+        elif standing(row)[0] < 4:
             lost, late = row["never_persisted"], row["late"]
             ignored = f", {row['ignored']} ignored" if row["ignored"] else ""
             kind = "error" if lost else "warning" if late < row["stores"] - row["ignored"] else "note"

@@ -132,8 +132,10 @@ def head(explained, members):
     """The line above the story, of a cause with these members."""
     number, count = members[0], f" ({len(members)} times)" if len(members) > 1 else ""
     word = explained.trace.event(number)[0]
-    spot = f"at {place_name(explained, number)}" if number in explained.labels else f"of event {number}, line {number + 1}"
-    return cut(f"error: {VIOLATIONS[word]}: {word} {spot}{count}", WIDTH)
+    what = f"error: {VIOLATIONS[word]}: {word}"
+    room = max(WIDTH - len(f"{what} at {count}"), PLACE)
+    spot = f"at {cut(place_name(explained, number), room)}" if number in explained.labels else f"of event {number}, line {number + 1}"
+    return f"{what} {spot}{count}"
 
 
 # What mends it

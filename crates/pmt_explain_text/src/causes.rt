@@ -1,7 +1,7 @@
 //! What the failed assertions of one cause have in common, in words.
 
 use crate::parts::plural;
-use crate::rows::push_line;
+use crate::rows::{WIDTH, push_cut, width_of};
 use crate::spelling::word_of;
 use crate::telling::Telling;
 use pmt_causes::{FailureKey, Group};
@@ -12,6 +12,9 @@ use pmt_pen::Pen;
 // The most events that are named beside the one in full.
 const NAMED: usize = 10;
 
+// The columns that the place of a claim has at least.
+const LEAST: u64 = 24;
+
 // Adds what the crash violates: the claim, where it is made, and how many assertions have its cause.
 pub(crate) fn push_head(pen: &mut Pen, told: &Telling<'_>, group: &Group<FailureKey>, event: u64) {
     let mut line = Pen::new(told.alloc);
@@ -21,12 +24,17 @@ pub(crate) fn push_head(pen: &mut Pen, told: &Telling<'_>, group: &Group<Failure
         line.put(violation_of(&op));
         line.put(word_of(&op));
     }
-    push_spot(&mut line, told, event);
+    let mut times = Pen::new(told.alloc);
     let count = group.members.len() as u64;
     if count > 1 {
-        line.fill(" (# times)", &[count]);
+        times.fill(" (# times)", &[count]);
     }
-    push_line(pen, &line);
+    push_spot(&mut line, told, event, width_of(times.as_str()));
+    line.share(&times);
+    line.put(times.as_str());
+    pen.share(&line);
+    pen.put(line.as_str());
+    pen.put("\n");
 }
 
 // What a crash does that violates the claim.
@@ -43,12 +51,14 @@ fn violation_of(claim: &Op) -> &'static str {
     }
 }
 
-// Adds where the assertion is made: at its label, or else by which event.
-fn push_spot(pen: &mut Pen, told: &Telling<'_>, event: u64) {
+// Adds where the assertion is made: at its label, in the columns that are left before so many others, or else by which event.
+fn push_spot(pen: &mut Pen, told: &Telling<'_>, event: u64, behind: u64) {
     match told.labels.get(event) {
         Some(label) => {
             pen.put(" at ");
-            pen.put(frame_of(label.as_str()));
+            let used = width_of(pen.as_str()).saturating_add(behind);
+            let room = WIDTH.saturating_sub(used).max(LEAST);
+            let _used = push_cut(pen, frame_of(label.as_str()), room);
         }
         None => pen.fill(" of event #, line #", &[event, event.saturating_add(1)]),
     }

@@ -2,6 +2,7 @@
 
 use crate::telling::Telling;
 use pmt_model::{Op, OutOfMemory, Range, Trace, line_of};
+use std::alloc::Global;
 use std::collections::HashMap;
 
 // The most bytes of an assertion's range.
@@ -15,9 +16,22 @@ pub(crate) struct Claims {
 }
 
 impl Claims {
+    // No line.
+    pub(crate) fn new(alloc: Global) -> Self {
+        Claims {
+            flushed: HashMap::new(alloc),
+            claimed: HashMap::new(alloc),
+        }
+    }
+
     // Whether the trace has no flush, or no assertion.
     pub(crate) fn is_silent(&self) -> bool {
         self.flushed.is_empty() || self.claimed.is_empty()
+    }
+
+    // Whether an event flushes the line.
+    pub(crate) fn has_flush(&self, line: u64) -> bool {
+        self.flushed.contains_key(&line)
     }
 
     // Whether an event flushes the line, or the one before it: a flush of several lines may be one line short.
@@ -41,10 +55,7 @@ impl Claims {
 
 // The lines of which the program speaks.
 pub(crate) fn claims_of(told: &Telling<'_>) -> Result<Claims, OutOfMemory> {
-    let mut claims = Claims {
-        flushed: HashMap::new(told.alloc),
-        claimed: HashMap::new(told.alloc),
-    };
+    let mut claims = Claims::new(told.alloc);
     for event in told.trace.events() {
         let op = event.op;
         note(told.trace, &mut claims, op)?;

@@ -1,6 +1,6 @@
 //! A guess at what is noise: the places that could be left out.
 
-use crate::claims::{Claims, claims_of};
+use crate::claims::Claims;
 use crate::members::line_of_store;
 use crate::merging::merged;
 use crate::parts::{place_of, push_count, push_place_name};
@@ -22,7 +22,7 @@ type Places = HashMap<Origin, bool>;
 // The places that lose all that they store, to lines of which the program speaks nowhere, in one line: neither they nor the lines before
 // them are flushed, no assertion names them, and no other place loses a store to them. Nothing is guessed where a trace has no flush or
 // no assertion, since a program that never speaks says nothing by that.
-pub(crate) fn guesses_section(told: &Telling<'_>) -> Section {
+pub(crate) fn guesses_section(told: &Telling<'_>, claims: &Claims) -> Section {
     let mut section = Section::new(
         told.alloc,
         "",
@@ -30,7 +30,7 @@ pub(crate) fn guesses_section(told: &Telling<'_>) -> Section {
         "guesses at what could be ignored",
         "--limit all",
     );
-    if tells_all(told.screen.choice) && add_guess(&mut section, told).is_err() {
+    if tells_all(told.screen.choice) && add_guess(&mut section, told, claims).is_err() {
         section.refuse();
     }
     section.total = section.entries.len();
@@ -38,19 +38,22 @@ pub(crate) fn guesses_section(told: &Telling<'_>) -> Section {
 }
 
 // Adds the guess, if there is one.
-fn add_guess(section: &mut Section, told: &Telling<'_>) -> Result<(), OutOfMemory> {
+fn add_guess(
+    section: &mut Section,
+    told: &Telling<'_>,
+    claims: &Claims,
+) -> Result<(), OutOfMemory> {
     let mut places = losing_all(told)?;
     if places.is_empty() {
         return Ok(());
     }
-    let claims = claims_of(told)?;
     if claims.is_silent() {
         return Ok(());
     }
     let others = other_lines(told, &places)?;
     for store in told.explanation.stores.as_slice() {
         let line = line_of_store(told.trace, *store);
-        if is_spoken_of(told.trace, &claims, &others, line) {
+        if is_spoken_of(told.trace, claims, &others, line) {
             note_spoken_of(told, &mut places, *store)?;
         }
     }
@@ -73,7 +76,7 @@ fn losing_all(told: &Telling<'_>) -> Result<Places, OutOfMemory> {
 }
 
 // Whether the place loses all that it stores.
-fn loses_all(row: &PlaceRow) -> bool {
+pub(crate) fn loses_all(row: &PlaceRow) -> bool {
     match standing_of(row) {
         Standing::LosesAll => true,
         Standing::LosesSome | Standing::DelaysSome | Standing::DelaysAll | Standing::Keeps => false,

@@ -1,5 +1,6 @@
 //! Stores that are overwritten before any flush, in words.
 
+use crate::overwritten_places::places_section_of;
 use crate::parts::{push_count, push_label};
 use crate::screen::Section;
 use crate::telling::{Telling, line_address};
@@ -9,8 +10,13 @@ use pmt_model::OutOfMemory;
 use pmt_pen::Pen;
 use std::alloc::Global;
 
-// What is overwritten, those first that write other bytes.
+// What is overwritten, those first that write other bytes: on a screen with other kinds of findings by place, if there are labels, else by
+// cache line.
 pub(crate) fn overwritten_section(told: &Telling<'_>) -> Section {
+    let is_brief = told.screen.rows.is_some() && told.screen.choice.only.is_none();
+    if is_brief && !told.labels.texts.is_empty() {
+        return places_section_of(told);
+    }
     let groups = told.explanation.overwritten.as_slice();
     let mut section = Section::new(
         told.alloc,
@@ -59,7 +65,7 @@ fn rank_of(groups: &[OverwrittenGroup], index: usize) -> (u64, u64) {
 }
 
 // How many of the pairs write other bytes.
-fn differing(group: &OverwrittenGroup) -> u64 {
+pub(crate) fn differing(group: &OverwrittenGroup) -> u64 {
     group.count.saturating_sub(group.same)
 }
 

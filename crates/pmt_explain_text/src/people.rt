@@ -1,8 +1,9 @@
 //! An explanation as a text for people.
 
+use crate::claims::{Claims, claims_of};
 use crate::dropped::dropped_section;
 use crate::failures::failures_section;
-use crate::guesses::guesses_section;
+use crate::guesses::{guesses_section, loses_all};
 use crate::hints::hints_section;
 use crate::late::late_section;
 use crate::lost::lost_section;
@@ -36,16 +37,17 @@ pub fn text(
         labels,
         screen,
     };
+    let claims = claims_wanted(&told)?;
     let mut sections = vec![in alloc;
         failures_section(&told),
-        places_section(&told),
+        places_section(&told, &claims),
         lost_section(&told),
         hints_section(&told),
         dropped_section(&told),
         overwritten_section(&told),
         late_section(&told),
         unwritten_section(&told),
-        guesses_section(&told),
+        guesses_section(&told, &claims),
         threads_section(&told),
         labels_section(&told),
     ]?;
@@ -58,4 +60,14 @@ pub fn text(
     }
     let written = pen.finish()?;
     Ok(written.into_bytes())
+}
+
+// The lines of which the program speaks, where a place loses all that it stores; else nothing asks for them, and none is noted.
+fn claims_wanted(told: &Telling<'_>) -> Result<Claims, OutOfMemory> {
+    let rows = told.explanation.places.as_slice();
+    if tells_all(told.screen.choice) && rows.iter().any(|row| loses_all(row)) {
+        claims_of(told)
+    } else {
+        Ok(Claims::new(told.alloc))
+    }
 }

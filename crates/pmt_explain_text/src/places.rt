@@ -1,13 +1,18 @@
 //! What becomes of the stores of each place, in words: of the places that lose or delay some.
 
+use crate::claims::Claims;
 use crate::commands::push_draw;
-use crate::members::{Members, members_of};
-use crate::parts::{push_count, push_named, push_own_flush, push_place_name, push_remedy};
+use crate::instead::push_instead;
+use crate::members::{Members, line_of_store, members_of};
+use crate::parts::{
+    is_unflushed, push_cause, push_count, push_mend, push_named, push_own_flush, push_place_name,
+};
 use crate::screen::Section;
+use crate::sharing::{Sharing, push_shared, sharing_of};
 use crate::telling::{Telling, line_address, tells_all};
 use pmt_explanation::{first, mend_for};
 use pmt_fates::{PlaceRow, Standing, standing_of};
-use pmt_model::{Op, line_of};
+use pmt_model::{Op, OutOfMemory, line_of};
 use pmt_pen::Pen;
 
 const LABELLED: &str =
@@ -17,7 +22,7 @@ const THREADS: &str =
     "places: what becomes of what each thread stores; with labels (--labels FILE) a place is a line of source:\n";
 
 // The places that lose or delay stores, unless something is asked for.
-pub(crate) fn places_section(told: &Telling<'_>) -> Section {
+pub(crate) fn places_section(told: &Telling<'_>, claims: &Claims) -> Section {
     let rows = if tells_all(told.screen.choice) {
         troubled(told)
     } else {
@@ -35,12 +40,34 @@ pub(crate) fn places_section(told: &Telling<'_>) -> Section {
         "places that lose or delay stores",
         "--limit all",
     );
-    let shown = first(rows, told.explanation.limit);
-    match members_of(told, shown) {
-        Ok(members) => add_places(&mut section, told, shown, &members),
-        Err(_) => section.refuse(),
+    if !rows.is_empty() && add_rows(&mut section, told, rows, claims).is_err() {
+        section.refuse();
     }
     section
+}
+
+// Adds an entry for each of these places, as many as the limit says; those that share a line have one.
+fn add_rows(
+    section: &mut Section,
+    told: &Telling<'_>,
+    rows: &[PlaceRow],
+    claims: &Claims,
+) -> Result<(), OutOfMemory> {
+    let sharing = sharing_of(told, rows, claims)?;
+    let members = members_of(told, rows)?;
+    section.total = (0..rows.len())
+        .filter(|number| !is_told(&sharing, rows, *number))
+        .count();
+    add_places(section, told, rows, &sharing, &members);
+    Ok(())
+}
+
+// Whether the place of this row is told with another one.
+fn is_told(sharing: &Sharing, rows: &[PlaceRow], number: usize) -> bool {
+    match rows.get(number) {
+        Some(row) => sharing.is_told(row.place, number),
+        None => false,
+    }
 }
 
 // The places that lose or delay stores, which come first.
@@ -59,11 +86,37 @@ fn is_troubled(row: &PlaceRow) -> bool {
     }
 }
 
-// Adds an entry for each of these places.
-fn add_places(section: &mut Section, told: &Telling<'_>, rows: &[PlaceRow], members: &Members) {
-    for row in rows {
+// Adds an entry for each of these places that is not told with another one, as many as the limit says.
+fn add_places(
+    section: &mut Section,
+    told: &Telling<'_>,
+    rows: &[PlaceRow],
+    sharing: &Sharing,
+    members: &Members,
+) {
+    let mut added = 0usize;
+    for (number, row) in rows.iter().enumerate() {
+        if added >= told.explanation.limit {
+            break;
+        }
+        if sharing.is_told(row.place, number) {
+            continue;
+        }
+        added = added.saturating_add(1);
         let mut pen = Pen::new(told.alloc);
-        push_head(&mut pen, told, row);
+        match sharing.shared(row.place) {
+            Some(numbers) => {
+                let line = line_of_store(told.trace, row.first_lost.unwrap_or(0));
+                push_shared(
+                    &mut pen,
+                    told,
+                    rows,
+                    numbers,
+                    line_address(told.trace, line),
+                );
+            }
+            None => push_head(&mut pen, told, row),
+        }
         if let Some(store) = row.first_lost {
             push_lost(&mut pen, told, members, store);
         } else if let Some(store) = row.first_late {
@@ -97,8 +150,16 @@ fn push_head(pen: &mut Pen, told: &Telling<'_>, row: &PlaceRow) {
 fn push_lost(pen: &mut Pen, told: &Telling<'_>, members: &Members, store: u64) {
     push_named(pen, told, "  store:  ", store);
     if let Some(group) = members.group_of(told, store) {
-        let mend = mend_for(group.cause, group.line, store, None, false);
-        push_remedy(pen, told, group.cause, group.line, mend);
+        push_cause(pen, told, group.cause, group.line);
+        if is_unflushed(group.cause) {
+            push_instead(pen, told, store);
+        }
+        pen.put("  fix:    ");
+        push_mend(
+            pen,
+            told,
+            mend_for(group.cause, group.line, store, None, false),
+        );
         let line = line_address(told.trace, group.line);
         pen.put("  draw:   ");
         push_draw(pen, told, "--line @", line, store);
@@ -112,6 +173,7 @@ fn push_late(pen: &mut Pen, told: &Telling<'_>, store: u64) {
         "  why:    # fences of its thread left it unsafe\n",
         &[waited_by(told, store)],
     );
+    push_instead(pen, told, store);
     let Some(event) = told.trace.get(store) else {
         return;
     };

@@ -4,7 +4,7 @@ use pmt_pen::Pen;
 use unicode_width::UnicodeWidthChar;
 
 // The most columns of a line.
-const WIDTH: u64 = 100;
+pub(crate) const WIDTH: u64 = 100;
 
 // Adds the text as a line, cut where it has too many columns.
 pub(crate) fn push_line(pen: &mut Pen, text: &Pen) {
@@ -14,7 +14,7 @@ pub(crate) fn push_line(pen: &mut Pen, text: &Pen) {
 }
 
 // Adds the text, or as much of it as has room in so many columns, with a mark that some is missing; and tells how many it took.
-fn push_cut(pen: &mut Pen, text: &str, most: u64) -> u64 {
+pub(crate) fn push_cut(pen: &mut Pen, text: &str, most: u64) -> u64 {
     let is_cut = width_of(text) > most;
     let room = if is_cut { most.saturating_sub(1) } else { most };
     let mut used = 0u64;

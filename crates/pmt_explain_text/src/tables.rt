@@ -8,15 +8,16 @@ use pmt_explanation::first;
 use pmt_pen::Pen;
 
 const THREADS: &str =
-    "table: what each thread makes, and how many of its flushes and fences do nothing:
+    "table: what threads make whose flushes and fences do nothing, and how many do:
    stores  flushes   fences  do nothing
 ";
 
-const LABELS: &str = "table: what is made at each source place, those first where most does nothing:
+const LABELS: &str =
+    "table: source places whose flushes and fences do nothing, those first where most does:
    stores  flushes   fences  do nothing
 ";
 
-// A row for each thread, where there are several.
+// A row for each thread that makes flushes or fences which do nothing, where there are several threads.
 pub(crate) fn threads_section(told: &Telling<'_>) -> Section {
     let all = told.explanation.threads.as_slice();
     let rows = if all.len() > 1 && tells_all(told.screen.choice) {
@@ -24,24 +25,33 @@ pub(crate) fn threads_section(told: &Telling<'_>) -> Section {
     } else {
         &all[..0]
     };
-    let mut section = Section::new(told.alloc, THREADS, rows.len(), "threads", "--limit all");
-    for row in first(rows, told.explanation.limit) {
-        let mut pen = Pen::new(told.alloc);
-        push_counts(&mut pen, row.stores, row.flushes, row.fences, row.dropped);
-        pen.fill("  thread #\n", &[row.key as u64]);
-        section.add(pen);
+    let count = rows.iter().filter(|row| row.dropped > 0).count();
+    let mut section = Section::new(told.alloc, THREADS, count, "threads", "--limit all");
+    let mut added = 0usize;
+    for row in rows {
+        if row.dropped > 0 && added < told.explanation.limit {
+            let mut pen = Pen::new(told.alloc);
+            push_counts(&mut pen, row.stores, row.flushes, row.fences, row.dropped);
+            pen.fill("  thread #\n", &[row.key as u64]);
+            section.add(pen);
+            added = added.saturating_add(1);
+        }
     }
     section
 }
 
-// A row for each label.
+// A row for each label where flushes or fences do nothing. Those where most does nothing come first.
 pub(crate) fn labels_section(told: &Telling<'_>) -> Section {
     let all = told.explanation.labelled.as_slice();
-    let rows = if tells_all(told.screen.choice) {
-        all
-    } else {
-        &all[..0]
-    };
+    let count = all.iter().filter(|row| row.dropped > 0).count();
+    let rows = first(
+        all,
+        if tells_all(told.screen.choice) {
+            count
+        } else {
+            0
+        },
+    );
     let mut section = Section::new(
         told.alloc,
         LABELS,
