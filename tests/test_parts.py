@@ -66,6 +66,11 @@ class Part:
     def labels(self):
         return pathlib.Path(f"{self.path}.labels").read_text()
 
+    def cut(self):
+        """What stands in the file that says why it ends there; None where there is none."""
+        path = pathlib.Path(f"{self.path}.cut")
+        return path.read_text() if path.exists() else None
+
 
 def parts_at(prefix):
     """The parts that stand, as far as their numbers go on."""
@@ -194,6 +199,8 @@ def same_parts(trace, header, answer, parts, events, overlap, ranges=()):
             complaints.append(f"{name}: told {part.told}, {part.carries}")
         if part.is_last != (number == len(parts) and place is None):
             complaints.append(f"{name}: last {part.is_last}")
+        if part.cut() != (None if part.is_last else f"{len(part.numbers)} the run goes on in part {number + 1}\n"):
+            complaints.append(f"{name}: cut {part.cut()}")
         aside = aside_of(trace, part.place, part.first - 1, part.last)
         if [whole for _, whole in part.aside] != aside or any(part.numbers[own - 1] != whole for own, whole in part.aside):
             complaints.append(f"{name}: aside {part.aside}, wanted {aside}")
@@ -201,6 +208,16 @@ def same_parts(trace, header, answer, parts, events, overlap, ranges=()):
         if missing := [whole for whole in ordered if not knows(trace, whole, part.place) and whole not in aside]:
             complaints.append(f"{name}: {missing} are not set aside")
     return complaints
+
+
+def told_of_its_end(program, part, came):
+    """Complaints: `explain` and its page do not say that the run goes on, or count what it may still save; or do of the last part."""
+    told = run(program, "explain", str(part.path))
+    page = run(program, "explain", "--html", str(part.path))
+    failed = any(entry.endswith(" fail") for entry in came) or part.is_last and any(entry.startswith("never-persisted") for entry in came)
+    says = (f"The trace was cut after event {len(part.numbers)}: the run goes on in part ".encode() in told.out, b": the run goes on in part " in page.out)
+    right = (told.status, page.status) == (int(failed), int(failed)) and says == (not part.is_last, not part.is_last)
+    return [] if right else [f"{part.path.name}: explain {told.status} {page.status}, wanted {int(failed)}; {says}"]
 
 
 def random_words(choose):
@@ -218,7 +235,8 @@ def random_parts(program, folder, number, kind):
     parts = parts_at(prefix)
     complaints = same_parts(trace, header, answer, parts, events, overlap)
     for part in parts if not complaints else []:
-        complaints += judged_part(trace, part, entries_of(program, part)) + texts_kept(trace, part, program)
+        came = entries_of(program, part)
+        complaints += judged_part(trace, part, came) + texts_kept(trace, part, program) + told_of_its_end(program, part, came)
     return complaints
 
 
@@ -232,13 +250,18 @@ THIRD = HEAD + "".join(SMALL[number - 1] + "\n" for number in (3, 9, 10))
 FIRST_TOLD = "part 1\nplace 0\ncarried 0\noverlap 0\nanswers 1 6\nlast no\n"
 SECOND_TOLD = "part 2\nplace 6\ncarried 3\noverlap 0\nanswers 7 9\nlast no\ncarries 1 3\ncarries 2 5\ncarries 3 6\naside 4 7\n"
 THIRD_TOLD = "part 3\nplace 9\ncarried 2\noverlap 0\nanswers 10 10\nlast yes\ncarries 1 3\ncarries 2 9\n"
+FIRST_CUT, SECOND_CUT = "6 the run goes on in part 2\n", "6 the run goes on in part 3\n"
 LABELS = "2 flush\n3 mark\n5 list.c:57 insert\n7 claim\n9 mark again\n12 none\n"
 NAMED = ["2 flush\n3 mark\n5 list.c:57 insert\n", "1 mark\n2 list.c:57 insert\n4 claim\n6 mark again\n", "1 mark\n2 mark again\n"]
 WORDS = ("--events", "6", "--overlap", "0")
+ENDINGS = (".labels", ".cut", ".ignore", ".base", ".origin", ".base2", ".origin2", ".base3", ".origin3")
 
 
 def small_text():
     return HEAD + "".join(line + "\n" for line in SMALL)
+
+
+ONE = {".0001.trace": small_text(), ".0001.trace.part": "part 1\nplace 0\ncarried 0\noverlap 0\nanswers 1 10\nlast yes\n"}
 
 
 def standing(prefix):
@@ -251,7 +274,7 @@ def right_files(labelled=False):
     for number, (text, told) in enumerate(((FIRST, FIRST_TOLD), (SECOND, SECOND_TOLD), (THIRD, THIRD_TOLD)), 1):
         files |= {f".{number:04}.trace": text, f".{number:04}.trace.part": told}
         files |= {f".{number:04}.trace.labels": NAMED[number - 1]} if labelled else {}
-    return files
+    return files | {".0001.trace.cut": FIRST_CUT, ".0002.trace.cut": SECOND_CUT}
 
 
 class Parts(Checks):
@@ -283,10 +306,39 @@ class Parts(Checks):
         named = run(self.program, "explain", "--labels", f"{folder / 'named'}.0003.trace.labels", f"{folder / 'named'}.0003.trace")
         self.expect("explain takes a part and its labels", named.status == 1 and b"mark again" in named.out, faulty.short(named))
         self.expect_equal("as one part", run(self.program, "parts", "--out", str(folder / "named"), str(trace)), Answer(0, b"parts 1 events 10 aside 0\n"))
-        one = {".0001.trace": small_text(), ".0001.trace.part": "part 1\nplace 0\ncarried 0\noverlap 0\nanswers 1 10\nlast yes\n", ".0001.trace.labels": NAMED[0]}
-        self.expect_equal("later parts of before are gone", standing(folder / "named"), one)
+        self.expect_equal("nothing of before is left", standing(folder / "named"), ONE)
         self.expect_equal("no events", run(self.program, "parts", "--out", str(folder / "none"), text=HEAD.encode()), Answer(0, b"parts 1 events 0 aside 0\n"))
         self.expect_equal("its part", standing(folder / "none"), {".0001.trace": HEAD, ".0001.trace.part": "part 1\nplace 0\ncarried 0\noverlap 0\nanswers 1 0\nlast yes\n"})
+
+    def test_what_an_earlier_run_left(self):
+        """Nothing stays beside a part that is of other events, but the bytes of pools beside the first one, which are those of the whole."""
+        folder = self.new_folder()
+        for number in (1, 2, 3, 4):
+            for ending in ("", ".part", *ENDINGS):
+                (folder / f"run.{number:04}.trace{ending}").write_text("old")
+        self.expect_equal("the answer", run(self.program, "parts", *WORDS, "--out", str(folder / "run"), text=small_text().encode()).status, 0)
+        kept = {f".0001.trace{ending}": "old" for ending in ENDINGS if ending.startswith((".base", ".origin"))}
+        self.expect_equal("what stands", standing(folder / "run"), right_files() | kept)
+        self.expect_equal("as one part", run(self.program, "parts", "--out", str(folder / "run"), text=small_text().encode()).status, 0)
+        self.expect_equal("what stands then", standing(folder / "run"), ONE | kept)
+
+    def test_a_trace_that_was_cut(self):
+        """The last part says what the whole says, by its own number; what is not said right is refused before a part is written."""
+        folder = self.new_folder()
+        trace, cut = folder / "small.trace", folder / "small.trace.cut"
+        trace.write_text(small_text())
+        for name, text, wanted in (("full", "10 a full disk\n", "3 a full disk\n"), ("empty", "", ""), ("short", "10 \n", "3 \n")):
+            cut.write_text(text)
+            answer = run(self.program, "parts", *WORDS, "--out", str(folder / name), str(trace))
+            self.expect_equal(f"{name}: the answer", answer, Answer(0, b"parts 3 events 10 aside 1\n"))
+            self.expect_equal(f"{name}: the parts", standing(folder / name), right_files() | {".0003.trace.cut": wanted})
+        told = run(self.program, "stat", str(folder / "full.0003.trace")).out.decode()
+        self.expect("stat", told.startswith("This trace was cut after event 3: a full disk\n"), told)
+        told = run(self.program, "stat", str(folder / "full.0001.trace")).out.decode()
+        self.expect("stat of another part", told.startswith("This trace was cut after event 6: the run goes on in part 2\n"), told)
+        cut.write_text("some\n")
+        refused = run(self.program, "parts", *WORDS, "--out", str(folder / "bad"), str(trace))
+        self.expect("a bad line", refused.status == 3 and refused.faults.decode().startswith(f"{cut}:1: ") and not standing(folder / "bad"), faulty.short(refused))
 
     def test_ignored(self):
         folder = self.new_folder()
@@ -314,7 +366,7 @@ class Parts(Checks):
             f"{folder}/run.0001.trace stands, which answers for events 1 to 12\n"
         )
         self.expect_equal("what is told", answer.faults.decode(), wanted)
-        self.expect_equal("what stands", sorted(standing(folder / "run")), [".0001.trace", ".0001.trace.part"])
+        self.expect_equal("what stands", sorted(standing(folder / "run")), [".0001.trace", ".0001.trace.cut", ".0001.trace.part"])
         again = run(self.program, "parts", "--events", "12", "--overlap", "0", "--ignore", "0x2000:128", "--out", str(folder / "run"), text=text.encode())
         self.expect_equal("with what was told", again, Answer(0, b"parts 2 events 21 aside 0\n"))
         lines = [f"clwb 0 {0x1000 + 64 * number:#x}" for number in range(20)]
@@ -360,9 +412,10 @@ class Parts(Checks):
 
     def test_refusals(self):
         folder = self.new_folder()
-        trace, labels = folder / "run.0002.trace", folder / "run.0001.trace.labels"
+        trace, labels, cut = folder / "run.0002.trace", folder / "run.0001.trace.labels", folder / "run.0002.trace.cut"
         trace.write_text(small_text())
         labels.write_text(LABELS)
+        cut.write_text("10 a full disk\n")
         out = str(folder / "out")
         for name, words, status, told in (
             ("no prefix", [str(trace)], 2, "--out <PREFIX>"),
@@ -382,7 +435,8 @@ class Parts(Checks):
             self.expect(name, answer.status == status and not answer.out and told in answer.faults.decode(), faulty.short(answer))
             self.expect(f"{name}: nothing is written", not standing(folder / "out"))
             self.expect_equal(f"{name}: the trace stays", trace.read_text(), small_text())
-            self.expect_equal(f"{name}: the labels stay", labels.read_text(), LABELS)
+            self.expect_equal(f"{name}: what stands beside it stays", cut.read_text(), "10 a full disk\n")
+            self.expect(f"{name}: the labels stay", str(labels) not in words or labels.read_text() == LABELS)
 
     def test_any_length(self):
         """More events and more bytes than a trace has: saved records of one line each, and one line that is never flushed."""

@@ -47,6 +47,13 @@ class Faults(Checks):
         told = self.expect_line("the command that shows it", "show it     pmtrim explain", 1, "--fail-on", "cut")
         self.expect("it has no finding to tell of", "--only" not in told.out, told)
 
+    def test_hints(self):
+        """A hint is no failure, but where it is asked for."""
+        put_run(self.runs / "open", ["store 0 0x0 01", "clwb 0 0x0", "store 0 0x40 01", "clwb 0 0x40", "sfence 0"], [f"x.c:{number} f" for number in range(1, 6)])
+        self.expect_line("counted", "causes that don't fail a report: 1 hint; ", 0)
+        told = self.expect_line("and fails", "new: hint (open_at_store) at x.c:2 f", 1, "--fail-on", "hint")
+        self.expect("what it is", "event       event 2 at x.c:2 f: clwb 0 0x0\n" in told.out and "--only hint --from 2 --to 2 " in told.out, told)
+
     def test_empty(self):
         put_run(self.runs / "none", [], cut="0 no event came\n")
         self.expect_line("told", "empty: none: no event came", 0)

@@ -94,7 +94,9 @@
  * range whose last store came before the window is set aside, which is told: the trace can't say when these became safe. So a claim
  * that passes in a window passes in the whole run.
  * The environment's PMTRACE_START=N leaves out the first N events, to the end of the call that makes event N; PMTRACE_STOP=N leaves
- * out what comes after the call that makes event N. Answer 0, or -1 where no trace is open. */
+ * out what comes after the call that makes event N. Answer 0, or -1 where no trace is open.
+ * A trace ends at 1,000,000 events, which is as many as pmtrim reads at once. With PMTRACE_WHOLE=1 in the environment it has them all:
+ * pmtrim parts cuts it then. */
 #define pmtrace_start() pmtrace_start_at(PMTRACE_HERE)
 #define pmtrace_stop() pmtrace_stop_at(PMTRACE_HERE)
 
@@ -644,6 +646,7 @@ static struct {
     unsigned opened;    /* how often a trace was opened */
     uint64_t calls;     /* that took the lock */
     uint64_t events;    /* in the trace */
+    uint64_t most_events;
     uint64_t seen;      /* events in the trace and outside of the window */
     uint64_t start_at;  /* the window opens when so many were seen */
     uint64_t stop_at;   /* it closes then */
@@ -1134,7 +1137,7 @@ static void pmtrace_write_all_(void) {
 static bool pmtrace_may_put_(void) {
     if (pmtrace_is_(&pmtrace_broken_))
         pmtrace_.ended = true;
-    if (!pmtrace_.ended && pmtrace_.events == PMTRACE_MOST_EVENTS_) {
+    if (!pmtrace_.ended && pmtrace_.events == pmtrace_.most_events) {
         pmtrace_write_all_();
         pmtrace_end_("a trace has at most 1000000 events");
     }
@@ -2131,7 +2134,7 @@ static uint64_t pmtrace_words_of_(pmtrace_range_ piece) {
 
 /* Whether the trace has room for so many events. Where it has not, it ends before them. */
 static bool pmtrace_has_events_(const char *what, uint64_t bytes, uint64_t events) {
-    uint64_t left = (uint64_t)PMTRACE_MOST_EVENTS_ - pmtrace_.events;
+    uint64_t left = pmtrace_.most_events - pmtrace_.events;
     char why[PMTRACE_MOST_LABEL_ + 300];
     if (pmtrace_.ended || left == 0 || events <= left)
         return !pmtrace_.ended;
@@ -2823,9 +2826,19 @@ static bool pmtrace_write_header_(unsigned line_size) {
     return done;
 }
 
-/* Makes the trace with its header and, where there are labels, their file. */
+/* Whether the environment asks for something by this name. */
+static bool pmtrace_is_wanted_(const char *name) {
+    const char *wanted = getenv(name);
+    return wanted != NULL && *wanted != '\0' && strcmp(wanted, "0") != 0;
+}
+
+/* Makes the trace with its header and, where there are labels, their file. The environment's PMTRACE_WHOLE lets the trace have more events
+ * than pmtrim reads at once. */
 static bool pmtrace_make_files_(unsigned line_size, bool labeled) {
-    const size_t most_text = 1 << 26, most_labels = (size_t)PMTRACE_MOST_EVENTS_ * (PMTRACE_MOST_LABEL_ + 16);
+    bool whole = pmtrace_is_wanted_("PMTRACE_WHOLE");
+    const size_t most_text = whole ? (size_t)1 << 34 : 1 << 26;
+    const size_t most_labels = whole ? (size_t)1 << 35 : (size_t)PMTRACE_MOST_EVENTS_ * (PMTRACE_MOST_LABEL_ + 16);
+    pmtrace_.most_events = whole ? UINT64_MAX : (uint64_t)PMTRACE_MOST_EVENTS_;
     if (!pmtrace_make_(&pmtrace_.trace, pmtrace_.name, "", most_text))
         return false;
     if (pmtrace_write_header_(line_size) && (!labeled || pmtrace_make_(&pmtrace_.labels, pmtrace_.name, ".labels", most_labels)))
@@ -2888,9 +2901,8 @@ static void pmtrace_set_up_(unsigned line_size, bool labeled) {
 
 /* The environment's PMTRACE_BASE asks for bases. Those of an earlier trace of this name go in any case. */
 static void pmtrace_set_up_bases_(void) {
-    const char *wanted = getenv("PMTRACE_BASE");
     pmtrace_remove_bases_();
-    pmtrace_.basing = wanted != NULL && *wanted != '\0' && strcmp(wanted, "0") != 0;
+    pmtrace_.basing = pmtrace_is_wanted_("PMTRACE_BASE");
 }
 
 /* Begins a trace without pools. */

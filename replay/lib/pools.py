@@ -3,10 +3,17 @@ import bisect
 import itertools
 import os
 import re
+import shlex
 
 from faults import FILE_FAULT, REFUSED, Fault, of_file
 
 MADE_BY = "the recorders write it with PMTRACE_BASE=1, or pmtrim-record --base"
+
+
+def made_by(base):
+    """What makes a base that is not there."""
+    trace = re.sub(r"\.base\d*$", "", base)
+    return f"pmtrim-replay --base {shlex.quote(trace)} makes it" if os.path.exists(f"{trace}.part") else MADE_BY
 
 
 class Pool:
@@ -18,7 +25,7 @@ class Pool:
                 text = file.read(64)
             self.descriptor = os.open(base, os.O_RDONLY | os.O_CLOEXEC)
         except FileNotFoundError as error:
-            raise Fault(FILE_FAULT, f"{error.filename} is not there: {MADE_BY}") from error
+            raise Fault(FILE_FAULT, f"{error.filename} is not there: {made_by(base)}") from error
         except (OSError, ValueError) as error:
             raise Fault(FILE_FAULT, f"{base}, {origin}: {error}") from error
         if not re.fullmatch(r"0x(0|[1-9a-f][0-9a-f]{0,11})\n", text):

@@ -14,12 +14,13 @@ from checks import Checker
 from commands import Commands, ImageMaker, find_program
 from faults import DISAGREEMENT, FILE_FAULT, WRONG_WORDS, Fault, of_file
 from foreseen import Memory
+from parts import make_base
 from pools import check_stores, find_pools
 from processes import Ended, Processes, Stopped
 from results import KeptResults, Results, identity_of, remove_tree
 from telling import MOST_STORES, Progress, Texts, next_words, summary, table
 from trace import Trace
-from words import HELP, take_words
+from words import HELP, part_asked, take_words
 
 VERSION = "pmtrim-replay 1.0.0"
 KEPT_IMAGES = 20
@@ -259,6 +260,17 @@ def run(options, here):
         remove_tree(folder)
 
 
+def run_base(path, here):
+    """Makes the base of a part, and answers the status."""
+    processes = Processes()
+    try:
+        processes.end_by_signals()
+        print(make_base(path, here, processes), flush=True)
+        return 0
+    finally:
+        processes.stop()
+
+
 def silence(stream):
     """What waits for a stream that can't be written goes nowhere, so that the end does not fail once more."""
     os.dup2(os.open(os.devnull, os.O_WRONLY), stream.fileno())
@@ -270,7 +282,8 @@ def main(words, here):
         if words in (["--help"], ["--version"]):
             print(HELP if words == ["--help"] else VERSION, flush=True)
             return 0
-        return run(take_words(words), here)
+        part = part_asked(words)
+        return run(take_words(words), here) if part is None else run_base(part, here)
     except Fault as fault:
         print(f"pmtrim-replay: {fault}", file=sys.stderr)
         return fault.status

@@ -10,6 +10,7 @@ Runs a recovery, or another checker, on the pool as crashes leave it.
 
 Usage: pmtrim-replay [--at PLACES] [--off K] [--jobs N] [--keep DIR] [--seconds S]
                      TRACE -- CHECKER [ARGUMENT]..
+       pmtrim-replay --base PART
 
 Arguments:
   TRACE       the trace; beside it the pool's bytes from before
@@ -25,6 +26,9 @@ Options:
                 same words go on where a run was stopped
   --seconds S   how long a checker may take, in whole seconds (60); after that it is killed, and has
                 failed
+  --base PART   runs nothing, and writes PART.base and PART.origin: the pool's bytes with what no
+                crash can lose where this part of a long trace begins, by those of the parts before
+                it
   --help        says this
   --version     says which version it is
 
@@ -85,6 +89,15 @@ def read_places(text):
             raise argparse.ArgumentTypeError(f"{piece!r} is no place and no range as 40-60")
         ranges.append((first, last))
     return ranges
+
+
+def part_asked(words):
+    """The part whose base is asked for; None where none is."""
+    if "--base" not in words[: words.index("--")] if "--" in words else "--base" not in words:
+        return None
+    if len(words) != 2 or words[0] != "--base" or not words[1]:
+        raise Fault(WRONG_WORDS, "--base takes a part of a trace, and stands alone; pmtrim-replay --help says more")
+    return words[1]
 
 
 def take_words(words):

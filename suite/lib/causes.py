@@ -3,13 +3,14 @@ import dataclasses
 import hashlib
 from typing import Optional
 
-FAILURE, NEVER_PERSISTED, LATE, DROPPED, OVERWRITTEN, UNWRITTEN, CUT, EMPTY = KINDS = (
+FAILURE, NEVER_PERSISTED, LATE, DROPPED, OVERWRITTEN, UNWRITTEN, HINT, CUT, EMPTY = KINDS = (
     "failure",
     "never_persisted",
     "late",
     "dropped",
     "overwritten",
     "unwritten",
+    "hint",
     "cut",
     "empty",
 )
@@ -27,7 +28,8 @@ class Example:
     """One event that shows a cause, in one run: the places with their lines, and what is told of it."""
 
     run: str
-    events: int  # how many events the run has
+    trace: str  # the trace of the run, or that of its parts which has the event
+    events: int  # how many events this has
     event: Optional[int]
     places: list  # of [file, function, line]: the first is the place of the cause
     told: list  # of [role, text, place or null]

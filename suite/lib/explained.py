@@ -3,7 +3,7 @@ import json
 import sys
 from typing import NamedTuple, Optional
 
-from causes import CUT, DROPPED, EMPTY, FAILURE, LATE, NEVER_PERSISTED, OVERWRITTEN, UNWRITTEN, Cause, Example, add_cause
+from causes import CUT, DROPPED, EMPTY, FAILURE, HINT, LATE, NEVER_PERSISTED, OVERWRITTEN, UNWRITTEN, Cause, Example, add_cause
 from faults import REFUSED, Fault
 
 SCHEMA = 3  # of the JSON, docs/EXPLAIN.md
@@ -12,6 +12,13 @@ WHY = {
     "unflushed": "no flush of the cache line follows the store by then",
     "unfenced": "the cache line is flushed after the store, but the thread that flushes makes no fence after it by then",
     "later": "the store comes only after the crash",
+}
+
+
+HINTS = {
+    "split_word": "a word lies in two cache lines, so a crash can keep one half",
+    "stored_after_flush": "the store comes after the flush of its cache line, so the fence does not save it",
+    "open_at_store": "the flush is not fenced when its thread stores to another cache line, so a crash can keep that store alone",
 }
 
 
@@ -83,6 +90,9 @@ class RunReader:
         """The failures stand in the order of their groups."""
         assertion, count = self.groups[self.failures]
         self.failures += 1
+        self.add_failure(assertion, count, value)
+
+    def add_failure(self, assertion, count, value):
         stores = [("loses", value["lost"])] if value["kept"] is None else [("keeps", value["kept"]), ("loses", value["lost"])]
         event, why = value["event"], why_of(value)
         told = [["claim", told_event(event), event["label"]]]
@@ -102,15 +112,24 @@ class RunReader:
         return next(why for first, last, why in losses if first <= event["event"] <= last)
 
     def take_place(self, value):
+        self.add_lost(value)
+        self.add_late(value)
+
+    def add_lost(self, value):
+        """What a place loses for good."""
         if value["never_persisted"]:
             event = value["first_never_persisted"]
             why = self.why_lost(event)
             told = [["store", told_event(event), event["label"]], *why.told()]
             self.add(NEVER_PERSISTED, why.cause, [event["label"]], value["never_persisted"], value["stores"], event["event"], told)
+
+    def add_late(self, value):
         if value["late"]:
-            event = value["first_late"]
-            told = [["store", told_event(event), event["label"]], ["why", "it is not safe when its thread has made two more fences", None]]
-            self.add(LATE, "late", [event["label"]], value["late"], value["stores"], event["event"], told)
+            self.tell_late(value["first_late"], value["late"], value["stores"])
+
+    def tell_late(self, event, count, of):
+        told = [["store", told_event(event), event["label"]], ["why", "it is not safe when its thread has made two more fences", None]]
+        self.add(LATE, "late", [event["label"]], count, of, event["event"], told)
 
     def take_dropped(self, value):
         event = value["event"]
@@ -122,6 +141,11 @@ class RunReader:
 
     def take_unwritten(self, value):
         self.tally(UNWRITTEN, value["event"]["words"].split(" ")[0], 1, (("claim on bytes never stored", value["event"]),))
+
+    def take_hint(self, value):
+        event, why = value["first"], HINTS.get(value["hint"], "mostly a slip")
+        told = [["event", told_event(event), event["label"]], ["why", why, None]]
+        self.add(HINT, value["hint"], [event["label"]], value["count"], None, event["event"], told)
 
     def tally(self, kind, reason, count, events):
         """Counts a finding, of which there may be as many as events; the first with these labels is told."""
@@ -137,11 +161,15 @@ class RunReader:
         """Adds a finding to its cause. A trace that was cut does not tell what is lost for good."""
         if kind == NEVER_PERSISTED and self.cut:
             return
+        add_cause(self.causes, self.cause_of(kind, reason, labels, count, of, event, told, words))
+
+    def cause_of(self, kind, reason, labels, count, of, event, told, words):
+        """The cause of a finding."""
         places = [self.places.of(label) for label in labels]
         words = ["--only", kind, "--from", str(event), "--to", str(event)] if words is None else words
         told = [[role, text, list(self.places.of(label)) if label else None] for role, text, label in told]
-        example = Example(self.run.name, self.summary["events"], event, [list(place) for place in places], told, self.show(words))
-        add_cause(self.causes, Cause(kind, reason, [place.name for place in places], count, of, {self.run.name: count}, example))
+        example = Example(self.run.name, str(self.run.trace), self.summary["events"], event, [list(place) for place in places], told, self.show(words))
+        return Cause(kind, reason, [place.name for place in places], count, of, {self.run.name: count}, example)
 
     def finish(self):
         """All causes of the run, once the last line was taken."""
@@ -155,9 +183,13 @@ class RunReader:
 
     @property
     def note(self):
-        """Why the trace is not all of what happened; None where it is."""
-        if not self.summary["events"]:
-            return self.cut[1] if self.cut else "the trace has no event"
-        if not self.cut:
-            return None
-        return f"the trace was cut after event {self.cut[0]}: {self.cut[1]}" if self.cut[0] is not None else f"the trace was cut: {self.cut[1]}"
+        return note_of(self.summary["events"], self.cut)
+
+
+def note_of(events, cut):
+    """Why a trace of so many events, which was cut so, is not all of what happened; None where it is."""
+    if not events:
+        return cut[1] if cut else "the trace has no event"
+    if not cut:
+        return None
+    return f"the trace was cut after event {cut[0]}: {cut[1]}" if cut[0] is not None else f"the trace was cut: {cut[1]}"

@@ -12,10 +12,12 @@ from causes import KINDS, Cause, Example
 from explained import RunReader
 from faults import FILE_FAULT, Fault
 from files import add_file, make_folder, read_text, write_whole
+from joining import Joined, PartReader, questions
 from labels import Places
+from parts import read_parts
 from runs import ENDINGS, EXPLAINED
 
-FORM = "pmtrim-suite explained 1"
+FORM = "pmtrim-suite explained 2"
 
 
 def explain_words(run):
@@ -25,14 +27,21 @@ def explain_words(run):
     return [*labels, *ignored, str(run.trace)]
 
 
+def shown_by(run):
+    """The command that shows what these words choose of a run."""
+    words = explain_words(run)
+    return lambda more: shlex.join(["pmtrim", "explain", *more, *words])
+
+
 @dataclasses.dataclass
 class Explained:
-    """What a run has: events, claims, a note where the trace is not all of what happened, and causes."""
+    """What a run has: events, claims, a note where the trace is not all of what happened, what its parts do not tell, and causes."""
 
     events: int
     claims: int
     note: Optional[str]
     causes: list
+    aside: Optional[str] = None
     was_known: bool = False
 
 
@@ -48,53 +57,95 @@ class Explainer:
         self.used = set()
         make_folder(self.kept)
 
-    def digest(self, run):
-        """The checksum of the trace, of what stands beside it, of its names, and of the program."""
+    def digest(self, run, *more):
+        """The checksum of the trace, of what stands beside it, of its names, and of the program; and of more."""
         digest = self.common.copy()
-        digest.update(f"{run.name}\n{run.trace}\n{run.program}\n".encode("utf-8", "surrogateescape"))
+        digest.update(f"{run.name}\n{run.trace}\n{run.program}\n{more}\n".encode("utf-8", "surrogateescape"))
         for path in (run.trace, *(run.beside(ending) for ending in ENDINGS)):
             add_file(digest, path)
         return digest.hexdigest()
 
-    def explain(self, run):
-        """What the run has. Fault: it is refused, or can't be read."""
-        name = f"{self.digest(run)}.json"
+    def known_or(self, name, explain_anew):
+        """What was said before, by this name of a file, or else what is said now, which is kept there; and whether it was known."""
         self.used.add(name)
         path = os.path.join(self.kept, name)
-        known = self.known(path)
-        if known is None:
-            known = self.explain_anew(run)
-            write_whole(path, json.dumps({"form": FORM, "events": known.events, "claims": known.claims, "note": known.note, "causes": [dataclasses.asdict(cause) for cause in known.causes]}))
-        return known
-
-    def known(self, path):
-        """What was said of the run before; None where nothing was, or what can't be read any more."""
         with contextlib.suppress(Fault, ValueError, KeyError, TypeError, AttributeError):
             value = json.loads(read_text(path))
             if value["form"] == FORM:
-                return Explained(value["events"], value["claims"], value["note"], [read_cause(cause) for cause in value["causes"]], True)
-        return None
+                return value["said"], True
+        said = explain_anew()
+        write_whole(path, json.dumps({"form": FORM, "said": said}))
+        return said, False
 
-    def explain_anew(self, run):
-        words = explain_words(run)
-        places = Places(run.program, self.sources, run.functions())
-        reader = RunReader(run, places, run.cut(), lambda more: shlex.join(["pmtrim", "explain", *more, *words]))
-        for line in self.pmtrim.lines(["explain", "--json", "--limit", "all", *words]):
+    def explain(self, run):
+        """What a run of one piece has. Fault: it is refused, or can't be read."""
+        (piece,) = run.pieces
+        name = self.digest(piece, self.digest(run)) if run.parts else self.digest(run)
+        said, was_known = self.known_or(f"{name}.json", lambda: self.explain_anew(run, piece))
+        return Explained(said["events"], said["claims"], said["note"], [read_cause(cause) for cause in said["causes"]], None, was_known)
+
+    def explain_anew(self, run, piece):
+        reader = RunReader(piece, self.places(run), run.cut(), shown_by(piece))
+        for line in self.pmtrim.lines(["explain", "--json", "--limit", "all", *explain_words(piece)]):
             reader.take(line)
         causes = reader.finish()
-        return Explained(reader.summary["events"], reader.summary["assertions"], reader.note, causes)
+        return {"events": reader.summary["events"], "claims": reader.summary["assertions"], "note": reader.note, "causes": [dataclasses.asdict(cause) for cause in causes]}
+
+    def places(self, run):
+        return Places(run.program, self.sources, run.functions())
+
+    def explain_part(self, run, piece, part):
+        """What a part says of what it answers for, and whether that was known."""
+        name = f"{self.digest(piece, self.digest(run))}.json"
+        return self.known_or(name, lambda: self.explain_part_anew(run, piece, part))
+
+    def explain_part_anew(self, run, piece, part):
+        reader = PartReader(piece, part, self.places(run), shown_by(piece))
+        words = ["explain", "--json", "--limit", "all"]
+        for question, options in questions(part):
+            reader.ask(question)
+            for line in self.pmtrim.lines([*words, *options, *explain_words(piece)]):
+                reader.take(line)
+        for group, events in reader.asked_later:
+            self.explain_failure(reader, [*words, "--failure", str(events[0]), *explain_words(piece)], group, events)
+        return reader.said()
+
+    def explain_failure(self, reader, words, group, events):
+        """Takes the first failed assertion of a group that the part does not set aside."""
+        for line in self.pmtrim.lines(words):
+            if '"kind":"failure"' in line:
+                reader.add_group(group, events, json.loads(line))
+
+    def begin(self, workers, run):
+        """Begins to explain a run, or each of its parts; answers what is waited for."""
+        try:
+            parts = read_parts(run.parts)
+        except Fault as fault:
+            return [failed_by(fault)]
+        if len(parts) < 2:
+            return [workers.submit(self.explain, run)]
+        return [workers.submit(self.explain_part, run, piece, part) for piece, part in zip(run.pieces, parts)]
+
+    def joined(self, run, outcomes):
+        """What the parts of a run have together, or the first fault."""
+        faults = [outcome for outcome in outcomes if isinstance(outcome, Fault)]
+        if faults or len(run.parts) < 2:
+            return (faults or outcomes)[0]
+        run_of_parts = Joined(run, [said for said, _ in outcomes], shown_by(run.pieces[-1])([]))
+        return Explained(run_of_parts.events, run_of_parts.claims, run_of_parts.note, run_of_parts.causes(), run_of_parts.aside, all(known for _, known in outcomes))
 
     def explain_all(self, runs, jobs, progress):
         """Of each run in turn what it has, or its fault."""
         with concurrent.futures.ThreadPoolExecutor(jobs) as workers:
-            waiting = [workers.submit(self.explain, run) for run in runs]
+            begun = [(run, self.begin(workers, run)) for run in runs]
             try:
-                for done, (run, future) in enumerate(zip(runs, waiting)):
-                    while not concurrent.futures.wait([future], timeout=progress.pause).done:
-                        progress.tell(f"{done} of {len(runs)} runs explained, {run.name} is next")
-                    yield run, outcome_of(future)
+                for done, (run, waiting) in enumerate(begun):
+                    while left := concurrent.futures.wait(waiting, timeout=progress.pause).not_done:
+                        of = f", {len(waiting) - len(left)} of its {len(waiting)} parts are" if run.parts else ""
+                        progress.tell(f"{done} of {len(runs)} runs explained, {run.name} is next{of}")
+                    yield run, self.joined(run, [outcome_of(future) for future in waiting])
             except BaseException:
-                for future in waiting:
+                for future in (future for _, waiting in begun for future in waiting):
                     future.cancel()
                 self.pmtrim.stop()
                 raise
@@ -107,8 +158,15 @@ class Explainer:
                     os.unlink(os.path.join(self.kept, name))
 
 
+def failed_by(fault):
+    """What is waited for where a fault is known already."""
+    future = concurrent.futures.Future()
+    future.set_exception(fault)
+    return future
+
+
 def outcome_of(future):
-    """What came of a run: what was explained, or a fault."""
+    """What came of a run, or of a part: what was explained, or a fault."""
     try:
         return future.result()
     except Fault as fault:
@@ -121,7 +179,7 @@ def read_cause(value):
     """A cause as it stands in a file. KeyError, TypeError: it is none."""
     example = Example(**value["example"])
     cause = Cause(**{**value, "example": example})
-    texts = [cause.reason, example.run, example.show, *cause.names, *cause.runs]
+    texts = [cause.reason, example.run, example.trace, example.show, *cause.names, *cause.runs]
     numbers = [cause.count, example.events, *cause.runs.values()]
     triples = [*example.places, *example.told, *(place for _, _, place in example.told if place)]
     is_whole = all(isinstance(text, str) for text in texts) and all(isinstance(number, int) for number in numbers) and all(len(triple) == 3 for triple in triples)

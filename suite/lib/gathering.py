@@ -7,6 +7,7 @@ import subprocess
 from typing import NamedTuple
 
 from commands import signal_name
+from cutting import cut_if_long
 from faults import of_file
 from files import write_whole
 from functions import functions_beside
@@ -50,22 +51,25 @@ class Gathered(NamedTuple):
 
     names: list
     others: int
+    told: list  # of traces that could not be cut into parts
 
 
-def gather(raw, ends, here):
-    """Makes the runs in the folder `runs`. `ends` tells how processes ended, of those that were waited for."""
+def gather(raw, ends, here, pmtrim=None):
+    """Makes the runs in the folder `runs`. `ends` tells how processes ended, of those that were waited for. Where a program pmtrim is named,
+    long traces are cut into parts by it."""
     try:
         own = processes_in(raw / "own", ends)
         others = processes_in(raw / "valgrind", ends)
         themselves = {(process.number, process.words) for process in own}
         taken = own + [process for process in others if is_run(process) and (process.number, process.words) not in themselves]
-        names, counts = [], {}
+        names, counts, told = [], {}, []
         for process in sorted(taken, key=lambda process: process.order):
             counts[process.program] = counts.get(process.program, 0) + 1
             names.append(f"{process.program}-{counts[process.program]}")
-            make_run(process, raw / "runs" / names[-1], here)
+            run = make_run(process, raw / "runs" / names[-1], here)
+            told.append(cut_if_long(run, pmtrim) if pmtrim else None)
         numbers = {process.number for process in taken}
-        return Gathered(names, len({process.number for process in others} - numbers))
+        return Gathered(names, len({process.number for process in others} - numbers), [text for text in told if text])
     except OSError as error:
         raise of_file(error.filename or raw, error) from error
 
@@ -123,6 +127,7 @@ def make_run(process: Process, folder, here):
     write_whole(folder / "status", f"{process.end}\n")
     find_lines(run, here)
     find_functions(run)
+    return run
 
 
 def cut_behind_lines(path):

@@ -25,7 +25,7 @@ def case_of(parent, run, judged):
     elif not run.events:
         tree.SubElement(case, "skipped", message=clean(run.note or "the trace has no event"))
     known = [cause for cause, _ in judged.known if run.name in cause.runs]
-    lines = [f"{run.events} events", *([run.note] if run.note else []), *(f"known: {cause.id} {cause.kind} at {place_of(cause)}" for cause in known)]
+    lines = [f"{run.events} events", *(text for text in (run.note, run.aside) if text), *(f"known: {cause.id} {cause.kind} at {place_of(cause)}" for cause in known)]
     tree.SubElement(case, "system-out").text = clean("\n".join(lines))
     return case
 

@@ -1,12 +1,14 @@
 """Pages: of each cause the page that pmtrim explain makes of one run with it, and an index of all."""
 import html
 import os
+import pathlib
 import re
 
 from causes import DROPPED, FAILURE, NEVER_PERSISTED, OVERWRITTEN, UNWRITTEN
 from explaining import explain_words
 from faults import Fault
 from files import make_folder, write_whole, written_whole
+from runs import Run
 from telling import first_line, often, place_of
 
 OPENED = {FAILURE, NEVER_PERSISTED, DROPPED, OVERWRITTEN, UNWRITTEN}  # what a page opens by its address
@@ -21,10 +23,15 @@ def page_name(run):
     return f"run-{re.sub('[^A-Za-z0-9._-]', lambda found: f'_{ord(found[0]):x}_', run)}.html"
 
 
-def address_of(cause):
+def paged(example, run):
+    """The name of what the page of an example is of: its run, or the part of that which has the event."""
+    return f"{example.run}/{os.path.basename(example.trace)}" if run.parts else example.run
+
+
+def address_of(cause, run):
     """The page of the cause's example, opened at it."""
     example = cause.example
-    return page_name(example.run) + (f"#{cause.kind}={example.event}" if cause.kind in OPENED else "")
+    return page_name(paged(example, run)) + (f"#{cause.kind}={example.event}" if cause.kind in OPENED else "")
 
 
 def write_page(pmtrim, run, sources, path):
@@ -35,7 +42,8 @@ def write_page(pmtrim, run, sources, path):
 
 
 def row_of(cause, report, state):
-    link = f'<a href="{html.escape(address_of(cause))}">{html.escape(place_of(cause))}</a>'
+    run = next(run for run in report.runs if run.name == cause.example.run)
+    link = f'<a href="{html.escape(address_of(cause, run))}">{html.escape(place_of(cause))}</a>'
     cells = [state, html.escape(cause.what), link, html.escape(often(cause, report)), f"<code>{cause.id}</code>"]
     return f"<tr>{''.join(f'<td>{cell}</td>' for cell in cells)}</tr>"
 
@@ -59,14 +67,15 @@ def index_text(judged):
 
 
 def write_pages(judged, pmtrim, runs, folder, sources, progress):
-    """Writes a page for each run that is a cause's example, and then the index. Faults are added to those of the report."""
+    """Writes a page for each run, or part of one, that has a cause's example, and then the index. Faults are added to those of the report."""
     make_folder(folder)
     by_name = {run.name: run for run in runs}
-    names = sorted({cause.example.run for cause in [*judged.new, *(cause for cause, _ in judged.known)]})
-    for done, name in enumerate(names):
-        progress.tell(f"{done} of {len(names)} pages written")
+    examples = [cause.example for cause in [*judged.new, *(cause for cause, _ in judged.known)]]
+    pages = sorted({(paged(example, by_name[example.run]), example.run, example.trace) for example in examples})
+    for done, (name, run, trace) in enumerate(pages):
+        progress.tell(f"{done} of {len(pages)} pages written")
         try:
-            write_page(pmtrim, by_name[name], sources, os.path.join(folder, page_name(name)))
+            write_page(pmtrim, Run(run, pathlib.Path(trace)), sources, os.path.join(folder, page_name(name)))
         except Fault as fault:
             judged.report.faults.append([fault.status, f"{name}: the page was not written: {fault}"])
     write_whole(os.path.join(folder, "index.html"), index_text(judged))

@@ -7,13 +7,13 @@ import signal
 import subprocess
 import sys
 
-from commands import find_recorder, signal_name
+from commands import find_pmtrim, find_recorder, signal_name
 from faults import FILE_FAULT, WRONG_WORDS, Fault, of_file
 from files import make_folder, read_text, write_whole
 from gathering import Gathered, gather
 from runs import RECORDING
 from stopping import Ended
-from telling import counted
+from telling import counted, printable
 
 LIST = "recorded"  # the file in the folder of the runs that lists those that record made
 FORM = "pmtrim-suite runs 1"
@@ -25,6 +25,7 @@ def record(options, here):
     if shutil.which(options.command[0]) is None:
         raise Fault(WRONG_WORDS, f"{options.command[0]}: there is no such program")
     recorder = None if options.own else find_recorder(here)
+    pmtrim = find_pmtrim(here) if options.parts else None
     make_folder(folder)
     lock = lock_folder(folder)
     try:
@@ -34,7 +35,7 @@ def record(options, here):
             shutil.rmtree(folder / RECORDING, ignore_errors=True)
             raise Fault(status if status == WRONG_WORDS else FILE_FAULT, f"{recorder} recorded nothing and ended with status {status}; the runs in {folder} are as they were")
         ends = {first: f"signal {signal_name(-status)}" if status < 0 else str(status)}
-        gathered = gather(folder / RECORDING, ends, here)
+        gathered = gather(folder / RECORDING, ends, here, pmtrim)
         put_in_place(folder, before, gathered)
     finally:
         os.close(lock)
@@ -83,8 +84,9 @@ def run_command(options, recorder, raw):
     words = options.command
     if recorder:
         trace = raw / "valgrind" / "trace"
-        words = [recorder, *options.with_options, "--process", "--trace-children", "yes", "--trace", str(trace), "--", *words]
-    environment = {**os.environ, "PMTRACE_FOLDER": str(raw / "own")}
+        whole = ["--whole"] if options.parts else []
+        words = [recorder, *options.with_options, *whole, "--process", "--trace-children", "yes", "--trace", str(trace), "--", *words]
+    environment = {**os.environ, "PMTRACE_FOLDER": str(raw / "own"), **({"PMTRACE_WHOLE": "1"} if options.parts else {})}
     try:
         process = subprocess.Popen(words, env=environment)
     except OSError as error:
@@ -112,6 +114,8 @@ def put_in_place(folder, before, gathered):
 
 def tell(folder, gathered: Gathered):
     """The last line, on standard error."""
+    for text in gathered.told:
+        print(f"pmtrim-suite: {printable(text)}", file=sys.stderr)
     others = f"; {counted(gathered.others, 'process').replace('processs', 'processes')} mapped no pool" if gathered.others else ""
     nothing = "" if gathered.names else ": did any map a file as shared, or call pmtrace_open?"
     following = f"; next: pmtrim-suite report {folder}" if gathered.names else ""

@@ -7,8 +7,9 @@ from causes import CUT, EMPTY, add_cause
 from explaining import read_cause
 from faults import FILE_FAULT, REFUSED, Fault
 from files import read_text
+from joining import ASIDE
 
-FORM = "pmtrim-suite report 1"
+FORM = "pmtrim-suite report 2"
 WHOLE = (1, 1)
 
 
@@ -26,6 +27,8 @@ class RunRow:
     status: int
     fault: Optional[str]
     note: Optional[str]  # why the trace is not all of what happened
+    parts: int = 0  # how many it was cut into
+    aside: Optional[str] = None  # what these do not tell
 
 
 @dataclasses.dataclass
@@ -43,10 +46,15 @@ class Report:
     def events(self):
         return sum(run.events for run in self.runs)
 
+    @property
+    def parts(self):
+        return sum(run.parts for run in self.runs)
+
     def notes(self):
-        """What is told of traces that are not all of what happened: those without events, and those that were cut."""
+        """What is told of traces that are not all of what happened: those without events, those that were cut, and what parts do not tell."""
         rows = sorted((run.name, run.note, run.events) for run in self.runs if run.note)
-        return {kind: [f"{name}: {note}" for name, note, events in rows if bool(events) == (kind == CUT)] for kind in (EMPTY, CUT)}
+        notes = {kind: [f"{name}: {note}" for name, note, events in rows if bool(events) == (kind == CUT)] for kind in (EMPTY, CUT)}
+        return {**notes, ASIDE: [f"{name}: {aside}" for name, aside in sorted((run.name, run.aside) for run in self.runs if run.aside)]}
 
     @property
     def all_faults(self):
@@ -55,7 +63,7 @@ class Report:
 
     def add_run(self, run, outcome):
         """Adds a run with what was explained of it, or with its fault."""
-        row = RunRow(run.name, "?", str(run.trace), None, None, 0, 0, 0, None, None)
+        row = RunRow(run.name, "?", str(run.trace), None, None, 0, 0, 0, None, None, len(run.parts))
         try:
             row.program, row.command, row.ended = run.program, run.command, run.ended
         except Fault as fault:
@@ -64,7 +72,7 @@ class Report:
         if isinstance(outcome, Fault):
             row.status, row.fault = outcome.status, f"{run.name}: {outcome}"
             return
-        row.events, row.claims, row.note = outcome.events, outcome.claims, outcome.note
+        row.events, row.claims, row.note, row.aside = outcome.events, outcome.claims, outcome.note, outcome.aside
         self.known_runs += outcome.was_known
         for cause in outcome.causes:
             add_cause(self.causes, cause)

@@ -7,17 +7,19 @@ from typing import NamedTuple
 
 from faults import FILE_FAULT, Fault, of_file
 from files import read_if_there
+from parts import series_of
 
 TRACE = "trace"
 RECORDING, EXPLAINED = ".recording", ".explained"  # folders of this program's own, below that of the runs
-ENDINGS = (".labels", ".ignore", ".cut", ".functions")  # of the files beside a trace that change what is told of it
+ENDINGS = (".labels", ".ignore", ".cut", ".functions", ".part")  # of the files beside a trace that change what is told of it
 
 
 class Run(NamedTuple):
-    """A run: its name below the folder, and its trace."""
+    """A run: its name below the folder, its trace, or the path with which the names of its parts begin, and these."""
 
     name: str
     trace: pathlib.Path
+    parts: tuple = ()
 
     def beside(self, ending):
         """The file of this ending beside the trace."""
@@ -25,6 +27,11 @@ class Run(NamedTuple):
 
     def has(self, ending):
         return os.path.lexists(self.beside(ending))
+
+    @property
+    def pieces(self):
+        """Each of its parts as a run, or the run itself."""
+        return [Run(self.name, part) for part in self.parts] or [self]
 
     @property
     def command(self):
@@ -51,8 +58,9 @@ class Run(NamedTuple):
         return {place: function for place, _, function in (line.rpartition(" ") for line in lines) if place}
 
     def cut(self):
-        """After which event the trace was cut, and why; None where it was not. A file without a line tells that no more had room."""
-        text = read_if_there(self.beside(".cut"))
+        """After which event the trace was cut, or the last of its parts, and why; None where it was not. A file without a line tells that
+        no more had room."""
+        text = read_if_there(self.pieces[-1].beside(".cut"))
         if text is None:
             return None
         number, _, why = text.rstrip("\n").partition(" ")
@@ -72,12 +80,14 @@ def find_runs(folder):
         faults.append(Fault(FILE_FAULT, f"{top / RECORDING}: pmtrim-suite record is under way, or was killed: run it anew"))
     for place, folders, files in os.walk(top, onerror=lambda error: faults.append(of_file(error.filename, error))):
         folders[:] = sorted(name for name in folders if not (place == str(top) and name in (RECORDING, EXPLAINED)))
-        found = [name for name in sorted(files) if name == TRACE or name.endswith(".trace")]
+        found, series = series_of(sorted(files))
         path = pathlib.Path(place)
-        for name in found:
+        for name in [*found, *series]:
             below = path.relative_to(top)
-            runs.append(Run(str(below if name == TRACE and path != top else below / name), path / name))
-        if not found and is_without_run(path, folders, files):
+            parts = tuple(path / part for part in series.get(name, ()))
+            is_named_so = name == TRACE and path != top and not (parts and TRACE in found)
+            runs.append(Run(str(below if is_named_so else below / name), path / name, parts))
+        if not (found or series) and is_without_run(path, folders, files):
             faults.append(Fault(FILE_FAULT, f"{path}: there is no trace in this folder"))
     return sorted(runs), faults
 
@@ -109,5 +119,7 @@ def check_runs(folder, runs):
 
 def label_texts(run):
     """The labels of a run, each once. What is no labels file is refused when the run is explained."""
-    text = read_if_there(run.beside(".labels")) or ""
-    return list(dict.fromkeys(line.partition(" ")[2] for line in text.split("\n") if line))
+    if not run.has(".labels"):
+        return []
+    with open(run.beside(".labels"), encoding="utf-8", errors="replace", newline="\n") as file:
+        return list(dict.fromkeys(line.rstrip("\n").partition(" ")[2] for line in file if line != "\n"))

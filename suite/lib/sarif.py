@@ -4,7 +4,7 @@ import os
 import pathlib
 import urllib.parse
 
-from causes import CUT, DROPPED, EMPTY, FAILURE, LATE, NEVER_PERSISTED, OVERWRITTEN, UNWRITTEN
+from causes import CUT, DROPPED, EMPTY, FAILURE, HINT, LATE, NEVER_PERSISTED, OVERWRITTEN, UNWRITTEN
 from labels import Place
 
 SCHEMA = "https://docs.oasis-open.org/sarif/sarif/v2.1.0/errata01/os/schemas/sarif-schema-2.1.0.json"
@@ -17,6 +17,7 @@ RULES = {
     DROPPED: ("note", "A flush or a fence does nothing that a crash could show."),
     OVERWRITTEN: ("note", "Stores are written over before any flush."),
     UNWRITTEN: ("warning", "An assertion is about bytes that no store has written."),
+    HINT: ("note", "No rule forbids this, and it is mostly a slip."),
     CUT: ("warning", "A trace was cut: it does not tell what came after."),
     EMPTY: ("warning", "A trace has no event."),
 }
@@ -43,11 +44,11 @@ def location_of(place, text=None):
     return location
 
 
-def in_trace(place, example, traces):
+def in_trace(place, example):
     """The place, and where it has no line, that of the event in the trace: event I stands on line I + 1."""
     location = location_of(place)
     if place.line is None:
-        location["physicalLocation"] = {"artifactLocation": {"uri": uri_of(traces[example.run])}, "region": {"startLine": (example.event or 0) + 1}}
+        location["physicalLocation"] = {"artifactLocation": {"uri": uri_of(example.trace)}, "region": {"startLine": (example.event or 0) + 1}}
     return location
 
 
@@ -57,7 +58,7 @@ def related_of(cause):
     return [{"id": number, **location_of(Place(*place), f"{role}: {text}")} for number, (role, text, place) in enumerate(told, 1)]
 
 
-def result_of(cause, why, rules, traces):
+def result_of(cause, why, rules):
     """A cause as a result. What is known is suppressed, by what the baseline says."""
     words = "; ".join(f"{role}: {text}" for role, text, _ in cause.example.told).rstrip(".")
     result = {
@@ -65,7 +66,7 @@ def result_of(cause, why, rules, traces):
         "ruleIndex": rules.index(cause.kind),
         "level": RULES[cause.kind][0],
         "message": {"text": f"{RULES[cause.kind][1]} {cause.reason}, by {words}. Show it by: {cause.example.show}"},
-        "locations": [in_trace(Place(*cause.example.places[0]), cause.example, traces)],
+        "locations": [in_trace(Place(*cause.example.places[0]), cause.example)],
         "relatedLocations": related_of(cause),
         "fingerprints": {FINGERPRINT: cause.id},
         "partialFingerprints": {FINGERPRINT: cause.id},
@@ -85,8 +86,7 @@ def notification_of(text):
 def sarif_text(judged, version):
     """The whole file."""
     rules = [kind for kind in RULES if kind in judged.fail_on]
-    traces = {run.name: run.trace for run in judged.report.runs}
-    results = [result_of(cause, why, rules, traces) for cause, why in [*((cause, None) for cause in judged.new), *judged.known]]
+    results = [result_of(cause, why, rules) for cause, why in [*((cause, None) for cause in judged.new), *judged.known]]
     driver = {
         "name": "pmtrim-suite",
         "version": version,

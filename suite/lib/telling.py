@@ -44,9 +44,10 @@ def first_line(judged):
     report = judged.report
     programs = len({run.program for run in report.runs})
     known = f"; {counted(report.known_runs, 'run')} unchanged since the last report" if report.known_runs else ""
+    parts = f" in {counted(report.parts, 'part')}" if report.parts else ""
     share = f"shard {report.shard[0]}/{report.shard[1]}: " if report.shard[1] > 1 else ""
     return (
-        f"{share}{counted(len(report.runs), 'run')} of {counted(programs, 'program')}, {counted(report.events, 'event')}: "
+        f"{share}{counted(len(report.runs), 'run')} of {counted(programs, 'program')}{parts}, {counted(report.events, 'event')}: "
         f"{counted(len(judged.failing), 'cause')}, {len(judged.new)} new{known}"
     )
 

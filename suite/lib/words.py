@@ -11,7 +11,7 @@ from runs import Shard
 HELP = """\
 Records the programs of a test suite, and merges what pmtrim explains of all their traces.
 
-Usage: pmtrim-suite record DIR [--own] [--with OPTIONS] -- COMMAND [ARGUMENT]..
+Usage: pmtrim-suite record DIR [--own] [--parts] [--with OPTIONS] -- COMMAND [ARGUMENT]..
        pmtrim-suite report DIR [--baseline FILE] [--sarif FILE] [--junit FILE] [--html DIR] ..
        pmtrim-suite merge OUT [--baseline FILE] [--sarif FILE] [--junit FILE] .. REPORT..
 
@@ -35,7 +35,7 @@ RECORD = """\
 Runs a command, and gives each process that maps a pool its folder below DIR: trace, labels, command
 line, status.
 
-Usage: pmtrim-suite record DIR [--own] [--with OPTIONS] -- COMMAND [ARGUMENT]..
+Usage: pmtrim-suite record DIR [--own] [--parts] [--with OPTIONS] -- COMMAND [ARGUMENT]..
 
 Arguments:
   DIR         the folder of the runs: a new one, or one that record made
@@ -45,6 +45,8 @@ Arguments:
 Options:
   --own           records only programs that record themselves, by pmtrace.h or in the place of
                   libpmem: without Valgrind, and so much faster
+  --parts         records runs of any length: a trace that is too long for pmtrim is cut into parts
+                  when the command has ended
   --with OPTIONS  options for pmtrim-record, in one word, as '--pmdk --pool-prefix /mnt/pmem/'; may
                   be given more than once
   --help          says this
@@ -64,7 +66,7 @@ OUTPUTS = """\
   --junit FILE       writes the runs as JUnit XML; a run with a new cause has failed
   --fail-on KIND..   which kinds of causes may be new [default: failure never_persisted]
                      [possible values: failure, never_persisted, late, dropped, overwritten,
-                     unwritten, cut, empty]
+                     unwritten, hint, cut, empty]
 """
 
 REPORT = f"""\
@@ -74,7 +76,8 @@ Usage: pmtrim-suite report DIR [--baseline FILE] [--update-baseline] [--sarif FI
                            [--html DIR] [--fail-on KIND..] [--source DIR] [--shard I/N] [--jobs N]
 
 Arguments:
-  DIR  the folder of the runs: each file below it named trace or *.trace is one
+  DIR  the folder of the runs: each file below it named trace or *.trace is one, but the parts that
+       pmtrim parts writes are one together
 
 Options:
 {OUTPUTS}\
@@ -114,7 +117,7 @@ Example: pmtrim-suite merge report.json runs/report-*.json --baseline pmtrim.bas
 
 HELPS = {"record": RECORD, "report": REPORT, "merge": MERGE}
 MOST_JOBS = 1024
-OWN_OPTIONS = ("--trace", "--trace-children", "--seeds", "--one-trace", "--process")
+OWN_OPTIONS = ("--trace", "--trace-children", "--seeds", "--one-trace", "--process", "--parts", "--whole")
 
 
 class Parser(argparse.ArgumentParser):
@@ -181,6 +184,7 @@ def record_words(words):
     """The options of record, with `command`."""
     parser = Parser(prog="pmtrim-suite record", add_help=False, allow_abbrev=False)
     parser.add_argument("--own", action="store_true")
+    parser.add_argument("--parts", action="store_true")
     parser.add_argument("--with", dest="with_options", metavar="OPTIONS", action="append", default=[])
     parser.add_argument("folder", metavar="DIR")
     if "--" not in words:

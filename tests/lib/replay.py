@@ -10,14 +10,14 @@ import tempfile
 
 from machine import random_trace, spelled
 from replay_faults import FaultTests
+from replay_parts import ORIGIN, POOL_BYTES, PartTests, images_at
 from replay_programs import ProgramTests
 from replay_runs import images_in
 
 TRACES = 24
-ORIGIN, POOL_BYTES = 0x1000 - 5, 1100
 
 
-class ReplayTests(ProgramTests, FaultTests):
+class ReplayTests(ProgramTests, PartTests, FaultTests):
     """The tests."""
 
     def sets(self):
@@ -47,23 +47,10 @@ class ReplayTests(ProgramTests, FaultTests):
         self.expect(f"{name}: each once", len(found) == len(wanted), f"{len(found)} checkers for {len(wanted)} images")
 
 
-def images_at(trace, place, base, off):
-    """The pools after the crashes at a place where at most so many lines are off their least, or off their greatest number of stores."""
-    reached = [dict(done) for done in trace.reached[place]]
-    least = {line: min(done.get(line, 0) for done in reached) for line in trace.lines(place)}
-    greatest = {line: len(trace.stores(line, place)) for line in trace.lines(place)}
-    for done in reached:
-        if min(sum(done.get(line, 0) != bound[line] for line in bound) for bound in (least, greatest)) <= off:
-            pool = bytearray(base)
-            for address, byte in trace.image(tuple(done.items())):
-                pool[address - ORIGIN] = byte
-            yield bytes(pool)
-
-
 def main():
     with tempfile.TemporaryDirectory() as folder:
         tests = ReplayTests(sys.argv[1], pathlib.Path(folder))
-        for test in (tests.sets, *tests.program_tests(), *tests.fault_tests()):
+        for test in (tests.sets, *tests.part_tests(), *tests.program_tests(), *tests.fault_tests()):
             test()
     print(f"{tests.passed} passed, {tests.failed} failed")
     return 1 if tests.failed else 0

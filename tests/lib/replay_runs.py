@@ -30,9 +30,10 @@ class Runs(Counts):
     def __init__(self, program, folder):
         super().__init__()
         self.folder = folder
+        self.program = pathlib.Path(program).resolve()
         self.temporary = folder / "tmp"
         self.temporary.mkdir()
-        self.environment = {**os.environ, "PMTRIM": str(pathlib.Path(program).resolve()), "TMPDIR": str(self.temporary)}
+        self.environment = {**os.environ, "PMTRIM": str(self.program), "TMPDIR": str(self.temporary)}
 
     def empty_folder(self, name):
         path = self.folder / name

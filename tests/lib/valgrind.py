@@ -377,12 +377,15 @@ class Tests:
     def parts(self, program, pool):
         """A run of 1,050,003 events, in parts: all events are answered for, each by one part, and the last labels are those of the last events."""
         trace = self.folder / "long.trace"
+        trace.with_name("long.trace.ignore").write_text("0x40:8\n")
         status, _, faults = run([RECORD, "--parts", "--trace", trace, program, "long", pool], env=self.known)
         self.expect("a run in parts", status == 0 and "parts 2 events 1050003 aside 0" in faults and not trace.exists(), f"{status} {faults}")
         beside = [trace.with_name(f"long.{number:04}.trace") for number in (1, 2)]
         answers = [next(line.split()[1:] for line in text_of(part.with_name(f"{part.name}.part")).splitlines() if line.startswith("answers ")) for part in beside]
         firsts, lasts = zip(*((int(first), int(last)) for first, last in answers))
         self.expect("each event is answered for once", firsts == (1, lasts[0] + 1) and lasts[1] == 1050003, answers)
+        cuts = [(part.with_name(f"{part.name}.cut").exists(), text_of(part.with_name(f"{part.name}.ignore"))) for part in beside]
+        self.expect("what stands beside them", cuts == [(True, "0x40:8\n"), (False, "0x40:8\n")] and not list(self.folder.glob("long.trace*")), cuts)
         for part in beside:
             status, report = self.accept(part)
             labels = text_of(part.with_name(f"{part.name}.labels")).splitlines()
@@ -460,7 +463,7 @@ class Tests:
 
     def yes_or_no(self):
         shown = re.findall(r"^  (--[a-z-]+)(\[=yes\|no\]| yes\|no)", run([RECORD, "--help"])[1], re.M)
-        self.expect("options that take yes or no", len(shown) == 9, shown)
+        self.expect("options that take yes or no", len(shown) == 10, shown)
         for name, word in shown:
             bare = word.startswith("[")
             for words, wanted, fault in (

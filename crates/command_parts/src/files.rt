@@ -1,9 +1,12 @@
 //! The files of parts.
 
+use crate::ending::cut_text;
 use crate::labels::PartLabels;
+use crate::stale::remove_beside;
 use crate::told::part_text;
-use command_inputs::{Fault, Opener, Output, check_apart, remove_all, write_outputs};
+use command_inputs::{Fault, Opener, Output, check_apart, write_outputs};
 use command_requests::PartsWords;
+use pmt_explanation::Cut;
 use pmt_parts::{Part, set_aside};
 use pmt_text::write_trace;
 use std::alloc::{AllocError, Global};
@@ -68,7 +71,16 @@ impl Written {
     }
 }
 
-/// Writes the part, its labels if a file of labels is named, and what tells of it.
+/// What stands beside the whole trace.
+#[derive(Drop)]
+pub(crate) struct Beside<'a, R> {
+    /// Its labels.
+    pub(crate) labels: PartLabels<'a, R>,
+    /// Where and why it was cut; none where it was not.
+    pub(crate) cut: Option<Cut>,
+}
+
+/// Writes the part, its labels if a file of labels is named, and what tells of it. What an earlier run left beside it is removed.
 ///
 /// # Errors
 /// A usage fault where one of the files is read; the fault of a write, and none of them is left then; `OutOfMemory`.
@@ -76,7 +88,7 @@ pub(crate) fn write_part<O: Opener, R: Read + Drop>(
     alloc: Global,
     words: &PartsWords<'_>,
     files: &O,
-    labels: &PartLabels<'_, R>,
+    beside: &Beside<'_, R>,
     part: &Part,
     turn: &Turn,
     written: &mut Written,
@@ -84,7 +96,7 @@ pub(crate) fn write_part<O: Opener, R: Read + Drop>(
     let aside = set_aside(alloc, part)?;
     let name = part_name(alloc, words.out, turn.number)?;
     let name = name.as_str();
-    let mut outputs = Vec::with_capacity(alloc, 3)?;
+    let mut outputs = Vec::with_capacity(alloc, 4)?;
     add_output(
         alloc,
         &mut outputs,
@@ -94,36 +106,49 @@ pub(crate) fn write_part<O: Opener, R: Read + Drop>(
     )?;
     let told = part_text(alloc, words, part, turn, aside.as_slice())?;
     add_output(alloc, &mut outputs, name, ".part", told)?;
-    if labels.is_named() {
-        let named = labels.text(alloc, part.numbers.as_slice())?;
+    if beside.labels.is_named() {
+        let named = beside.labels.text(alloc, part.numbers.as_slice())?;
         add_output(alloc, &mut outputs, name, ".labels", named)?;
     }
-    write_apart(alloc, words, files, outputs.as_slice())?;
+    if let Some(text) = cut_text(alloc, part, turn, beside.cut.as_ref())? {
+        add_output(alloc, &mut outputs, name, ".cut", text)?;
+    }
+    check_outputs(alloc, words, files, outputs.as_slice())?;
+    remove_beside(alloc, words, files, name, turn.number)?;
+    write_outputs(alloc, files, outputs.as_slice())?;
     written.parts = turn.number;
     written.events = part.end;
     written.aside = written.aside.saturating_add(aside.len() as u64);
     Ok(())
 }
 
-// Writes the files, none of which is read.
-fn write_apart<O: Opener>(
+/// Refuses to write or remove what is read.
+///
+/// # Errors
+/// A usage fault where one of the files is; `OutOfMemory`.
+pub(crate) fn check_outputs<O: Opener>(
     alloc: Global,
     words: &PartsWords<'_>,
     files: &O,
     outputs: &[Output],
 ) -> Result<(), Fault> {
     check_apart(alloc, files, outputs, words.file)?;
-    check_apart(alloc, files, outputs, words.labels)?;
-    write_outputs(alloc, files, outputs)
+    check_apart(alloc, files, outputs, words.labels)
 }
 
-// The name of the part with this number.
-fn part_name(alloc: Global, prefix: &str, number: u64) -> Result<String, AllocError> {
+/// The name of the part with this number.
+///
+/// # Errors
+/// `OutOfMemory`.
+pub(crate) fn part_name(alloc: Global, prefix: &str, number: u64) -> Result<String, AllocError> {
     format!(in alloc; "{prefix}.{number:04}.trace")
 }
 
-// Adds the file whose name ends so to those that are written.
-fn add_output(
+/// Adds the file whose name ends so to the others.
+///
+/// # Errors
+/// `OutOfMemory`.
+pub(crate) fn add_output(
     alloc: Global,
     outputs: &mut Vec<Output>,
     name: &str,
@@ -135,50 +160,4 @@ fn add_output(
         Ok(()) => Ok(()),
         Err(_) => Err(Fault::OutOfMemory),
     }
-}
-
-/// Removes the parts of an earlier run that stand after the last one, which has this number.
-///
-/// # Errors
-/// A usage fault where one of them is read; `OutOfMemory`.
-pub(crate) fn remove_later<O: Opener>(
-    alloc: Global,
-    words: &PartsWords<'_>,
-    files: &O,
-    last: u64,
-) -> Result<(), Fault> {
-    for number in last..u64::MAX {
-        let name = part_name(alloc, words.out, number.saturating_add(1))?;
-        if !is_there(files, name.as_str()) {
-            return Ok(());
-        }
-        remove_part(alloc, words, files, name.as_str())?;
-    }
-    Ok(())
-}
-
-// Whether there is a file with this name.
-fn is_there<O: Opener>(files: &O, name: &str) -> bool {
-    match files.size(name) {
-        Ok(Some(_)) => true,
-        Ok(None) => false,
-        Err(_) => false,
-    }
-}
-
-// Removes the files of the part with this name, none of which is read.
-fn remove_part<O: Opener>(
-    alloc: Global,
-    words: &PartsWords<'_>,
-    files: &O,
-    name: &str,
-) -> Result<(), Fault> {
-    let mut outputs = Vec::with_capacity(alloc, 3)?;
-    add_output(alloc, &mut outputs, name, "", Vec::new(alloc))?;
-    add_output(alloc, &mut outputs, name, ".part", Vec::new(alloc))?;
-    add_output(alloc, &mut outputs, name, ".labels", Vec::new(alloc))?;
-    check_apart(alloc, files, outputs.as_slice(), words.file)?;
-    check_apart(alloc, files, outputs.as_slice(), words.labels)?;
-    remove_all(files, outputs.as_slice());
-    Ok(())
 }

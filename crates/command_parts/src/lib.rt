@@ -2,10 +2,12 @@
 #![tactic(auto)]
 
 mod carried;
+mod ending;
 mod files;
 mod labels;
 mod parts;
 mod reading;
+mod stale;
 mod told;
 
 pub use crate::parts::run_parts;

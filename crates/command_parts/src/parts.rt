@@ -2,10 +2,11 @@
 ghost use Rattle.std.specs.Prelude.{◌≡◌, IfOk};
 
 use crate::carried::check_carried;
-use crate::files::{Turn, Written, remove_later, write_part};
+use crate::files::{Beside, Turn, Written, write_part};
 use crate::labels::PartLabels;
 use crate::reading::{add_piece, first_part, has_ended};
-use command_inputs::{Fault, Opener, opened, write_answer};
+use crate::stale::remove_later;
+use command_inputs::{Fault, Opener, cut_of, opened, write_answer};
 use command_requests::PartsWords;
 use pmt_parts::{Part, Pieces, next_part};
 use std::alloc::Global;
@@ -48,22 +49,24 @@ fn cut_input<O: Opener, I: Read>(
     input: &mut I,
     written: &mut Written,
 ) -> Result<(), Fault> {
-    let mut labels = PartLabels::open(alloc, files, words.labels)?;
+    let labels = PartLabels::open(alloc, files, words.labels)?;
+    let cut = cut_of(alloc, files, words.file)?;
+    let mut beside = Beside { labels, cut };
     match words.file {
         Some(name) => {
             let reader = opened(alloc, files, name)?;
-            cut(alloc, words, files, &mut labels, reader, written)
+            cut_reader(alloc, words, files, &mut beside, reader, written)
         }
-        None => cut(alloc, words, files, &mut labels, input, written),
+        None => cut_reader(alloc, words, files, &mut beside, input, written),
     }
 }
 
 // Cuts the trace that the reader gives.
-fn cut<O: Opener, R: Read + Drop>(
+fn cut_reader<O: Opener, R: Read + Drop>(
     alloc: Global,
     words: &PartsWords<'_>,
     files: &O,
-    labels: &mut PartLabels<'_, O::Reader>,
+    beside: &mut Beside<'_, O::Reader>,
     reader: R,
     written: &mut Written,
 ) -> Result<(), Fault> {
@@ -72,13 +75,13 @@ fn cut<O: Opener, R: Read + Drop>(
     for number in 1..u64::MAX {
         let is_last = has_ended(alloc, words, &mut pieces)?;
         let turn = Turn { number, is_last };
-        labels.read_to(alloc, part.end)?;
-        write_part(alloc, words, files, labels, &part, &turn, written)?;
+        beside.labels.read_to(alloc, part.end)?;
+        write_part(alloc, words, files, beside, &part, &turn, written)?;
         if is_last {
             return remove_later(alloc, words, files, number);
         }
         let mut next = begun(alloc, words, &part)?;
-        labels.keep(alloc, next.numbers.as_slice())?;
+        beside.labels.keep(alloc, next.numbers.as_slice())?;
         add_piece(alloc, words, &mut pieces, &mut next)?;
         part = next;
     }

@@ -84,7 +84,7 @@ static void pmtrace_write_all_(void) {
 static bool pmtrace_may_put_(void) {
     if (pmtrace_is_(&pmtrace_broken_))
         pmtrace_.ended = true;
-    if (!pmtrace_.ended && pmtrace_.events == PMTRACE_MOST_EVENTS_) {
+    if (!pmtrace_.ended && pmtrace_.events == pmtrace_.most_events) {
         pmtrace_write_all_();
         pmtrace_end_("a trace has at most 1000000 events");
     }

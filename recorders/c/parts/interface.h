@@ -94,7 +94,9 @@
  * range whose last store came before the window is set aside, which is told: the trace can't say when these became safe. So a claim
  * that passes in a window passes in the whole run.
  * The environment's PMTRACE_START=N leaves out the first N events, to the end of the call that makes event N; PMTRACE_STOP=N leaves
- * out what comes after the call that makes event N. Answer 0, or -1 where no trace is open. */
+ * out what comes after the call that makes event N. Answer 0, or -1 where no trace is open.
+ * A trace ends at 1,000,000 events, which is as many as pmtrim reads at once. With PMTRACE_WHOLE=1 in the environment it has them all:
+ * pmtrim parts cuts it then. */
 #define pmtrace_start() pmtrace_start_at(PMTRACE_HERE)
 #define pmtrace_stop() pmtrace_stop_at(PMTRACE_HERE)
 

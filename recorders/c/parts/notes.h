@@ -20,7 +20,7 @@ static uint64_t pmtrace_words_of_(pmtrace_range_ piece) {
 
 /* Whether the trace has room for so many events. Where it has not, it ends before them. */
 static bool pmtrace_has_events_(const char *what, uint64_t bytes, uint64_t events) {
-    uint64_t left = (uint64_t)PMTRACE_MOST_EVENTS_ - pmtrace_.events;
+    uint64_t left = pmtrace_.most_events - pmtrace_.events;
     char why[PMTRACE_MOST_LABEL_ + 300];
     if (pmtrace_.ended || left == 0 || events <= left)
         return !pmtrace_.ended;

@@ -29,9 +29,19 @@ static bool pmtrace_write_header_(unsigned line_size) {
     return done;
 }
 
-/* Makes the trace with its header and, where there are labels, their file. */
+/* Whether the environment asks for something by this name. */
+static bool pmtrace_is_wanted_(const char *name) {
+    const char *wanted = getenv(name);
+    return wanted != NULL && *wanted != '\0' && strcmp(wanted, "0") != 0;
+}
+
+/* Makes the trace with its header and, where there are labels, their file. The environment's PMTRACE_WHOLE lets the trace have more events
+ * than pmtrim reads at once. */
 static bool pmtrace_make_files_(unsigned line_size, bool labeled) {
-    const size_t most_text = 1 << 26, most_labels = (size_t)PMTRACE_MOST_EVENTS_ * (PMTRACE_MOST_LABEL_ + 16);
+    bool whole = pmtrace_is_wanted_("PMTRACE_WHOLE");
+    const size_t most_text = whole ? (size_t)1 << 34 : 1 << 26;
+    const size_t most_labels = whole ? (size_t)1 << 35 : (size_t)PMTRACE_MOST_EVENTS_ * (PMTRACE_MOST_LABEL_ + 16);
+    pmtrace_.most_events = whole ? UINT64_MAX : (uint64_t)PMTRACE_MOST_EVENTS_;
     if (!pmtrace_make_(&pmtrace_.trace, pmtrace_.name, "", most_text))
         return false;
     if (pmtrace_write_header_(line_size) && (!labeled || pmtrace_make_(&pmtrace_.labels, pmtrace_.name, ".labels", most_labels)))
@@ -94,9 +104,8 @@ static void pmtrace_set_up_(unsigned line_size, bool labeled) {
 
 /* The environment's PMTRACE_BASE asks for bases. Those of an earlier trace of this name go in any case. */
 static void pmtrace_set_up_bases_(void) {
-    const char *wanted = getenv("PMTRACE_BASE");
     pmtrace_remove_bases_();
-    pmtrace_.basing = wanted != NULL && *wanted != '\0' && strcmp(wanted, "0") != 0;
+    pmtrace_.basing = pmtrace_is_wanted_("PMTRACE_BASE");
 }
 
 /* Begins a trace without pools. */

@@ -115,6 +115,7 @@ static struct {
     unsigned opened;    /* how often a trace was opened */
     uint64_t calls;     /* that took the lock */
     uint64_t events;    /* in the trace */
+    uint64_t most_events;
     uint64_t seen;      /* events in the trace and outside of the window */
     uint64_t start_at;  /* the window opens when so many were seen */
     uint64_t stop_at;   /* it closes then */
