@@ -104,7 +104,7 @@ class Layout {
     this.columns = columns;
     this.gaps = [];
     const fair = Math.floor((room - (bins ? 0 : 2 * GAP)) / Math.max(1, columns.length));
-    const width = bins ? Math.max(3, fair) : Math.max(NARROW, Math.min(WIDE, fair));
+    const width = bins ? Math.max(3, room / columns.length) : Math.max(NARROW, Math.min(WIDE, fair));
     let x = 0;
     let last = 0;
     for (const column of columns) {
@@ -156,6 +156,20 @@ class Layout {
     const gap = this.gapAt(place);
     if (gap === null) return 0;
     return place === gap.last ? gap.x + gap.width : gap.middle;
+  }
+
+  // The place that stands so far to the right, with a part of the way to the next one.
+  placeAt(x) {
+    const column = this.columnAt(x);
+    if (column !== null) return column.first - 1 + ((x - column.x) / column.width) * (column.last - column.first + 1);
+    return (this.gaps.find((gap) => gap.x <= x && x < gap.x + gap.width)?.first ?? 1) - 1;
+  }
+
+  // How far to the right such a place stands.
+  xOfPlace(place) {
+    const column = this.column(Math.floor(place) + 1);
+    if (column === null) return this.edge(Math.floor(place));
+    return column.x + (column.width * (place - column.first + 1)) / (column.last - column.first + 1);
   }
 
   columnAt(x) {

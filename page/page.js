@@ -2,7 +2,6 @@
 
 // The page: what is chosen, by mouse, keys and address, and what is drawn anew for it.
 
-const MOST_GROUPS = 150;
 const ADDRESS_WAIT = 200;
 // Of a longer trace the browser first paints the picture that stands there without script.
 const SHOWN_AT_ONCE = 50_000;
@@ -15,19 +14,19 @@ class Page {
     this.crash = new Crash(this.trace, this.strip.unsafe);
     this.sheet = new Sheet(this.trace, byId('sheet'), (place) => this.goTo(place), (from, to) => this.stretch(from, to));
     this.source = new Source(this.trace, readBlock('sources'));
-    this.view = { from: 1, to: 1, place: 0, finding: null, own: null, mattering: null };
+    this.list = new List(this.trace, this.findings, (finding) => this.choose(finding));
+    this.card = new Card(this.trace, this.source, byId('event'));
+    this.view = { from: 1, to: 1, place: 0, event: 0, finding: null, own: null, mattering: null };
     Object.assign(this.view, { focus: focusOf(this.trace, null), most: MOST_FOCUS_LINES });
-    this.groupLimit = MOST_GROUPS;
   }
 
   start() {
     byId('still').remove();
     byId('page').hidden = false;
-    this.writeHead();
-    this.writeSigns();
+    new Head(this.trace, this.findings, this.source).write();
     byId('source').hidden = !this.source.has;
     this.listen();
-    this.writeGroups();
+    this.list.write();
     this.readAddress(true);
     document.documentElement.dataset.ready = String(Math.round(performance.now()));
   }
@@ -44,16 +43,19 @@ class Page {
     const more = own === null ? 0 : assertionSlice(trace, finding.number).length - mattering.length;
     const from = mattering?.at(0) ?? 1;
     const to = mattering?.at(-1) ?? Math.min(trace.events, 60);
+    const event = place ?? (finding === null ? 0 : eventToShow(finding));
     this.view = {
-      ...this.view, finding, focus, mattering, more, from, to, place: crash, own: own !== null && own.place === crash ? own : null,
+      ...this.view, finding, focus, mattering, more, from, to, event, place: crash, own: own !== null && own.place === crash ? own : null,
     };
     this.drawAll();
   }
 
-  // The place of a finding that has no crash of its own: the end for what is never persisted, else right after its events.
+  // The place of a finding that has no crash of its own: the end for what is never persisted, where a crash shows what is late or hinted at,
+  // else right after its events.
   placeOf(finding) {
     if (finding === null) return 0;
-    return finding.kind === 'never_persisted' ? this.trace.events : Math.max(...eventsOf(finding.entry));
+    if (finding.kind === 'never_persisted') return this.trace.events;
+    return Math.max(...eventsOf(finding.entry), shownAt(this.trace, finding.entry, otherOf(this.trace, finding.entry)));
   }
 
   // Shows a stretch as it is, with all of its events.
@@ -71,14 +73,14 @@ class Page {
     if (!Number.isFinite(place)) return;
     const to = Math.max(0, Math.min(trace.events, Math.round(place)));
     const entry = view.finding?.kind === 'failure' ? view.finding.entry : null;
-    this.view = { ...view, place: to, own: entry !== null && entry.place === to ? entry : null };
+    this.view = { ...view, place: to, event: to, own: entry !== null && entry.place === to ? entry : null };
     if (to < view.from - 1 || to > view.to) {
       const length = view.mattering === null ? view.to - view.from + 1 : 60;
       const from = Math.max(1, to - Math.floor(length / 2));
       this.stretch(from, from + length - 1);
       return;
     }
-    this.sheet.place(to, this.view.own);
+    this.sheet.place(this.view);
     this.sheet.reveal(to);
     this.afterPlace();
   }
@@ -104,11 +106,13 @@ class Page {
     else if (at < layout.columns.length) this.goTo(layout.columns[at].last);
   }
 
-  zoom(factor) {
+  // Closer or wider, with an event at the same part of what is drawn; without one the crash, or the middle.
+  zoom(factor, anchor = null) {
     const { from, to, place } = this.view;
-    const middle = place >= from && place <= to ? place : Math.round((from + to) / 2);
-    const length = Math.max(4, Math.round((to - from + 1) * factor));
-    this.stretch(middle - Math.floor(length / 2), middle - Math.floor(length / 2) + length - 1);
+    const held = anchor ?? anchorOf(from, to, place);
+    const [first, last] = zoomed(this.view, this.trace.events, factor, held);
+    this.stretch(first, last);
+    if (held.x !== null) this.sheet.hold(held.number, held.x);
   }
 
   move(part) {
@@ -123,7 +127,7 @@ class Page {
     this.sheet.draw(this.view);
     this.sheet.reveal(this.view.place);
     this.writeFinding();
-    this.markGroup();
+    this.list.mark(this.view.finding);
     this.writeTold();
     this.afterPlace();
   }
@@ -142,87 +146,9 @@ class Page {
     byId('own-crash').hidden = view.finding?.kind !== 'failure';
     byId('own-crash').disabled = view.own !== null;
     if (byId('list').open) this.writeList();
+    this.card.write(view.event);
     this.writeSource();
     this.writeAddress();
-  }
-
-  writeHead() {
-    const { about } = this.trace;
-    const { summary } = this.findings;
-    document.title = `${cut(about.name.replace(TURNING, '?'), 80)} - pmtrim explain`;
-    byId('title').replaceChildren('pmtrim explain: ', foreign(about.name));
-    const flushes = `${grouped(summary.flushes_dropped)} of ${count(summary.flushes, 'flush', 'flushes')}`;
-    const fences = `${grouped(summary.fences_dropped)} of ${count(summary.fences, 'fence')}`;
-    const lines = `${count(summary.cache_lines, 'cache line')} of ${about.line_size} bytes`;
-    const told = [
-      `${count(about.events, 'event')}, ${count(summary.threads, 'thread')}, ${lines}`,
-      `✕ ${grouped(summary.failing)} of ${count(summary.assertions, 'assertion')} can be violated by a crash`,
-      `▨ ${grouped(summary.never_persisted)} of ${count(summary.stores, 'store')} never persisted`,
-      `▽ ${flushes} and ${fences} do nothing`,
-    ];
-    byId('summary').replaceChildren(...told.map((text) => make('span', {}, text)));
-    const key = '✕ is where an assertion fails, the frame what the picture shows, the dashed line the crash. Draw a frame to choose a stretch.';
-    byId('strip-key').textContent = key;
-    byId('strip').setAttribute('title', key);
-    byId('proved').replaceChildren(...this.provedNodes(about));
-    byId('summary').append(...this.leftOut(about, summary).map((text) => make('span', { class: 'note' }, ...text)));
-  }
-
-  // What is not on the page: by the words that were given, by the limit, and for size.
-  leftOut(about, summary) {
-    const found = [];
-    const asked = Object.entries(summary.asked ?? {}).filter(([, value]) => value !== null);
-    const spelled = (value) => (typeof value === 'object' ? `${value.address}:${value.length}` : String(value));
-    const told = ([name, value]) => [` ${name} `, foreign(spelled(value)), ';'];
-    if (asked.length > 0) found.push(['Only what was asked for:', ...asked.flatMap(told), ' the counts are of the whole trace']);
-    const [never, over] = [summary.ignored_never_persisted ?? 0, summary.ignored_overwritten ?? 0];
-    if (never + over > 0) found.push([`Ignored, as asked: ${grouped(never)} never persisted, ${grouped(over)} overwritten`]);
-    const more = Object.entries(summary.more ?? {}).filter(([, left]) => left > 0);
-    const kinds = more.map(([kind, left]) => `${grouped(left)} of ${KIND_WORDS[kind] ?? kind}`).join(', ');
-    if (more.length > 0) found.push([`Not on this page, by its limit: ${kinds} (--limit says how many)`]);
-    if (summary.assertions === 0) found.push(['The trace has no assertion: what is saved too late is not found without one']);
-    if (!this.source.isWhole) found.push(['Not all source lines that labels name are here: a page has at most two million bytes of them']);
-    const labels = about.labels_left_out;
-    const stands = this.trace.labelled.length > 0 ? '; … stands for each' : '';
-    if (labels > 0) found.push([`The labels of ${count(labels, 'event')} are left out for size${stands}`]);
-    if (this.trace.labelsCut()) found.push([`Labels are cut at ${grouped(MOST_LABEL)} bytes`]);
-    if (!about.ranges) found.push(['The ranges of assertions are left out for size, but for those of the findings']);
-    if (!about.values) found.push(['The bytes of stores are left out for size, but for those of the failures']);
-    return found;
-  }
-
-  provedNodes(about) {
-    return [
-      make('p', {}, `${about.program} wrote this page. Its proved functions gave the verdicts, the crash of each failed assertion with its`
-        + ' bytes, the causes, what mends a loss, what does nothing, and from which place on each store is safe. They speak of the trace'
-        + ' whose bytes have this SHA-256:'),
-      make('p', {}, make('code', { id: 'sha256' }, about.sha256)),
-      make('p', {}, 'The script of this page looks these up, puts those of one cause together, and draws them; it decides nothing. What it'
-        + ' does is tested, not proved: which events and lines are in sight and where they stand, the strip, the filters, and at a place that'
-        + ' the slider chooses the bytes, which are those of the safe stores laid over each other.'),
-    ];
-  }
-
-  writeSigns() {
-    const sign = (paths) => shape(
-      'svg', { width: 26, height: 16, viewBox: '-13 -8 26 16', 'aria-hidden': 'true' },
-      ...paths.map(([name, path]) => shape('path', { class: name, d: path })),
-    );
-    const signs = [
-      [[['unsafe', 'M-12 -6h24v12h-24z']], 'not safe', 'a crash may lose the store'],
-      [[['safe', 'M-12 -2h24v5h-24z']], 'safe', 'no crash loses the store'],
-      [[['dot', 'M-4 -4h8v8h-8z']], 'store', 'a store'],
-      [[['mark', 'M-7 -6H7L0 7Z']], 'flush', 'a flush'],
-      [[['mark', 'M-3 -8h6v16h-6z']], 'fence', 'a fence'],
-      [[['mark hollow', 'M-7 -6H7L0 7Z']], 'does nothing', 'a hollow flush or fence does nothing'],
-      [[['mark bad', 'M-7 -6H7L0 7Z'], ['shout', 'M0 -4.5V0M0 1.5V3']], 'fence missing', 'a flush whose fence is missing: add the fence'],
-      [[['wait', 'M-12 0H12']], 'waits', 'from a flush to the next fence of its thread; dashed: none comes'],
-      [[['pass', 'M-7 0a7 7 0 1 0 14 0a7 7 0 1 0 -14 0'], ['tick', 'M-4 0L-1 4L4 -4']], 'passes', 'an assertion that passes'],
-      [[['fail', 'M-7 0a7 7 0 1 0 14 0a7 7 0 1 0 -14 0'], ['cross', 'M-4 -4L4 4M4 -4L-4 4']], 'fails', 'an assertion that fails'],
-      [[['crash-line', 'M0 -8V8']], 'crash', 'the crash'],
-      [[['lost', 'M-4 -4L4 4M4 -4L-4 4']], 'lost', 'a store that the crash loses'],
-    ];
-    byId('signs').replaceChildren(...signs.map(([paths, text, title]) => make('span', { title }, sign(paths), text)));
   }
 
   writeTold() {
@@ -235,6 +161,7 @@ class Page {
     const more = isPart && view.more > 0 ? `; pmtrim slice --failure ${view.finding.number} has ${grouped(view.more)} more that tell of it` : '';
     const told = `Events ${grouped(view.from)} to ${grouped(view.to)}: ${drawn}${left}${more}.`;
     byId('picture-told').textContent = this.trace.events === 0 ? 'The trace has no events.' : told;
+    showSigns(byId('sheet'), byId('signs'));
     byId('matter').checked = view.mattering !== null;
     byId('matter').disabled = view.finding === null;
     byId('more-lines').hidden = rows.moreLines === 0 || view.mattering !== null;
@@ -245,56 +172,6 @@ class Page {
   // The source lines of what is chosen, where they are asked for.
   writeSource() {
     if (byId('source').open) this.source.write(byId('source-places'), this.view);
-  }
-
-  writeGroups() {
-    const { groups, shown, all } = this.findings;
-    byId('found').textContent = `${count(shown.length, 'finding')} of ${grouped(all.length)}, ${count(groups.length, 'cause')}`;
-    const nodes = [];
-    for (const kind of KINDS) {
-      const own = groups.filter((group) => group.kind === kind);
-      if (own.length === 0) continue;
-      const total = own.reduce((sum, group) => sum + group.stands, 0);
-      const left = this.findings.summary.more?.[kind] ?? 0;
-      const told = left > 0 ? `${grouped(total)}, and ${grouped(left)} not on this page` : grouped(total);
-      nodes.push(make('h3', { class: kind }, `${KIND_SIGNS[kind]} ${KIND_WORDS[kind]} `, make('span', { class: 'soft' }, told)));
-      nodes.push(make('ul', {}, ...own.slice(0, this.groupLimit).map((group) => make('li', {}, this.groupButton(group)))));
-      if (own.length > this.groupLimit) nodes.push(this.moreGroups(own.length - this.groupLimit));
-    }
-    if (nodes.length === 0) nodes.push(make('p', {}, all.length === 0 ? 'Nothing is found wrong.' : 'No finding meets the filters.'));
-    byId('groups').replaceChildren(...nodes);
-  }
-
-  moreGroups(left) {
-    const more = make('button', { type: 'button' }, `Show ${count(left, 'more cause')}`);
-    more.addEventListener('click', () => {
-      this.groupLimit = Infinity;
-      this.writeGroups();
-      this.markGroup();
-    });
-    return more;
-  }
-
-  groupButton(group) {
-    const owner = group.label === undefined ? ownerOf(this.trace, group.number) : group;
-    const where = owner.label === null ? [`thread ${owner.thread}`] : ['at ', foreign(owner.label, 60)];
-    const button = make('button', { type: 'button', class: 'group', 'data-kind': group.kind, 'data-number': group.number });
-    const words = make('span', {}, group.words, make('br'), make('span', { class: 'soft' }, ...where));
-    button.append(make('span', { class: 'times' }, `${grouped(group.stands)}×`), words);
-    button.addEventListener('click', () => this.choose(group.members[0]));
-    group.button = button;
-    return button;
-  }
-
-  markGroup() {
-    byId('groups').querySelector('[aria-current]')?.removeAttribute('aria-current');
-    const group = this.view.finding === null ? null : this.findings.groupOf(this.view.finding);
-    if (!group?.button) return;
-    group.button.setAttribute('aria-current', 'true');
-    const nav = byId('causes');
-    const box = group.button.getBoundingClientRect();
-    const outer = nav.getBoundingClientRect();
-    if (box.top < outer.top || box.bottom > outer.bottom) nav.scrollTop += box.top - outer.top - outer.height / 3;
   }
 
   writeFinding() {
@@ -310,9 +187,9 @@ class Page {
       byId('mend').replaceChildren(make('p', {}, 'No finding is chosen.'));
       return;
     }
-    const group = this.findings.groupOf(finding);
+    const group = this.list.groupOf(finding);
     const all = `${at + 1} of ${count(shown.length, 'finding')}`;
-    const told = (members) => `${members.indexOf(finding) + 1} of ${members.length} with this cause; ${all}`;
+    const told = (members) => `${members.indexOf(finding) + 1} of ${members.length} ${group.section === 'place' ? 'at this place' : 'with this cause'}; ${all}`;
     byId('finding-place').textContent = group === null ? 'not among those that the filters leave' : told(group.members);
     const { head, rest } = findingNodes(this.trace, finding);
     byId('told').replaceChildren(...head);
@@ -327,7 +204,9 @@ class Page {
       if (this.sheet.layout.bins) return make('li', {}, `events ${column.first} to ${column.last} `, button);
       const number = column.first;
       const state = stateOf(this.trace, number);
-      return make('li', { 'data-event': number }, ...eventNodes(this.trace, number), state === '' ? ' ' : `; ${state} `, button);
+      const line = this.source.textOf(number);
+      const code = line === null ? [] : [make('br'), make('code', { class: 'soft' }, make('bdi', { dir: 'ltr' }, line))];
+      return make('li', { 'data-event': number }, ...eventNodes(this.trace, number), state === '' ? ' ' : `; ${state} `, button, ...code);
     });
     byId('events').replaceChildren(make('ul', {}, ...rows));
   }
@@ -361,10 +240,24 @@ class Page {
     on('filters', 'reset', () => setTimeout(() => this.filter()));
     on('strip', 'keydown', (event) => this.stripKey(event));
     on('sheet', 'keydown', (event) => this.sheetKey(event));
+    listenToWheel(byId('strip'), this.wheelOf((x) => this.strip.anchorAt(x, this.view), () => false));
+    listenToWheel(byId('sheet'), this.wheelOf((x) => this.sheet.anchorAt(x), (by) => this.sheet.scrolls(by)));
     document.addEventListener('keydown', (event) => this.key(event));
     window.addEventListener('hashchange', () => this.readAddress(false));
     window.addEventListener('resize', () => this.drawAll());
     this.fillChoices();
+  }
+
+  // What the wheel does over a drawing: which event stands at a pointer, and whether the drawing scrolls so by itself.
+  wheelOf(anchorAt, scrolls) {
+    return {
+      scrolls,
+      zoom: (factor, x) => this.zoom(factor, anchorAt(x)),
+      move: (by) => {
+        this.move(by);
+        this.sheet.toEnd(by);
+      },
+    };
   }
 
   stretchOfFields() {
@@ -382,11 +275,11 @@ class Page {
   fillChoices() {
     const kinds = KINDS.filter((kind) => this.findings.all.some((finding) => finding.kind === kind));
     const option = (value, text) => make('option', { value }, text);
-    byId('filter-kind').replaceChildren(option('', 'all'), ...kinds.map((kind) => option(kind, KIND_WORDS[kind])));
+    byId('filter-kind').replaceChildren(option('', 'all kinds'), ...kinds.map((kind) => option(kind, KIND_WORDS[kind])));
     const threads = new Set();
     for (const finding of this.findings.all) for (const number of membersOf(this.trace, finding.entry)) threads.add(this.trace.thread[number]);
     const rising = [...threads].sort((a, b) => a - b);
-    byId('filter-thread').replaceChildren(option('', 'all'), ...rising.map((thread) => option(thread, String(thread))));
+    byId('filter-thread').replaceChildren(option('', 'all threads'), ...rising.map((thread) => option(thread, `thread ${thread}`)));
   }
 
   filter() {
@@ -400,8 +293,8 @@ class Page {
       field.setAttribute('aria-invalid', String(text !== '' && asked[name] === null));
     }
     this.findings.filter(asked);
-    this.writeGroups();
-    this.markGroup();
+    this.list.write();
+    this.list.mark();
     this.writeFinding();
   }
 
@@ -416,6 +309,9 @@ class Page {
     else if (event.key === 'p') this.step(-1);
     else if (event.key === 'c') byId('slider').focus();
     else if (event.key === 's') byId('source').open = this.source.has && !byId('source').open;
+    else if (event.key === '+' || event.key === '=') this.zoom(0.5);
+    else if (event.key === '-') this.zoom(2);
+    else if (event.key === '0') this.stretch(1, this.trace.events);
     else if (event.key === '/') {
       event.preventDefault();
       byId('filter-text').focus();
@@ -432,9 +328,6 @@ class Page {
       PageDown: () => this.move(1),
       Home: () => this.stretch(1, length),
       End: () => this.stretch(events - length + 1, events),
-      '+': () => this.zoom(0.5),
-      '=': () => this.zoom(0.5),
-      '-': () => this.zoom(2),
     }[event.key];
     if (does === undefined) return;
     event.preventDefault();
@@ -446,7 +339,8 @@ class Page {
     const by = { ArrowLeft: -1, ArrowRight: 1 }[event.key];
     if (by === undefined) return;
     event.preventDefault();
-    this.stepColumn(by);
+    if (event.shiftKey) this.move(by / 2);
+    else this.stepColumn(by);
   }
 
   // The address: `#failure=3`, `#place=12`, `#failure=3&place=2`, `&from=1&to=60`.
@@ -454,7 +348,7 @@ class Page {
   writeAddress() {
     const { finding, place, from, to, mattering, own } = this.view;
     const parts = [];
-    if (finding !== null) parts.push(`${finding.kind}=${finding.number}`);
+    if (finding !== null) parts.push(`${finding.name}=${finding.number}`);
     if (own === null) parts.push(`place=${place}`);
     if (mattering === null) parts.push(`from=${from}`, `to=${to}`);
     const address = `#${parts.join('&')}`;
@@ -467,7 +361,7 @@ class Page {
   readAddress(isFirst) {
     const asked = new URLSearchParams(location.hash.slice(1));
     const number = (name) => (/^[0-9]{1,7}$/.test(asked.get(name) ?? '') ? Number(asked.get(name)) : null);
-    const kind = KINDS.find((name) => asked.has(name));
+    const kind = [...KINDS, ...Object.keys(HINTS)].find((name) => asked.has(name));
     const found = kind === undefined ? null : this.findings.find(kind, number(kind));
     const place = number('place') === null ? null : Math.min(this.trace.events, number('place'));
     if (found === null && place === null && number('from') === null) {

@@ -9,8 +9,10 @@ const LEVEL = 20;
 const BAR = 14;
 const FOLDED = 16;
 const MOST_LEVELS = 6;
-const LETTER = 6.3;
+const LETTER = 6.7;
 const NAMES = 150;
+// How far a tag reaches behind the crash, with some room.
+const TAG = 42;
 // How many pixels a printed page has from left to right.
 const PRINTED = 1000;
 
@@ -36,7 +38,7 @@ class Sheet {
     for (const line of this.rows.lines) this.lineRow(line);
     this.drawHead();
     this.put();
-    this.place(view.place, view.own);
+    this.place(view);
   }
 
   put() {
@@ -88,7 +90,7 @@ class Sheet {
     lines.forEach((line, at) => group.append(shape('text', { class: 'mid', x: column.middle, y: 27 + 11 * at }, line)));
     if (label !== null) {
       const most = Math.floor((column.width - 4) / 5.6);
-      group.append(shape('text', { class: 'mid tiny soft', x: column.middle, y: 51 }, plain(label, most)));
+      group.append(shape('text', { class: 'mid tiny soft', x: column.middle, y: 51 }, plain(withoutFolder(label), most)));
     }
     return group;
   }
@@ -303,11 +305,18 @@ class Sheet {
     return shape('rect', { class: 'safe', x: bar.end, y, width: bar.rest - bar.end, height });
   }
 
+  // The widest part of a bar between its ticks.
+  widest(bar) {
+    const edges = [bar.start, ...bar.stores.map((number) => this.layout.x(number)), bar.end];
+    const parts = edges.slice(1).map((end, at) => ({ start: edges[at], room: end - edges[at] }));
+    return parts.reduce((widest, part) => (part.room > widest.room ? part : widest));
+  }
+
   // The longest of the words that has room in a bar, and where it is safe behind it.
   words(group, bar, y, choices) {
-    const room = bar.end - bar.start - 8;
-    const told = choices.find((choice) => choice.length * LETTER <= room);
-    if (told !== undefined) group.append(shape('text', { class: 'halo', x: bar.start + 5, y: y + 11 }, told));
+    const { start, room } = this.widest(bar);
+    const told = choices.find((choice) => choice.length * LETTER <= room - 8);
+    if (told !== undefined) group.append(shape('text', { class: 'halo', x: start + 5, y: y + 11 }, told));
     if (bar.safe > this.trace.events) return;
     const safe = [`safe from ${bar.safe} on`, 'safe'].find((choice) => choice.length * LETTER + 14 <= bar.rest - bar.end);
     if (safe !== undefined) group.append(shape('text', { class: 'safe-word', x: bar.end + 6, y: y + 8 }, safe));
@@ -336,13 +345,49 @@ class Sheet {
     });
   }
 
-  // Shows the crash at a place, and keeps it in sight; of a failure's own crash what it loses and keeps.
-  place(place, own) {
+  // Shows the crash at a place, and the event that is chosen; of a failure's own crash what it loses and keeps.
+  place({ place, own, event }) {
     const x = Math.min(this.layout.width - 1, Math.max(1, this.layout.edge(place)));
     const line = shape('path', { class: 'crash-line', d: `M${x} ${HEAD - 20}V${HEAD}` });
     this.crashHead.replaceChildren(line, shape('path', { class: 'crash-top', d: `M${x - 6} ${HEAD - 20}h12l-6 9z` }));
     this.crashCells.replaceChildren(shape('path', { class: 'crash-line', 'data-place': place, d: `M${x} 0V${this.height}` }));
+    this.mark(event);
+    for (const text of this.box.querySelectorAll('text[data-x]')) give(text, { x: text.dataset.x, visibility: 'visible' }, []);
+    for (const bar of this.parts.cells.querySelectorAll('g.store')) this.makeRoom(bar, x, 5);
     if (own !== null && !this.layout.bins) this.tags(own, x);
+  }
+
+  // Marks the column of the event that is chosen.
+  mark(event) {
+    const column = this.layout.bins ? null : this.layout.column(event);
+    this.parts.chosen?.forEach((shown) => shown.remove());
+    const box = (height) => shape('rect', { class: 'chosen', x: column.x + 1, y: 0, width: column.width - 2, height });
+    this.parts.chosen = column === null ? [] : [box(HEAD), box(this.height)];
+    this.parts.chosen.forEach((shown, at) => [this.parts.head, this.parts.cells][at].append(shown));
+  }
+
+  // What stands at a pointer: the place, its part of the picture, and where it is seen.
+  anchorAt(x) {
+    const { layout, box } = this;
+    const seen = x - box.getBoundingClientRect().left - NAMES;
+    const at = Math.max(0, Math.min(layout.width - 1, seen + box.scrollLeft));
+    return { number: layout.placeAt(at), part: at / layout.width, x: seen };
+  }
+
+  // Scrolls so that a place stands where it stood.
+  hold(number, x) {
+    this.box.scrollLeft = this.layout.xOfPlace(number) - x;
+  }
+
+  // Scrolls to the end on the side to which the stretch was moved, so that what comes next is seen.
+  toEnd(by) {
+    this.box.scrollLeft = by > 0 ? this.box.scrollWidth : 0;
+  }
+
+  // Whether there is more of the picture to the left or right, so that the wheel scrolls it.
+  scrolls(by) {
+    const { scrollLeft, scrollWidth, clientWidth } = this.box;
+    return by < 0 ? scrollLeft > 0 : scrollLeft + clientWidth < scrollWidth - 1;
   }
 
   // Marks each store that the crash loses and the one that it keeps, with a word in each of their rows.
@@ -356,11 +401,26 @@ class Sheet {
       this.crashCells.append(shape('path', { class: name, 'data-store': number, d: sign }));
       if (words.has(`${name} ${top}`)) continue;
       words.add(`${name} ${top}`);
+      this.makeRoom(mark.parentNode, x, TAG);
       this.crashCells.append(
         shape('rect', { class: `tag ${name}`, x: x + 3, y: Number(top) + 2, width: 34, height: 16, rx: 3 }),
         shape('text', { class: 'tag-word', x: x + 7, y: Number(top) + 14 }, name),
       );
     }
+  }
+
+  // Moves the words of a bar behind the crash, if they would stand under its line or its tag. Without room there they are not shown under a
+  // tag.
+  makeRoom(bar, x, room) {
+    const text = bar.querySelector('text.halo');
+    const wide = text === null ? 0 : text.textContent.length * LETTER;
+    const [left, box] = [Number(text?.getAttribute('x')), bar.querySelector('.unsafe')];
+    if (text === null || left + wide < x || left >= x + room) return;
+    text.dataset.x ??= String(left);
+    const ticks = [...bar.querySelectorAll('.tickmark')].map((tick) => Number(/^M([\d.]+)/.exec(tick.getAttribute('d'))[1]));
+    const end = Math.min(Number(box.getAttribute('x')) + Number(box.getAttribute('width')), ...ticks.filter((tick) => tick > x));
+    if (x + room + wide <= end) give(text, { x: x + room }, []);
+    else if (room === TAG) give(text, { visibility: 'hidden' }, []);
   }
 
   // Scrolls so that a place stands in sight.
@@ -369,6 +429,12 @@ class Sheet {
     const room = this.box.clientWidth - NAMES;
     if (x < this.box.scrollLeft + 40 || x > this.box.scrollLeft + room - 60) this.box.scrollLeft = Math.max(0, x - room * 0.7);
   }
+}
+
+// A label without the folder of its file.
+function withoutFolder(label) {
+  const [word] = label.split(' ', 1);
+  return label.slice(word.lastIndexOf('/') + 1);
 }
 
 function short(number) {

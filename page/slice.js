@@ -1,6 +1,6 @@
 'use strict';
 
-// The events that show a failed assertion, or stores that are never persisted, by the rules of `pmtrim slice`.
+// The events that show a failed assertion, or stores that are never persisted or late, by the rules of `pmtrim slice`; and those of a hint.
 
 const MOST_SLICE = 24;
 
@@ -63,7 +63,8 @@ function storesSlice(trace, stores) {
 
 // The events of a finding that has a slice, as far as there is room: those that it names, and the last others; null of another finding.
 function sliceOf(trace, { kind, entry }, named) {
-  if (kind === 'never_persisted') return storesSlice(trace, membersOf(trace, entry));
+  if (kind === 'never_persisted' || kind === 'late') return storesSlice(trace, membersOf(trace, entry));
+  if (kind === 'hint') return [...new Set(hintEvents(trace, entry))].sort((a, b) => a - b);
   if (kind !== 'failure') return null;
   const all = assertionSlice(trace, entry.event.event);
   let over = Math.max(0, all.length - MOST_SLICE);

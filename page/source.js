@@ -40,15 +40,15 @@ class Source {
   }
 
   // The lines round a place, or words that say why there are none.
-  linesAt({ file, line }) {
+  linesAt({ file, line }, around = SOURCE_AROUND) {
     const leftOut = `${line} is left out, by the limits of this page`;
     const found = this.files.get(file);
     if (found === undefined) return leftOut;
     if (found.why !== '') return found.why;
     const part = found.parts.find(({ first, lines }) => first <= line && line < first + lines.length);
     if (part === undefined) return this.isWhole ? `it has no line ${line}` : leftOut;
-    const from = Math.max(part.first, line - SOURCE_AROUND);
-    const to = Math.min(part.first + part.lines.length - 1, line + SOURCE_AROUND);
+    const from = Math.max(part.first, line - around);
+    const to = Math.min(part.first + part.lines.length - 1, line + around);
     return part.lines.slice(from - part.first, to - part.first + 1).map((text, at) => ({ number: from + at, text }));
   }
 
@@ -81,13 +81,30 @@ class Source {
     const data = { class: 'place', 'data-file': place.file, 'data-line': place.line };
     const found = this.linesAt(place);
     if (typeof found === 'string') return make('details', { ...data, open: '' }, head, make('p', { class: 'note' }, `Not shown: ${found}.`));
-    const rows = found.map(({ number, text }) => this.row(number, text, number === place.line));
-    return make('details', { ...data, ...(isOwn ? { open: '' } : {}) }, head, make('div', { class: 'source-text', tabindex: 0, role: 'group', 'aria-label': 'Source lines' }, ...rows));
+    return make('details', { ...data, ...(isOwn ? { open: '' } : {}) }, head, this.linesNode(found, place.line));
+  }
+
+  // Lines as an editor shows them, with one marked.
+  linesNode(lines, here) {
+    const rows = lines.map(({ number, text }) => this.row(number, text, number === here));
+    return make('div', { class: 'source-text', tabindex: 0, role: 'group', 'aria-label': 'Source lines' }, ...rows);
+  }
+
+  // The text of the source line of an event, without the space before it; null where the page has none.
+  textOf(number) {
+    const [place] = this.has ? placesOf(this.trace.label(number)) : [];
+    const found = place === undefined ? '' : this.linesAt(place, 0);
+    return typeof found === 'string' ? null : shownLine(found[0].text).trim();
   }
 
   row(number, text, isHere) {
-    const shown = text.replaceAll('\t', '    ').replace(TURNING, '?');
+    const shown = shownLine(text);
     const sign = make('span', { class: 'soft' }, `${isHere ? '▸' : ' '}${String(number).padStart(5)} `);
     return make('div', { class: isHere ? 'here' : '', ...(isHere ? { 'aria-current': 'true' } : {}) }, sign, make('bdi', { dir: 'ltr' }, shown));
   }
+}
+
+// A line of source without what turns the direction or has no shape.
+function shownLine(text) {
+  return text.replaceAll('\t', '    ').replace(TURNING, '?');
 }

@@ -3,7 +3,7 @@
 // The whole trace as a strip, binned: how many stores come, how many cache lines are not safe, and where assertions fail; and in it
 // the stretch that the picture shows, and the crash.
 
-const STRIP = { height: 52, stores: [10, 10], unsafe: [30, 12], fails: 47 };
+const STRIP = { height: 54, stores: [12, 9], unsafe: [33, 11], fails: 49 };
 const MOST_BINS = 600;
 
 class Strip {
@@ -43,6 +43,13 @@ class Strip {
   numberAt(x) {
     const part = Math.min(1, Math.max(0, x / Math.max(1, this.width)));
     return Math.min(this.trace.events, Math.max(1, Math.ceil(part * this.trace.events)));
+  }
+
+  // What stands at a pointer: the place, and its part of the stretch that is shown.
+  anchorAt(x, { from, to }) {
+    const seen = x - this.box.getBoundingClientRect().left;
+    const number = (seen / Math.max(1, this.width)) * this.trace.events;
+    return { number, part: Math.min(1, Math.max(0, (number - from + 1) / (to - from + 1))), x: null };
   }
 
   // Draws the bins anew where the width changed.

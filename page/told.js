@@ -42,6 +42,8 @@ const TOLD = {
       ...(entry.count === 1 ? [] : item('last', ...eventNodes(trace, entry.last.event))),
     ],
   }),
+  late: lateTold,
+  hint: hintTold,
   dropped: (trace, entry) => ({
     headline: `The ${trace.word(entry.event.event)} of event ${entry.event.event} does nothing`,
     why: reasonNodes(trace, entry.reason),
@@ -73,6 +75,8 @@ const REMEDIES = {
 // Where the flush and fence go, or what else is to be done.
 function remedyNodes(trace, { kind, entry }) {
   if (entry.mend) return mendNodes(trace, entry.mend);
+  if (kind === 'late') return ownFlushNodes(trace, entry.first.event);
+  if (kind === 'hint') return hintRemedy(trace, entry);
   if (kind === 'dropped' && entry.reason.reason === 'unfenced') {
     return [`Keep the flush, and add the fence of thread ${entry.event.thread} after it: most often that fence was forgotten.`];
   }

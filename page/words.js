@@ -99,13 +99,23 @@ const REASON_WORDS = {
 
 const KIND_WORDS = {
   failure: 'Failed assertions',
+  place: 'Never persisted or late, by place',
   never_persisted: 'Never persisted',
+  late: 'Saved late',
+  hint: 'Hints',
   dropped: 'Does nothing',
   overwritten: 'Overwritten before any flush',
   unwritten: 'Never stored',
 };
 
-const KIND_SIGNS = { failure: '✕', never_persisted: '▨', dropped: '▽', overwritten: '≡', unwritten: '∅' };
+const KIND_SIGNS = { failure: '✕', place: '▨', never_persisted: '▨', late: '◷', hint: '?', dropped: '▽', overwritten: '≡', unwritten: '∅' };
+
+// What becomes of the stores of a place.
+function placeWords(place) {
+  const parts = [[place.never_persisted, 'never persisted'], [place.late, 'saved late'], [place.in_time, 'in time'], [place.ignored, 'ignored']];
+  const told = parts.filter(([number], at) => number > 0 || at < 3).map(([number, word]) => `${grouped(number)} ${word}`);
+  return told.join(', ');
+}
 
 // Why a store of this cache line can be lost at the place that is asked about.
 function causeNodes(trace, cause, line) {

@@ -11,8 +11,10 @@ import page_hostile
 import page_large
 import page_looks
 import page_machine
+import page_places
 import page_sources
 import page_walk
+import page_zoom
 from browser import Browser
 from checks import Checks, add_tests, need_command
 from page_files import Pages
@@ -51,6 +53,12 @@ class Walks(Browsing):
 
     def test_sources(self):
         self.walk(page_sources.cases)
+
+    def test_rows(self):
+        self.walk(page_places.agree)
+
+    def test_zoom(self):
+        self.walk(page_zoom.cases)
 
 
 class Large(Browsing):

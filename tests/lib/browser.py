@@ -133,6 +133,11 @@ class Browser:
         self.mouse("mousePressed", x, y)
         self.mouse("mouseReleased", x, y)
 
+    def wheel(self, x, y, by, modifiers=0):
+        """Turns the wheel by so many pixels, with Ctrl (2) or Shift (8) held, and waits until the page has drawn what comes of it."""
+        self.send("Input.dispatchMouseEvent", type="mouseWheel", x=x, y=y, deltaX=0, deltaY=by, modifiers=modifiers)
+        self.run("new Promise((done) => requestAnimationFrame(() => requestAnimationFrame(() => setTimeout(done, 20))))")
+
     def click(self, selector):
         """Clicks in the middle of an element, which is scrolled into sight first; it has to be the one that is there."""
         found = self.run(

@@ -7,13 +7,13 @@ import unicodedata
 
 import grouped
 from drawn import SVG, of_class, shown_stores, title_of
+from drawn_notes import TOLD, dropped_told, overwritten_told, unwritten_told
 from explained import Explained
 from explained_text import dropped_groups, overwritten_groups
 from machine import FENCES, FLUSHES, is_kept, spelled, verdict
 from slices import slice_of, store_slice_of
 
 COLUMNS = 120
-TOLD = 24
 CRASHES = 12
 WIDTH, HEIGHT = 1400, 24000
 LETTER = {"headline": 9.1, "told": 7.9, "small": 5.5}
@@ -248,7 +248,7 @@ def crashes_are_right(picture, trace):
 
 def story_is_right(picture, trace):
     """Without options: what explain tells first. Of a failure its slice; else the slices of stores to a line that are never persisted; else
-    what has no effect, is written over, saved late or never stored; else the first events."""
+    what has no effect, is written over, saved late or never stored, with what tells of that; else the first events."""
     explained = Explained(trace, [], {})
     if explained.causes:
         number = explained.causes[0][1][0]
@@ -260,9 +260,8 @@ def story_is_right(picture, trace):
     about = first_note(explained)
     if about is None:
         return picture.numbers == list(trace.numbers)[:COLUMNS]
-    if "late" in about[0] and picture.numbers != store_slice_of(trace, about[1]):
-        return False
-    return title_of(picture.root) == about[0] and set(about[1:]) <= set(picture.numbers)
+    headline, told, left = about
+    return title_of(picture.root) == headline and picture.numbers == sorted(told) and (left > 0 or is_all_told(picture))
 
 
 def is_all_told(picture):
@@ -282,17 +281,19 @@ def lost_is_right(picture, trace, group):
 
 
 def first_note(explained):
-    """Of what explain tells first, where that is no error, the headline, and the events that it speaks of."""
+    """Of what explain tells first, where that is no error: the headline, the events that tell of it, and how many more have no room."""
+    trace = explained.trace
     for _, numbers in dropped_groups(explained):
-        return f"Event {numbers[0]} has no effect", numbers[0]
+        by = explained.reason(numbers[0])["by"]
+        return f"Event {numbers[0]} has no effect", *dropped_told(trace, numbers[0], by and by["event"])
     for group in overwritten_groups(explained):
         earlier, later = group["earlier"]["event"], group["later"]["event"]
-        return f"Store {earlier} is written over by store {later} before any flush", earlier, later
+        return f"Store {earlier} is written over by store {later} before any flush", overwritten_told(trace, earlier, later), 0
     for _, stores in grouped.late(explained):
-        return f"Store {stores[0]} is saved late", stores[0]
+        return f"Store {stores[0]} is saved late", store_slice_of(trace, stores[0]), 0
     for entry in explained.unwritten():
         number = entry["event"]["event"]
-        return f"The assertion of event {number} speaks of bytes that no store has written", number
+        return f"The assertion of event {number} speaks of bytes that no store has written", unwritten_told(trace, number), 0
     return None
 
 

@@ -4,8 +4,8 @@ import re
 import subprocess
 
 BLOCKS = ("about", "columns", "explained", "labels", "sources")
-KINDS = ("failure", "never_persisted", "dropped", "overwritten", "unwritten")
-NAMED_BY = {"never_persisted": "first", "overwritten": "earlier"}
+KINDS = ("failure", "never_persisted", "late", "hint", "dropped", "overwritten", "unwritten")
+NAMED_BY = {"never_persisted": "first", "late": "first", "hint": "first", "overwritten": "earlier"}
 
 # Until the page can be used.
 READY = """new Promise((done) => {
@@ -36,6 +36,11 @@ SHOWN = """(() => {
 def number_of(entry):
     """The event by which a finding is named."""
     return entry[NAMED_BY.get(entry["kind"], "event")]["event"]
+
+
+def name_of(entry):
+    """The word before that number in the address."""
+    return entry["hint"] if entry["kind"] == "hint" else entry["kind"]
 
 
 def blocks_of(text):

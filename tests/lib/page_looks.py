@@ -160,14 +160,22 @@ def widths(pages):
     pages.browser.send("Emulation.setDeviceMetricsOverride", width=1400, height=1000, deviceScaleFactor=1, mobile=False)
 
 
-# What of the chosen finding is not in sight, and the height of the row with the strip.
+# What of the chosen finding is not in sight, the heights of the rows with the strip and with the signs, and the words in the picture that
+# stand under a tag or a tick.
 SIGHT = """(() => {
   const box = (name) => document.querySelector(name).getBoundingClientRect();
-  const out = ['#told .headline', '#mend', '#sheet'].filter((name) => {
+  const out = ['#told .headline', '#mend', '#event', '#sheet', '#signs'].filter((name) => {
     const { top, bottom, left, right, height } = box(name);
     return height === 0 || top < 0 || bottom > innerHeight || left < 0 || right > innerWidth;
   });
-  return [out, box('#trace').height];
+  const boxes = (name) => [...document.querySelectorAll(`#sheet ${name}`)].map((element) => element.getBoundingClientRect());
+  const covers = [...boxes('rect.tag'), ...boxes('.tickmark')];
+  const words = [...document.querySelectorAll('#sheet text.halo')].filter((text) => getComputedStyle(text).visibility !== 'hidden');
+  const covered = words.filter((text) => {
+    const own = text.getBoundingClientRect();
+    return covers.some((other) => other.left < own.right - 1 && own.left + 1 < other.right && other.top < own.bottom - 2 && own.top + 2 < other.bottom);
+  });
+  return [out, box('#trace').height, box('#signs').height, covered.map((text) => text.textContent)];
 })()"""
 
 
@@ -178,9 +186,11 @@ def in_sight(pages):
         for width, height in ((1000, 700), (1400, 900)):
             pages.browser.send("Emulation.setDeviceMetricsOverride", width=width, height=height, deviceScaleFactor=1, mobile=False)
             pages.open(page)
-            hidden, strip = pages.browser.run(SIGHT)
+            hidden, strip, signs, covered = pages.browser.run(SIGHT)
             yield f"{name} in sight at {width} x {height}", hidden
             yield f"the strip of {name} at {width} x {height}", "" if strip < 60 else f"{strip} pixels"
+            yield f"the signs of {name} at {width} x {height} are a row", "" if 10 < signs < 24 else f"{signs} pixels"
+            yield f"no words of {name} at {width} x {height} are covered", covered
     pages.browser.send("Emulation.setDeviceMetricsOverride", width=1400, height=1000, deviceScaleFactor=1, mobile=False)
 
 

@@ -44,6 +44,44 @@ def wrong_of(found):
     return "; ".join(wrong)
 
 
+# The chosen event, its lines of source with the one that is marked, whether they are in sight, and the column that is marked.
+BESIDE = """(() => {
+  const card = document.getElementById('event');
+  const { top, bottom, height } = card.getBoundingClientRect();
+  const lines = [...card.querySelectorAll('.source-text div')].map((line) => line.textContent.trim());
+  const chosen = document.querySelector('#sheet .sheet-head .chosen')?.getBoundingClientRect();
+  const column = document.querySelector(`#sheet .event[data-event="${card.dataset.event}"] .touch`)?.getBoundingClientRect();
+  const isMarked = chosen !== undefined && column !== undefined && Math.abs(chosen.left - column.left) < 3;
+  const here = card.querySelector('[aria-current]')?.textContent.trim() ?? null;
+  return { text: card.textContent, lines, here, isInSight: height > 0 && top >= 0 && bottom <= innerHeight, isMarked };
+})()"""
+
+
+def beside_the_event(pages):
+    """The event that a finding is of, one that is clicked on, and one that is reached by keys."""
+    lines = [f"{'▸' if number == 8 else ''}{number:6} line {number}".strip() for number in range(6, 11)]
+    for size in ((1000, 700), (1400, 900)):
+        pages.browser.send("Emulation.setDeviceMetricsOverride", width=size[0], height=size[1], deviceScaleFactor=1, mobile=False)
+        pages.browser.run("page.choose(page.findings.find('never_persisted', 1)); page.stretch(1, 7)")
+        pages.browser.run("document.getElementById('source').open = false; scrollTo(0, 0)")
+        pages.browser.click("#sheet .event[data-event='6']")
+        other = pages.browser.run(BESIDE)
+        yield "why an event's source line is not there", "" if "event 6 " in other["text"] and "No such file" in other["text"] and not other["lines"] else other
+        pages.browser.click("#sheet .event[data-event='1']")
+        shown = pages.browser.run(BESIDE)
+        right = [" ".join(line.split()) for line in shown["lines"]] == [" ".join(line.split()) for line in lines] and "line 8" in shown["here"]
+        yield f"source lines beside the event at {size}", "" if right and shown["isInSight"] and shown["isMarked"] else shown
+    pages.browser.run("document.getElementById('sheet').focus()")
+    pages.press("ArrowRight")
+    moved = pages.browser.run(BESIDE)
+    yield "the event follows the crash", "" if "event 2 " in moved["text"] and moved["isMarked"] else moved
+    pages.browser.run("document.getElementById('list').open = true")
+    pages.browser.run("new Promise((done) => setTimeout(done, 50))")
+    listed = pages.browser.run("document.querySelector('#events li[data-event=\"1\"]').innerText")
+    yield "the list has the source line", "" if listed.rstrip().endswith("line 8") else listed
+    pages.browser.send("Emulation.setDeviceMetricsOverride", width=1400, height=1000, deviceScaleFactor=1, mobile=False)
+
+
 def cases(pages):
     """What is asked, and what is wrong about the answer."""
     sources = folder_of(pages.folder)
@@ -57,6 +95,7 @@ def cases(pages):
     pages.press("s")
     shown = pages.browser.run(SHOWN)
     yield "source lines in sight", "" if "line 8" in shown and "</script>" in shown else shown[:200]
+    yield from beside_the_event(pages)
     yield "no faults", "; ".join(pages.faults(page))
     for words in (["--source", sources], ["--html", "--source", sources], ["--html", "--labels", labels, "--source", pages.folder / "none"]):
         done = subprocess.run([pages.program, "explain", *words, trace], capture_output=True, timeout=300)

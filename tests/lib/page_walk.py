@@ -2,7 +2,7 @@
 import json
 import pathlib
 
-from page_files import KINDS, number_of
+from page_files import KINDS, name_of, number_of
 from page_machine import read_trace, wrong_failure
 
 TOP = pathlib.Path(__file__).resolve().parents[2]
@@ -45,11 +45,19 @@ FILTERS = [
 
 
 def entries_of(blocks):
-    return [entry for entry in blocks["explained"] if entry["kind"] in KINDS]
+    """What the page goes through: late stores are told by place, and places that are saved one fence late are hints."""
+    found = [entry for entry in blocks["explained"] if entry["kind"] in KINDS and entry["kind"] != "late"]
+    hinted = {(entry["label"], entry["thread"]) for entry in found if entry["kind"] == "hint"}
+    for place in (entry for entry in blocks["explained"] if entry["kind"] == "place"):
+        if place["late"]:
+            found.append({"kind": "late", "count": place["late"], "first": place["first_late"]})
+        elif place["left"] and place["left"] == place["in_time"] and not place["never_persisted"] and (place["label"], place["thread"]) not in hinted:
+            found.append({"kind": "hint", "hint": "one_fence_late", "count": place["left"], "first": place["first_left"]})
+    return found
 
 
 def named(entry):
-    return entry["kind"], number_of(entry)
+    return name_of(entry), number_of(entry)
 
 
 def examples():
@@ -74,7 +82,9 @@ def wrong_entry(entry, shown, size, events):
     """What is wrong with the entry as it is shown."""
     if entry["kind"] == "failure":
         return wrong_failure(size, events, entry, shown)
-    wanted = [entry["cache_line"]] if "cache_line" in entry else [f"event {number_of(entry)}"]
+    wanted = [entry["cache_line"]] if entry["kind"] == "never_persisted" else [f"event {number_of(entry)}"]
+    if entry["kind"] in ("late", "hint", "overwritten"):
+        wanted = [str(entry["count"])]
     missing = [word for word in wanted if word not in shown["headline"]]
     missing += [word for word in expected_mend(entry) if word not in shown["mend"]]
     return f"{missing} is missing: {shown['headline']}, {shown['mend']}" if missing else ""
@@ -107,7 +117,7 @@ def walk_by_keys(pages, page, trace, blocks):
 
 def current(pages):
     """The finding that is chosen, by kind and event."""
-    found = pages.browser.run("(() => { const f = page.view.finding; return f && [f.kind, f.number]; })()")
+    found = pages.browser.run("(() => { const f = page.view.finding; return f && [f.name, f.number]; })()")
     return found and tuple(found)
 
 
@@ -116,10 +126,10 @@ def walk_by_mouse(pages, page, trace, blocks):
     size, events = read_trace(trace.read_bytes())
     entries = {named(entry): entry for entry in entries_of(blocks)}
     pages.open(page)
-    groups = pages.browser.run("[...document.querySelectorAll('#groups button.group')].map((b) => [b.dataset.kind, b.dataset.number])")
+    groups = pages.browser.run("[...document.querySelectorAll('#groups button.group')].map((b, at) => b.setAttribute('data-at', at) ?? at)")
     seen = []
-    for kind, number in groups:
-        pages.browser.click(f"#groups button[data-kind='{kind}'][data-number='{number}']")
+    for at in groups:
+        pages.browser.click(f"#groups button[data-at='{at}']")
         members = int(pages.shown()["finding"].split(" ")[2])
         for member in range(members):
             shown = pages.shown()
@@ -131,7 +141,8 @@ def walk_by_mouse(pages, page, trace, blocks):
             seen.append(current(pages))
             if member + 1 < members:
                 pages.browser.click("#next")
-    return "" if sorted(seen) == sorted(entries) else f"met {sorted(seen)}, and not {sorted(entries)}"
+    # The lines of a place may be those of another one too.
+    return "" if sorted(set(seen)) == sorted(entries) else f"met {sorted(seen)}, and not {sorted(entries)}"
 
 
 def filtered(pages, fields):
@@ -150,7 +161,7 @@ def filtered(pages, fields):
 
 
 def left_by_filters(pages):
-    return {tuple(found) for found in pages.browser.run("page.findings.shown.map((f) => [f.kind, f.number])")}
+    return {tuple(found) for found in pages.browser.run("page.findings.shown.map((f) => [f.name, f.number])")}
 
 
 def filtered_by_keys(pages, fields):
