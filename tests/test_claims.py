@@ -4,14 +4,17 @@ Each public call is of the fixed surface, whose calls stand in tests/lib/surface
 in its decision on what is public. Each public function with a contract has a must-fail edit that turns its body, or that of a function of
 the same crate that it calls, or docs/PROOFS.md lists it under "Functions without an edit", which lists no other. Laws have no body. A call
 is known by its name, and if a type stands before it, by its type. rows.py names the worked rows, and what runs each. docs/ARCHITECTURE.md
-lists each crate once, and the files that documents for contributors name are there.
+lists each crate once, and the files that documents for contributors name are there. docs/explain.schema.json has the objects and the names
+that the proved statements of pmt_explain_json spell, and docs/EXPLAIN.md names their members.
 """
+import json
 import re
 import subprocess
 from collections import defaultdict
 
 from checks import Checks
 from rows import ROWS
+from schemas import names_of, objects_of
 from sources import TOP, items_of
 from traces import all_traces
 
@@ -202,6 +205,41 @@ def rows_not_run():
                 yield f"{name}: {place}: {wrong}"
 
 
+def unlike_spelled(schema):
+    """Complaints: objects and names of the schema that pmt_explain_json does not spell, and those that the schema does not have."""
+    specs = "\n".join(path.read_text() for path in (TOP / "crates/pmt_explain_json/specs").glob("*.antt"))
+    spelled = {frozenset(re.findall(r'codes "(\w+)",', members)) for members in re.findall(r"object_of\s+(\(\(codes .*?\[\]\))", specs, re.S)}
+    objects = {frozenset(members) for members, _ in objects_of(schema)}
+    yield from (f"not in both: an object of {sorted(members)}" for members in spelled ^ objects)
+    yield from (f"not in both: {name}" for name in set(re.findall(r'codes "(\w+)"', specs + kind_names())) ^ names_of(schema))
+    yield from (f"may be left out: {sorted(members - must)}" for members, must in objects_of(schema) if members != must)
+
+
+def kind_names():
+    """What --only takes."""
+    return re.search(r"^kind_name .*?\n\n", (TOP / "crates/pmt_explanation/specs/Choosing.antt").read_text(), re.M | re.S)[0]
+
+
+def unnamed_members(schema):
+    """Complaints: members of the schema that docs/EXPLAIN.md does not name where it tells of their kind, and names there that are none."""
+    section = (TOP / "docs/EXPLAIN.md").read_text().split("\n## JSON\n")[1]
+    lists = [re.split(r"^- ", part, flags=re.M)[1:] for part in section.split("What will not change")[0].split("Parts that are spelled alike")]
+    for item in lists[0]:
+        kinds = named_in(item.partition(":")[0])
+        for kind in kinds:
+            for name in sorted(set(schema["$defs"][f"{kind}_line"]["properties"]) - named_in(item) - {"kind"}):
+                yield f"docs/EXPLAIN.md: {kind} has {name}, which is not named"
+    named = set().union(*map(named_in, lists[0] + lists[1]))
+    yield from (f"docs/EXPLAIN.md names {name}, which the schema does not have" for name in sorted(named - names_of(schema)))
+    members = set().union(*(members for members, _ in objects_of(schema)))
+    yield from (f"docs/EXPLAIN.md does not name {name}" for name in sorted(members - named - {"kind"}))
+
+
+def named_in(text):
+    """The names between backticks, but for options and numbers."""
+    return {name for code in re.findall(r"`([^`]*)`", text) if not code.startswith("--") for name in re.findall(r"[A-Za-z_]+", code)}
+
+
 class Claims(Checks):
     """Complaints, of which there are none: a check for each, and one where there are none."""
 
@@ -230,3 +268,7 @@ class Claims(Checks):
 
     def test_worked_rows(self):
         self.expect_none(rows_not_run())
+
+    def test_schema(self):
+        schema = json.loads((TOP / "docs/explain.schema.json").read_text())
+        self.expect_none([*unlike_spelled(schema), *unnamed_members(schema)])

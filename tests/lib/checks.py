@@ -52,10 +52,15 @@ def add_tests(case, check, rows):
         setattr(case, f"test_{name}", partialmethod(check, row))
 
 
+def install(package):
+    """Installs a package of Debian, where it may be."""
+    installing = ["bash", "-c", '. tests/lib/shared.sh && alone install_packages "$@"', "install", package]
+    subprocess.run(installing, cwd=TOP, stdin=subprocess.DEVNULL)
+
+
 def need_command(command, package):
     """The command is there, or its package of Debian is installed where it may be. NotThere: it is not."""
     if shutil.which(command) is None:
-        installing = ["bash", "-c", '. tests/lib/shared.sh && alone install_packages "$@"', "install", package]
-        subprocess.run(installing, cwd=TOP, stdin=subprocess.DEVNULL)
+        install(package)
     if shutil.which(command) is None:
         raise NotThere(f"there is no {command}; it needs: apt-get install {package}")

@@ -1,50 +1,88 @@
-"""Judges JSON by a JSON schema, as far as the words of one go that tests/lib has: type, required, properties, additionalProperties, items,
-minItems, uniqueItems, enum, pattern, minimum and $ref."""
+#!/usr/bin/env python3
+"""Judges JSON by a JSON schema, with the module jsonschema of this Python or of Debian's: schemas.py SCHEMA writes, for each line of
+standard input, a JSON list of what the schema refuses in it, each with its place."""
+import functools
 import json
-import re
+import pathlib
+import shutil
+import subprocess
+import sys
 
-TYPES = {"object": dict, "array": list, "string": str, "integer": int, "boolean": bool}
-KNOWN = {"$comment", "$schema", "definitions", "type", "required", "properties", "additionalProperties", "items", "minItems", "uniqueItems", "enum", "pattern", "minimum", "$ref"}
+from checks import install
+from program import NotThere
+
+DEBIANS, PACKAGE = "/usr/bin/python3", "python3-jsonschema"
 
 
-def complaints(value, schema, whole=None, at="$"):
-    """What is not as the schema wants it, with its place. ValueError: the schema has a word that is not judged here."""
-    whole = schema if whole is None else whole
-    if not set(schema) <= KNOWN:
-        raise ValueError(f"the schema has {set(schema) - KNOWN}")
-    if "$ref" in schema:
-        yield from complaints(value, whole["definitions"][schema["$ref"].removeprefix("#/definitions/")], whole, at)
-    if "enum" in schema and value not in schema["enum"]:
-        yield f"{at}: {value!r} is none of {schema['enum']}"
-    wanted = schema.get("type")
-    if wanted and (not isinstance(value, TYPES[wanted]) or (wanted == "integer" and isinstance(value, bool))):
-        yield f"{at}: {value!r} is no {wanted}"
-    elif isinstance(value, dict):
-        yield from of_object(value, schema, whole, at)
+def has_module(python):
+    knows = "from jsonschema import Draft202012Validator"
+    return shutil.which(python) is not None and subprocess.run([python, "-c", knows], capture_output=True).returncode == 0
+
+
+@functools.cache
+def python_with_module():
+    """This Python or Debian's, where the package is installed if it may be. NotThere: neither has the module."""
+    if has_module(sys.executable):
+        return sys.executable
+    if not has_module(DEBIANS):
+        install(PACKAGE)
+    if not has_module(DEBIANS):
+        raise NotThere(f"there is no module jsonschema for {DEBIANS}; it needs: apt-get install {PACKAGE}")
+    return DEBIANS
+
+
+def complaints(schema, lines):
+    """What the schema of a file refuses in each of these lines."""
+    done = subprocess.run([python_with_module(), __file__, schema], input="".join(f"{line}\n" for line in lines).encode(), stdout=subprocess.PIPE, check=True)
+    return [json.loads(told) for told in done.stdout.splitlines()]
+
+
+def parts_of(schema):
+    """The objects of a schema: it and all that are in it."""
+    if isinstance(schema, dict):
+        yield schema
+    for part in schema.values() if isinstance(schema, dict) else schema if isinstance(schema, list) else ():
+        yield from parts_of(part)
+
+
+def names_of(schema):
+    """The members and the fixed texts of a schema."""
+    members = {name for part in parts_of(schema) for name in part.get("properties", {})}
+    return members | {text for part in parts_of(schema) for text in [part.get("const"), *part.get("enum", [])] if isinstance(text, str)}
+
+
+def objects_of(schema):
+    """The members of each kind of object that has no others, and those that it must have."""
+    return [(set(part["properties"]), set(part.get("required", ()))) for part in parts_of(schema) if part.get("additionalProperties") is False]
+
+
+def wrongs(value, name="$"):
+    """The value with one thing wrong in it, and what that is: a member that is not there, one too many, or something of another type or out
+    of its range. A label may be any text."""
+    yield f"{name} is an object without members", {}
+    if isinstance(value, dict):
+        yield f"{name} has a member too many", {**value, "frob": None}
+        for key, part in value.items():
+            yield f"{name}.{key} is not there", {other: value[other] for other in value if other != key}
+            yield from ((told, {**value, key: wrong}) for told, wrong in wrongs(part, f"{name}.{key}"))
     elif isinstance(value, list):
-        yield from of_array(value, schema, whole, at)
-    elif isinstance(value, str) and "pattern" in schema and not re.search(schema["pattern"], value):
-        yield f"{at}: {value!r} does not match {schema['pattern']}"
-    elif isinstance(value, int) and value < schema.get("minimum", value):
-        yield f"{at}: {value} is less than {schema['minimum']}"
+        yield from ((told, [wrong, *value[1:]]) for first in value[:1] for told, wrong in wrongs(first, f"{name}[0]"))
+    elif isinstance(value, int):
+        yield from ((f"{name} is {wrong}", wrong) for wrong in (-1, 2**64, 0.5))
+    elif isinstance(value, str) and not name.endswith(".label"):
+        yield f"{name} is no such name", "?"
 
 
-def of_object(value, schema, whole, at):
-    yield from (f"{at}: {name} is not there" for name in schema.get("required", []) if name not in value)
-    properties, others = schema.get("properties", {}), schema.get("additionalProperties", True)
-    for name, part in value.items():
-        if name in properties:
-            yield from complaints(part, properties[name], whole, f"{at}.{name}")
-        elif others is False:
-            yield f"{at}: {name} is not known"
-        elif isinstance(others, dict):
-            yield from complaints(part, others, whole, f"{at}.{name}")
+def main():
+    from jsonschema.validators import validator_for
+
+    schema = json.loads(pathlib.Path(sys.argv[1]).read_text())
+    validator = validator_for(schema)
+    validator.check_schema(schema)
+    for line in sys.stdin.buffer:
+        errors = validator(schema).iter_errors(json.loads(line))
+        print(json.dumps([f"{error.json_path}: {error.message[:300]}" for error in errors]))
 
 
-def of_array(value, schema, whole, at):
-    if len(value) < schema.get("minItems", 0):
-        yield f"{at}: it has {len(value)} items"
-    if schema.get("uniqueItems") and len({json.dumps(item, sort_keys=True) for item in value}) < len(value):
-        yield f"{at}: an item comes twice"
-    for number, item in enumerate(value):
-        yield from complaints(item, schema.get("items", {}), whole, f"{at}[{number}]")
+if __name__ == "__main__":
+    main()
