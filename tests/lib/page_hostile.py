@@ -8,6 +8,8 @@ from page_machine import read_steps
 # The most bytes of a page, and of the texts of labels, each counted once.
 MOST_PAGE, MOST_TEXTS = 25_000_000, 4_000_000
 LONG = "x" * 10_230
+# How many times longer than on the page of a trace as programs make them things may take on these.
+MORE = 1.5
 
 
 def failing():
@@ -108,11 +110,11 @@ def opened(pages, page):
     return 1000 * taken(pages.browser)
 
 
-def least(limit, measure, runs):
+def least(browser, limit, measure, runs):
     """The least of so many measures, and of more where all are over the limit, since other programs run beside this one; and the limit."""
     measures, most = [measure() for _ in range(runs)], limit
     while min(measures) > most and len(measures) < MOST_RUNS:
-        most = max(most, limit * slowness())
+        most = max(most, limit * slowness(browser))
         if min(measures) > most:
             measures.append(measure())
     return min(measures), most
@@ -125,11 +127,11 @@ def cases(pages, name):
     size = page.stat().st_size
     yield f"{name}: sizes", wrong_size(size, blocks)
     pages.browser.send("Performance.enable", timeDomain="threadTicks")
-    first, most = least(FIRST, lambda: opened(pages, page), RUNS)
+    first, most = least(pages.browser, MORE * FIRST, lambda: opened(pages, page), RUNS)
     told = pages.browser.run("[...document.querySelectorAll('#summary .note')].map((note) => note.textContent).join('; ')")
     yield f"{name}: notes", [f"{note} is not told: {told}" for note in notes if note not in told]
     yield f"{name}: first picture", "" if first <= most else f"{first:.0f} ms"
-    steps = {step: least(STEP, lambda: timed(pages.browser, script), 2) for step, script in STEPS.items()}
+    steps = {step: least(pages.browser, MORE * STEP, lambda: timed(pages.browser, script), 2) for step, script in STEPS.items()}
     pages.browser.send("Performance.disable")
     yield f"{name}: steps", [f"{step} {time:.0f} ms" for step, (time, most) in steps.items() if time > most]
     elements = pages.browser.run("document.querySelectorAll('*').length")

@@ -2,9 +2,15 @@
 import time
 
 EVENTS = 1_000_000
-# In milliseconds, on a machine where Python counts to five million in 0.35 seconds; on a slower one so much longer.
+# In milliseconds, on a machine where Python counts to five million in 0.35 seconds, and the page's thread does WORK, which takes memory as
+# much as the processor, in 130 milliseconds; on a slower one so much longer.
 FIRST, STEP = 1500, 100
 COUNTED, COUNT = 0.35, 5_000_000
+WORKED = 130
+WORK = (
+    "(() => { const all = []; for (let k = 0; k < 100000; k += 1) all.push({ key: `${(k * 7919) % 100003}`, value: [k] });"
+    " all.sort((a, b) => (a.key < b.key ? -1 : 1)); return JSON.stringify(all).length; })()"
+)
 RUNS, MOST_RUNS = 3, 9
 MOST_ELEMENTS = 20_000
 
@@ -22,12 +28,12 @@ STEPS = {
 }
 
 
-def slowness():
+def slowness(browser):
     """How many times longer than on the machine of the limits things take here, at least 1."""
     start, number = time.process_time(), 0
     while number < COUNT:
         number += 1
-    return max(1, (time.process_time() - start) / COUNTED)
+    return max(1, (time.process_time() - start) / COUNTED, timed(browser, WORK) / WORKED)
 
 
 def events():
@@ -90,7 +96,7 @@ class Walks:
         self.painted.append(int(browser.run(PAINTED)))
         for name, script in STEPS.items():
             self.steps.setdefault(name, []).append(timed(browser, script))
-        self.slow = max(self.slow, slowness())
+        self.slow = max(self.slow, slowness(browser))
 
     def late(self):
         """What is not there in time, each with what is told then; nothing where it is."""
