@@ -7,14 +7,12 @@ use crate::told::told_within;
 use command_draw::first_picture;
 use command_inputs::{Fault, Opener, STANDARD_INPUT};
 use command_requests::{ExplainWords, VERSION};
-use pmt_explain::Dropped as Reasoned;
 use pmt_explanation::{Explanation, Labels};
 use pmt_model::OutOfMemory;
 use pmt_page::{
-    About, Blocks, Columns, Dropped, Found, Kept, Label, Why, about_text, columns_of, digest_of,
-    page_text, sources_text,
+    About, Blocks, Columns, Found, Kept, Label, about_text, columns_of, digest_of, page_text,
+    sources_text,
 };
-use pmt_reasons::Reason;
 use std::alloc::Global;
 
 // The most bytes of a page.
@@ -203,36 +201,12 @@ fn size_without_columns(
 fn columns(alloc: Global, explanation: &Explanation, most: usize) -> Result<Columns, OutOfMemory> {
     let trace = explanation.analysis.trace();
     let safe = safe_places(alloc, trace)?;
-    let dropped = dropped(alloc, explanation.dropped.as_slice())?;
     let found = Found {
         safe: safe.as_slice(),
         verdicts: explanation.analysis.verdicts(),
-        dropped: dropped.as_slice(),
+        dropped: explanation.dropped.as_slice(),
     };
     columns_of(alloc, trace, found, most)
-}
-
-// What is dropped, as the page has it.
-fn dropped(alloc: Global, list: &[Reasoned]) -> Result<Vec<Dropped>, OutOfMemory> {
-    let mut dropped = Vec::with_capacity(alloc, list.len())?;
-    for one in list {
-        dropped.push(Dropped {
-            event: one.event,
-            why: why_of(one.reason),
-        })?;
-    }
-    Ok(dropped)
-}
-
-fn why_of(reason: Reason) -> Why {
-    match reason {
-        Reason::Safe => Why::Safe,
-        Reason::Unfenced => Why::Unfenced,
-        Reason::Repeated { by: _ } => Why::Repeated,
-        Reason::Overtaken { by: _ } => Why::Overtaken,
-        Reason::Empty => Why::Empty,
-        Reason::Useless => Why::Useless,
-    }
 }
 
 // What the page is of.

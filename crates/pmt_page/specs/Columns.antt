@@ -6,14 +6,14 @@ use Rattle.pmt_model.specs.declared.event.Op.{Op}
 use Rattle.pmt_model.specs.declared.event.Op.TheVariants.{Store, Clwb, ClflushOpt, Clflush, Sfence, Mfence, IsPersist, IsOrderedBefore}
 use Rattle.pmt_model.specs.declared.finding.Verdict.{Verdict}
 use Rattle.pmt_text.specs.Spelling.{hex_bytes}
+use Rattle.pmt_reasons.specs.declared.reason.Reason.{Reason}
+use Rattle.pmt_reasons.specs.declared.reason.Reason.TheVariants as reason
+use Rattle.pmt_explain.specs.declared.dropped_event.Dropped.{Dropped}
 use Rattle.pmt_page.specs.declared.events.NumberColumn.{NumberColumn}
 use Rattle.pmt_page.specs.declared.events.NumberColumn.TheVariants.{Thread, Address, Length, SecondAddress, SecondLength}
-use Rattle.pmt_page.specs.declared.known.Dropped.{Dropped}
 use Rattle.pmt_page.specs.declared.known.Kept.{Kept}
 use Rattle.pmt_page.specs.declared.known.Kept.TheVariants.{Whole, WithoutValues, WithoutRanges}
 use Rattle.pmt_page.specs.declared.known.SafePlace.{SafePlace}
-use Rattle.pmt_page.specs.declared.known.Why.{Why}
-use Rattle.pmt_page.specs.declared.known.Why.TheVariants as whys
 use Rattle.pmt_page.specs.Numbers.{listed, short, steps}
 
 -- ---- Of one event
@@ -127,18 +127,18 @@ delay store (Some place) = short (place - store)
 abbrev pub safe_field : SafePlace → List ℕ
 safe_field s = delay s.store s.place
 
-abbrev pub why_letter : Why → ℕ
-why_letter whys.Safe = 115
-why_letter whys.Unfenced = 117
-why_letter whys.Repeated = 114
-why_letter whys.Overtaken = 111
-why_letter whys.Empty = 101
-why_letter whys.Useless = 122
+abbrev pub reason_letter : Reason → ℕ
+reason_letter reason.Safe = 115
+reason_letter reason.Unfenced = 117
+reason_letter (reason.Repeated by) = 114
+reason_letter (reason.Overtaken by) = 111
+reason_letter reason.Empty = 101
+reason_letter reason.Useless = 122
 
 -- Why the event with this number is dropped; - where it is not listed.
 abbrev pub dropped_letter : List Dropped → ℕ → ℕ
 dropped_letter [] number = 45
-dropped_letter (d ∷ list) number = if d.event == number then why_letter d.why else dropped_letter list number
+dropped_letter (d ∷ list) number = if d.event == number then reason_letter d.reason else dropped_letter list number
 
 -- Of each flush and fence among these events, the first of which has this number.
 abbrev pub dropped_letters : List Dropped → ℕ → List Event → List ℕ

@@ -1,22 +1,23 @@
 //! The column of what has no effect.
 ghost use Rattle.std.specs.Prelude.{◌≡◌, ℕ, ◌+◌, ◌<◌, ◌==◌, ◌++◌, if◌then◌else◌, length, get_or, IfOk, OnOk};
-ghost use Rattle.pmt_page.specs.Columns.{dropped_letter, dropped_letters, why_letter as letter_of};
+ghost use Rattle.pmt_page.specs.Columns.{dropped_letter, dropped_letters, reason_letter as letter_of};
 
 use crate::events::may_be_dropped;
-use crate::known::{Dropped, Why};
+use pmt_explain::Dropped;
 use pmt_model::{Event, OutOfMemory};
+use pmt_reasons::Reason;
 use std::alloc::Global;
 
-fn why_letter(why: Why) -> u8
-    ensures { result ≡ letter_of why }
+fn reason_letter(reason: Reason) -> u8
+    ensures { result ≡ letter_of reason }
 {
-    match why {
-        Why::Safe => b's',
-        Why::Unfenced => b'u',
-        Why::Repeated => b'r',
-        Why::Overtaken => b'o',
-        Why::Empty => b'e',
-        Why::Useless => b'z',
+    match reason {
+        Reason::Safe => b's',
+        Reason::Unfenced => b'u',
+        Reason::Repeated { by: _ } => b'r',
+        Reason::Overtaken { by: _ } => b'o',
+        Reason::Empty => b'e',
+        Reason::Useless => b'z',
     }
 }
 
@@ -55,9 +56,9 @@ fn letters_of(alloc: Global, count: usize, dropped: &[Dropped]) -> Result<Vec<u8
 
 // Notes the letter of the dropped event, if there is such an event.
 fn note(letters: &mut [u8], dropped: Dropped)
-    ensures { (i : ℕ) → i < length letters.old → get_or letters.new i 0 ≡ (if dropped.event == i + 1 then letter_of dropped.why else get_or letters.old i 0) }
+    ensures { (i : ℕ) → i < length letters.old → get_or letters.new i 0 ≡ (if dropped.event == i + 1 then letter_of dropped.reason else get_or letters.old i 0) }
 {
     if dropped.event >= 1 && dropped.event <= letters.len() as u64 {
-        letters[dropped.event as usize - 1] = why_letter(dropped.why);
+        letters[dropped.event as usize - 1] = reason_letter(dropped.reason);
     }
 }

@@ -1,4 +1,5 @@
 //! What the page is told of a trace besides its events.
+use pmt_explain::Dropped;
 use pmt_model::Verdict;
 
 /// From which place on no crash loses a store. Place p is right after the first p events.
@@ -8,32 +9,6 @@ pub struct SafePlace {
     pub store: u64,
     /// The first place; none where it is never persisted.
     pub place: Option<u64>,
-}
-
-/// Why a flush or a fence has no effect.
-#[derive(Clone, Copy, Debug, PartialEq, Eq)]
-pub enum Why {
-    /// All stores to the line are safe already.
-    Safe,
-    /// Its thread does not fence after it.
-    Unfenced,
-    /// The thread flushes the line again before its next fence.
-    Repeated,
-    /// Another thread's fence, or a clflush, saves the same stores first.
-    Overtaken,
-    /// Its thread has made no flush since its last fence.
-    Empty,
-    /// All that it completes is safe already.
-    Useless,
-}
-
-/// A flush or a fence without effect.
-#[derive(Clone, Copy, Debug, PartialEq, Eq)]
-pub struct Dropped {
-    /// The event's number, from 1.
-    pub event: u64,
-    /// Why it has none.
-    pub why: Why,
 }
 
 /// What is found of the events of a trace.

@@ -23,7 +23,7 @@ pub use crate::about::{About, about_text, digest_of};
 pub use crate::columns::{Columns, columns_of};
 pub use crate::escapes::{push_embedded, push_html, push_quoted};
 pub use crate::explained::explained_text;
-pub use crate::known::{Dropped, Found, Kept, SafePlace, Why};
+pub use crate::known::{Found, Kept, SafePlace};
 pub use crate::labels::{Label, labels_text};
 pub use crate::page::{Blocks, page_text};
 pub use crate::sources::{SourceFile, SourcePart, sources_text};
