@@ -4,6 +4,7 @@ import os
 import pathlib
 import random
 import re
+import shlex
 import subprocess
 import sys
 import tempfile
@@ -43,13 +44,26 @@ def with_halves(choose, trace):
 
 
 def random_words(choose, trace):
-    """Ranges to ignore, labels and a limit."""
+    """Ranges and places to ignore, labels and a limit."""
     addresses = [event[2] for event in trace.events if event[0] == "store"]
     ignored = [(choose.choice(addresses) + choose.choice((-1, 0)), choose.choice((1, 2, 8, 300))) for _ in range(choose.randrange(3)) if addresses]
     lines = choose.choice((3, 99))
     callers = ("", " < main file.c:9", " < other file.c:7 < main file.c:9", " <")
     labels = {number: f"file.c:{choose.randrange(1, 1 + lines)} call{choose.choice(callers)}" for number in trace.numbers if choose.random() < 0.5}
-    return ignored, labels, choose.choice((0, 1, 2, 10, 10))
+    limit = choose.choice((0, 1, 2, 10, 10))
+    named = [choose.choice((*labels.values(), "file.c:*", "file.c:1 cal")).split(" < ")[0] for _ in range(choose.randrange(3)) if choose.random() < 0.5]
+    places = [f"{name[: choose.randrange(len(name))]}*" if choose.random() < 0.3 else name for name in named]
+    return ignored, places if labels else [], labels, limit
+
+
+def ignoring_words(choose, ignored, places, file):
+    """The words that name these ranges and places, or a file with them."""
+    lines = [*(f"{start:#x}:{length}" for start, length in ignored), *(f"label {place}" for place in places)]
+    if choose.random() < 0.7:
+        return [word for line in lines for word in (("--ignore-label", line[6:]) if line.startswith("label ") else ("--ignore", line))]
+    choose.shuffle(lines)
+    file.write_bytes(text_of(lines))
+    return ["--ignore-file", file]
 
 
 def random_choice(choose, trace, labels):
@@ -76,13 +90,13 @@ def compare(program, folder, choose, told):
     """What is wrong with the answer to one random trace, if anything, and that trace; lines of JSON are added to what was told."""
     head, trace = random_trace(choose)
     trace = with_halves(choose, trace)
-    ignored, labels, limit = random_words(choose, trace)
+    ignored, places, labels, limit = random_words(choose, trace)
     file, names = folder / "trace", folder / "labels"
     file.write_bytes(text_of([head, *map(spelled, trace.events)]))
     names.write_bytes(text_of(f"{number} {label}" for number, label in labels.items()))
     asked, chosen = random_choice(choose, trace, labels) if choose.random() < 0.5 else ({}, [])
-    explained = Explained(trace, ignored, labels, asked)
-    words = [word for start, length in ignored for word in ("--ignore", f"{start:#x}:{length}")]
+    explained = Explained(trace, ignored, labels, asked, places)
+    words = ignoring_words(choose, ignored, places, folder / "ignored")
     words += ["--limit", str(limit)] * (limit != 10) + ["--labels", names] * bool(labels) + chosen
     done = subprocess.run([program, "explain", *words, "--json", file], capture_output=True, timeout=120)
     told.update(lines_of(done))
@@ -129,6 +143,31 @@ WORKED = (
 def events_of(entry):
     """The numbers of the events that an entry of the JSON is about."""
     return entry["events"] if "events" in entry else [entry[word]["event"] for word in ("event", "first", "last") if word in entry]
+
+
+# Two places that lose a store, one of which overwrites one too, and their labels.
+OF_PLACES = "pmtrace 1\nstore 0 0x1000 01\nstore 0 0x1000 02\nstore 0 0x2000 01\n"
+PLACE_LABELS = "1 a.c:1 f < c.c:3 main\n2 a.c:1 f\n3 a.c:12 g < a.c:1 f\n"
+
+# Words, the status, and how many stores are ignored that are never persisted, and overwritten; and of each place, in their order.
+IGNORED_PLACES = (
+    ([], 1, (0, 0, [0, 0])),
+    (["--ignore-label", "a.c:1 f"], 1, (2, 1, [0, 2])),
+    (["--ignore-label", "a.c:12 g"], 1, (1, 0, [0, 1])),
+    (["--ignore-label", "a.c:12 g", "--ignore-label", "a.c:1 f"], 0, (3, 1, [2, 1])),
+    (["--ignore-label", "a.c:1*"], 0, (3, 1, [2, 1])),
+    (["--ignore-label", "a.c:1"], 1, (0, 0, [0, 0])),
+    (["--ignore-label", "c.c:3 main"], 1, (0, 0, [0, 0])),
+    (["--ignore-label", "a.c:1 f", "--ignore", "0x2000:1"], 0, (3, 1, [2, 1])),
+)
+
+# A place that counts what another one saves, its labels, and the guess at it.
+COUNTED = "pmtrace 1\nstore 0 0x1000 01\nstore 0 0x2000 01\nclwb 0 0x1000\nsfence 0\nstore 0 0x2000 02\nisPersist 0 0x1000 1\n"
+COUNTED_LABELS = "1 log.c:5 add\n2 stats.c:12 bump < log.c:6 add\n3 log.c:7 add\n5 stats.c:12 bump < log.c:8 add\n"
+GUESS = (
+    "guess: 1 place loses all that it stores (2 stores), to cache lines that nothing flushes and no assertion names: stats.c:12 bump."
+    " If a crash may lose that, as locks or statistics, leave it out by --ignore-label 'stats.c:12 bump'"
+)
 
 
 # Assertions that fail for one cause, and two lines that the text has of them.
@@ -186,6 +225,30 @@ class Explain(Checks):
             told = [(entry["kind"], events_of(entry)) for entry in entries if entry["kind"] not in TABLES]
             right = (done.returncode, summary["ignored_never_persisted"], told) == (status, ignored, wanted)
             self.expect(f"{words} of\n{text}", right, f"status {done.returncode}, {done.stdout.decode()}, wanted {status} {ignored} {wanted}")
+
+    def test_ignored_places(self):
+        """Stores of places that are ignored; the answers are written by hand."""
+        folder = self.new_folder()
+        (folder / "t").write_text(OF_PLACES)
+        (folder / "l").write_text(PLACE_LABELS)
+        for words, status, counts in IGNORED_PLACES:
+            done = self.explain("--labels", "l", *words, "--json", "t", folder=folder)
+            summary, *entries = map(json.loads, done.stdout.splitlines())
+            told = (summary["ignored_never_persisted"], summary["ignored_overwritten"], [entry["ignored"] for entry in entries if entry["kind"] == "place"])
+            self.expect_equal(f"{words}", (done.returncode, *told), (status, *counts))
+        (folder / "r").write_text("0x1000:8\nlabel a.c:1*\n")
+        done = self.explain("--ignore-file", "r", "t", folder=folder)
+        self.expect("places of a trace without labels", done.returncode == 1 and b"\n  labels to ignore that leave out nothing: 1 of 1\n" in done.stdout, done.stdout)
+
+    def test_guess(self):
+        """The guess is of options that leave out what it guesses at, and then nothing is lost."""
+        folder = self.new_folder()
+        (folder / "t").write_text(COUNTED)
+        (folder / "l").write_text(COUNTED_LABELS)
+        lines = self.explain("--labels", "l", "t", folder=folder).stdout.decode().splitlines()
+        self.expect("the guess", GUESS in lines, "\n".join(lines))
+        done = self.explain("--labels", "l", *shlex.split(GUESS.partition(" leave it out by ")[2]), "t", folder=folder)
+        self.expect("with the options of the guess", done.returncode == 0 and b"  left out as ignored: 2 never persisted, 1 overwritten\n" in done.stdout, done.stdout)
 
     def told(self, text, *words):
         """What is told of a trace."""

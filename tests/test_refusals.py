@@ -198,17 +198,19 @@ def explained(run, folder):
     bad.write_bytes(text("store 0 0x1000 01; store 0 0x01007 01\r"))
     labels.write_text("1 save.c:3\n2 save.c:4\n7 save.c:9 claim\n")
     ranges = folder / "ranges"
-    ranges.write_text("0x1000:8\n0x2000:8\n")
+    ranges.write_text("0x1000:8\nlabel save.c:*\n0x2000:8\n")
     for words, status in (
         ([trace], 1),
         (["--json", "--labels", labels, "--ignore", "0x1000:8", "--ignore", "0x1004:8", trace], 1),
         (["--html", "--labels", labels, trace], 1),
         (["--label", "save", "--range", "0x1000:8", "--labels", labels, "--ignore-file", ranges, trace], 1),
+        (["--labels", labels, "--ignore-label", "save.c:4", "--ignore-label", "save*", trace], 1),
         (["--limit", "0", EXAMPLES / "flushed_by_two_threads.trace"], 0),
         ([bad], 3),
         (["--labels", trace, trace], 3),
         ([folder / "none"], 4),
         (["--ignore", "8", trace], 2),
+        (["--labels", labels, "--ignore-label", "a < b", trace], 2),
     ):
         answer, _ = run(["explain", *words])
         yield Case(["explain", *words], {answer._replace(status=status)})

@@ -59,11 +59,11 @@ def last_kept(trace, result):
 
 
 def losses(trace, result):
-    """The stores that the crash loses, but those to ranges that need no saving."""
+    """The stores that the crash loses, but those that need no saving."""
     ignored = result.get("ignored", 0)
     told = stores_of(trace, "loses", result["lost"], result["losses"])
     if ignored:
-        told.append(f"loses {counted(ignored, 'store')} to ranges of {trace.path}.ignore")
+        told.append(f"loses {counted(ignored, 'store')} that {trace.path}.ignore leaves out")
     return told or ["loses nothing"]
 
 

@@ -5,6 +5,7 @@ import re
 from faults import FILE_FAULT, REFUSED, Fault, of_file
 
 FENCES = ("sfence", "mfence")
+LABEL = "label "
 
 
 class Trace:
@@ -21,7 +22,7 @@ class Trace:
             raise Fault(FILE_FAULT, f"{path}: it has changed while it was read") from error
         self.line_size = int(header.split(" ")[2]) if header.startswith("pmtrace 2") else 64
         self.labels = read_labels(f"{path}.labels")
-        self.ignored = read_ignored(f"{path}.ignore")
+        self.ignored, self.places = read_ignored(f"{path}.ignore")
 
     def store(self, number):
         """The address and the bytes of a store; None of another event."""
@@ -35,10 +36,15 @@ class Trace:
                 yield (number, *self.store(number))
 
     def is_ignored(self, number):
-        """Whether all bytes of a store lie in ranges that need no saving."""
+        """Whether all bytes of a store lie in ranges that need no saving, or its place needs none."""
         address, written = self.store(number)
         at = bisect.bisect_right(self.ignored, (address, float("inf"))) - 1
-        return at >= 0 and address + len(written) <= self.ignored[at][1]
+        return at >= 0 and address + len(written) <= self.ignored[at][1] or self.is_at_place(number)
+
+    def is_at_place(self, number):
+        """Whether the innermost frame of the event's label is that of a place that needs no saving, or begins so."""
+        frame = self.labels[number].partition(" < ")[0] if number in self.labels else None
+        return frame is not None and any(frame.startswith(place[:-1]) if place.endswith("*") else frame == place for place in self.places)
 
     def may_raise(self, number):
         """Whether the event may make stores safe: a fence, or a clflush."""
@@ -53,22 +59,22 @@ class Trace:
 
 
 def read_ignored(path):
-    """The ranges that need no saving, as pmtrim-record --pmdk writes them beside a trace: rising pairs of the first address and that
-    behind the last one, none of which touch. None where there is no such file."""
+    """What needs no saving: ranges, as pmtrim-record --pmdk writes them beside a trace, as rising pairs of the first address and that
+    behind the last one, none of which touch; and the places of lines 'label LABEL'. None where there is no such file."""
     try:
         with open(path, encoding="utf-8", errors="replace") as file:
             lines = file.read().splitlines()
     except FileNotFoundError:
-        return []
+        return [], []
     except OSError as error:
         raise of_file(path, error) from error
-    joined = []
-    for start, length in sorted(read_range(path, number, line) for number, line in enumerate(lines, 1)):
+    joined, places = [], [line.removeprefix(LABEL) for line in lines if line.startswith(LABEL)]
+    for start, length in sorted(read_range(path, number, line) for number, line in enumerate(lines, 1) if not line.startswith(LABEL)):
         if joined and start <= joined[-1][1]:
             joined[-1] = (joined[-1][0], max(joined[-1][1], start + length))
         else:
             joined.append((start, start + length))
-    return joined
+    return joined, places
 
 
 def read_range(path, number, line):

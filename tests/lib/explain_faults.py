@@ -69,13 +69,23 @@ BAD_LABELS = [
     (b"1 \xff\n", "l:1: the text of the label has bytes that can not be shown\n    1 \\xff\na text is UTF-8 without control characters\n"),
 ]
 
-RANGE = "a line is 'A:N', as a recorder writes it: the address of the first byte and how many bytes, as 0x1000:8\n"
+RANGE = (
+    "a line is 'A:N', as a recorder writes it: the address of the first byte and how many bytes, as 0x1000:8; or 'label LABEL', as"
+    " 'label list.c:57 insert'\n"
+)
+NO_LINE = "this is no range of bytes and no label"
 
-# The text of a file r of ranges, and what is told of it.
+# The text of a file r of what is to be ignored, and what is told of it.
 BAD_RANGES = [
-    (b"0x1000:8\n0x1000\n", f"r:2: this is no range of bytes\n    0x1000\n{RANGE}"),
-    (b"\n", f"r:1: this is no range of bytes\n{RANGE}"),
-    (b"0x1000:8\n0x1000:0\n", f"r:2: this is no range of bytes\n    0x1000:0\n{RANGE}"),
+    (b"0x1000:8\n0x1000\n", f"r:2: {NO_LINE}\n    0x1000\n{RANGE}"),
+    (b"\n", f"r:1: {NO_LINE}\n{RANGE}"),
+    (b"0x1000:8\n0x1000:0\n", f"r:2: {NO_LINE}\n    0x1000:0\n{RANGE}"),
+    (b"label a b\nlabel \n", f"r:2: {NO_LINE}\n    label \n{RANGE}"),
+    (b"label a < b\n", f"r:1: {NO_LINE}\n    label a < b\n{RANGE}"),
+    (b"labels a\n", f"r:1: {NO_LINE}\n    labels a\n{RANGE}"),
+    (b"label a\tb\n", f"r:1: {NO_LINE}\n    label a\\tb\n{RANGE}"),
+    (b"label \xff\n", f"r:1: {NO_LINE}\n    label \\xff\n{RANGE}"),
+    (b"label a", "r:1: the line does not end\n    label a\neach line ends with LF, the last one too; the file may have been cut off here\n"),
     (b"0x1000:8", "r:1: the line does not end\n    0x1000:8\neach line ends with LF, the last one too; the file may have been cut off here\n"),
 ]
 
@@ -86,6 +96,10 @@ BAD_WORDS = [
     (["--ignore", "0x1000:0"], "'0x1000:0'"),
     (["--ignore", "0xffffffffffff:2"], "0xffffffffffff"),
     (["--ignore-file"], "--ignore-file"),
+    (["--ignore-label", "a"], "'--labels'"),
+    (["--labels", "l", "--ignore-label", ""], "what labels say before"),
+    (["--labels", "l", "--ignore-label", "a < b"], "'a < b'"),
+    (["--labels", "l", "--ignore-label"], "--ignore-label"),
     (["--only", "failures"], "never_persisted"),
     (["--thread", "256"], "from 0 to 255"),
     (["--range", "0x1000"], "0x1000:8"),

@@ -20,11 +20,12 @@ NOTHING = {"from": None, "label": None, "only": None, "range": None, "thread": N
 
 
 class Explained:
-    """The entries that a trace must have, with these ignored ranges, labels, and findings that are asked for."""
+    """The entries that a trace must have, with these ignored ranges, labels, findings that are asked for, and ignored places."""
 
-    def __init__(self, trace, ignored, labels, asked=None):
+    def __init__(self, trace, ignored, labels, asked=None, places=()):
         self.trace = trace
         self.ignored = ignored
+        self.places = places
         self.labels = labels
         self.asked = {**NOTHING, **(asked or {})}
         self.end = len(trace.events)
@@ -46,9 +47,17 @@ class Explained:
     def address(self, line):
         return hex(line * self.trace.size)
 
-    def is_ignored(self, store):
+    def is_in_ranges(self, store):
         _, _, start, data = self.trace.event(store)
         return all(any(low <= byte < low + length for low, length in self.ignored) for byte in range(start, start + len(data)))
+
+    def is_at(self, text, store):
+        """Whether the label says this before the first caller, or something that begins as a text with a star at its end."""
+        frame = self.labels[store].split(" < ")[0] if store in self.labels else None
+        return frame is not None and (frame.startswith(text[:-1]) if text.endswith("*") else frame == text)
+
+    def is_ignored(self, store):
+        return self.is_in_ranges(store) or any(self.is_at(text, store) for text in self.places)
 
     # What is asked for
 

@@ -357,11 +357,14 @@ def asked_lines(explained):
 
 
 def idle_lines(explained):
-    """What the summary says of ranges to ignore that have no byte of a store that is left out."""
+    """What the summary says of ranges to ignore that have no byte of a store that ranges leave out, and of labels that leave out none."""
     told = [*explained.lost_stores(), *(earlier for earlier, _ in explained.pairs())]
-    left_out = {byte for store in told if explained.is_ignored(store) for byte in explained.bytes_of(store)}
-    idle = sum(not any(low <= byte < low + length for byte in left_out) for low, length in explained.ignored)
-    return [f"  ranges to ignore that leave out nothing: {idle} of {len(explained.ignored)}"] if idle else []
+    left_out = {byte for store in told if explained.is_in_ranges(store) for byte in explained.bytes_of(store)}
+    ranges = sum(not any(low <= byte < low + length for byte in left_out) for low, length in explained.ignored)
+    labels = sum(not any(explained.is_at(text, store) for store in told) for text in explained.places)
+    for what, idle, given in (("ranges", ranges, explained.ignored), ("labels", labels, explained.places)):
+        if idle:
+            yield f"  {what} to ignore that leave out nothing: {idle} of {len(given)}"
 
 
 def found_nothing(explained):
@@ -373,8 +376,8 @@ def found_nothing(explained):
 def wrong_text(explained, told):
     """What is wrong with the text that shows all."""
     lines = told.decode().splitlines()
-    if [line for line in lines if line.startswith("  ranges to ignore ")] != idle_lines(explained):
-        return f"ranges to ignore: wanted {idle_lines(explained)}, in\n{told.decode()}"
+    if [line for line in lines if line.startswith(("  ranges to ignore ", "  labels to ignore "))] != list(idle_lines(explained)):
+        return f"what is to be ignored: wanted {list(idle_lines(explained))}, in\n{told.decode()}"
     if (lines[-1] == NOTHING_FOUND) != found_nothing(explained):
         return f"found nothing: {found_nothing(explained)}, in\n{told.decode()}"
     if [line for line in lines if line.startswith("  told below: ")] != asked_lines(explained):

@@ -4,6 +4,7 @@ the order in which places are told.
 The findings are those of explained.py, and what a run can reach is that of machine.py.
 """
 import functools
+import shlex
 
 from grouped import ANY_FLUSH, fences_waited
 from machine import FENCES, is_kept
@@ -142,15 +143,16 @@ def guess_lines(explained):
     quiet = [key for key in losing if key not in out]
     if not quiet:
         return []
-    written = {byte for store in lost if place(explained, store) in quiet for byte in explained.bytes_of(store)}
+    named = [name for kind, name in quiet if kind == "label" and name and not name.startswith("-")]
+    written = {byte for store in lost if place(explained, store) in quiet and place(explained, store)[1] not in named for byte in explained.bytes_of(store)}
     starts = sorted(byte for byte in written if byte - 1 not in written)
     ranges = [(start, next(end for end in range(start, start + len(written) + 1) if end not in written) - start) for start in starts]
     names = ", ".join(name_of(key) for key in quiet[:MOST]) + (f" and {len(quiet) - MOST} more" if len(quiet) > MOST else "")
-    options = "".join(f" --ignore {start:#x}:{length}" for start, length in ranges[:MOST])
-    more = f" and {len(ranges) - MOST} more ranges" if len(ranges) > MOST else ""
+    options = [*(f" --ignore-label {shlex.quote(name)}" for name in named), *(f" --ignore {start:#x}:{length}" for start, length in ranges)]
+    more = f" and {len(options) - MOST} more" if len(options) > MOST else ""
     what = "1 place loses all that it stores" if len(quiet) == 1 else f"{len(quiet)} places lose all that they store"
     count = stores_in_words(sum(losing[key] for key in quiet))
     return [
         f"guess: {what} ({count}), to cache lines that nothing flushes and no assertion names: {names}."
-        f" If a crash may lose that, as locks or statistics, leave it out by{options}{more}"
+        f" If a crash may lose that, as locks or statistics, leave it out by{''.join(options[:MOST])}{more}"
     ]

@@ -126,7 +126,14 @@ class FaultTests(Runs):
         told = self.replay(words)[1]
         lost = re.findall(r"loses (.*)", told)
         self.expect("ranges that are ignored", "loses event 2: " not in told and "loses event 1: store 0 0x0 01" in told, told)
-        self.expect("ranges that are ignored: counted", lost.count("1 store to ranges of locks.trace.ignore") == 2, lost)
+        self.expect("ranges that are ignored: counted", lost.count("1 store that locks.trace.ignore leaves out") == 2, lost)
+        ranges.write_text("label locks.c:3 *\nlabel locks.c:7 take\n0x44:4\n")
+        labels = self.folder / "locks.trace.labels"
+        labels.write_text("1 locks.c:7 take < main.c:2\n2 locks.c:3 hold\n3 locks.c:33 hold\n")
+        lost = re.findall(r"loses (.*)", self.replay(words)[1])
+        wanted = {"event 3 at locks.c:33 hold: store 0 0x50 01", "nothing", *(f"{count} that locks.trace.ignore leaves out" for count in ("1 store", "2 stores"))}
+        self.expect("places that are ignored", {*lost} == wanted, lost)
+        labels.unlink()
         ranges.write_text("0x44:4\n64 to 68\n")
         status, told, faults = self.replay(words)
         self.expect("ranges that are none", (status, told) == (3, "") and "locks.trace.ignore:2: '64 to 68' is no range" in faults, faults)

@@ -7,7 +7,7 @@ use pmt_causes::Group;
 use pmt_draw::{Label, svg_text};
 use pmt_explain::{LostGroup, OverwrittenGroup};
 use pmt_explain_run::explain;
-use pmt_explanation::{Choice, Explanation, Kind, Labels, Options, Unwritten};
+use pmt_explanation::{Choice, Explanation, Ignored, Kind, Labels, Options, Unwritten};
 use pmt_model::OutOfMemory;
 use pmt_picture::{
     Known, Picture, Refusal, Subject, about_of, first_subject, lines_of_addresses, picture_of,
@@ -73,7 +73,7 @@ fn explained(
     bytes: &[u8],
 ) -> Result<Explanation, TakeError> {
     let options = Options {
-        ignored: Vec::new(alloc),
+        ignored: Ignored::new(alloc),
         limit: 0,
         choice: needed_by(asked),
     };

@@ -3,7 +3,7 @@ ghost use Rattle.std.specs.Prelude.{◌≤◌, IfOk};
 
 use crate::colors::colored;
 use command_inputs::{
-    Fault, Input, Opener, bytes_of, cut_of, labels_of, no_failure, read_file, read_ranges,
+    Fault, Input, Opener, bytes_of, cut_of, labels_of, no_failure, read_file, read_ignored,
     taken_fault, write_named,
 };
 use command_page::page_of;
@@ -22,11 +22,11 @@ use std::io::{Cursor, Read, Write};
 const ROWS: usize = 40;
 
 /// Explains the trace of the file or of `input`, and writes what is asked for to the file that is named, or to `out`, which shows colors
-/// or not. The files of ranges and of labels are read and
-/// judged first. The status is 1 where an assertion fails, or a store is never persisted that is not ignored.
+/// or not. The files of what is ignored and of labels are read
+/// and judged first. The status is 1 where an assertion fails, or a store is never persisted that is not ignored.
 ///
 /// # Errors
-/// The fault of a file of ranges, of the labels, of the trace, that no failed assertion is where one was asked for, the fault of the
+/// The fault of a file of what is ignored, of the labels, of the trace, that no failed assertion is where one was asked for, the fault of the
 /// folder of the source files, that of the write: the first of them. Each names the file and says why.
 pub fn run_explain<O, I, W>(
     alloc: Global,
@@ -42,7 +42,7 @@ where
     W: Write,
     ensures { IfOk result (λ status. status ≤ 1) }
 {
-    read_ignored(alloc, files, words)?;
+    add_ignored(alloc, files, words)?;
     let labels = labels_of(alloc, files, words.labels)?;
     let bytes = bytes_of(alloc, Input::new("explain", words.file), files, input)?;
     let cut = cut_of(alloc, files, words.file)?;
@@ -54,8 +54,8 @@ where
     explain_bytes(alloc, files, words, &known, bytes.as_slice(), out)
 }
 
-// Adds the ranges of the files that name bytes which may be lost.
-fn read_ignored<O: Opener>(
+// Adds what the files tell to ignore.
+fn add_ignored<O: Opener>(
     alloc: Global,
     files: &O,
     words: &mut ExplainWords<'_>,
@@ -66,7 +66,7 @@ fn read_ignored<O: Opener>(
             None => break,
         };
         let bytes = read_file(alloc, files, name)?;
-        read_ranges(alloc, name, bytes.as_slice(), &mut words.options.ignored)?;
+        read_ignored(alloc, name, bytes.as_slice(), &mut words.options.ignored)?;
     }
     Ok(())
 }
@@ -218,7 +218,7 @@ fn people_text(
     let screen = Screen {
         rows: if is_whole { None } else { Some(ROWS) },
         choice: &words.options.choice,
-        ignored: words.options.ignored.as_slice(),
+        ignored: &words.options.ignored,
         trace: words.file,
         labels: words.labels,
         cut: known.cut.as_ref(),

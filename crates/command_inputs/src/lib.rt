@@ -7,6 +7,7 @@ mod diagnosis;
 mod fault;
 mod foreign;
 mod forms;
+mod ignoring;
 mod input;
 mod inputs;
 mod labels;
@@ -24,6 +25,7 @@ mod writing;
 pub use crate::budgets::budget_of;
 pub use crate::cuts::cut_of;
 pub use crate::fault::{Fault, no_failure};
+pub use crate::ignoring::{asked_place, read_ignored};
 pub use crate::input::{Input, STANDARD_INPUT};
 pub use crate::inputs::{
     bytes_of, create_fault, labels_of, open_fault, opened, piece_fault, read_file, taken_fault,
@@ -33,7 +35,7 @@ pub use crate::labels::label_of;
 pub use crate::opener::{OpenError, Opener, SystemFiles};
 pub use crate::origin::read_origin;
 pub use crate::outputs::{Output, check_apart, remove_all, write_named, write_outputs};
-pub use crate::ranges::{asked_range, read_ranges};
+pub use crate::ranges::asked_range;
 pub use crate::reading::{read_whole, reason, system_fault};
 pub use crate::reasons::{open_input, reasoned, write_output};
 pub use crate::recalling::{Memory, Recalling, Recalls};

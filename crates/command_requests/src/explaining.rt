@@ -25,9 +25,9 @@ pub enum Color {
 /// What `explain` is asked for.
 #[derive(Drop)]
 pub struct ExplainWords<'a> {
-    /// The bytes that may be lost, the most entries of a kind that are shown, and which findings are told.
+    /// The stores that may be lost, the most entries of a kind that are shown, and which findings are told.
     pub options: Options,
-    /// The files that name more bytes that may be lost.
+    /// The files that name more stores that may be lost.
     pub ignore_files: Vec<&'a str>,
     /// Whether the words say how many entries are shown; the text has the lines of a screen where they don't.
     pub is_limited: bool,

@@ -4,7 +4,7 @@ use command_inputs::{Fault, Input, Opener, bytes_of, cut_of, labels_of, taken_fa
 use pmt_causes::Origin;
 use pmt_explain_run::explain;
 use pmt_explanation::{
-    Choice, Cut, Explanation, Kind, Labels, Options, Summary, frame_of, summary_of,
+    Choice, Cut, Explanation, Ignored, Kind, Labels, Options, Summary, frame_of, summary_of,
 };
 use pmt_fates::PlaceRow;
 use pmt_model::OutOfMemory;
@@ -51,7 +51,7 @@ pub(crate) fn measured_of<O: Opener, I: Read>(
 // The explanation of the trace with this text, of which nothing is asked but what each place has.
 fn explained(alloc: Global, labels: &Labels, bytes: &[u8]) -> Result<Explanation, TakeError> {
     let options = Options {
-        ignored: Vec::new(alloc),
+        ignored: Ignored::new(alloc),
         limit: 0,
         choice: Choice {
             only: Some(Kind::Unwritten),

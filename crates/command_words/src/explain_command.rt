@@ -12,7 +12,7 @@ const ONLY: &str =
 
 // How `explain` is used.
 const USAGE: &str =
-    "pmtrim explain [--ignore A:N].. [--ignore-file FILE].. [--limit N] [--only KIND] [--thread T]\n                      [--range A:N] [--from I] [--to J] [--label TEXT] [--failure N] [--labels FILE]\n                      [--json | --html [--source DIR] | --color WHEN] [--out FILE] [FILE]";
+    "pmtrim explain [--ignore A:N].. [--ignore-label LABEL].. [--ignore-file FILE].. [--limit N]\n                      [--only KIND] [--thread T] [--range A:N] [--from I] [--to J] [--label TEXT]\n                      [--failure N] [--labels FILE] [--json | --html [--source DIR] | --color WHEN]\n                      [--out FILE] [FILE]";
 
 /// The command `explain`.
 pub const EXPLAIN: CommandText<'static> = CommandText {
@@ -27,9 +27,14 @@ pub const EXPLAIN: CommandText<'static> = CommandText {
             help: "Leave out what is lost in the N bytes from address A on, as 0x1000:8;{n}may be given more than once",
         },
         Word {
+            name: "ignore-label",
+            kind: WordKind::Values("LABEL"),
+            help: "Leave out what stores of this place lose, as 'stats.c:12 bump', what{n}labels say before ' < ', or a beginning and a star, as 'stats.c:*';{n}wants --labels; may be given more than once",
+        },
+        Word {
             name: "ignore-file",
             kind: WordKind::Values("FILE"),
-            help: "Leave out the ranges of this file too: lines A:N;{n}may be given more than once",
+            help: "Leave out what this file tells too: lines A:N or 'label LABEL';{n}may be given more than once",
         },
         Word {
             name: "limit",

@@ -3,9 +3,9 @@
 use crate::arguments::{bad_word, out_name, trace_name};
 use crate::explain_choice::choice_of;
 use clap::ArgMatches;
-use command_inputs::{Fault, asked_range};
+use command_inputs::{Fault, asked_place, asked_range};
 use command_requests::{Color, ExplainWords, Form};
-use pmt_explanation::{ByteRange, Choice, Options};
+use pmt_explanation::{ByteRange, Choice, Ignored, IgnoredPlace, Options};
 use pmt_text::number::read_number;
 use std::alloc::Global;
 
@@ -79,7 +79,7 @@ fn source_of<'a>(alloc: Global, given: &ArgMatches<'a>) -> Result<Option<&'a str
     Ok(Some(folder))
 }
 
-// The files that name bytes to ignore.
+// The files that tell what to ignore.
 fn files_of<'a>(alloc: Global, given: &ArgMatches<'a>) -> Result<Vec<&'a str>, Fault> {
     let mut files = Vec::new(alloc);
     files.extend_from_slice(given.get_strs("ignore-file").unwrap_or(&[]))?;
@@ -87,8 +87,10 @@ fn files_of<'a>(alloc: Global, given: &ArgMatches<'a>) -> Result<Vec<&'a str>, F
 }
 
 fn options_of(alloc: Global, given: &ArgMatches<'_>, choice: Choice) -> Result<Options, Fault> {
-    let ranges = given.get_strs("ignore").unwrap_or(&[]);
-    let ignored = ignored_of(alloc, ranges)?;
+    let ignored = Ignored {
+        ranges: ignored_of(alloc, given.get_strs("ignore").unwrap_or(&[]))?,
+        places: places_of(alloc, given)?,
+    };
     let limit = asked_limit(alloc, given.get_str("limit"), FEW)?;
     Ok(Options {
         ignored,
@@ -110,6 +112,23 @@ pub fn ignored_of(alloc: Global, ranges: &[&str]) -> Result<Vec<ByteRange>, Faul
         }
     }
     Ok(ignored)
+}
+
+// The places whose stores are ignored: labels say which events are of them.
+fn places_of(alloc: Global, given: &ArgMatches<'_>) -> Result<Vec<IgnoredPlace>, Fault> {
+    let words = given.get_strs("ignore-label").unwrap_or(&[]);
+    if !words.is_empty() && given.get_str("labels").is_none() {
+        let message = "'--ignore-label' wants '--labels', the file that names the events";
+        return Err(Fault::usage(alloc, message)?);
+    }
+    let mut places = Vec::new(alloc);
+    for text in words {
+        let place = asked_place(alloc, "--ignore-label <LABEL>", text)?;
+        if places.push(place).is_err() {
+            return Err(Fault::OutOfMemory);
+        }
+    }
+    Ok(places)
 }
 
 // The limit that this word names, or else this one.

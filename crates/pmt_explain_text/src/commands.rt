@@ -19,7 +19,7 @@ pub(crate) fn push_draw(pen: &mut Pen, told: &Telling<'_>, words: &str, named: u
 }
 
 // Adds the word as a shell reads it.
-fn push_word(pen: &mut Pen, word: &str) {
+pub(crate) fn push_word(pen: &mut Pen, word: &str) {
     if word.as_bytes().iter().all(|byte| is_plain(*byte)) {
         pen.put(word);
         return;

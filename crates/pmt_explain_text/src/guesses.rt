@@ -1,19 +1,20 @@
 //! A guess at what is noise: the places that could be left out.
 
 use crate::claims::Claims;
+use crate::commands::push_word;
 use crate::members::line_of_store;
 use crate::merging::merged;
 use crate::parts::{place_of, push_count, push_place_name};
 use crate::screen::Section;
 use crate::telling::{Telling, tells_all};
 use pmt_causes::Origin;
-use pmt_explanation::ByteRange;
+use pmt_explanation::{ByteRange, frame_of};
 use pmt_fates::{PlaceRow, Standing, standing_of};
 use pmt_model::{Op, OutOfMemory, Trace};
 use pmt_pen::Pen;
 use std::collections::HashMap;
 
-// The most places and the most ranges that are named.
+// The most places that are named, and the most options.
 const NAMED: usize = 8;
 
 // The places that lose all that they store, by whether the program speaks of a line of theirs.
@@ -57,8 +58,9 @@ fn add_guess(
             note_spoken_of(told, &mut places, *store)?;
         }
     }
-    let ranges = ranges_of(told, &places)?;
-    if !ranges.is_empty() {
+    let rows = told.explanation.places.as_slice();
+    if rows.iter().any(|row| is_quiet(&places, row.place)) {
+        let ranges = ranges_of(told, &places)?;
         section.add(guess_of(told, &places, ranges.as_slice()));
     }
     Ok(())
@@ -108,11 +110,12 @@ fn note_spoken_of(told: &Telling<'_>, places: &mut Places, store: u64) -> Result
     Ok(())
 }
 
-// The bytes that the places store of whose lines the program does not speak, by rising address.
+// The bytes that the places store of whose lines the program does not speak, and which no label names, by rising address.
 fn ranges_of(told: &Telling<'_>, places: &Places) -> Result<Vec<ByteRange>, OutOfMemory> {
     let mut ranges = Vec::new(told.alloc);
     for store in told.explanation.stores.as_slice() {
-        if is_quiet(places, place_of(told, *store)) {
+        let place = place_of(told, *store);
+        if is_quiet(places, place) && name_of(told, place).is_none() {
             push_range(told.trace, &mut ranges, *store)?;
         }
     }
@@ -141,22 +144,50 @@ fn push_range(trace: &Trace, ranges: &mut Vec<ByteRange>, number: u64) -> Result
     Ok(())
 }
 
-// The guess at these places, which store these bytes.
+// The label that `--ignore-label` is given for the place, if that reads it as one.
+fn name_of<'a>(told: &Telling<'a>, place: Origin) -> Option<&'a str> {
+    let Origin::Label(number) = place else {
+        return None;
+    };
+    let frame = frame_of(told.labels.get(number)?.as_str());
+    if frame.is_empty() || frame.starts_with('-') {
+        return None;
+    }
+    Some(frame)
+}
+
+// The guess at these places, which store these bytes where no label names them.
 fn guess_of(told: &Telling<'_>, places: &Places, ranges: &[ByteRange]) -> Pen {
     let mut pen = Pen::new(told.alloc);
     push_places(&mut pen, told, places);
     pen.put(". If a crash may lose that, as locks or statistics, leave it out by");
-    for range in ranges.iter().take(NAMED) {
-        pen.fill(" --ignore @:#", &[range.addr, range.len]);
-    }
-    if ranges.len() > NAMED {
-        pen.fill(
-            " and # more ranges",
-            &[ranges.len().saturating_sub(NAMED) as u64],
-        );
-    }
+    push_options(&mut pen, told, places, ranges);
     pen.put("\n");
     pen
+}
+
+// Adds the options that leave out the stores of the places, those by label first.
+fn push_options(pen: &mut Pen, told: &Telling<'_>, places: &Places, ranges: &[ByteRange]) {
+    let mut count = 0usize;
+    for row in told.explanation.places.as_slice() {
+        if !is_quiet(places, row.place) {
+            continue;
+        }
+        if let Some(name) = name_of(told, row.place) {
+            count = count.saturating_add(1);
+            if count <= NAMED {
+                pen.put(" --ignore-label ");
+                push_word(pen, name);
+            }
+        }
+    }
+    for range in ranges.iter().take(NAMED.saturating_sub(count)) {
+        pen.fill(" --ignore @:#", &[range.addr, range.len]);
+    }
+    let more = count.saturating_add(ranges.len()).saturating_sub(NAMED);
+    if more > 0 {
+        pen.fill(" and # more", &[more as u64]);
+    }
 }
 
 // Adds the places, and how much they store.

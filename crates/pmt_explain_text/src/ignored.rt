@@ -1,11 +1,11 @@
-//! What the ranges to ignore leave out, in words.
+//! What the ranges and places to ignore leave out, in words.
 
 use crate::telling::Telling;
-use pmt_explanation::{ByteRange, Summary, is_ignored};
+use pmt_explanation::{ByteRange, IgnoredPlace, Summary, is_at_place, is_ignored};
 use pmt_model::{Finding, Op, Trace};
 use pmt_pen::Pen;
 
-// Adds how many findings are left out as ignored, if any are, and how many of the ranges leave out nothing, if some do.
+// Adds how many findings are left out as ignored, if any are, and how many of the ranges and places leave out nothing, if some do.
 pub(crate) fn push_ignored(pen: &mut Pen, told: &Telling<'_>, counts: &Summary) {
     let lost = counts.ignored_never_persisted;
     let overwritten = counts.ignored_overwritten;
@@ -15,28 +15,49 @@ pub(crate) fn push_ignored(pen: &mut Pen, told: &Telling<'_>, counts: &Summary) 
             &[lost, overwritten],
         );
     }
-    let mut idle = 0u64;
-    for range in told.screen.ignored {
-        if !leaves_out(told, *range) {
-            idle = idle.saturating_add(1);
-        }
-    }
+    let ranges = told.screen.ignored.ranges.as_slice();
+    let idle = ranges
+        .iter()
+        .filter(|range| !leaves_out(told, **range))
+        .count();
+    push_idle(pen, "ranges", idle, ranges.len());
+    let places = told.screen.ignored.places.as_slice();
+    let idle = places
+        .iter()
+        .filter(|place| !has_store(told, *place))
+        .count();
+    push_idle(pen, "labels", idle, places.len());
+}
+
+// Adds how many of those that are given leave out nothing, if some do.
+fn push_idle(pen: &mut Pen, what: &str, idle: usize, given: usize) {
     if idle > 0 {
-        let given = told.screen.ignored.len() as u64;
+        pen.put("  ");
+        pen.put(what);
         pen.fill(
-            "  ranges to ignore that leave out nothing: # of #\n",
-            &[idle, given],
+            " to ignore that leave out nothing: # of #\n",
+            &[idle as u64, given as u64],
         );
     }
 }
 
-// Whether the range has a byte of a store that is left out.
+// Whether the range has a byte of a store that ranges leave out.
 fn leaves_out(told: &Telling<'_>, range: ByteRange) -> bool {
     for finding in told.explanation.analysis.findings() {
         let number = store_of(*finding);
         if is_stored(told.trace, range, number)
-            && is_ignored(told.trace, told.screen.ignored, number)
+            && is_ignored(told.trace, told.screen.ignored.ranges.as_slice(), number)
         {
+            return true;
+        }
+    }
+    false
+}
+
+// Whether a store that is lost or overwritten is at the place.
+fn has_store(told: &Telling<'_>, place: &IgnoredPlace) -> bool {
+    for finding in told.explanation.analysis.findings() {
+        if is_at_place(told.labels, place, store_of(*finding)) {
             return true;
         }
     }

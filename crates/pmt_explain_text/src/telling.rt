@@ -1,6 +1,6 @@
 //! What each part of the text for people is told of.
 
-use pmt_explanation::{ByteRange, Choice, Cut, Explanation, Kind, Labels};
+use pmt_explanation::{Choice, Cut, Explanation, Ignored, Kind, Labels};
 use pmt_model::Trace;
 use std::alloc::Global;
 
@@ -11,8 +11,8 @@ pub struct Screen<'a> {
     pub rows: Option<usize>,
     /// What was asked for.
     pub choice: &'a Choice,
-    /// The ranges in which stores are ignored.
-    pub ignored: &'a [ByteRange],
+    /// The stores that are ignored.
+    pub ignored: &'a Ignored,
     /// The file of the trace; none for standard input.
     pub trace: Option<&'a str>,
     /// The file of the labels, if there is one.

@@ -41,7 +41,7 @@ pub record IsExplanation (a : Analysed) (labels : Labels) (o : Options) (x : Exp
   pub causes : AreFailureGroups a.trace x.frames.items x.asked_failing.items x.causes.items
   pub failures : All (IsShown a.trace) x.failures.items
   pub shown : map (λ (s : ShownFailure). s.event) x.failures.items ≡ take x.limit (first_members x.causes.items)
-  pub stores : x.stores.items ≡ told_stores a.trace o.ignored.items a.findings
+  pub stores : x.stores.items ≡ told_stores a.trace labels o.ignored a.findings
   pub lost : AreLostGroups a.trace (asked_numbers a.trace labels o.choice kinds.NeverPersisted x.stores.items) x.lost.items
   pub lost_causes : AreGrouped (filter_map (lost_item a.trace x.frames.items) x.lost.items) x.lost_causes.items
   pub dropped : AreDropped a.trace x.dropped.items
@@ -51,10 +51,10 @@ pub record IsExplanation (a : Analysed) (labels : Labels) (o : Options) (x : Exp
   pub waited : AreWaited a.trace x.waited.items
   pub threads : AreThreadRows a.trace x.dropped.items x.threads.items
   pub labelled : AreLabelRows a.trace x.label_numbers.items x.dropped.items x.labelled.items
-  pub overwritten : AreOverwrittenGroups a.trace (asked_pairs a.trace labels o.choice (told_pairs a.trace o.ignored.items a.findings)) x.overwritten.items
+  pub overwritten : AreOverwrittenGroups a.trace (asked_pairs a.trace labels o.choice (told_pairs a.trace labels o.ignored a.findings)) x.overwritten.items
   pub unwritten : x.unwritten.items ≡ asked_unwritten a.trace labels o.choice (unwritten_of a.trace)
   pub ignored_stores : x.ignored_never_persisted ≡ count_by (λ (f : Finding). is_some (lost_store f)) a.findings - length x.stores.items
-  pub ignored_pairs : x.ignored_overwritten ≡ count_by (λ (f : Finding). is_some (overwriting f)) a.findings - length (told_pairs a.trace o.ignored.items a.findings)
+  pub ignored_pairs : x.ignored_overwritten ≡ count_by (λ (f : Finding). is_some (overwriting f)) a.findings - length (told_pairs a.trace labels o.ignored a.findings)
 
 -- What is found in an analysed trace, with these labels, where this is asked.
 pub record AreParts (a : Analysed) (labels : Labels) (o : Options) (p : Parts) : Type 0 where
@@ -63,13 +63,13 @@ pub record AreParts (a : Analysed) (labels : Labels) (o : Options) (p : Parts) :
   pub places : ArePlaces a.trace p.frames.items p.lost.stores.items (map event_of p.found.dropped.items) p.found.places.items
   pub hints : AreHints a.trace labels p.frames.items o.choice p.hints.items
   pub found : AreFound a.trace a.verdicts labels p.label_numbers.items p.frames.items o p.found
-  pub stores : p.lost.stores.items ≡ told_stores a.trace o.ignored.items a.findings
+  pub stores : p.lost.stores.items ≡ told_stores a.trace labels o.ignored a.findings
   pub lost : AreLostGroups a.trace (asked_numbers a.trace labels o.choice kinds.NeverPersisted p.lost.stores.items) p.lost.groups.items
   pub lost_causes : AreGrouped (filter_map (lost_item a.trace p.frames.items) p.lost.groups.items) p.lost.causes.items
-  pub overwritten : AreOverwrittenGroups a.trace (asked_pairs a.trace labels o.choice (told_pairs a.trace o.ignored.items a.findings)) p.lost.overwritten.items
+  pub overwritten : AreOverwrittenGroups a.trace (asked_pairs a.trace labels o.choice (told_pairs a.trace labels o.ignored a.findings)) p.lost.overwritten.items
   pub unwritten : p.unwritten.items ≡ asked_unwritten a.trace labels o.choice (unwritten_of a.trace)
   pub ignored_stores : p.lost.ignored_stores ≡ count_by (λ (f : Finding). is_some (lost_store f)) a.findings - length p.lost.stores.items
-  pub ignored_pairs : p.lost.ignored_pairs ≡ count_by (λ (f : Finding). is_some (overwriting f)) a.findings - length (told_pairs a.trace o.ignored.items a.findings)
+  pub ignored_pairs : p.lost.ignored_pairs ≡ count_by (λ (f : Finding). is_some (overwriting f)) a.findings - length (told_pairs a.trace labels o.ignored a.findings)
 
 -- An assertion fails, or a store that is not ignored is never persisted, in a trace that was not cut.
 abbrev pub has_failed : Explanation → Bool → Bool

@@ -12,7 +12,7 @@ use crate::failures::ShownFailure;
 use crate::found::{Found, found_of};
 use crate::frames::frame_numbers;
 use crate::hinting::hints_asked;
-use crate::ignoring::ByteRange;
+use crate::ignoring::Ignored;
 use crate::labels::Labels;
 use crate::losses::{Losses, losses_of};
 use crate::numbering::label_numbers;
@@ -28,8 +28,8 @@ use std::alloc::Global;
 /// What is asked of an explanation.
 #[derive(Drop)]
 pub struct Options {
-    /// The bytes in which stores may be lost or overwritten. Ranges may overlap.
-    pub ignored: Vec<ByteRange>,
+    /// The stores that may be lost or overwritten.
+    pub ignored: Ignored,
     /// The most entries of each kind that are shown.
     pub limit: usize,
     /// Which findings are told.

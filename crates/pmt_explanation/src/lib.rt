@@ -32,7 +32,7 @@ pub use crate::cut::Cut;
 pub use crate::explaining::{Explanation, Options, explanation_of, has_failed};
 pub use crate::failures::{RangeAfter, ShownFailure, failing_events, shown_failures};
 pub use crate::frames::frame_of;
-pub use crate::ignoring::{ByteRange, is_ignored};
+pub use crate::ignoring::{ByteRange, Ignored, IgnoredPlace, is_at_place, is_ignored};
 pub use crate::labels::Labels;
 pub use crate::limit::first;
 pub use crate::mending::mend_for;

@@ -45,22 +45,22 @@ pub(crate) fn losses_of(
     frames: &[Option<u64>],
     options: &Options,
 ) -> Result<Losses, OutOfMemory>
-    ensures stores { IfOk result (λ l. l.stores.items ≡ told_stores analysis.now.trace options.now.ignored.items analysis.now.findings) }
+    ensures stores { IfOk result (λ l. l.stores.items ≡ told_stores analysis.now.trace labels.now options.now.ignored analysis.now.findings) }
     ensures ignored_stores { IfOk result (λ l. l.ignored_stores ≡ count_by (λ f. is_some (lost_of f)) analysis.now.findings - length l.stores.items) }
     ensures groups { IfOk result (λ l. AreLostGroups analysis.now.trace (numbers_asked analysis.now.trace labels.now options.now.choice NeverPersisted l.stores.items) l.groups.items) }
     ensures causes { IfOk result (λ l. AreGrouped (filter_map (lost_item analysis.now.trace frames.now) l.groups.items) l.causes.items) }
-    ensures overwritten { IfOk result (λ l. AreOverwrittenGroups analysis.now.trace (pairs_asked analysis.now.trace labels.now options.now.choice (told_pairs analysis.now.trace options.now.ignored.items analysis.now.findings)) l.overwritten.items) }
-    ensures ignored_pairs { IfOk result (λ l. l.ignored_pairs ≡ count_by (λ f. is_some (overwriting_of f)) analysis.now.findings - length (told_pairs analysis.now.trace options.now.ignored.items analysis.now.findings)) }
+    ensures overwritten { IfOk result (λ l. AreOverwrittenGroups analysis.now.trace (pairs_asked analysis.now.trace labels.now options.now.choice (told_pairs analysis.now.trace labels.now options.now.ignored analysis.now.findings)) l.overwritten.items) }
+    ensures ignored_pairs { IfOk result (λ l. l.ignored_pairs ≡ count_by (λ f. is_some (overwriting_of f)) analysis.now.findings - length (told_pairs analysis.now.trace labels.now options.now.ignored analysis.now.findings)) }
 {
     let trace = analysis.trace();
     let findings = analysis.findings();
-    let ranges = options.ignored.as_slice();
+    let ignored = &options.ignored;
     let choice = &options.choice;
-    let stores = lost_stores(alloc, trace, findings, ranges)?;
+    let stores = lost_stores(alloc, trace, labels, ignored, findings)?;
     let ignored_stores = count_lost(findings).saturating_sub(stores.len()) as u64;
     let groups = asked_losses(alloc, trace, labels, choice, stores.as_slice())?;
     let causes = lost_causes(alloc, trace, frames, groups.as_slice())?;
-    let pairs = overwritings(alloc, trace, findings, ranges)?;
+    let pairs = overwritings(alloc, trace, labels, ignored, findings)?;
     let ignored_pairs = count_overwritten(findings).saturating_sub(pairs.len()) as u64;
     let overwritten = asked_overwritten(alloc, trace, labels, choice, pairs.as_slice())?;
     Ok(Losses {

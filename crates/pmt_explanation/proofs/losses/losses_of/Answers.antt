@@ -19,9 +19,9 @@ returns-clause-causes c =
     (subst (λ gs. AreGrouped (filter_map (lost_item c.trace-trace.result.now c.args.frames.now) gs) c.in_ok-causes.causes.items) c.as_slice-2.ensures.value c.in_ok-causes.ensures)
 
 pub returns-clause-stores : goal.returns-clause-stores
-returns-clause-stores c = rw (sym c.trace-trace.ensures.value, sym c.findings-findings.ensures.value, sym c.as_slice-ranges.ensures.value) c.in_ok-stores.ensures
+returns-clause-stores c = rw (sym c.trace-trace.ensures.value, sym c.findings-findings.ensures.value) c.in_ok-stores.ensures
 
 pub returns-clause-overwritten : goal.returns-clause-overwritten
 returns-clause-overwritten c =
-    let pairs : c.as_slice-3.result.now ≡ told_pairs c.trace-trace.result.now c.as_slice-ranges.result.now c.findings-findings.result.now = c.as_slice-3.ensures.value ∙ c.in_ok-pairs.ensures in
-    rw (sym c.trace-trace.ensures.value, sym c.findings-findings.ensures.value, sym c.as_slice-ranges.ensures.value, sym pairs) c.in_ok-overwritten.ensures
+    let pairs : c.as_slice-3.result.now ≡ told_pairs c.trace-trace.result.now c.args.labels.now c.args.options.now.ignored c.findings-findings.result.now = c.as_slice-3.ensures.value ∙ c.in_ok-pairs.ensures in
+    rw (sym c.trace-trace.ensures.value, sym c.findings-findings.ensures.value, sym pairs) c.in_ok-overwritten.ensures
