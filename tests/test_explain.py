@@ -43,6 +43,16 @@ def with_halves(choose, trace):
     return trace
 
 
+def with_marks(choose, trace):
+    """The trace, at times with isOrderedBefore whose second range lies in two cache lines."""
+    for _ in range(choose.choice((0, 0, 0, 1, 3))):
+        length = choose.choice((2, 8, trace.size))
+        mark = 0x1000 + choose.randrange(1, 3) * trace.size - choose.randrange(1, length)
+        claim = ("isOrderedBefore", choose.randrange(2), 0x1000, 8, mark, length)
+        trace = with_events(trace, choose.randrange(len(trace.events) + 1), [claim])
+    return trace
+
+
 def random_words(choose, trace):
     """Ranges and places to ignore, labels and a limit."""
     addresses = [event[2] for event in trace.events if event[0] == "store"]
@@ -89,7 +99,7 @@ def random_choice(choose, trace, labels):
 def compare(program, folder, choose, told):
     """What is wrong with the answer to one random trace, if anything, and that trace; lines of JSON are added to what was told."""
     head, trace = random_trace(choose)
-    trace = with_halves(choose, trace)
+    trace = with_marks(choose, with_halves(choose, trace))
     ignored, places, labels, limit = random_words(choose, trace)
     file, names = folder / "trace", folder / "labels"
     file.write_bytes(text_of([head, *map(spelled, trace.events)]))
@@ -170,6 +180,15 @@ GUESS = (
 )
 
 
+# Claims with marks in one line of 256 bytes, and what is told of them if lines have 64 bytes, and 32.
+MARKS = (
+    "isOrderedBefore 0 0x1000 8 0x1030 32\nisOrderedBefore 0 0x1000 8 0x1030 17\nisOrderedBefore 1 0x1000 8 0x1030 16\n"
+    "isOrderedBefore 0 0x1000 8 0x103f 2\nisOrderedBefore 1 0x1078 16 0x1000 40\nisOrderedBefore 1 0x1000 8 0x1000 65\n"
+)
+MARKED_START = "note: {} the mark of isOrderedBefore lies in several cache lines, of which a crash can keep a part; the claim says nothing of that: "
+MARKED = MARKED_START.format("4 times") + "b.c:7 put (3 times, first event 2), a.c:3 seal (1 time, first event 1)"
+MARKED_BY_SHORT_LINES = MARKED_START.format("5 times") + "b.c:7 put (3 times, first event 2), a.c:3 seal (1 time, first event 1), thread 1 (1 time, first event 5)"
+
 # Assertions that fail for one cause, and two lines that the text has of them.
 LOOP = "pmtrace 1\nstore 0 0x1000 01\n" + 13 * "isPersist 0 0x1000 1\n"
 LOOP_HEAD = "error: a crash can lose what is claimed to be saved: isPersist of event 2, line 3 (13 times)"
@@ -249,6 +268,16 @@ class Explain(Checks):
         self.expect("the guess", GUESS in lines, "\n".join(lines))
         done = self.explain("--labels", "l", *shlex.split(GUESS.partition(" leave it out by ")[2]), "t", folder=folder)
         self.expect("with the options of the guess", done.returncode == 0 and b"  left out as ignored: 2 never persisted, 1 overwritten\n" in done.stdout, done.stdout)
+
+    def test_marks(self):
+        """A mark that ends with its cache line is in one, and lines have the size that the trace says; the answers are written by hand."""
+        folder = self.new_folder()
+        (folder / "l").write_text("1 a.c:3 seal < b.c:9 main\n2 b.c:7 put\n4 b.c:7 put < b.c:9 main\n6 b.c:7 put\n")
+        for head, wanted in (("pmtrace 1", MARKED), ("pmtrace 2 256", None), ("pmtrace 2 32", MARKED_BY_SHORT_LINES)):
+            (folder / "t").write_text(f"{head}\n{MARKS}")
+            told = [line for line in self.explain("--labels", "l", "t", folder=folder).stdout.decode().splitlines() if " cache lines, of which" in line]
+            self.expect_equal(f"marks of {head}", told, [wanted] if wanted else [])
+            self.expect(f"chosen, of {head}", b"the mark of" not in self.explain("--only", "failure", "t", folder=folder).stdout)
 
     def told(self, text, *words):
         """What is told of a trace."""

@@ -21,6 +21,7 @@ SAVED_LATE = "  stores saved late, which a crash can lose though their thread we
 LATE = "note: stores that two fences or more of their own thread left unsafe, most first:"
 THREADS = "table: what threads make whose flushes and fences do nothing, and how many do:"
 LABELS = "table: source places whose flushes and fences do nothing, those first where most does:"
+MARKS = ("note: ", " the mark of isOrderedBefore lies in several cache lines, of which ")
 NOTHING_FOUND = "Nothing of what is asked for was found."
 COLUMNS = "   stores  flushes   fences  do nothing"
 REASONS = {
@@ -367,6 +368,21 @@ def idle_lines(explained):
             yield f"  {what} to ignore that leave out nothing: {idle} of {len(given)}"
 
 
+def mark_lines(explained):
+    """The line that tells of the isOrderedBefore whose second range lies in several cache lines, by place, most first."""
+    trace, found = explained.trace, {}
+    for number in trace.numbers:
+        word, _, *fields = trace.event(number)
+        if word == "isOrderedBefore" and fields[2] // trace.size != (fields[2] + fields[3] - 1) // trace.size:
+            found.setdefault(by_place.place(explained, number), []).append(number)
+    told = sorted(found.items(), key=lambda item: (-len(item[1]), item[1][0]))
+    names = ", ".join(f"{by_place.name_of(key)} ({times(len(numbers))}, first event {numbers[0]})" for key, numbers in told[:MOST])
+    more = f" and {len(told) - MOST} more" if len(told) > MOST else ""
+    count = times(sum(len(numbers) for numbers in found.values()))
+    line = f"{MARKS[0]}{count}{MARKS[1]}a crash can keep a part; the claim says nothing of that: {names}{more}"
+    return [line] if found and explained.is_whole() else []
+
+
 def found_nothing(explained):
     """Whether something is asked for that no finding meets."""
     found = (explained.causes, explained.never_persisted(), explained.dropped(), explained.overwritten(), explained.unwritten(), grouped.late(explained), hinted.hints(explained), hinted.left(explained))
@@ -378,6 +394,8 @@ def wrong_text(explained, told):
     lines = told.decode().splitlines()
     if [line for line in lines if line.startswith(("  ranges to ignore ", "  labels to ignore "))] != list(idle_lines(explained)):
         return f"what is to be ignored: wanted {list(idle_lines(explained))}, in\n{told.decode()}"
+    if [line for line in lines if line.startswith(MARKS[0]) and MARKS[1] in line] != mark_lines(explained):
+        return f"marks: wanted {mark_lines(explained)}, in\n{told.decode()}"
     if (lines[-1] == NOTHING_FOUND) != found_nothing(explained):
         return f"found nothing: {found_nothing(explained)}, in\n{told.decode()}"
     if [line for line in lines if line.startswith("  told below: ")] != asked_lines(explained):

@@ -14,6 +14,7 @@ mod instead;
 mod late;
 mod left;
 mod lost;
+mod marks;
 mod members;
 mod memory;
 mod merging;

@@ -7,6 +7,7 @@ use crate::guesses::{guesses_section, loses_all};
 use crate::hints::hints_section;
 use crate::late::late_section;
 use crate::lost::lost_section;
+use crate::marks::marks_section;
 use crate::overwritten::overwritten_section;
 use crate::places::places_section;
 use crate::screen::push_sections;
@@ -47,6 +48,7 @@ pub fn text(
         overwritten_section(&told),
         late_section(&told),
         unwritten_section(&told),
+        marks_section(&told),
         guesses_section(&told, &claims),
         threads_section(&told),
         labels_section(&told),
