@@ -383,6 +383,29 @@ def mark_lines(explained):
     return [line] if found and explained.is_whole() else []
 
 
+def clean_lines(explained):
+    """What the text ends with if no assertion fails and each store is ignored or safe by the end: what is claimed, and what is safe."""
+    words = [event[0] for event in explained.trace.events]
+    stores, claims, empty = words.count("store"), sum(word.startswith("is") for word in words), len(explained.unwritten())
+    ignored = [store for store in explained.lost_stores() if explained.is_ignored(store)]
+    if explained.failing() or len(ignored) < len(explained.lost_stores()) or not stores or not explained.is_whole():
+        return []
+    but = f", but for {len(ignored)} that {'is' if len(ignored) == 1 else 'are'} ignored" if ignored else ""
+    safe = f"{'the store' if stores == 1 else f'each of the {stores} stores'} is safe by the end of the trace{but}"
+    if claims == empty:
+        return ["", f"{safe[0].upper()}{safe[1:]}; what a crash before that may not lose, no assertion says."]
+    vain = f", {empty} of which {'checks' if empty == 1 else 'check'} nothing" if empty else ""
+    held = "the assertion" if claims == 1 else f"one of the {claims} assertions{vain}"
+    return ["", f"Nothing that is claimed can be lost: no crash that the model allows violates {held},", f"and {safe}."]
+
+
+def wrong_end(explained, lines):
+    """What is wrong with the last lines."""
+    wanted = clean_lines(explained)
+    others = [line for line in lines[: len(lines) - len(wanted)] if " of the trace" in line and " safe by the end" in line or line.startswith("Nothing that is claimed")]
+    return None if lines[len(lines) - len(wanted) :] == wanted and not others else f"the end: wanted {wanted}, in {lines}"
+
+
 def found_nothing(explained):
     """Whether something is asked for that no finding meets."""
     found = (explained.causes, explained.never_persisted(), explained.dropped(), explained.overwritten(), explained.unwritten(), grouped.late(explained), hinted.hints(explained), hinted.left(explained))
@@ -408,7 +431,7 @@ def wrong_text(explained, told):
         return f"hints: wanted {list(hinted.lines(explained))}, in\n{told.decode()}"
     if [line for line in lines if line.startswith("guess: ")] != by_place.guess_lines(explained):
         return f"the guess: wanted {by_place.guess_lines(explained)}, in\n{told.decode()}"
-    wrong = wrong_late(explained, lines) or wrong_places(explained, lines)
+    wrong = wrong_late(explained, lines) or wrong_places(explained, lines) or wrong_end(explained, lines)
     if wrong:
         return wrong
     causes, entries = explained.causes, errors_of(lines)
@@ -441,4 +464,4 @@ def wrong_screen(explained, told):
     for name, entries in found.items():
         if entries and not any(name in line for line in lines[5:]):
             return f"nothing of what {name}:\n{told.decode()}"
-    return None
+    return wrong_end(explained, lines)

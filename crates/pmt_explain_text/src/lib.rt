@@ -3,6 +3,7 @@
 
 mod causes;
 mod claims;
+mod clean;
 mod commands;
 mod dropped;
 mod failures;

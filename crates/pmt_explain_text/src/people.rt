@@ -1,6 +1,7 @@
 //! An explanation as a text for people.
 
 use crate::claims::{Claims, claims_of};
+use crate::clean::clean_words;
 use crate::dropped::dropped_section;
 use crate::failures::failures_section;
 use crate::guesses::{guesses_section, loses_all};
@@ -10,18 +11,18 @@ use crate::lost::lost_section;
 use crate::marks::marks_section;
 use crate::overwritten::overwritten_section;
 use crate::places::places_section;
-use crate::screen::push_sections;
+use crate::screen::{lines_of, push_sections};
 use crate::summary::push_summary;
 use crate::tables::{labels_section, threads_section};
 use crate::telling::{Screen, Telling, tells_all};
 use crate::unwritten::unwritten_section;
-use pmt_explanation::{Explanation, Labels};
+use pmt_explanation::{Explanation, Labels, summary_of};
 use pmt_model::OutOfMemory;
 use pmt_pen::Pen;
 use std::alloc::Global;
 
 /// The explanation for people: the summary, and then what was found, what matters most first, and last what may be none of the
-/// program's faults. What is left out is counted, with the words that show it.
+/// program's faults, or in words that there are none. What is left out is counted, with the words that show it.
 ///
 /// # Errors
 /// Where memory was refused.
@@ -53,15 +54,29 @@ pub fn text(
         threads_section(&told),
         labels_section(&told),
     ]?;
+    let counts = summary_of(explanation);
+    let last = clean_words(&told, &counts);
     let mut pen = Pen::new(alloc);
-    push_summary(&mut pen, &told);
-    push_sections(&mut pen, sections.as_mut_slice(), screen.rows);
+    push_summary(&mut pen, &told, &counts);
+    push_sections(
+        &mut pen,
+        sections.as_mut_slice(),
+        rows_before(screen, &last),
+    );
+    pen.share(&last);
+    pen.put(last.as_str());
     let is_quiet = sections.iter().all(|section| section.total == 0);
     if is_quiet && !tells_all(screen.choice) {
         pen.put("\nNothing of what is asked for was found.\n");
     }
     let written = pen.finish()?;
     Ok(written.into_bytes())
+}
+
+// The lines of the screen that stand before these words.
+fn rows_before(screen: &Screen<'_>, last: &Pen) -> Option<usize> {
+    let rows = screen.rows?;
+    Some(rows.saturating_sub(lines_of(last.as_str().as_bytes())))
 }
 
 // The lines of which the program speaks, where a place loses all that it stores; else nothing asks for them, and none is noted.

@@ -4,16 +4,15 @@ use crate::ignored::push_ignored;
 use crate::parts::{is_unflushed, push_count};
 use crate::telling::{Telling, failure_of};
 use crate::unknown::{push_cut, push_unknown};
-use pmt_explanation::{Choice, Summary, per_cent, summary_of};
+use pmt_explanation::{Choice, Summary, per_cent};
 use pmt_pen::Pen;
 
 // Adds the counts, and what the words mean.
-pub(crate) fn push_summary(pen: &mut Pen, told: &Telling<'_>) {
-    let counts = summary_of(told.explanation);
+pub(crate) fn push_summary(pen: &mut Pen, told: &Telling<'_>, counts: &Summary) {
     push_cut(pen, told);
-    push_counts(pen, told, &counts);
-    push_ignored(pen, told, &counts);
-    push_unknown(pen, &counts);
+    push_counts(pen, told, counts);
+    push_ignored(pen, told, counts);
+    push_unknown(pen, counts);
     push_choice(pen, told.screen.choice);
     pen.put(LEGEND);
     if !told.explanation.asked_failing.is_empty() {
