@@ -2,6 +2,7 @@ pub mod FlagLemmas
 pub mod NearLemmas
 pub mod NumberLemmas
 pub mod OpenAtLemmas
+pub mod PartingLemmas
 pub mod SplitLemmas
 pub mod StepLemmas
 pub mod StoredAfterLemmas

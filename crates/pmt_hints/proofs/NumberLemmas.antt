@@ -7,14 +7,14 @@ use Rattle.pmt_model.specs.Selections.{IsRising, Has}
 use Rattle.pmt_hints.specs.Hints.{AreThose}
 use Rattle.pmt_hints.specs.Near.{AreUpTo, if_told}
 
-has-push : (ks : List ℕ) (n i : ℕ) → Has (ks ++ n ∷ []) i ↔ (Has ks i ⊎ (n ≡ i))
+pub has-push : (ks : List ℕ) (n i : ℕ) → Has (ks ++ n ∷ []) i ↔ (Has ks i ⊎ (n ≡ i))
 has-push [] n i = (λ h. elim h [ inl e ↦ inr e | inr none ↦ absurd none ], λ h. elim h [ inl none ↦ absurd none | inr e ↦ inl e ])
 has-push (k ∷ ks) n i = (
   λ h. elim h [ inl e ↦ inl (inl e) | inr more ↦ elim ((has-push ks n i).0 more) [ inl x ↦ inl (inr x) | inr e ↦ inr e ] ],
   λ h. elim h [ inl first ↦ elim first [ inl e ↦ inl e | inr x ↦ inr ((has-push ks n i).1 (inl x)) ] | inr e ↦ inr ((has-push ks n i).1 (inr e)) ],
 )
 
-rising-push : (low n : ℕ) (ks : List ℕ) → IsRising low ks → ((k : ℕ) → Has ks k → k < n) → low < n → IsRising low (ks ++ n ∷ [])
+pub rising-push : (low n : ℕ) (ks : List ℕ) → IsRising low ks → ((k : ℕ) → Has ks k → k < n) → low < n → IsRising low (ks ++ n ∷ [])
 rising-push low n [] rising below h = (h, tt)
 rising-push low n (k ∷ ks) rising below h = (rising.0, rising-push k n ks rising.1 (λ j has. below j (inr has)) (below k (inl refl)))
 

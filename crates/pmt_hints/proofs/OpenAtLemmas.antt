@@ -10,18 +10,14 @@ use Rattle.pmt_model.specs.Values.{Layout}
 use Rattle.pmt_model.specs.Machine.{Act, Stores, Flushes, Clflushes, Fences, Asserts}
 use Rattle.pmt_model.specs.Traces.{Recording, IsAct, act, act_of, event}
 use Rattle.pmt_model.specs.Selections.{IsRising, Has}
-use Rattle.pmt_model.specs.Keeping.{IsKeep}
 use Rattle.pmt_laws.proofs.Histories.{act-unique, act-within}
-use Rattle.pmt_flags.specs.Flags.{is_kept_at}
 use Rattle.pmt_explain.specs.Following.{IsFirst, past_of}
 use Rattle.pmt_explain.proofs.FirstLemmas.{first-none}
 use Rattle.pmt_hints.specs.declared.next_stores.NextStores.{NextStores}
 use Rattle.pmt_hints.specs.declared.per_thread.PerThread.{PerThread}
-use Rattle.pmt_hints.specs.Hints.{AreThose, FencesBetween, IsOpenAtStore, IsOpenFlush, IsStoreBy}
+use Rattle.pmt_hints.specs.Hints.{FencesBetween, IsOpenFlush, IsStoreBy}
 use Rattle.pmt_hints.specs.Numbers.{elsewhere_at, of_thread}
-use Rattle.pmt_hints.specs.Flagging.{AreFlags}
 use Rattle.pmt_hints.specs.Stepping.{open_so, store_by}
-use Rattle.pmt_hints.proofs.FlagLemmas.{flag-so}
 use Rattle.pmt_hints.proofs.StepLemmas.{Decides, next-step}
 use Rattle.pmt_hints.proofs.StoredAfterLemmas.{FencesFrom, own-store, store-act}
 
@@ -153,16 +149,6 @@ filter-has P (k ∷ ks) i = go (P k) refl (filter-has P ks i)
 
 pub open-bound : (T : Recording) (i : ℕ) → IsOpenFlush T i → (1 ≤ i) × (i ≤ length T.events)
 open-bound T i h = act-within T i (Flushes h.thread h.line) h.is_flush
-
--- those of what is kept that are open
-pub open-those : (T : Recording) (kept numbers : List ℕ) (flags slice : List Bool) → IsKeep T kept → AreFlags (IsOpenFlush T) (length T.events) flags → slice ≡ flags → numbers ≡ filter (is_kept_at slice) kept → AreThose (IsOpenAtStore T) numbers
-open-those T kept numbers flags slice keep x same is = rw (is, same) (record {
-  rising = filter-rising (is_kept_at flags) 0 kept keep.rising;
-  just = λ i. (
-    λ h. let both = (filter-has (is_kept_at flags) kept i).0 h in ((keep.just i).0 both.0, (flag-so (IsOpenFlush T) (length T.events) flags (open-bound T) x i).0 both.1),
-    λ h. (filter-has (is_kept_at flags) kept i).1 ((keep.just i).1 h.0, (flag-so (IsOpenFlush T) (length T.events) flags (open-bound T) x i).1 h.1),
-  );
-})
 
 -- a flush is that of its event's thread
 pub flush-thread : (f : Layout) (u : ℕ) (o : Op) (t l : ℕ) → act_of f u o ≡ Flushes t l → t ≡ u

@@ -1,8 +1,8 @@
 -- Of which places flushes are told as open at a store.
-use Rattle.std.proofs.Common.{◌≡◌, ℕ, inl, inr, Bool, true, false, List, [], ◌∷◌, length, Option, None, Some, refl, sym, ap, ◌∙◌}
-use Rattle.std.specs.Prelude.{◌↔◌, ◌||◌, not}
+use Rattle.std.proofs.Common.{◌≡◌, ℕ, inl, inr, Bool, true, false, List, [], ◌∷◌, length, Option, None, Some, refl, sym, ap, subst, ◌∙◌, arith}
+use Rattle.std.specs.Prelude.{◌||◌, not}
 use Rattle.std.specs.List.{filter, list_any}
-use Rattle.std.proofs.lemmas.Bool.{and_parts, false≢true}
+use Rattle.std.proofs.lemmas.Bool.{false≢true}
 use Rattle.std.proofs.lemmas.Option.{none-some, same_Some}
 use Rattle.pmt_model.specs.declared.event.Event.{Event}
 use Rattle.pmt_model.specs.declared.event.Op.{Op}
@@ -12,15 +12,13 @@ use Rattle.pmt_model.specs.Machine.{Flushes}
 use Rattle.pmt_model.specs.Traces.{Recording, IsAct, act_of, event}
 use Rattle.pmt_model.specs.Selections.{Has}
 use Rattle.pmt_model.specs.Keeping.{IsKeep}
-use Rattle.pmt_flags.specs.Flags.{is_kept_at}
 use Rattle.pmt_causes.specs.declared.failure_keys.Origin.{Origin}
 use Rattle.pmt_causes.specs.FailureKeys.{origin_of}
 use Rattle.pmt_causes.proofs.ExactFailures.{origin-exact}
 use Rattle.pmt_hints.specs.Hints.{AreThose, IsOpenFlush, IsToldOpen}
-use Rattle.pmt_hints.specs.Flagging.{AreFlags}
-use Rattle.pmt_hints.specs.Telling.{AreClosed, Closed, closing, is_closed, is_place, op_place, place_of, told_so}
-use Rattle.pmt_hints.proofs.FlagLemmas.{flag-so}
-use Rattle.pmt_hints.proofs.OpenAtLemmas.{filter-has, filter-rising, open-bound}
+use Rattle.pmt_hints.specs.Parting.{AreParted}
+use Rattle.pmt_hints.specs.Telling.{AreClosed, Closed, is_closed, is_place, op_place, place_of, told_so}
+use Rattle.pmt_hints.proofs.OpenAtLemmas.{filter-has, filter-rising}
 use Rattle.pmt_hints.proofs.SplitLemmas.{origin-same}
 
 -- a test that some number of a list passes
@@ -81,70 +79,68 @@ not-true-false : (b : Bool) → not b ≡ true → b ≡ false
 not-true-false true e = sym e
 not-true-false false e = refl
 
+no-more : (ks : List ℕ) → length ks ≡ 0 → ks ≡ []
+no-more [] e = refl
+no-more (k ∷ ks) e = absurd (omega (arith, e))
+
 -- an event that is told, and one that is to be told
-module _ (T : Recording) (labels : List (Option ℕ)) (kept : List ℕ) (flags : List Bool) (closed : Closed) (keep : IsKeep T kept) (x : AreFlags (IsOpenFlush T) (length T.events) flags) (c : AreClosed T labels flags kept closed) where
-  so : (i : ℕ) → (is_kept_at flags i ≡ true) ↔ IsOpenFlush T i
-  so = flag-so (IsOpenFlush T) (length T.events) flags (open-bound T) x
+module _ (T : Recording) (labels : List (Option ℕ)) (kept passed others : List ℕ) (keep : IsKeep T kept) (x : AreParted T kept passed others) where
+  -- nothing is told where nothing is open
+  open-there : (i : ℕ) → IsToldOpen T labels i → Has passed i
+  open-there i h =
+      elim (x.each i (h.is_open.1).thread (h.is_open.1).line ((keep.just i).1 h.is_open.0) (h.is_open.1).is_flush) [ inl o ↦ o | inr p ↦ absurd ((x.are_others i p).1 h.is_open.1) ]
 
-  abbrev closes : Origin → ℕ → Bool
-  closes p j = is_place p (closing T labels flags j)
+  pub none-told : (numbers : List ℕ) → numbers ≡ passed → length passed ≡ 0 → AreThose (IsToldOpen T labels) numbers
+  none-told numbers is none = rw (is, no-more passed none) (record { rising = tt; just = λ i. (λ h. absurd h, λ h. subst (λ ks. Has ks i) (no-more passed none) (open-there i h)) })
 
-  there : (i : ℕ) → Has kept i → told_so T labels flags closed i ≡ true → IsToldOpen T labels i
-  there i has told = record { is_open = ((keep.just i).0 has, o); all = λ j t l is_kept is_flush place. all j t l ((keep.just j).1 is_kept) is_flush place }
-    where
-      both : (is_kept_at flags i ≡ true) × (not (is_closed closed (place_of labels i (event T i))) ≡ true)
-      both = and_parts (is_kept_at flags i) (not (is_closed closed (place_of labels i (event T i)))) told
+  module _ (closed : Closed) (c : AreClosed T labels others closed) where
+    abbrev closes : Origin → ℕ → Bool
+    closes p j = is_place p (place_of labels j (event T j))
 
-      o : IsOpenFlush T i
-      o = (so i).0 both.0
+    there : (i : ℕ) → Has passed i → told_so T labels closed i ≡ true → IsToldOpen T labels i
+    there i has told = record { is_open = ((keep.just i).0 (x.are_open i has).0, o); all = λ j t l is_kept is_flush place. all j t l ((keep.just j).1 is_kept) is_flush place }
+      where
+        o : IsOpenFlush T i
+        o = (x.are_open i has).1
 
-      p : Origin
-      p = origin_of labels i o.thread
+        p : Origin
+        p = origin_of labels i o.thread
 
-      none : list_any (closes p) kept ≡ false
-      none = sym (c p) ∙ ap (is_closed closed) (sym (flush-place T labels i o.thread o.line o.is_flush)) ∙ not-true-false (is_closed closed (place_of labels i (event T i))) both.1
+        none : list_any (closes p) others ≡ false
+        none = sym (c p) ∙ ap (is_closed closed) (sym (flush-place T labels i o.thread o.line o.is_flush)) ∙ not-true-false (is_closed closed (place_of labels i (event T i))) told
 
-      all : (j t l : ℕ) → Has kept j → IsAct T j (Flushes t l) → origin_of labels j t ≡ p → IsOpenFlush T j
-      all j t l within is_flush place = go (is_kept_at flags j) refl
-        where
-          go : (b : Bool) → is_kept_at flags j ≡ b → IsOpenFlush T j
-          go true e = (so j).0 e
-          go false e =
-              let found : closing T labels flags j ≡ Some p = rw e (flush-place T labels j t l is_flush ∙ ap Some place) in
-              absurd (false≢true (sym none ∙ any-has (closes p) kept j within (ap (is_place p) found ∙ origin-same p)))
+        all : (j t l : ℕ) → Has kept j → IsAct T j (Flushes t l) → origin_of labels j t ≡ p → IsOpenFlush T j
+        all j t l within is_flush place = elim (x.each j t l within is_flush) [
+          | inl o ↦ (x.are_open j o).1
+          | inr other ↦
+              let found : place_of labels j (event T j) ≡ Some p = flush-place T labels j t l is_flush ∙ ap Some place in
+              absurd (false≢true (sym none ∙ any-has (closes p) others j other (ap (is_place p) found ∙ origin-same p)))
+        ]
 
-  back : (i : ℕ) → IsToldOpen T labels i → Has kept i × (told_so T labels flags closed i ≡ true)
-  back i h = ((keep.just i).1 h.is_open.0, rw (flag, unclosed) refl)
-    where
-      o : IsOpenFlush T i
-      o = h.is_open.1
+    back : (i : ℕ) → IsToldOpen T labels i → Has passed i × (told_so T labels closed i ≡ true)
+    back i h = (open-there i h, rw unclosed refl)
+      where
+        o : IsOpenFlush T i
+        o = h.is_open.1
 
-      p : Origin
-      p = origin_of labels i o.thread
+        p : Origin
+        p = origin_of labels i o.thread
 
-      flag : is_kept_at flags i ≡ true
-      flag = (so i).1 o
+        never : (j : ℕ) → Has others j → closes p j ≡ true → ⊥
+        never j other e = by_place (place_of labels j (event T j)) refl e
+          where
+            by_place : (q : Option Origin) → place_of labels j (event T j) ≡ q → is_place p q ≡ true → ⊥
+            by_place None at e = false≢true e
+            by_place (Some q) at e =
+                let f = place-flush T labels j q at in
+                let same : origin_of labels j f.0 ≡ p = sym f.3 ∙ origin-exact q p e in
+                (x.are_others j other).1 (h.all j f.0 f.1 ((keep.just j).0 (x.are_others j other).0) f.2 same)
 
-      never : (j : ℕ) → Has kept j → closes p j ≡ true → ⊥
-      never j within e = go (is_kept_at flags j) refl
-        where
-          by_place : is_kept_at flags j ≡ false → (q : Option Origin) → place_of labels j (event T j) ≡ q → is_place p q ≡ true → ⊥
-          by_place off None at e = false≢true e
-          by_place off (Some q) at e =
-              let f = place-flush T labels j q at in
-              let same : origin_of labels j f.0 ≡ p = sym f.3 ∙ origin-exact q p e in
-              false≢true (sym off ∙ (so j).1 (h.all j f.0 f.1 ((keep.just j).0 within) f.2 same))
+        unclosed : is_closed closed (place_of labels i (event T i)) ≡ false
+        unclosed = ap (is_closed closed) (flush-place T labels i o.thread o.line o.is_flush) ∙ c p ∙ any-none (closes p) others never
 
-          go : (b : Bool) → is_kept_at flags j ≡ b → ⊥
-          go true on = let found : closing T labels flags j ≡ None = rw on refl in false≢true (sym (ap (is_place p) found) ∙ e)
-          go false off = let found : closing T labels flags j ≡ place_of labels j (event T j) = rw off refl in by_place off (place_of labels j (event T j)) refl (sym (ap (is_place p) found) ∙ e)
-
-      unclosed : is_closed closed (place_of labels i (event T i)) ≡ false
-      unclosed = ap (is_closed closed) (flush-place T labels i o.thread o.line o.is_flush) ∙ c p ∙ any-none (closes p) kept never
-
-  pub told-those : (numbers : List ℕ) → numbers ≡ filter (told_so T labels flags closed) kept → AreThose (IsToldOpen T labels) numbers
-  told-those numbers is = rw is (record {
-    rising = filter-rising (told_so T labels flags closed) 0 kept keep.rising;
-    just = λ i.
-        (λ h. let found = (filter-has (told_so T labels flags closed) kept i).0 h in there i found.0 found.1, λ h. (filter-has (told_so T labels flags closed) kept i).1 (back i h));
-  })
+    pub told-those : (numbers : List ℕ) → numbers ≡ filter (told_so T labels closed) passed → AreThose (IsToldOpen T labels) numbers
+    told-those numbers is = rw is (record {
+      rising = filter-rising (told_so T labels closed) 0 passed x.rising;
+      just = λ i. (λ h. let found = (filter-has (told_so T labels closed) passed i).0 h in there i found.0 found.1, λ h. (filter-has (told_so T labels closed) passed i).1 (back i h));
+    })

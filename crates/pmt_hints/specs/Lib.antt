@@ -2,6 +2,7 @@ pub mod Flagging
 pub mod Hints
 pub mod Near
 pub mod Numbers
+pub mod Parting
 pub mod Placing
 pub mod Splitting
 pub mod Stepping

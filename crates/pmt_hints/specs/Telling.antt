@@ -1,5 +1,5 @@
 -- Of which places flushes are told as open at a store.
-use Rattle.std.specs.Prelude.{◌≡◌, ℕ, ◌&&◌, Bool, false, not, if◌then◌else◌, List, Option, None, Some, unwrap_or}
+use Rattle.std.specs.Prelude.{◌≡◌, ℕ, Bool, false, not, List, Option, None, Some, unwrap_or}
 use Rattle.std.specs.List.{list_any}
 use Rattle.std.specs.declared.hash.FoldHasher.{FoldHasher}
 use Rattle.std.specs.declared.hash.BuildHasherDefault.{BuildHasherDefault}
@@ -8,7 +8,6 @@ use Rattle.pmt_model.specs.declared.event.Event.{Event}
 use Rattle.pmt_model.specs.declared.event.Op.{Op}
 use Rattle.pmt_model.specs.declared.event.Op.TheVariants.{Store, Clwb, ClflushOpt, Clflush, Sfence, Mfence, IsPersist, IsOrderedBefore}
 use Rattle.pmt_model.specs.Traces.{Recording, event}
-use Rattle.pmt_flags.specs.Flags.{is_kept_at}
 use Rattle.pmt_causes.specs.declared.failure_keys.Origin.{Origin}
 use Rattle.pmt_causes.specs.contracts.failure_keys.OriginPartialEq.TheImpl as origin_eq
 use Rattle.pmt_causes.specs.FailureKeys.{origin_of}
@@ -34,22 +33,18 @@ abbrev pub place_of : List (Option ℕ) → ℕ → Option Event → Option Orig
 place_of labels i None = None
 place_of labels i (Some e) = op_place labels i e.thread e.op
 
--- The same, if it is not flagged.
-abbrev pub closing : Recording → List (Option ℕ) → List Bool → ℕ → Option Origin
-closing T labels flags i = if is_kept_at flags i then None else place_of labels i (event T i)
-
 abbrev pub is_place : Origin → Option Origin → Bool
 is_place p None = false
 is_place p (Some q) = (origin_eq.ghosts).eq q p
 
--- These are the places that have a flush among these numbers which is not flagged.
-abbrev pub AreClosed : Recording → List (Option ℕ) → List Bool → List ℕ → Closed → Type 0
-AreClosed T labels flags numbers closed = (p : Origin) → closed_at closed p ≡ list_any (λ (i : ℕ). is_place p (closing T labels flags i)) numbers
+-- These are the places of the flushes with these numbers.
+abbrev pub AreClosed : Recording → List (Option ℕ) → List ℕ → Closed → Type 0
+AreClosed T labels numbers closed = (p : Origin) → closed_at closed p ≡ list_any (λ (i : ℕ). is_place p (place_of labels i (event T i))) numbers
 
 abbrev pub is_closed : Closed → Option Origin → Bool
 is_closed closed None = false
 is_closed closed (Some p) = closed_at closed p
 
--- The event at i is flagged, and its place has no flush that is not.
-abbrev pub told_so : Recording → List (Option ℕ) → List Bool → Closed → ℕ → Bool
-told_so T labels flags closed i = is_kept_at flags i && not (is_closed closed (place_of labels i (event T i)))
+-- The place of the event at i is not closed.
+abbrev pub told_so : Recording → List (Option ℕ) → Closed → ℕ → Bool
+told_so T labels closed i = not (is_closed closed (place_of labels i (event T i)))

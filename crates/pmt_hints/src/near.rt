@@ -7,34 +7,42 @@ ghost use Rattle.pmt_hints.specs.Near.{before_by, after_by, past_by, HasOpenFlus
 use pmt_model::{Format, Op, Trace, line_of};
 
 // How many looks there are for each event, and how many for all of them besides.
-pub(crate) const LOOKS: usize = 8;
+const LOOKS: usize = 8;
 
-pub(crate) const FIRST_LOOKS: usize = 4096;
+const FIRST_LOOKS: usize = 4096;
 
-// Whether the thread has flushed the line before the event at this index and not fenced since; none where so many looks at events
-// do not tell. What is left of them stays.
+// How many looks are left at the event at this index, if so many were taken before.
+fn looks_left(index: usize, taken: usize) -> usize {
+    FIRST_LOOKS
+        .saturating_add(index.saturating_mul(LOOKS))
+        .saturating_sub(taken)
+}
+
+// Whether the thread has flushed the line before the event at this index and not fenced since; none where the looks that are
+// left do not tell. `taken` is how many were taken.
+#[inline(never)]
 pub(crate) fn is_flushed_before(
     trace: &Trace,
     thread: u8,
     line: u64,
     index: usize,
-    looks: &mut usize,
+    taken: &mut usize,
 ) -> Option<bool>
     requires { index ≤ length trace.now.events }
     ensures { IfSome result (λ b. (b ≡ true) ↔ HasOpenFlush trace.now thread line (suc index)) }
 {
     let format = trace.format();
     let events = trace.events();
-    let low = index.saturating_sub(*looks);
+    let low = index.saturating_sub(looks_left(index, *taken));
     for step in (low..index).rev() {
         let event = events[step];
         let told = told_before(format, thread, line, event.thread, event.op);
         if told.is_some() {
-            *looks = looks.saturating_sub(index - step);
+            *taken = taken.saturating_add(index - step);
             return told;
         }
     }
-    *looks = looks.saturating_sub(index - low);
+    *taken = taken.saturating_add(index - low);
     if low == 0 { Some(false) } else { None }
 }
 
@@ -56,30 +64,33 @@ fn told_before(format: Format, thread: u8, line: u64, own: u8, op: Op) -> Option
     }
 }
 
-// Whether no flush of the line comes after the event at this index before the thread fences; none where so many looks at events
-// do not tell. What is left of them stays.
+// Whether no flush of the line comes after the event at this index before the thread fences; none where the looks that are
+// left do not tell. `taken` is how many were taken.
+#[inline(never)]
 pub(crate) fn is_left_after(
     trace: &Trace,
     thread: u8,
     line: u64,
     index: usize,
-    looks: &mut usize,
+    taken: &mut usize,
 ) -> Option<bool>
     requires { index < length trace.now.events }
     ensures { IfSome result (λ b. (b ≡ true) ↔ IsLeft trace.now thread line (suc index)) }
 {
     let format = trace.format();
     let events = trace.events();
-    let high = events.len().min(index.saturating_add(*looks));
+    let high = events
+        .len()
+        .min(index.saturating_add(looks_left(index, *taken)));
     for step in index + 1..high {
         let event = events[step];
         let told = told_after(format, thread, line, event.thread, event.op);
         if told.is_some() {
-            *looks = looks.saturating_sub(step - index);
+            *taken = taken.saturating_add(step - index);
             return told;
         }
     }
-    *looks = looks.saturating_sub(high - index);
+    *taken = taken.saturating_add(high - index);
     if high == events.len() {
         Some(true)
     } else {
@@ -105,30 +116,33 @@ fn told_after(format: Format, thread: u8, line: u64, own: u8, op: Op) -> Option<
     }
 }
 
-// Whether the thread stores to another line after the event at this index and before it fences; none where so many looks at events
-// do not tell. What is left of them stays.
+// Whether the thread stores to another line after the event at this index and before it fences; none where the looks that are
+// left do not tell. `taken` is how many were taken.
+#[inline(never)]
 pub(crate) fn stores_past(
     trace: &Trace,
     thread: u8,
     line: u64,
     index: usize,
-    looks: &mut usize,
+    taken: &mut usize,
 ) -> Option<bool>
     requires { index < length trace.now.events }
     ensures { IfSome result (λ b. (b ≡ true) ↔ StoresPast trace.now thread line (suc index)) }
 {
     let format = trace.format();
     let events = trace.events();
-    let high = events.len().min(index.saturating_add(*looks));
+    let high = events
+        .len()
+        .min(index.saturating_add(looks_left(index, *taken)));
     for step in index + 1..high {
         let event = events[step];
         let told = told_past(format, thread, line, event.thread, event.op);
         if told.is_some() {
-            *looks = looks.saturating_sub(step - index);
+            *taken = taken.saturating_add(step - index);
             return told;
         }
     }
-    *looks = looks.saturating_sub(high - index);
+    *taken = taken.saturating_add(high - index);
     if high == events.len() {
         Some(false)
     } else {

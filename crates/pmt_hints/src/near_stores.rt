@@ -5,7 +5,7 @@ ghost use Rattle.pmt_model.specs.Traces.{act_of};
 ghost use Rattle.pmt_hints.specs.Hints.{AreThose, IsStoredAfterFlush};
 ghost use Rattle.pmt_hints.specs.Near.{HasOpenFlush, IsLeft, IsLeftOpen, store_line};
 
-use crate::near::{FIRST_LOOKS, LOOKS, is_flushed_before, is_left_after};
+use crate::near::{is_flushed_before, is_left_after};
 use crate::numbers::push_if;
 use crate::per_thread::PerThread;
 use pmt_model::{Format, Op, OutOfMemory, Trace, line_of};
@@ -21,15 +21,14 @@ pub(crate) fn near_stores(alloc: Global, trace: &Trace) -> Result<Option<Vec<u64
     let mut fences = PerThread::new(0);
     let mut flushes = PerThread::new(0);
     let mut numbers = Vec::new(alloc);
-    let mut looks = FIRST_LOOKS;
+    let mut taken = 0usize;
     for index in 0..events.len() {
         let event = events[index];
-        looks = looks.saturating_add(LOOKS);
         let number = index as u64 + 1;
         let fence = fences.get(event.thread);
         let flush = flushes.get(event.thread);
         let line = stored_line(fence < flush, format, event.thread, event.op);
-        let Some(is_told) = judged(trace, event.thread, line, index, &mut looks) else {
+        let Some(is_told) = judged(trace, event.thread, line, index, &mut taken) else {
             return Ok(None);
         };
         push_if(&mut numbers, is_told, number)?;
@@ -67,13 +66,13 @@ fn judged(
     thread: u8,
     line: Option<u64>,
     index: usize,
-    looks: &mut usize,
+    taken: &mut usize,
 ) -> Option<bool>
     requires { index < length trace.now.events }
     ensures { IfSome result (λ b. (b ≡ true) ↔ IsLeftOpen trace.now thread (suc index) line) }
 {
     match line {
-        Some(line) => judged_line(trace, thread, line, index, looks),
+        Some(line) => judged_line(trace, thread, line, index, taken),
         None => Some(false),
     }
 }
@@ -84,13 +83,13 @@ fn judged_line(
     thread: u8,
     line: u64,
     index: usize,
-    looks: &mut usize,
+    taken: &mut usize,
 ) -> Option<bool>
     requires { index < length trace.now.events }
     ensures { IfSome result (λ b. (b ≡ true) ↔ (HasOpenFlush trace.now thread line (suc index) × IsLeft trace.now thread line (suc index))) }
 {
-    match is_flushed_before(trace, thread, line, index, looks) {
-        Some(true) => is_left_after(trace, thread, line, index, looks),
+    match is_flushed_before(trace, thread, line, index, taken) {
+        Some(true) => is_left_after(trace, thread, line, index, taken),
         Some(false) => Some(false),
         None => None,
     }

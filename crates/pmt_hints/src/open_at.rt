@@ -1,16 +1,18 @@
 //! Flushes that their thread has not fenced when it stores to another line.
 
-ghost use Rattle.std.specs.Prelude.{◌≡◌, ◌<◌, ◌||◌, ℕ, length, filter, IfOk, OnOk};
+ghost use Rattle.std.specs.Prelude.{◌≡◌, ◌<◌, ◌||◌, ℕ, length, not, filter, IfOk, OnOk};
 ghost use Rattle.pmt_model.specs.Traces.{act_of, event};
 ghost use Rattle.pmt_model.specs.Keeping.{IsKeep};
+ghost use Rattle.pmt_model.specs.Selections.{IsRising};
 ghost use Rattle.pmt_flags.specs.Flags.{is_kept_at};
 ghost use Rattle.pmt_hints.specs.Hints.{AreThose, IsOpenAtStore, IsOpenFlush, IsToldOpen};
 ghost use Rattle.pmt_hints.specs.Flagging.{AreFlags};
+ghost use Rattle.pmt_hints.specs.Parting.{AreParted};
 ghost use Rattle.pmt_hints.specs.Stepping.{open_so};
-ghost use Rattle.pmt_hints.specs.Telling.{AreClosed, closed_at, closing as closing_in, is_closed as is_closed_in, is_place, place_of as place_in, told_so};
+ghost use Rattle.pmt_hints.specs.Telling.{AreClosed, closed_at, is_closed as is_closed_in, is_place, place_of as place_in, told_so};
 ghost use Rattle.pmt_causes.specs.declared.failure_keys.Origin.{Origin};
 
-use crate::near_open::near_open;
+use crate::near_open::{Parted, near_open};
 use crate::next_stores::NextStores;
 use crate::numbers::selection_of;
 use crate::per_thread::PerThread;
@@ -25,7 +27,7 @@ type Closed = HashMap<Origin, bool>;
 /// The flushes that are kept, and that their thread has not fenced when it stores to another line: what it stores there may persist
 /// before what was flushed. `kept` is what is kept of the trace.
 ///
-/// It takes a few looks at each event, and one at each event that is kept.
+/// It takes one look at each event that is kept, and a few at each flush among them. Where these do not tell, it takes one at each event.
 ///
 /// # Errors
 /// Where memory was refused.
@@ -37,15 +39,14 @@ pub fn open_at_store(
     requires { IsKeep trace.now kept.now }
     ensures { IfOk result (AreThose (IsOpenAtStore trace.now)) }
 {
-    let flags = open_flushes(alloc, trace)?;
-    let open = flagged(alloc, kept.numbers(), flags.as_slice())?;
-    Ok(selection_of(open))
+    let Parted { passed, others: _ } = parted_flushes(alloc, trace, kept.numbers())?;
+    Ok(selection_of(passed))
 }
 
 /// Those of these flushes that are told: at whose place each flush that is kept is one. `labels` are the numbers of the labels of the
 /// events, in order; an event past their end has none. A place is a label, or without one a thread.
 ///
-/// It takes a few looks at each event, and two at each event that is kept, with a look-up each.
+/// It takes what `open_at_store` does and, if a flush is open, a look-up at each one that is kept.
 ///
 /// # Errors
 /// Where memory was refused.
@@ -58,31 +59,55 @@ pub fn told_open(
     requires { IsKeep trace.now kept.now }
     ensures { IfOk result (AreThose (IsToldOpen trace.now labels.now)) }
 {
-    let flags = open_flushes(alloc, trace)?;
-    let numbers = kept.numbers();
-    let closed = closed_places(alloc, trace, labels, numbers, flags.as_slice())?;
-    let told = told_numbers(alloc, trace, labels, numbers, flags.as_slice(), &closed)?;
+    let Parted { passed, others } = parted_flushes(alloc, trace, kept.numbers())?;
+    let flushes = passed.as_slice();
+    if flushes.is_empty() {
+        return Ok(selection_of(passed));
+    }
+    let closed = closed_places(alloc, trace, labels, others.as_slice())?;
+    let told = told_numbers(alloc, trace, labels, flushes, &closed)?;
     Ok(selection_of(told))
 }
 
-// The places that have a flush among these numbers which is not flagged.
+// The flushes among the events with these numbers.
+fn parted_flushes(alloc: Global, trace: &Trace, numbers: &[u64]) -> Result<Parted, OutOfMemory>
+    requires { IsRising 0 numbers.now }
+    ensures { IfOk result (λ parted. AreParted trace.now numbers.now parted.passed.items parted.others.items) }
+{
+    match near_open(alloc, trace, numbers)? {
+        Some(parted) => Ok(parted),
+        None => all_parted(alloc, trace, numbers),
+    }
+}
+
+// The same, however far away what tells of them stands.
+fn all_parted(alloc: Global, trace: &Trace, numbers: &[u64]) -> Result<Parted, OutOfMemory>
+    requires { IsRising 0 numbers.now }
+    ensures { IfOk result (λ parted. AreParted trace.now numbers.now parted.passed.items parted.others.items) }
+{
+    let flags = all_open(alloc, trace)?;
+    let passed = flagged(alloc, numbers, flags.as_slice())?;
+    let others = unflagged(alloc, numbers, flags.as_slice())?;
+    Ok(Parted { passed, others })
+}
+
+// The places of these flushes.
 fn closed_places(
     alloc: Global,
     trace: &Trace,
     labels: &[Option<u64>],
     numbers: &[u64],
-    flags: &[bool],
 ) -> Result<Closed, OutOfMemory>
-    ensures { IfOk result (AreClosed trace.now labels.now flags.now numbers.now) }
+    ensures { IfOk result (AreClosed trace.now labels.now numbers.now) }
 {
     let mut closed = HashMap::new(alloc);
     for number in numbers {
-        note_closed(&mut closed, closing(trace, labels, flags, *number))?;
+        note_closed(&mut closed, flush_place(trace, labels, *number))?;
     }
     Ok(closed)
 }
 
-// The place has a flush that is not flagged, if it is one.
+// Notes the place, if it is one.
 fn note_closed(closed: &mut Closed, place: Option<Origin>) -> Result<(), OutOfMemory>
     ensures { OnOk result ((p : Origin) → closed_at closed.new p ≡ (closed_at closed.old p || is_place p place)) }
 {
@@ -93,16 +118,6 @@ fn note_closed(closed: &mut Closed, place: Option<Origin>) -> Result<(), OutOfMe
             Ok(())
         }
     }
-}
-
-// The place of the event, if it is a flush that is not flagged.
-fn closing(trace: &Trace, labels: &[Option<u64>], flags: &[bool], number: u64) -> Option<Origin>
-    ensures { result ≡ closing_in trace.now labels.now flags.now number }
-{
-    if is_flagged(flags, number) {
-        return None;
-    }
-    flush_place(trace, labels, number)
 }
 
 // The place of the event, if it is a flush.
@@ -123,38 +138,31 @@ fn flush_place(trace: &Trace, labels: &[Option<u64>], number: u64) -> Option<Ori
     }
 }
 
-// Those of these numbers that are flagged, and whose place has no flush that is not.
+// Those of these flushes whose place is not closed.
 fn told_numbers(
     alloc: Global,
     trace: &Trace,
     labels: &[Option<u64>],
     numbers: &[u64],
-    flags: &[bool],
     closed: &Closed,
 ) -> Result<Vec<u64>, OutOfMemory>
-    ensures { IfOk result (λ told. told.items ≡ filter (told_so trace.now labels.now flags.now closed.now) numbers.now) }
+    ensures { IfOk result (λ told. told.items ≡ filter (told_so trace.now labels.now closed.now) numbers.now) }
 {
     numbers
         .iter()
-        .filter(|number| is_told(trace, labels, flags, closed, **number))
+        .filter(|number| is_told(trace, labels, closed, **number))
         .copied()
         .collect(alloc)
 }
 
-// Whether the event is flagged, and its place has no flush that is not.
-fn is_told(
-    trace: &Trace,
-    labels: &[Option<u64>],
-    flags: &[bool],
-    closed: &Closed,
-    number: u64,
-) -> bool
-    ensures { result ≡ told_so trace.now labels.now flags.now closed.now number }
+// Whether the event's place is not closed.
+fn is_told(trace: &Trace, labels: &[Option<u64>], closed: &Closed, number: u64) -> bool
+    ensures { result ≡ told_so trace.now labels.now closed.now number }
 {
-    is_flagged(flags, number) && !is_closed(closed, flush_place(trace, labels, number))
+    !is_closed(closed, flush_place(trace, labels, number))
 }
 
-// Whether the place has a flush that is not flagged.
+// Whether the place is closed.
 fn is_closed(closed: &Closed, place: Option<Origin>) -> bool
     ensures { result ≡ is_closed_in closed.now place }
 {
@@ -175,6 +183,17 @@ fn flagged(alloc: Global, numbers: &[u64], flags: &[bool]) -> Result<Vec<u64>, O
         .collect(alloc)
 }
 
+// Those of these numbers whose events are not flagged.
+fn unflagged(alloc: Global, numbers: &[u64], flags: &[bool]) -> Result<Vec<u64>, OutOfMemory>
+    ensures { IfOk result (λ chosen. chosen.items ≡ filter (λ i. not (is_kept_at flags.now i)) numbers.now) }
+{
+    numbers
+        .iter()
+        .filter(|number| !is_flagged(flags, **number))
+        .copied()
+        .collect(alloc)
+}
+
 // Whether the event is flagged.
 fn is_flagged(flags: &[bool], number: u64) -> bool
     ensures { result ≡ is_kept_at flags.now number }
@@ -189,16 +208,6 @@ fn is_flagged(flags: &[bool], number: u64) -> bool
 }
 
 // Of each event whether it is a flush that its thread has not fenced when it stores to another line.
-fn open_flushes(alloc: Global, trace: &Trace) -> Result<Vec<bool>, OutOfMemory>
-    ensures { IfOk result (λ flags. AreFlags (IsOpenFlush trace.now) (length trace.now.events) flags.items) }
-{
-    match near_open(alloc, trace)? {
-        Some(flags) => Ok(flags),
-        None => all_open(alloc, trace),
-    }
-}
-
-// The same, however far away what tells of them stands.
 fn all_open(alloc: Global, trace: &Trace) -> Result<Vec<bool>, OutOfMemory>
     ensures { IfOk result (λ flags. AreFlags (IsOpenFlush trace.now) (length trace.now.events) flags.items) }
 {

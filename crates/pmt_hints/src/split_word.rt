@@ -1,6 +1,6 @@
 //! Stores that write one word in two parts, on both sides of a line's end.
 
-ghost use Rattle.std.specs.Prelude.{◌≡◌, ◌<◌, ◌&&◌, ◌||◌, ℕ, length, IfOk};
+ghost use Rattle.std.specs.Prelude.{◌≡◌, ◌<◌, ◌+◌, ◌%◌, ◌==◌, ◌&&◌, ◌||◌, ℕ, length, nat_le, IfOk};
 ghost use Rattle.pmt_model.specs.Traces.{event};
 ghost use Rattle.pmt_hints.specs.Hints.{AreThose, IsSplitWord};
 ghost use Rattle.pmt_hints.specs.Splitting.{event_part, is_same_place, joins as joins_in, op_part, split_so, store_of_thread};
@@ -121,17 +121,22 @@ fn is_one_place(labels: &[Option<u64>], earlier: u64, number: u64, thread: u8) -
 fn is_joined(format: Format, first: &Part, second: &Part) -> bool
     ensures { result ≡ (joins_in format first.now second.now || joins_in format second.now first.now) }
 {
-    joins(format, first, second) || joins(format, second, first)
+    is_word(first, second) && (meets(format, first, second) || meets(format, second, first))
 }
 
-// Whether the upper bytes follow the lower ones, with at most 8 together, and begin a line.
-fn joins(format: Format, lower: &Part, upper: &Part) -> bool
-    ensures { result ≡ joins_in format lower.now upper.now }
+// Whether they have at most 8 bytes together.
+fn is_word(first: &Part, second: &Part) -> bool
+    ensures { result ≡ nat_le (first.now.len + second.now.len) 8 }
+{
+    first.len <= 8 && second.len <= 8 - first.len
+}
+
+// Whether the upper bytes follow the lower ones and begin a line.
+fn meets(format: Format, lower: &Part, upper: &Part) -> bool
+    ensures { result ≡ (lower.now.addr + lower.now.len == upper.now.addr && upper.now.addr % format.line_size == 0) }
 {
     lower.len <= upper.addr
         && upper.addr - lower.len == lower.addr
-        && upper.len <= 8
-        && lower.len <= 8 - upper.len
         && upper.addr % format.line_size() == 0
 }
 

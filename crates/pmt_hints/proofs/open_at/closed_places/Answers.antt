@@ -3,7 +3,8 @@ use Rattle.std.specs.Prelude.{◌||◌}
 use Rattle.std.specs.List.{list_any}
 use Rattle.std.proofs.lemmas.List.{take_all}
 use Rattle.std.proofs.lemmas.List.Folds.{list_any_more}
-use Rattle.pmt_hints.specs.Telling.{closed_at, closing, is_place}
+use Rattle.pmt_model.specs.Traces.{event}
+use Rattle.pmt_hints.specs.Telling.{closed_at, is_place, place_of}
 use Rattle.pmt_hints.proofs.TellingLemmas.{closed-more}
 use Rattle.pmt_hints.proofs.open_at.closed_places.Goals as goal
 
@@ -15,12 +16,12 @@ loop-number-preserved c = λ p.
     let T = c.args.trace.now in
     let i = c.loop-number.number-index in
     let numbers = c.args.numbers.now in
-    let f : ℕ → Bool = λ j. is_place p (closing T c.args.labels.now c.args.flags.now j) in
+    let f : ℕ → Bool = λ j. is_place p (place_of c.args.labels.now j (event T j)) in
     let step : closed_at c.note_closed.new.closed p ≡ (closed_at c.loop-number.closed p || f (get_or numbers i 0)) =
-    c.in_ok-note_closed.ensures p ∙ ap (λ o. closed_at c.loop-number.closed p || is_place p o) c.closing.ensures
+    c.in_ok-note_closed.ensures p ∙ ap (λ o. closed_at c.loop-number.closed p || is_place p o) c.flush_place.ensures
     in
     closed-more (closed_at c.note_closed.new.closed p) (closed_at c.loop-number.closed p) (f (get_or numbers i 0)) (list_any f (take i numbers)) step (c.loop-number.invariant p)
     ∙ sym (list_any_more f numbers i 0 c.loop-number-test.true)
 
 pub returns : goal.returns
-returns c = λ p. c.loop-number.invariant p ∙ ap (list_any (λ (j : ℕ). is_place p (closing c.args.trace.now c.args.labels.now c.args.flags.now j))) (take_all c.loop-number.number-index c.args.numbers.now (omega arith))
+returns c = λ p. c.loop-number.invariant p ∙ ap (list_any (λ (j : ℕ). is_place p (place_of c.args.labels.now j (event c.args.trace.now j)))) (take_all c.loop-number.number-index c.args.numbers.now (omega arith))
