@@ -199,6 +199,20 @@ LOOP_HEAD = "error: a crash can lose what is claimed to be saved: isPersist of e
 LOOP_OTHERS = "  also: events 3 4 5 6 7 8 9 10 11 12 and 2 more"
 
 
+# A table that is flushed only after the pointer to it is saved, the labels, and what is told of it.
+TABLE = "pmtrace 1\nstore 0 0x1000 0102030405060708\nstore 0 0x1040 0010000000000000\nclwb 0 0x1040\nsfence 0\nclwb 0 0x1000\nsfence 0\n"
+TABLE_LABELS = "1 list.c:57 fill < main list.c:90\n2 list.c:60 link\n"
+TABLE_TOLD = """\
+hint: list.c:57 fill: 1 store is saved one fence late, and a crash can keep what the fence before saves without it; first: event 1
+  before: a crash after event 4 keeps this store and can lose event 1: event 2 (line 3, thread 0) at list.c:60 link: store 0 0x1040 0010000000000000
+  fix:    Flush cache line 0x1000 by thread 0 after event 1 (list.c:57 fill < main list.c:90), before its next fence, event 4.
+          Or see that recovery does not follow event 2 to what event 1 stores.
+"""
+# The same with the pointer stored first, and with the first fence saving nothing.
+POINTER_FIRST = "pmtrace 1\nstore 0 0x1040 0010000000000000\nstore 0 0x1000 01\nclwb 0 0x1040\nsfence 0\nclwb 0 0x1000\nsfence 0\n"
+NOTHING_SAVED = "pmtrace 1\nstore 0 0x1000 01\nsfence 0\nclwb 0 0x1000\nsfence 0\n"
+
+
 def many_failures():
     """A trace with 300 assertions that fail, of 4096 bytes each, whose 512 stores are never flushed."""
     stores = "".join(f"store 0 {0x1000 + 8 * word:#x} 0102030405060708\n" for word in range(512))
@@ -337,6 +351,20 @@ class Explain(Checks):
         lines = self.told(LOOP).splitlines()
         found = [line for line in lines if line in (LOOP_HEAD, LOOP_OTHERS)]
         self.expect("a loop", found == [LOOP_HEAD, LOOP_OTHERS], "\n".join(lines))
+
+    def test_table(self):
+        """What a crash keeps without a store that is saved one fence late: a later store, else an earlier one, or none."""
+        folder = self.new_folder()
+        names = folder / "names"
+        names.write_text(TABLE_LABELS)
+        told = self.told(TABLE, "--labels", names)
+        self.expect("a table", TABLE_TOLD in told, told)
+        names.write_text("2 list.c:57 fill\n")
+        told = self.told(POINTER_FIRST, "--labels", names)
+        kept = "  before: a crash after event 4 keeps this store and can lose event 2: event 1 (line 2, thread 0): store 0 0x1040 0010000000000000\n"
+        self.expect("the pointer first", kept in told, told)
+        told = self.told(NOTHING_SAVED)
+        self.expect("nothing is saved", "hint: thread 0: 1 store is saved one fence late" in told and "before:" not in told and "Or see" not in told, told)
 
     def test_long_labels(self):
         """A label that is wider than a row, of letters that take two columns: no row of the story is wider than the screen."""

@@ -4,7 +4,7 @@ What a run can reach, and so what is kept, is that of machine.py. Places are tho
 """
 import functools
 
-from grouped import grouped
+from grouped import grouped, safe_place
 from machine import FENCES, FLUSHES, is_kept
 from placed import name_of, place, rows
 
@@ -131,17 +131,33 @@ def left(explained):
     return [(key, row) for key, row in places if asks_all and 0 < row["left"] == row["in_time"]]
 
 
+def kept_without(explained, number):
+    """What a crash after the next fence of the store's thread keeps, though it can lose the store: of the stores that are safe by then and
+    were not when it was made the next one after it, or else the last one before it, if there is one."""
+    trace, fence = explained.trace, until_fence(explained.trace, number).stop
+    saved = [other for other in trace.numbers if trace.event(other)[0] == "store" and number < safe_place(trace, other) <= fence]
+    return next((other for other in saved if other > number), saved[-1] if saved else None)
+
+
 def left_lines(explained):
-    """Two lines for each such place."""
+    """Two lines for each such place, and two more where a crash keeps a store without the first one."""
     for key, row in left(explained):
-        count, number = row["left"], row["first_left"]
-        stores = "1 store is" if count == 1 else f"{count} stores are"
-        yield f"hint: {name_of(key)}: {stores} saved one fence late, and a crash can keep what the fence before saves without them; first: event {number}"
+        count, number, trace = row["left"], row["first_left"], explained.trace
+        stores, them = ("1 store is", "it") if count == 1 else (f"{count} stores are", "them")
+        yield f"hint: {name_of(key)}: {stores} saved one fence late, and a crash can keep what the fence before saves without {them}; first: event {number}"
+        kept, fence = kept_without(explained, number), until_fence(trace, number).stop
+        if kept:
+            event = explained.event(kept)
+            at = f" at {event['label']}" if event["label"] else ""
+            where = f"event {kept} (line {event['line']}, thread {event['thread']}){at}: {event['words']}"
+            yield f"  before: a crash after event {fence} keeps this store and can lose event {number}: {where}"
         yield f"  fix:    {fix(explained, 'stored_after_flush', number)}"
+        if kept:
+            yield f"          Or see that recovery does not follow event {kept} to what event {number} stores."
 
 
 def lines(explained):
-    """Two lines for each hint."""
+    """The lines of each hint."""
     for kind, key, numbers in hints(explained):
         times = "1 time" if len(numbers) == 1 else f"{len(numbers)} times"
         other = f"{OTHERS[kind]} {SETS[kind](explained, numbers[0])}"

@@ -1,13 +1,21 @@
 //! Places each of whose stores is saved one fence late, in words.
 
 use crate::members::line_of_store;
-use crate::parts::{push_count, push_own_flush, push_place_name};
+use crate::parts::{NEAR, next_fence, push_count, push_event, push_own_flush, push_place_name};
 use crate::screen::Section;
 use crate::telling::Telling;
 use pmt_causes::Origin;
+use pmt_explain::SafePlaces;
 use pmt_explanation::{Choice, Kind};
 use pmt_fates::PlaceRow;
+use pmt_model::{Op, Trace};
 use pmt_pen::Pen;
+
+const ONE_LATE: &str =
+    " is saved one fence late, and a crash can keep what the fence before saves without it";
+
+const LATE: &str =
+    " are saved one fence late, and a crash can keep what the fence before saves without them";
 
 // How many places are hinted at so, if hints at all places are asked for.
 pub(crate) fn count_left(told: &Telling<'_>) -> usize {
@@ -18,21 +26,26 @@ pub(crate) fn count_left(told: &Telling<'_>) -> usize {
     rows.iter().filter(|row| is_left(told, row)).count()
 }
 
-// Adds a hint for each such place, as many as the limit says; or one alone, of the place with most such stores.
+// Adds a hint for each such place, as many as the limit says; or one alone, of the place with most such stores. From where on each
+// store is safe is asked only if there is one.
 pub(crate) fn add_left(section: &mut Section, told: &Telling<'_>, is_brief: bool) {
-    if !asks_all_places(told.screen.choice) {
+    if count_left(told) == 0 {
         return;
     }
+    let Ok(safe) = SafePlaces::of(told.alloc, told.trace) else {
+        section.refuse();
+        return;
+    };
     if is_brief {
         if let Some(row) = most_left(told) {
-            add_row(section, told, &row);
+            add_row(section, told, &row, safe.places());
         }
         return;
     }
     let mut added = 0usize;
     for row in told.explanation.places.as_slice() {
         if is_left(told, row) && added < told.explanation.limit {
-            add_row(section, told, row);
+            add_row(section, told, row, safe.places());
             added = added.saturating_add(1);
         }
     }
@@ -75,8 +88,8 @@ fn most_left(told: &Telling<'_>) -> Option<PlaceRow> {
     most
 }
 
-// Adds the hint at the place: how many stores, why it matters, the first one, and what to do.
-fn add_row(section: &mut Section, told: &Telling<'_>, row: &PlaceRow) {
+// Adds the hint at the place: how many stores, why it matters, the first one, what a crash keeps without it, and what to do.
+fn add_row(section: &mut Section, told: &Telling<'_>, row: &PlaceRow, safe: &[u64]) {
     let Some(store) = row.first_left else {
         return;
     };
@@ -85,15 +98,58 @@ fn add_row(section: &mut Section, told: &Telling<'_>, row: &PlaceRow) {
     push_place_name(&mut pen, told, row.place);
     pen.put(": ");
     push_count(&mut pen, row.left, "store");
-    pen.put(if row.left == 1 { " is" } else { " are" });
-    pen.fill(
-        " saved one fence late, and a crash can keep what the fence before saves without them; first: event #\n",
-        &[store],
-    );
+    pen.put(if row.left == 1 { ONE_LATE } else { LATE });
+    pen.fill("; first: event #\n", &[store]);
     if let Some(event) = told.trace.get(store) {
-        let thread = event.thread;
-        let line = line_of_store(told.trace, store);
-        push_own_flush(&mut pen, told, line, thread, store);
+        push_remedy(&mut pen, told, safe, event.thread, store);
     }
     section.add(pen);
+}
+
+// Adds what a crash keeps without this store by the thread, once that has fenced, and what to do.
+fn push_remedy(pen: &mut Pen, told: &Telling<'_>, safe: &[u64], thread: u8, store: u64) {
+    let fence = next_fence(told, thread, store, None).unwrap_or(0);
+    let kept = kept_without(told.trace, safe, store, fence);
+    if let Some(kept) = kept {
+        pen.fill(
+            "  before: a crash after event # keeps this store and can lose event #: ",
+            &[fence, store],
+        );
+        push_event(pen, told, kept);
+    }
+    push_own_flush(pen, told, line_of_store(told.trace, store), thread, store);
+    if let Some(kept) = kept {
+        pen.fill(
+            "          Or see that recovery does not follow event # to what event # stores.\n",
+            &[kept, store],
+        );
+    }
+}
+
+// A store that becomes safe after this one, and by this fence: the next one after it, or else the last one before it.
+fn kept_without(trace: &Trace, safe: &[u64], store: u64, fence: u64) -> Option<u64> {
+    for number in store..fence {
+        if is_saved(trace, safe, number, store, fence) {
+            return Some(number);
+        }
+    }
+    for number in (store.saturating_sub(NEAR)..store).rev() {
+        if is_saved(trace, safe, number, store, fence) {
+            return Some(number);
+        }
+    }
+    None
+}
+
+// Whether the event is a store that is safe after this fence, and not yet after the other store.
+fn is_saved(trace: &Trace, safe: &[u64], number: u64, store: u64, fence: u64) -> bool {
+    let Some(event) = trace.get(number) else {
+        return false;
+    };
+    let op = event.op;
+    let place = match safe.get(number.saturating_sub(1) as usize) {
+        Some(place) => *place,
+        None => 0,
+    };
+    matches!(op, Op::Store(_)) && store < place && place <= fence
 }
