@@ -3,8 +3,8 @@ ghost use Rattle.std.specs.Prelude.{◌≤◌, IfOk};
 
 use crate::colors::colored;
 use command_inputs::{
-    Fault, Input, Opener, bytes_of, cut_of, labels_of, no_failure, read_file, read_ignored,
-    taken_fault, write_named,
+    Doing, Fault, Input, Opener, Watch, WatchedText, bytes_of, cut_of, labels_of, no_failure,
+    read_file, read_ignored, taken_fault, write_named,
 };
 use command_page::page_of;
 use command_requests::{Color, ExplainWords, Form};
@@ -16,34 +16,38 @@ use pmt_model::OutOfMemory;
 use pmt_taking::TakeError;
 use pmt_text::{Counted, TextSource};
 use std::alloc::{AllocError, Global};
-use std::io::{Cursor, Read, Write};
+use std::io::{Read, Write};
 
 // The lines of a text where the words don't say how many entries are shown.
 const ROWS: usize = 40;
 
 /// Explains the trace of the file or of `input`, and writes what is asked for to the file that is named, or to `out`, which shows colors
-/// or not. The files of what is ignored and of labels are read
-/// and judged first. The status is 1 where an assertion fails, or a store is never persisted that is not ignored.
+/// or not. The files of what is ignored and of labels are read and judged first. What it is doing is told to `watch`, which lets go
+/// before the answer is written. The status is 1 where an assertion fails, or a store is never persisted that is not ignored.
 ///
 /// # Errors
 /// The fault of a file of what is ignored, of the labels, of the trace, that no failed assertion is where one was asked for, the fault of the
 /// folder of the source files, that of the write: the first of them. Each names the file and says why.
-pub fn run_explain<O, I, W>(
+pub fn run_explain<O, I, W, P>(
     alloc: Global,
     words: &mut ExplainWords<'_>,
     files: &O,
     input: &mut I,
     out: &mut W,
     colors: bool,
+    watch: &mut P,
 ) -> Result<u8, Fault>
 where
     O: Opener,
     I: Read,
     W: Write,
+    P: Watch,
     ensures { IfOk result (λ status. status ≤ 1) }
 {
+    watch.tell(Doing::ReadingFiles);
     add_ignored(alloc, files, words)?;
     let labels = labels_of(alloc, files, words.labels)?;
+    watch.tell(Doing::Waiting);
     let bytes = bytes_of(alloc, Input::new("explain", words.file), files, input)?;
     let cut = cut_of(alloc, files, words.file)?;
     let known = Known {
@@ -51,7 +55,7 @@ where
         cut,
         colors: is_colored(words, colors),
     };
-    explain_bytes(alloc, files, words, &known, bytes.as_slice(), out)
+    explain_bytes(alloc, files, words, &known, bytes.as_slice(), out, watch)
 }
 
 // Adds what the files tell to ignore.
@@ -92,18 +96,28 @@ fn is_colored(words: &ExplainWords<'_>, colors: bool) -> bool {
 }
 
 // Explains the trace with this text. The status is 1 where an assertion fails, or a store is never persisted that is not ignored.
-fn explain_bytes<O: Opener, W: Write>(
+fn explain_bytes<O: Opener, W: Write, P: Watch>(
     alloc: Global,
     files: &O,
     words: &ExplainWords<'_>,
     known: &Known,
     bytes: &[u8],
     out: &mut W,
+    watch: &mut P,
 ) -> Result<u8, Fault>
     ensures { IfOk result (λ status. status ≤ 1) }
 {
-    match explained(alloc, words, &known.labels, bytes) {
-        Ok(mut explanation) => tell(alloc, files, words, known, bytes, &mut explanation, out),
+    match explained(alloc, words, &known.labels, bytes, watch) {
+        Ok(mut explanation) => tell(
+            alloc,
+            files,
+            words,
+            known,
+            bytes,
+            &mut explanation,
+            out,
+            watch,
+        ),
         Err(error) => {
             let input = Input::new("explain", words.file);
             Err(taken_fault(alloc, input, bytes, error)?)
@@ -112,18 +126,20 @@ fn explain_bytes<O: Opener, W: Write>(
 }
 
 // The explanation of the trace with this text.
-fn explained(
+fn explained<P: Watch>(
     alloc: Global,
     words: &ExplainWords<'_>,
     labels: &Labels,
     bytes: &[u8],
+    watch: &mut P,
 ) -> Result<Explanation, TakeError> {
-    let mut source = TextSource::new(alloc, Counted::new(Cursor::new(bytes)));
+    let text = WatchedText::new(bytes, watch);
+    let mut source = TextSource::new(alloc, Counted::new(text));
     explain(alloc, &mut source, labels, &words.options)
 }
 
 // Writes what is asked for of the explained trace with this text.
-fn tell<O: Opener, W: Write>(
+fn tell<O: Opener, W: Write, P: Watch>(
     alloc: Global,
     files: &O,
     words: &ExplainWords<'_>,
@@ -131,10 +147,12 @@ fn tell<O: Opener, W: Write>(
     bytes: &[u8],
     explanation: &mut Explanation,
     out: &mut W,
+    watch: &mut P,
 ) -> Result<u8, Fault>
     ensures { IfOk result (λ status. status ≤ 1) }
 {
     judge_failure(alloc, explanation, words.failure)?;
+    watch.tell(writing(words.form));
     let status = if has_failed(explanation, known.cut.is_some()) {
         1
     } else {
@@ -142,8 +160,17 @@ fn tell<O: Opener, W: Write>(
     };
     let answer = answer_of(alloc, files, explanation, known, words, bytes)?;
     let read = read_files(alloc, words)?;
+    watch.end();
     write_named(alloc, files, words.out, read.as_slice(), answer, out)?;
     Ok(status)
+}
+
+// That an answer of this form is written.
+fn writing(form: Form) -> Doing {
+    match form {
+        Form::Text | Form::Json => Doing::Writing,
+        Form::Page => Doing::WritingPage,
+    }
 }
 
 // The files that are read, where they are named.

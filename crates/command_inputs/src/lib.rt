@@ -20,6 +20,7 @@ mod reasons;
 mod recalling;
 mod refused;
 mod shell;
+mod watching;
 mod writing;
 
 pub use crate::budgets::budget_of;
@@ -41,4 +42,5 @@ pub use crate::reasons::{open_input, reasoned, write_output};
 pub use crate::recalling::{Memory, Recalling, Recalls};
 pub use crate::refused::split_line;
 pub use crate::shell::shell_word;
+pub use crate::watching::{Doing, Unwatched, Watch, WatchedText};
 pub use crate::writing::{write_answer, write_whole};

@@ -11,7 +11,7 @@ use crate::trim::{stream, trim};
 use command_draw::draw;
 use command_explain::run_explain;
 use command_image::{run_image, run_list};
-use command_inputs::{Fault, Opener, Recalls, write_answer, write_named};
+use command_inputs::{Fault, Opener, Recalls, Unwatched, Watch, write_answer, write_named};
 use command_parts::run_parts;
 use command_requests::Request;
 use command_slice::run_slice;
@@ -42,12 +42,22 @@ where
     F: Write,
     ensures { result ≤ 6 }
 {
-    run_at(rt, words, files, input, out, faults, Terminals::NONE)
+    let terminals = Terminals::NONE;
+    run_at(
+        rt,
+        words,
+        files,
+        input,
+        out,
+        faults,
+        terminals,
+        &mut Unwatched,
+    )
 }
 
 /// Does as `run_words` where these streams are terminals: below the fixed line of a fault stands the reason then, if faults go to one, and
-/// a text has colors, if answers do.
-pub(crate) fn run_at<T, S, O, I, W, F>(
+/// a text has colors, if answers do. What a long run is doing is told to `watch`, which lets go before the answer or the fault.
+pub(crate) fn run_at<T, S, O, I, W, F, P>(
     rt: &T,
     words: &[S],
     files: &O,
@@ -55,6 +65,7 @@ pub(crate) fn run_at<T, S, O, I, W, F>(
     out: &mut W,
     faults: &mut F,
     terminals: Terminals,
+    watch: &mut P,
 ) -> u8
 where
     T: AllocGlobal + Threads + Wait + Sync,
@@ -63,14 +74,16 @@ where
     I: Read + Drop,
     W: Write,
     F: Write,
+    P: Watch,
     ensures { result ≤ 6 }
 {
     let alloc = rt.alloc();
     let mut input = input;
     let done = match request_of(alloc, words) {
-        Ok(mut request) => answer(rt, &mut request, files, &mut input, out, terminals),
+        Ok(mut request) => answer(rt, &mut request, files, &mut input, out, terminals, watch),
         Err(fault) => Err(with_tip(alloc, files, words, fault)),
     };
+    watch.end();
     match done {
         Ok(status) => status,
         Err(fault) => fault.tell(alloc, faults),
@@ -78,29 +91,31 @@ where
 }
 
 // Answers to the file that is to be written, or to `out`.
-fn answer<T, O, I, W>(
+fn answer<T, O, I, W, P>(
     rt: &T,
     request: &mut Request<'_>,
     files: &O,
     input: &mut I,
     out: &mut W,
     terminals: Terminals,
+    watch: &mut P,
 ) -> Result<u8, Fault>
 where
     T: AllocGlobal + Threads + Wait + Sync,
     O: Opener,
     I: Read,
     W: Write,
+    P: Watch,
     ensures { IfOk result (λ status. status ≤ 1) }
 {
     let name = request.out();
     if name.is_none() {
-        return answer_to(rt, request, files, input, out, terminals);
+        return answer_to(rt, request, files, input, out, terminals, watch);
     }
     let alloc = rt.alloc();
     let read = request.inputs(alloc)?;
     let mut gathered = Gathered::new(alloc);
-    match answer_to(rt, request, files, input, &mut gathered, terminals) {
+    match answer_to(rt, request, files, input, &mut gathered, terminals, watch) {
         Ok(status) => {
             let text = gathered.into_text();
             write_named(alloc, files, name, read.as_slice(), text, out)?;
@@ -111,19 +126,21 @@ where
 }
 
 // Answers to `out`.
-fn answer_to<T, O, I, W>(
+fn answer_to<T, O, I, W, P>(
     rt: &T,
     request: &mut Request<'_>,
     files: &O,
     input: &mut I,
     out: &mut W,
     terminals: Terminals,
+    watch: &mut P,
 ) -> Result<u8, Fault>
 where
     T: AllocGlobal + Threads + Wait + Sync,
     O: Opener,
     I: Read,
     W: Write,
+    P: Watch,
     ensures { IfOk result (λ status. status ≤ 1) }
 {
     let alloc = rt.alloc();
@@ -138,7 +155,9 @@ where
         }
         Request::Fronts(words) => fronts(alloc, *words, files, input, out, recalls),
         Request::Check(words) => check(rt, *words, files, input, out, recalls),
-        Request::Explain(words) => run_explain(alloc, words, files, input, out, terminals.colors),
+        Request::Explain(words) => {
+            run_explain(alloc, words, files, input, out, terminals.colors, watch)
+        }
         Request::Trim(words) => trim(rt, *words, files, input, out, recalls),
         Request::Stream(words) => stream(alloc, *words, files, input, out, recalls),
         Request::Draw(drawing) => draw(alloc, drawing, files, input, out),
