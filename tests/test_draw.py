@@ -5,6 +5,7 @@ import subprocess
 
 from checks import Checks, add_tests
 from drawn import SVG, Picture, of_class, title_of
+from drawn_mends import after_is_pale, is_mended, kept_is_told, mends_are_shown, told_mend
 from drawn_rules import (
     COLUMNS,
     CRASHES,
@@ -99,6 +100,14 @@ class Drawing(Checks):
         self.judge(f"lines of flushes apart {words}", waits_are_apart(picture))
         self.judge(f"legend {words}", legend_is_right(picture))
         self.judge(f"page {words}", is_on_page(picture))
+        self.judge(f"after the crash {words}", after_is_pale(picture))
+
+    def judge_mend(self, words, picture, trace):
+        """What is missing has its mark, and is missing no more once that is put in."""
+        mend = told_mend(self.program, self.file, picture)
+        self.judge(f"what is missing {words}: {mend}", mends_are_shown(picture, trace, mend))
+        self.judge(f"what is mended {words}: {mend}", is_mended(picture, trace, mend))
+        self.judge(f"what is kept {words}", kept_is_told(picture, trace))
 
 
 class Random(Drawing):
@@ -132,6 +141,7 @@ class Random(Drawing):
             self.judge(f"ranges {words}", range_is_shown(picture, trace))
             self.judge(f"line size {words}", f"cache lines of {trace.size} bytes" in picture.words())
             self.judge_page(words, picture)
+            self.judge_mend(words, picture, trace)
             if words.startswith("from"):
                 self.judge(f"earlier stores {words}", earlier_are_counted(picture, trace, first))
         self.judge_line(trace, choose)
@@ -163,6 +173,7 @@ class Random(Drawing):
             plain = Plain(trace.size, trace.events)
             alike = all(plain.is_safe(store, place) == trace.is_safe(store, place) for store in marked_losses(picture) for place in trace.numbers if store <= place)
             self.judge(f"safe places of {number}", alike)
+            self.judge_mend(number, picture, trace)
 
 
 class Marks(Drawing):
@@ -182,7 +193,10 @@ class Marks(Drawing):
             self.judge(f"marks of {number}", losses_are_marked(picture, trace) and marked_losses(picture) == sorted(lost & set(picture.numbers)))
             self.judge(f"stores of {number}", stores_are_right(picture, trace))
             self.judge_page(number, picture)
-        self.judge("the first picture", self.drawn().numbers)
+            self.judge_mend(number, picture, trace)
+        picture = self.drawn()
+        self.judge("the first picture", picture.numbers)
+        self.judge_mend("of the first picture", picture, trace)
 
 
 add_tests(Marks, Marks.check_marks_of, {f"marks_of_{file.stem}": file for file in all_traces() if len(file.read_bytes().splitlines()) > 1})

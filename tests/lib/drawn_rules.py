@@ -18,7 +18,7 @@ CRASHES = 12
 WIDTH, HEIGHT = 1400, 24000
 LETTER = {"headline": 9.1, "told": 7.9, "small": 5.5}
 SIGNS = {
-    *("pending", "flushed", "safe", "stored", "dot", "mark", "wait", "never", "dropped", "unfenced", "pass", "fail", "crash", "lost-store"),
+    *("pending", "flushed", "safe", "stored", "dot", "mark", "wait", "never", "dropped", "unfenced", "mend", "pass", "fail", "crash", "lost-store"),
 }
 
 

@@ -27,6 +27,15 @@ pub struct Side {
     pub x: u64,
 }
 
+/// Where an event stands that is missing.
+#[derive(Clone, Copy)]
+pub struct Place {
+    /// Its place among those of the picture, from 0.
+    pub missing: usize,
+    /// The middle of its room.
+    pub x: u64,
+}
+
 /// Where a band starts.
 #[derive(Clone, Copy)]
 pub struct Start {
@@ -34,6 +43,8 @@ pub struct Start {
     pub column: usize,
     /// How many crashes stand in the bands before.
     pub crash: usize,
+    /// How many missing events stand in the bands before.
+    pub missing: usize,
     /// The number of the last event that is drawn in the bands before; 0 if there is none.
     pub before: u64,
 }
@@ -48,6 +59,8 @@ pub struct Band {
     pub slots: Vec<Slot>,
     /// The crashes, from left to right.
     pub sides: Vec<Side>,
+    /// The missing events, from left to right.
+    pub places: Vec<Place>,
     /// Where events are left out after all that are drawn, the middle of the room for them.
     pub gap: Option<u64>,
     /// The width of a column.
@@ -76,6 +89,7 @@ impl Band {
             next: start,
             slots: Vec::new(alloc),
             sides: Vec::new(alloc),
+            places: Vec::new(alloc),
             gap: None,
             column,
             right: LEFT,
@@ -106,6 +120,12 @@ impl Band {
     fn has_room(&self, picture: &Picture, number: u64) -> bool {
         let is_last = self.next.column.saturating_add(1) >= picture.columns.len();
         let mut need = self.column;
+        let follower = self.follower(picture);
+        for missing in picture.missing.iter().skip(self.next.missing) {
+            if missing.after < follower {
+                need = need.saturating_add(self.column);
+            }
+        }
         if number != self.next.before.saturating_add(1) {
             need = need.saturating_add(GAP);
         }
@@ -120,8 +140,17 @@ impl Band {
         self.right.saturating_add(need) <= LEFT.saturating_add(content(picture))
     }
 
-    // Adds the column of the event, with what stands before it and the crashes right after it.
+    // The number of the event whose column comes after the next one; the greatest number where there is none.
+    fn follower(&self, picture: &Picture) -> u64 {
+        match picture.columns.get(self.next.column.saturating_add(1)) {
+            Some(column) => column.number,
+            None => u64::MAX,
+        }
+    }
+
+    // Adds the column of the event, with what stands before it, and what is missing and the crashes right after it.
     fn push_column(&mut self, picture: &Picture, number: u64) {
+        self.push_missing(picture, number);
         let gap = self.take_gap(number != self.next.before.saturating_add(1));
         self.push_crashes(picture, number.saturating_sub(1));
         let slot = Slot {
@@ -131,6 +160,8 @@ impl Band {
         };
         self.refused = self.refused || self.slots.push(slot).is_err();
         self.right = self.right.saturating_add(self.column);
+        let follower = self.follower(picture);
+        self.push_missing(picture, follower);
         self.push_crashes(picture, number);
         self.next.before = number;
         self.next.column = self.next.column.saturating_add(1);
@@ -170,8 +201,25 @@ impl Band {
         }
     }
 
-    // Gives rows to threads while there is room: to those of the crashes' assertions, to those of the columns, the last first, and to
-    // those whose flushes of a band before wait for a fence in this one or later.
+    // Adds what is missing of the next events that are put in after an event before this one, side by side.
+    fn push_missing(&mut self, picture: &Picture, before: u64) {
+        for missing in picture.missing.iter().skip(self.next.missing) {
+            if missing.after >= before {
+                break;
+            }
+            let place = Place {
+                missing: self.next.missing,
+                x: self.right.saturating_add(self.column / 2),
+            };
+            self.refused = self.refused || self.places.push(place).is_err();
+            self.next.missing = self.next.missing.saturating_add(1);
+            self.right = self.right.saturating_add(self.column);
+            self.give_row(missing.thread);
+        }
+    }
+
+    // Gives rows to threads while there is room: those of missing events have theirs; to those of the crashes' assertions, to those of the
+    // columns, the last first, and to those whose flushes of a band before wait for a fence in this one or later.
     fn take_threads(&mut self, picture: &Picture) {
         for crash in picture.crashes.iter().skip(self.start.crash) {
             if let Some(assertion) = crash.assertion {

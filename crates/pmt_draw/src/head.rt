@@ -1,7 +1,9 @@
 //! What stands over the drawing: what it is about, and what is left out.
 use crate::layout::{EDGE, LINE, Layout};
 use crate::shapes::push_shape;
-use crate::words::{push_assertion, push_cause, push_claim, push_event, push_reason, push_shown};
+use crate::words::{
+    push_assertion, push_cause, push_claim, push_event, push_kept, push_reason, push_shown,
+};
 use pmt_pen::Pen;
 use pmt_picture::{Crash, MOST_CRASHES, Picture, Subject, address_of};
 
@@ -72,6 +74,7 @@ fn push_focus(pen: &mut Pen, picture: &Picture, crash: &Crash, letters: u64, top
     let y = push_told(pen, "told", &claim, letters, top);
     let mut shown = Pen::new(pen.alloc());
     push_shown(&mut shown, crash);
+    push_kept(&mut shown, picture, crash);
     let y = push_told(pen, "told", &shown, letters, y);
     let mut why = Pen::new(pen.alloc());
     push_cause(&mut why, crash);

@@ -2,6 +2,7 @@
 use crate::labels::{Label, label_of, push_cut, room_of};
 use crate::layout::Layout;
 use crate::marks::push_mark;
+use crate::missing::missing_words;
 use crate::page::Page;
 use crate::words::{push_event_words, push_reason, word_of};
 use pmt_pen::Pen;
@@ -24,6 +25,9 @@ pub fn words_height(picture: &Picture, layout: &Layout, labels: &[Label]) -> u64
     let mut letters: u64 = 0;
     for column in &picture.columns {
         letters = letters.max(letters_of(column, labels));
+    }
+    for missing in &picture.missing {
+        letters = letters.max(missing_words(missing.wanted).len() as u64);
     }
     letters.saturating_mul(LETTER) / 10 + 20
 }

@@ -108,6 +108,7 @@ fn bands_of(
     let mut start = Start {
         column: 0,
         crash: 0,
+        missing: 0,
         before: 0,
     };
     for _ in 0..picture.columns.len().max(1) {
@@ -130,10 +131,10 @@ pub fn content(picture: &Picture) -> u64 {
     }
 }
 
-// The width of each column: as wide as so many bands have room for, or the least, in which the names of two threads do not touch. Events
+// The width of each column, that of a missing event too: as wide as so many bands have room for, or the least, in which the names of two threads do not touch. Events
 // may be left out before, between and after those that are drawn.
 fn column_width(picture: &Picture, bands: u64) -> u64 {
-    let columns = picture.columns.len() as u64;
+    let columns = (picture.columns.len() as u64).saturating_add(picture.missing.len() as u64);
     let mut narrow = NARROW;
     let mut taken = TAG.saturating_mul(picture.crashes.len() as u64);
     let mut before: u64 = 0;

@@ -18,7 +18,7 @@ struct Sign {
     words: &'static str,
 }
 
-const SIGNS: [Sign; 16] = [
+const SIGNS: [Sign; 17] = [
     Sign {
         needle: "class='pending'",
         shape: "<rect class='pending' x='-12' y='-6' width='24' height='12'/>",
@@ -78,6 +78,11 @@ const SIGNS: [Sign; 16] = [
         needle: "class='mark dropped",
         shape: "<path class='mark dropped' d='M-13 -6H1L-6 6Z'/><rect class='mark dropped' x='6' y='-8' width='6' height='16'/>",
         words: "hollow: no effect here, may go",
+    },
+    Sign {
+        needle: "class='mend' ",
+        shape: "<path class='mend' d='M-13 -6H1L-6 6Z'/><rect class='mend' x='6' y='-8' width='6' height='16'/>",
+        words: "missing: put it in here",
     },
     Sign {
         needle: "class='pass'",

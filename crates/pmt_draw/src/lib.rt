@@ -10,6 +10,7 @@ mod labels;
 mod layout;
 mod legend;
 mod marks;
+mod missing;
 mod page;
 mod rows;
 mod segments;

@@ -2,7 +2,7 @@
 use crate::shapes::push_shape;
 use pmt_model::Op;
 use pmt_pen::Pen;
-use pmt_picture::Column;
+use pmt_picture::{Column, Wanted};
 use pmt_reasons::Reason;
 
 /// What the mark of a flush or fence says besides.
@@ -94,6 +94,27 @@ fn push_triangle(pen: &mut Pen, worth: Worth, x: u64, y: u64) {
             "<path class='shout' d='M# #V#M# #V#'/>",
             &[x, from, to, x, to.saturating_add(2), to.saturating_add(3)],
         );
+    }
+}
+
+/// Adds the mark of an event that is missing, around this point.
+pub fn push_missing_mark(pen: &mut Pen, wanted: Wanted, x: u64, y: u64) {
+    match wanted {
+        Wanted::Store(_) => push_box(pen, "mend", x, y, 4, 4),
+        Wanted::Fence => push_box(pen, "mend", x, y, 3, 9),
+        Wanted::Flush(_) => push_shape(
+            pen,
+            "path",
+            "mend",
+            "d='M# #H#L# #Z'/>",
+            &[
+                x.saturating_sub(7),
+                y.saturating_sub(6),
+                x.saturating_add(7),
+                x,
+                y.saturating_add(6),
+            ],
+        ),
     }
 }
 

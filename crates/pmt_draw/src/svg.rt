@@ -5,6 +5,7 @@ use crate::header::{push_columns, words_height};
 use crate::labels::Label;
 use crate::layout::{EDGE, Layout};
 use crate::legend::{legend_height, push_legend};
+use crate::missing::push_missing;
 use crate::page::{Page, rows_height};
 use crate::rows::push_rows;
 use crate::style::{PATTERNS, STYLE};
@@ -77,6 +78,7 @@ fn push_band(pen: &mut Pen, page: Page<'_>) {
     push_threads(pen, page);
     push_rows(pen, page);
     push_columns(pen, page);
+    push_missing(pen, page);
     push_crashes(pen, page);
     pen.put("</g>\n");
 }

@@ -1,6 +1,6 @@
 //! The crashes: a line through the band, with the stores that are lost and the one that is kept.
 use crate::band::lane_top;
-use crate::layout::BAR;
+use crate::layout::{BAR, LEFT};
 use crate::page::Page;
 use crate::shapes::push_shape;
 use crate::words::{push_assertion, push_cause, push_shown};
@@ -18,6 +18,7 @@ pub fn push_crashes(pen: &mut Pen, page: Page<'_>) {
         if let Some(crash) = page.picture.crashes.get(side.crash) {
             push_group(pen, crash);
             push_line(pen, page, crash, side.x, y);
+            push_veil(pen, page, crash, side.x);
             push_marks(pen, page, crash, Some(side.x));
             pen.put("</g>\n");
         }
@@ -26,6 +27,9 @@ pub fn push_crashes(pen: &mut Pen, page: Page<'_>) {
     let (first, end) = (page.band.start.crash, page.band.next.crash);
     for (index, crash) in page.picture.crashes.iter().enumerate() {
         if index < first || end <= index {
+            if index < first {
+                push_veil(pen, page, crash, LEFT);
+            }
             push_marks(pen, page, crash, None);
         }
     }
@@ -75,6 +79,31 @@ fn push_line(pen: &mut Pen, page: Page<'_>, crash: &Crash, x: u64, y: u64) {
     );
     push_assertion(pen, crash);
     pen.put("</text>");
+}
+
+// Pales what comes after the picture's only crash, from there on, and says what it is: the crash did not happen in the trace.
+fn push_veil(pen: &mut Pen, page: Page<'_>, crash: &Crash, x: u64) {
+    let place = crash.failure.place;
+    let is_last = match page.picture.columns.last() {
+        Some(column) => column.number <= place,
+        None => true,
+    };
+    if page.picture.crashes.len() > 1 || is_last || page.band.right <= x {
+        return;
+    }
+    let wide = page.band.right.saturating_sub(x);
+    let high = page.end.saturating_sub(page.threads);
+    pen.fill(
+        "<rect class='after' x='#' y='#' width='#' height='#'/><text class='small soft' x='#' y='#'>from here on: the run without the crash</text>",
+        &[
+            x.saturating_add(2),
+            page.threads,
+            wide,
+            high,
+            x.saturating_add(6),
+            page.end.saturating_add(11),
+        ],
+    );
 }
 
 // Where a bar stands that a crash tells of.

@@ -2,7 +2,7 @@
 use crate::labels::{Label, label_of};
 use pmt_model::{Event, Op};
 use pmt_pen::Pen;
-use pmt_picture::{Assertion, Column, Crash};
+use pmt_picture::{Assertion, Column, Crash, Picture};
 use pmt_reasons::{Cause, Reason};
 use pmt_text::write_event;
 
@@ -124,6 +124,31 @@ pub fn push_shown(pen: &mut Pen, crash: &Crash) {
         pen.fill(", and with it # stores in all", &[all]);
     }
     pen.put(".");
+}
+
+/// Adds how the store that the crash keeps can be kept, as a sentence after another, where no flush of its line comes by then.
+pub fn push_kept(pen: &mut Pen, picture: &Picture, crash: &Crash) {
+    let Some(kept) = crash.failure.kept else {
+        return;
+    };
+    let Some(column) = picture.column(kept.store) else {
+        return;
+    };
+    let place = crash.failure.place;
+    for row in &picture.rows {
+        for bar in &row.bars {
+            let is_flushed = match bar.flush {
+                Some(flush) => flush.number <= place,
+                None => false,
+            };
+            if !is_flushed && bar.has(picture.format, column) {
+                pen.fill(
+                    " Store # is kept without a flush: the cache may write its line back by itself.",
+                    &[kept.store],
+                );
+            }
+        }
+    }
 }
 
 /// Adds what the crash violates, or what it loses.

@@ -7,6 +7,7 @@ use crate::asserted::{Asserted, asserted_of};
 use crate::bars::{Drawn, Row, row_of};
 use crate::crash::{Crash, crash_of};
 use crate::known::Known;
+use crate::missing::{Missing, missing_of};
 use crate::nearby::next_fence;
 use crate::numbered::{Numbers, is_listed};
 use crate::spans::line_of_op;
@@ -61,6 +62,8 @@ pub struct Picture {
     pub asserted: [Option<Asserted>; 2],
     /// The crashes that are drawn, at most `MOST_CRASHES`, by their places: the one of the subject alone, if it has one.
     pub crashes: Vec<Crash>,
+    /// What is missing where the crash of the subject loses stores, in the order in which it is put in.
+    pub missing: Vec<Missing>,
     /// How many failed assertions are drawn without their crash.
     pub untold: u64,
 }
@@ -107,6 +110,7 @@ pub fn picture_of(
     let numbers = told.numbers.as_slice();
     let columns = columns_of(alloc, known, numbers)?;
     let asserted = asserted_in(known.trace, crash.as_ref());
+    let missing = missing_of(alloc, known.trace, subject, crash.as_ref())?;
     let kept = if subject.is_finding() { &[] } else { kept };
     let touched = touched_lines(alloc, known.trace, columns.as_slice(), kept);
     let lines = chosen_lines(alloc, &touched)?;
@@ -128,6 +132,7 @@ pub fn picture_of(
         cut: told.all.saturating_sub(numbers.len() as u64),
         hidden: touched.as_slice().len().saturating_sub(lines.len()) as u64,
         asserted,
+        missing,
         untold: untold_of(columns.as_slice(), crashes.as_slice()),
         columns,
         rows,
