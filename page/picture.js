@@ -16,6 +16,29 @@ const TAG = 42;
 // How many pixels a printed page has from left to right.
 const PRINTED = 1000;
 
+// What the mend of a finding puts in, by which thread, and after which event: a fence behind the last flush of the range, a flush behind
+// the last store that is lost. A fence of the flush's thread that stands there is not missing.
+function missingOf(trace, { entry, kind }, shown) {
+  const { mend } = entry;
+  const isFailure = kind === 'failure';
+  if (mend.mend === 'store_first') {
+    const kinds = mend.same_line ? ['store'] : ['store', 'flush', 'fence'];
+    return { after: mend.before - 1, thread: trace.thread[mend.store], kinds };
+  }
+  if (mend.mend === 'fence') {
+    const lines = new Set(isFailure ? trace.linesOfRange(trace.ranges(entry.event.event)[0]) : []);
+    const isOne = (number) => number < mend.before && trace.thread[number] === mend.thread && lines.has(trace.lineOf[number]);
+    const flushes = shown.filter((number) => trace.kind(number) === 'flush' && isOne(number));
+    return { after: Math.max(mend.after, ...flushes), thread: mend.thread, kinds: ['fence'] };
+  }
+  const thread = trace.thread[mend.after];
+  const fence = trace.nextFence(thread, mend.after);
+  const isFenced = fence !== 0 && (mend.before === null || fence < mend.before);
+  const end = isFenced ? fence : mend.before;
+  const lost = isFailure ? lostStores(trace, entry).filter((store) => store < end && trace.lineOf[store] === trace.lineOf[mend.after]) : [];
+  return { after: Math.max(mend.after, ...lost), thread, kinds: isFenced ? ['flush'] : ['flush', 'fence'] };
+}
+
 class Sheet {
   constructor(trace, box, onPlace, onStretch) {
     this.trace = trace;
@@ -33,10 +56,12 @@ class Sheet {
     this.rows = rowsOf(trace, this.layout, view.focus, view.most);
     this.parts = { names: make('div', { class: 'names' }), cells: shape('g'), head: shape('g') };
     this.height = 4;
+    this.middles = new Map();
     for (const thread of this.rows.threads) this.threadRow([thread], `thread ${thread}`);
     if (this.rows.moreThreads.length > 0) this.threadRow(this.rows.moreThreads, `${this.rows.moreThreads.length} more threads`);
     for (const line of this.rows.lines) this.lineRow(line);
     this.drawHead();
+    this.drawMissing();
     this.put();
     this.place(view);
   }
@@ -130,6 +155,7 @@ class Sheet {
     const top = this.height;
     const y = top + THREAD_ROW / 2;
     this.height += THREAD_ROW;
+    for (const thread of threads) this.middles.set(thread, y);
     this.name(top, THREAD_ROW, make('span', {}, name));
     this.parts.cells.append(shape('path', { class: 'rule', d: `M0 ${y}H${this.layout.width}` }));
     if (this.layout.bins) {
@@ -183,6 +209,24 @@ class Sheet {
       group.append(shape('circle', { class: look, r: 8 }), shape('path', { class: mark, d }));
     }
     return group;
+  }
+
+  // What the finding wants put in: each event as a dashed sign in the row of its thread, between two columns, with a word over them.
+  drawMissing() {
+    const { finding } = this.view;
+    if (!finding?.entry.mend || this.layout.bins) return;
+    const { after, thread, kinds } = missingOf(this.trace, finding, this.layout.columns.map((column) => column.first));
+    const x = Math.max(12, Math.min(this.layout.width - 12, this.layout.edge(after)));
+    const y = this.middles.get(thread);
+    if (y === undefined) return;
+    const words = kinds.map((kind) => ({ store: 'store', flush: 'clwb', fence: 'sfence' })[kind]).join(', ');
+    this.parts.head.append(shape('text', { class: 'mid tiny missing-word', x, y: 40 }, `${words} here`));
+    kinds.forEach((kind, at) => {
+      const middle = x + 15 * at - 7.5 * (kinds.length - 1);
+      const d = { store: 'M-4 -4h8v8h-8z', flush: 'M-7 -6H7L0 7Z', fence: 'M-3 -9h6v18h-6z' }[kind];
+      const looks = { class: 'mark missing', 'data-missing': kind, 'data-thread': thread, 'data-after': after, d };
+      this.parts.cells.append(shape('path', { ...looks, transform: `translate(${middle} ${y})` }, shape('title', {}, `missing: ${words}`)));
+    });
   }
 
   // A cache line: its flushes above, and bars of its stores below; folded, the bars alone and thin.

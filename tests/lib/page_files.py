@@ -23,8 +23,9 @@ SHOWN = """(() => {
   const lines = [...document.querySelectorAll('#lines tbody tr')].map((row) => [row.dataset.line, Number(row.dataset.safe), Number(row.dataset.stores)]);
   const events = [...document.querySelectorAll('#sheet .sheet-head .event')].map((event) => Number(event.dataset.event));
   const lost = [...document.querySelectorAll('#sheet path.lost')].map((mark) => Number(mark.dataset.store));
+  const missing = [...document.querySelectorAll('#sheet .mark.missing')].map(({ dataset }) => [dataset.missing, Number(dataset.thread), Number(dataset.after)]);
   return {
-    lost, headline: document.querySelector('#told .headline')?.textContent ?? '', finding: text('finding-place'), mend: text('mend'), crash: text('crash-told'),
+    lost, missing, headline: document.querySelector('#told .headline')?.textContent ?? '', finding: text('finding-place'), mend: text('mend'), crash: text('crash-told'),
     found: text('found'), place: Number(document.getElementById('place').value), from: Number(document.getElementById('from').value),
     to: Number(document.getElementById('to').value), slider: Number(document.getElementById('slider').value), rows, lines, events,
     current: document.querySelector('#groups [aria-current]')?.dataset.number ?? null, atEnd: document.getElementById('next').disabled,

@@ -2,8 +2,10 @@
 import json
 import pathlib
 
+from drawn_mends import wanted_marks
 from page_files import KINDS, name_of, number_of
 from page_machine import read_trace, wrong_failure
+from slices import Plain
 
 TOP = pathlib.Path(__file__).resolve().parents[2]
 
@@ -78,8 +80,19 @@ def expected_mend(entry):
     return [f"Make the store of event {mend['store']}", f"before event {mend['before']}"]
 
 
+def wrong_marks(mend, shown, trace):
+    """What is wrong with the marks of what is missing: they stand between the events that the mend names."""
+    wanted = wanted_marks(trace, mend)
+    high = (mend["before"] or len(trace.events) + 1) if mend else 0
+    low = high - 1 if mend and mend["mend"] == "store_first" else mend["after"] if mend else 0
+    right = [(kind, thread) for kind, thread, after in shown["missing"] if low <= after < high] == wanted
+    return "" if right and len(shown["missing"]) == len(wanted) else f"marks {shown['missing']} of {mend}"
+
+
 def wrong_entry(entry, shown, size, events):
     """What is wrong with the entry as it is shown."""
+    if wrong := wrong_marks(entry.get("mend"), shown, Plain(size, events)):
+        return wrong
     if entry["kind"] == "failure":
         return wrong_failure(size, events, entry, shown)
     wanted = [entry["cache_line"]] if entry["kind"] == "never_persisted" else [f"event {number_of(entry)}"]
