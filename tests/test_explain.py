@@ -414,6 +414,8 @@ BOUNDS = (
     "pmtrace 2 256\nstore 0 0x0 00\nisPersist 255 0x0 4096\nisOrderedBefore 0 0x0 4096 0xfffffffff000 4096\nstore 0 0x0 00\n",
     NEVER_STORED,
     many_failures(),
+    # The second of three lines is not flushed.
+    "pmtrace 1\nstore 0 0x0 01\nstore 0 0x40 02\nstore 0 0x80 03\nclwb 0 0x0\nclwb 0 0x80\nsfence 0\n" + 2 * "isPersist 0 0x0 192\n",
 )
 
 

@@ -15,7 +15,7 @@ ALL = 1_000_000
 TRACES = 400
 GROUPED = 300
 LONG = 12
-PLACES = ("put.c:12 record", "put.c:14", "list.c:7 insert")
+PLACES = ("put.c:12 record", "put.c:14", "list.c:7 insert", "put.c:14 < main put.c:90", "put.c:14 < list.c:3")
 # How often each fault is to be noticed.
 NOTICED = 3
 

@@ -99,7 +99,8 @@ class Explained:
     def cause_entry(self, key, members):
         assertion, why, (origin, name) = key
         named = {"label": None, "thread": None, origin: name}
-        return {"kind": "cause", "assertion": assertion, "why": why, "count": len(members), "events": members, **named}
+        counts = {name: found[: grouped.FEW] for name, found in grouped.inside(self, members).items()}
+        return {"kind": "cause", "assertion": assertion, "why": why, "count": len(members), "events": members, **named, **counts}
 
     def byte_stores(self, span, place):
         """The last store to each byte of the range, the first by number and then by byte first."""

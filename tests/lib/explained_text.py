@@ -10,7 +10,7 @@ import hinted
 import placed as by_place
 from explained import NOTHING
 from machine import FENCES, FLUSHES, spelled
-from stories import HEADING, rows, wrong_story
+from stories import HEADING, WIDTH, cut, rows, wrong_story
 
 SCREEN = 40
 MOST = 8
@@ -208,6 +208,40 @@ def others_lines(members):
     return [f"  also: event{'s' if len(others) > 1 else ''} {' '.join(map(str, others[:10]))}{more}"] if others else []
 
 
+# What is counted inside a cause
+
+PARTS = {"only": "its only", "first": "its first", "inner": "an inner", "last": "its last"}
+COMING = {"unfenced": "fence", "unflushed": "flush of its cache line"}
+
+
+def counted(name, found, members, spelled):
+    """A row of counts, cut to the columns of a screen."""
+    of = [f"in {count['count']}{'' if at else f' of {members}'} {spelled(count, at)}" for at, count in enumerate(found[: grouped.FEW])]
+    others = sum(count["count"] for count in found[grouped.FEW :])
+    return cut(f"  {name}: {', '.join([*of, *([f'in {others} otherwise'] if others else [])])}", WIDTH)
+
+
+def maker(count, ending=""):
+    return f"thread {count['thread']}{ending}{'' if count['label'] is None else ' at ' + count['label']}"
+
+
+def inside_lines(explained, why, members):
+    """What is counted inside a cause, where it says something."""
+    found, size = grouped.inside(explained, members), len(members)
+    coming, parts, stores, claims = found["next"], found["parts"], found["stores"], found["claims"]
+    threads = {event[1] for event in explained.trace.events}
+    told = coming[: grouped.FEW]
+    if why in COMING and told and (len(threads) > 1 or any(count["label"] is not None for count in told)):
+        what = COMING[why]
+        absent, present = (f"no {what} comes next", "none"), (f"the next {what} is ", "")
+        yield counted("next", coming, size, lambda count, at: absent[at > 0] if count["thread"] is None else present[at > 0] + maker(count, "'s"))
+    if any(count["part"] != "only" for count in parts):
+        yield counted("range", parts, size, lambda count, at: PARTS[count["part"]] + (" one" if at else " cache line is lost"))
+    for name, makers in (("stored", stores), ("called", claims)):
+        if len(makers) > 1:
+            yield counted(name, makers, size, lambda count, at: f"by {maker(count)}")
+
+
 def is_alone(explained):
     """Whether one failed assertion is asked for, and nothing else."""
     asked = explained.asked
@@ -222,14 +256,15 @@ def full_lines(explained, number):
     yield from range_block(explained, explained.failure(number))
 
 
-def wrong_failure(explained, members, entry):
+def wrong_failure(explained, why, members, entry):
     """What is wrong with the entry of a cause: its story, the other members, and all of the first one, where it is told alone."""
     wrong = wrong_story(explained, members, entry)
     if wrong:
         return wrong
     rest = entry[len(rows(explained, members[0])) + 2 : -1]
     if not is_alone(explained):
-        return None if rest == others_lines(members) else f"the others: wanted {others_lines(members)}, in {entry}"
+        others = [*inside_lines(explained, why, members), *others_lines(members)]
+        return None if rest == others else f"the others: wanted {others}, in {entry}"
     wanted = list(full_lines(explained, members[0]))
     told = [line for line in rest if line.startswith(("  claim: ", "  loses: "))] + told_of_range(entry)
     return None if told == wanted and any(", lost: event " in row for row in wanted) else f"all of a failure: wanted {wanted}, in {entry}"
@@ -437,8 +472,8 @@ def wrong_text(explained, told):
     causes, entries = explained.causes, errors_of(lines)
     if len(entries) < len(causes) or lines.count(HEADING) != int(bool(causes) and not is_alone(explained)):
         return f"causes: wanted {causes}, in\n{told.decode()}"
-    for (key, members), entry in zip(causes, entries):
-        wrong = wrong_failure(explained, members, entry)
+    for ((_, why, _), members), entry in zip(causes, entries):
+        wrong = wrong_failure(explained, why, members, entry)
         if wrong:
             return f"{wrong}\nin\n{told.decode()}"
     return wrong_losses(explained, entries[len(causes) :]) or wrong_draws(explained, entries)

@@ -42,6 +42,63 @@ def causes(explained):
     return grouped((cause_key(explained, number), number) for number in explained.failing() if explained.is_asked("failure", number))
 
 
+# What is counted inside a cause
+
+FEW = 5
+NOBODY = {"label": None, "thread": None}
+
+
+def following(trace, start, is_wanted):
+    """The first event after this one that is wanted; None without one."""
+    return next((number for number in range(start + 1, len(trace.events) + 1) if is_wanted(number)), None)
+
+
+def next_event(explained, number):
+    """The next flush of the line of the store that the assertion loses; where its cause is that a fence is missing, the fence after it."""
+    trace = explained.trace
+    _, place, _, (store, _), _ = explained.violation(number)
+    flush = following(trace, store, lambda at: trace.is_flush_of(at, trace.line(store), ANY_FLUSH))
+    if explained.cause(store, place)["cause"] != "unfenced":
+        return flush
+    return following(trace, flush, lambda at: trace.event(at)[0] in FENCES)
+
+
+def made(explained, number, label):
+    """Who makes an event, with this label."""
+    return NOBODY if number is None else {"label": label, "thread": explained.trace.event(number)[1]}
+
+
+def part(explained, number):
+    """Which cache line of the range that is to be kept the assertion loses."""
+    spans, _, _, (_, byte), _ = explained.violation(number)
+    first, last = spans[0][0] // explained.trace.size, (sum(spans[0]) - 1) // explained.trace.size
+    if first == last:
+        return {"part": "only"}
+    return {"part": {first: "first", last: "last"}.get(byte // explained.trace.size, "inner")}
+
+
+def details(explained, number):
+    """What is counted of an assertion."""
+    store, coming = explained.violation(number)[3][0], next_event(explained, number)
+    return {
+        "claims": made(explained, number, explained.labels.get(number)),
+        "next": made(explained, coming, frame(explained, coming)),
+        "parts": part(explained, number),
+        "stores": made(explained, store, explained.labels.get(store)),
+    }
+
+
+def inside(explained, members):
+    """Of several assertions how many have which detail: the five that most have, and of as many that which comes first."""
+    told = [details(explained, number) for number in members]
+    counts = {name: [] for name in told[0]}
+    for name, found in counts.items() if len(members) > 1 else ():
+        values = [detail[name] for detail in told]
+        distinct = [value for at, value in enumerate(values) if value not in values[:at]]
+        found += sorted(({"count": values.count(value), **value} for value in distinct), key=lambda count: -count["count"])
+    return counts
+
+
 # What is never persisted, by cause
 
 

@@ -57,6 +57,10 @@ def turned(line):
 TEXT = {
     "a member of a group": (lambda lines: first_at(lines, "  also: "), raised(r"\d+(?= and |$)")),
     "the size of a group": (lambda lines: first_at(lines, " times)"), raised(r"\d+(?= times)")),
+    "how many have a next flush or fence": (lambda lines: first_at(lines, "  next: "), raised(r"(?<=in )\d+")),
+    "how many lose a part of the range": (lambda lines: first_at(lines, "  range: "), raised(r"(?<=in )\d+")),
+    "how many lose a store of one place": (lambda lines: first_at(lines, "  stored: "), raised(r"(?<=in )\d+")),
+    "how many are claimed at one place": (lambda lines: first_at(lines, "  called: "), raised(r"(?<=in )\d+")),
     "an event of a story": (story_at, raised(r"\d+")),
     "an event of a story left out": (story_at, None),
     "what a story says is kept": (lambda lines: first_at(lines, "  kept"), lambda line: line.replace("  kept", "  lost")),
@@ -105,6 +109,17 @@ def without_last(entries):
         cause.update(count=cause["count"] - 1, events=cause["events"][:-1])
 
 
+def with_more_inside(member):
+    """Adds one to the first count inside the first cause that has counts."""
+
+    def change(entries):
+        found = next((entry[member] for entry in entries if entry[member]), None)
+        if found:
+            found[0]["count"] += 1
+
+    return change
+
+
 def with_other_store(entries):
     stores = entries[-1]["ranges"][0]["stores"]
     stores[0] = None if stores[0] else 1
@@ -115,6 +130,10 @@ JSON = {
     "a cause's last member left out": ("cause", without_last),
     "a cause's size": ("cause", with_more("count")),
     "the order of causes": ("cause", swapped),
+    "how many have a next flush or fence": ("cause", with_more_inside("next")),
+    "how many lose a part of the range": ("cause", with_more_inside("parts")),
+    "how many lose a store of one place": ("cause", with_more_inside("stores")),
+    "how many are claimed at one place": ("cause", with_more_inside("claims")),
     "the store of a byte": ("failure", with_other_store),
     "a late count": ("late", with_more("count")),
     "a late place left out": ("late", list.clear),

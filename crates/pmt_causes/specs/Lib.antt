@@ -1,12 +1,17 @@
 pub mod Numbers
 pub mod Counted
+pub mod Counts
+pub mod Details
 pub mod Dropped
 pub mod FailureKeys
 pub mod Fences
+pub mod Fencing
 pub mod Flushing
 pub mod Groups
+pub mod Inside
 pub mod Labels
 pub mod Late
+pub mod Losing
 pub mod LostCauses
 pub mod Tables
 pub mod Tallies

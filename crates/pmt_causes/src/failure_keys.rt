@@ -59,7 +59,7 @@ pub(crate) fn key_of(
     ensures { result ≡ key_by labels.now flushes.now number thread kind failure.now }
 {
     let store = failure.lost.store;
-    let flush = flush_after(flushes, store);
+    let flush = number_of(flushes, store);
     FailureKey {
         kind,
         cause: cause_kind(failure.place, store, flush),
@@ -67,12 +67,12 @@ pub(crate) fn key_of(
     }
 }
 
-// The next flush of the store's line, or 0 of no store.
-fn flush_after(flushes: &[u64], store: u64) -> u64
-    ensures { result ≡ slice_index flushes.now (store - 1) }
+// The number that the list of all events has of this one, or 0 of no event.
+pub(crate) fn number_of(list: &[u64], event: u64) -> u64
+    ensures { result ≡ slice_index list.now (event - 1) }
 {
-    match flushes.get(store.saturating_sub(1) as usize) {
-        Some(flush) => *flush,
+    match list.get(event.saturating_sub(1) as usize) {
+        Some(number) => *number,
         None => 0,
     }
 }

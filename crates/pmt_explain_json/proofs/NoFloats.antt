@@ -16,6 +16,9 @@ use Rattle.pmt_explain.specs.declared.bytes.CrashByte.{CrashByte}
 use Rattle.pmt_explain.specs.declared.dropped_event.Dropped.{Dropped}
 use Rattle.pmt_explain.specs.declared.lost_grouping.LostGroup.{LostGroup}
 use Rattle.pmt_explain.specs.declared.overwritten_grouping.OverwrittenGroup.{OverwrittenGroup}
+use Rattle.pmt_causes.specs.declared.counting.Count.{Count}
+use Rattle.pmt_causes.specs.declared.details.CauseCounts.{CauseCounts}
+use Rattle.pmt_causes.specs.declared.details.Maker.{Maker}
 use Rattle.pmt_causes.specs.declared.failure_keys.FailureKey.{FailureKey}
 use Rattle.pmt_causes.specs.declared.grouping.Group.{Group}
 use Rattle.pmt_causes.specs.declared.late.LateSpot.{LateSpot}
@@ -34,6 +37,7 @@ use Rattle.pmt_reasons.specs.Mends.{mend_of}
 use Rattle.pmt_explain_json.specs.Parts.{or_null, count_data, address_data, address_of, known_event_data, event_data, line_data, byte_store_data, range_data, cause_data, by_of, reason_data, mend_data}
 use Rattle.pmt_explain_json.specs.Entries.{line_count_data, byte_store, byte_value, range_after_data, failure_data, lost_data, dropped_data, overwritten_data, ranges_of, unwritten_data}
 use Rattle.pmt_explain_json.specs.Groups.{cause_group_data}
+use Rattle.pmt_explain_json.specs.Inside.{maker_count_data, maker_label, maker_thread, part_count_data}
 use Rattle.pmt_explain_json.specs.Places.{place_label, place_thread}
 use Rattle.pmt_explain_json.specs.Tables.{label_row_data, late_data, spot_label, spot_line}
 use Rattle.pmt_explanation.specs.declared.choosing.Choice.{Choice}
@@ -140,11 +144,23 @@ unwritten-float T labels u =
     (both (items_have_float (items_of (map range_data (ranges_of u.first ++ ranges_of u.second)))) false
     (array-float range_data (λ r. refl) (ranges_of u.first ++ ranges_of u.second)) refl)
 
-pub cause_group-float : (labels : Labels) (g : Group FailureKey) → has_float (cause_group_data labels g) ≡ false
-cause_group-float labels g =
-    both (items_have_float (items_of (map count_data g.members.items))) _ (array-float count_data (λ n. refl) g.members.items)
+maker-float : (labels : Labels) (whole : Bool) (c : Count Maker) → has_float (maker_count_data labels whole c) ≡ false
+maker-float labels whole c =
+    both (has_float (or_null string (maker_label labels whole c.key))) _ (label-float (maker_label labels whole c.key))
+    (both (has_float (or_null count_data (maker_thread c.key))) false (count-float (maker_thread c.key)) refl)
+
+makers-float : (labels : Labels) (whole : Bool) (cs : List (Count Maker)) → items_have_float (items_of (map (maker_count_data labels whole) cs)) ≡ false
+makers-float labels whole cs = array-float (maker_count_data labels whole) (maker-float labels whole) cs
+
+pub cause_group-float : (labels : Labels) (g : Group FailureKey) (c : CauseCounts) → has_float (cause_group_data labels g c) ≡ false
+cause_group-float labels g c =
+    both (items_have_float (items_of (map (maker_count_data labels true) c.claims.told.items))) _ (makers-float labels true c.claims.told.items)
+    (both (items_have_float (items_of (map count_data g.members.items))) _ (array-float count_data (λ n. refl) g.members.items)
     (both (has_float (or_null string (place_label labels g.key.origin))) _ (label-float (place_label labels g.key.origin))
-    (both (has_float (or_null count_data (place_thread g.key.origin))) false (count-float (place_thread g.key.origin)) refl))
+    (both (items_have_float (items_of (map (maker_count_data labels false) c.next.told.items))) _ (makers-float labels false c.next.told.items)
+    (both (items_have_float (items_of (map part_count_data c.parts.told.items))) _ (array-float part_count_data (λ p. refl) c.parts.told.items)
+    (both (items_have_float (items_of (map (maker_count_data labels true) c.stores.told.items))) _ (makers-float labels true c.stores.told.items)
+    (both (has_float (or_null count_data (place_thread g.key.origin))) false (count-float (place_thread g.key.origin)) refl))))))
 
 line-float : (T : Recording) (o : Option ℕ) → has_float (or_null (line_data T) o) ≡ false
 line-float T o = or_null-float (line_data T) (λ l. refl) o

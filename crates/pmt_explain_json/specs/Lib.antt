@@ -1,6 +1,7 @@
 pub mod Entries
 pub mod Groups
 pub mod Hints
+pub mod Inside
 pub mod Lines
 pub mod Parts
 pub mod Places

@@ -11,7 +11,7 @@ use Rattle.pmt_explanation.specs.Choosing.{kind_name}
 use Rattle.pmt_explanation.specs.Counting.{per_cent}
 use Rattle.pmt_explanation.specs.Summing.{IsSummary}
 use Rattle.pmt_explain_json.specs.Parts.{json_line, object_of, count_data, address_data, or_null}
-use Rattle.pmt_explain_json.specs.Groups.{cause_line}
+use Rattle.pmt_explain_json.specs.Groups.{cause_lines}
 use Rattle.pmt_explain_json.specs.Tables.{table_lines}
 use Rattle.pmt_explain_json.specs.Entries.{failure_line, lost_line, dropped_line, overwritten_line, unwritten_line}
 
@@ -77,7 +77,7 @@ summary_line x c s = json_line (summary_data s x.limit c (more_data x))
 unfoldable pub json_lines : Explanation → Choice → Summary → Labels → List ℕ
 json_lines x c s labels =
     summary_line x c s
-    ++ flat_map (cause_line labels) (take x.limit x.causes.items)
+    ++ cause_lines labels (take x.limit x.causes.items) x.counts.items (length (take x.limit x.causes.items))
     ++ flat_map (failure_line x.analysis.trace labels) x.failures.items
     ++ flat_map (lost_line x.analysis.trace labels) (take x.limit x.lost.items)
     ++ flat_map (dropped_line x.analysis.trace labels) (take x.limit x.asked_dropped.items)

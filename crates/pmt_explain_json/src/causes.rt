@@ -5,21 +5,23 @@ ghost use Rattle.serde_json.specs.View.{view};
 ghost use Rattle.pmt_explain_json.specs.Parts.{array_of, count_data};
 ghost use Rattle.pmt_explain_json.specs.Groups.{assertion_name, cause_group_data, why_name};
 
+use crate::inside::{makers_value, parts_value};
 use crate::objects::object_made;
 use crate::places::{label_or_null, thread_or_null};
-use pmt_causes::{AssertionKind, CauseKind, FailureKey, Group};
+use pmt_causes::{AssertionKind, CauseCounts, CauseKind, FailureKey, Group};
 use pmt_explanation::Labels;
 use pmt_model::OutOfMemory;
 use serde_json::Value;
 use std::alloc::Global;
 
-// The failed assertions with one cause.
+// The failed assertions with one cause, and what is counted inside it.
 pub(crate) fn cause_group_value(
     alloc: Global,
     labels: &Labels,
     group: &Group<FailureKey>,
+    inside: &CauseCounts,
 ) -> Result<Value, OutOfMemory>
-    ensures { IfOk result (λ v. view v ≡ cause_group_data labels.now group.now) }
+    ensures { IfOk result (λ v. view v ≡ cause_group_data labels.now group.now inside.now) }
 {
     let key = group.key;
     let kind = Value::try_from_str(alloc, "cause");
@@ -27,12 +29,20 @@ pub(crate) fn cause_group_value(
     let events = numbers_value(alloc, group.members.as_slice());
     let label = label_or_null(alloc, labels, key.origin);
     let why = why_value(alloc, key.cause);
+    let claims = makers_value(alloc, labels, true, inside.claims.told.as_slice());
+    let next = makers_value(alloc, labels, false, inside.next.told.as_slice());
+    let parts = parts_value(alloc, inside.parts.told.as_slice());
+    let stores = makers_value(alloc, labels, true, inside.stores.told.as_slice());
     let fields = vec![in alloc;
         ("assertion", assertion),
+        ("claims", claims),
         ("count", Ok(Value::from(group.members.len()))),
         ("events", events),
         ("kind", kind),
         ("label", label),
+        ("next", next),
+        ("parts", parts),
+        ("stores", stores),
         ("thread", Ok(thread_or_null(key.origin))),
         ("why", why),
     ]?;

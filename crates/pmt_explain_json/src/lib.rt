@@ -7,6 +7,7 @@ mod causes;
 mod entries;
 mod failures;
 mod hints;
+mod inside;
 pub mod laws;
 mod lines;
 mod objects;

@@ -1,11 +1,11 @@
 //! The lines of JSON that tell an explanation.
-ghost use Rattle.std.specs.Prelude.{◌≡◌, ◌++◌, IfOk, OnOk, false};
+ghost use Rattle.std.specs.Prelude.{◌≡◌, ◌++◌, IfOk, OnOk, false, length, slice_get};
 ghost use Rattle.std.specs.List.{flat_map};
 ghost use Rattle.serde_json.specs.View.{view};
 ghost use Rattle.serde_json.specs.Written.{has_float};
 ghost use Rattle.pmt_explain_json.specs.Parts.{json_line};
 ghost use Rattle.pmt_explain_json.specs.Entries.{dropped_line, failure_line, lost_line, overwritten_line, unwritten_line};
-ghost use Rattle.pmt_explain_json.specs.Groups.{cause_line};
+ghost use Rattle.pmt_explain_json.specs.Groups.{cause_line, cause_line_of, cause_lines};
 ghost use Rattle.pmt_explain_json.specs.Lines.{IsJsonText, summary_line};
 
 use crate::causes::cause_group_value;
@@ -13,7 +13,7 @@ use crate::entries::{dropped_value, lost_value, overwritten_value, unwritten_val
 use crate::failures::failure_value;
 use crate::summary::{more_value, summary_value};
 use crate::tables::push_tables;
-use pmt_causes::{FailureKey, Group};
+use pmt_causes::{CauseCounts, FailureKey, Group};
 use pmt_explain::{Dropped, LostGroup, OverwrittenGroup};
 use pmt_explanation::{
     Choice, Explanation, Labels, ShownFailure, Summary, Unwritten, first, summary_of,
@@ -46,7 +46,13 @@ pub fn json_text(
     let counts = summary_of(explanation);
     let mut text = Vec::new(alloc);
     push_summary(alloc, &mut text, explanation, choice, &counts)?;
-    push_causes(alloc, &mut text, labels, causes)?;
+    push_causes(
+        alloc,
+        &mut text,
+        labels,
+        causes,
+        explanation.counts.as_slice(),
+    )?;
     push_failures(alloc, &mut text, trace, labels, failures)?;
     push_losses(alloc, &mut text, trace, labels, lost)?;
     push_drops(alloc, &mut text, trace, labels, dropped)?;
@@ -86,19 +92,40 @@ fn push_summary(
     push_value(alloc, text, &value)
 }
 
-// Adds the causes of failed assertions.
+// Adds the causes of failed assertions, with what is counted inside each.
 fn push_causes(
     alloc: Global,
     text: &mut Vec<u8>,
     labels: &Labels,
     groups: &[Group<FailureKey>],
+    counts: &[CauseCounts],
 ) -> Result<(), OutOfMemory>
-    ensures { OnOk result (text.new.items ≡ text.old.items ++ flat_map (cause_line labels.now) groups.now) }
+    ensures { OnOk result (text.new.items ≡ text.old.items ++ cause_lines labels.now groups.now counts.now (length groups.now)) }
 {
-    for group in groups {
-        push_cause(alloc, text, labels, group)?;
+    for index in 0..groups.len() {
+        push_cause_at(alloc, text, labels, groups, counts, index)?;
     }
     Ok(())
+}
+
+// Adds the cause at this place, if it has counts.
+fn push_cause_at(
+    alloc: Global,
+    text: &mut Vec<u8>,
+    labels: &Labels,
+    groups: &[Group<FailureKey>],
+    counts: &[CauseCounts],
+    index: usize,
+) -> Result<(), OutOfMemory>
+    ensures { OnOk result (text.new.items ≡ text.old.items ++ cause_line_of labels.now (slice_get groups.now index) (slice_get counts.now index)) }
+{
+    let Some(group) = groups.get(index) else {
+        return Ok(());
+    };
+    let Some(inside) = counts.get(index) else {
+        return Ok(());
+    };
+    push_cause(alloc, text, labels, group, inside)
 }
 
 // Adds the cause, with the failed assertions that have it.
@@ -107,10 +134,11 @@ fn push_cause(
     text: &mut Vec<u8>,
     labels: &Labels,
     group: &Group<FailureKey>,
+    inside: &CauseCounts,
 ) -> Result<(), OutOfMemory>
-    ensures { OnOk result (text.new.items ≡ text.old.items ++ cause_line labels.now group.now) }
+    ensures { OnOk result (text.new.items ≡ text.old.items ++ cause_line labels.now group.now inside.now) }
 {
-    let value = cause_group_value(alloc, labels, group)?;
+    let value = cause_group_value(alloc, labels, group, inside)?;
     push_value(alloc, text, &value)
 }
 

@@ -3,6 +3,7 @@
 use crate::causes::{push_head, push_others};
 use crate::commands::push_draw;
 use crate::fixes::push_fix;
+use crate::inside::push_inside;
 use crate::parts::{plural, push_cause, push_event, push_mend, push_named};
 use crate::ranges::push_range;
 use crate::screen::Section;
@@ -33,11 +34,20 @@ pub(crate) fn failures_section(told: &Telling<'_>) -> Section {
         "causes of failed assertions",
         "--only failure --limit all",
     );
-    for (shown, group) in failures.iter().zip(causes.iter()) {
+    let counts = told.explanation.counts.as_slice();
+    for index in 0..failures.len() {
+        let shown = &failures[index];
+        let Some(group) = causes.get(index) else {
+            continue;
+        };
+        let Some(inside) = counts.get(index) else {
+            continue;
+        };
         let mut pen = Pen::new(told.alloc);
         push_head(&mut pen, told, group, shown.event);
         push_story(&mut pen, told, shown);
         push_fix(&mut pen, told, shown);
+        push_inside(&mut pen, told, group, inside);
         push_others(&mut pen, group);
         if failure_of(told.screen.choice).is_some() {
             push_failure(&mut pen, told, shown, group);

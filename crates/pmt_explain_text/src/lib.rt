@@ -11,6 +11,7 @@ mod fixes;
 mod guesses;
 mod hints;
 mod ignored;
+mod inside;
 mod instead;
 mod late;
 mod left;

@@ -1,40 +1,23 @@
 -- Findings in groups.
-use Rattle.std.proofs.Common.{◌≡◌, ℕ, zero, suc, ◌<◌, inl, inr, List, [], ◌∷◌, length, take, map, Option, slice_index, refl, sym, ap, subst, ◌∙◌, arith}
+use Rattle.std.proofs.Common.{◌≡◌, ℕ, zero, suc, inl, inr, List, [], ◌∷◌, length, take, map, Option, slice_index, refl, sym, ap, subst, ◌∙◌, arith}
 use Rattle.std.specs.List.{All, AllByRecursion, slice_index_or}
 use Rattle.std.proofs.lemmas.List.Sorted.{All-permutation, IsPermutation-refl}
 use Rattle.std.proofs.lemmas.Option.{none-some, same_Some}
 use Rattle.pmt_model.specs.Traces.{Recording}
 use Rattle.pmt_explain.specs.Grouping.{Picks, AreGroups}
+use Rattle.pmt_causes.specs.declared.details.CauseCounts.{CauseCounts}
 use Rattle.pmt_causes.specs.declared.failure_keys.FailureKey.{FailureKey}
 use Rattle.pmt_causes.specs.declared.grouping.Group.{Group}
 use Rattle.pmt_causes.specs.declared.grouping.Keyed.{Keyed}
 use Rattle.pmt_causes.specs.FailureKeys.{AreFailureGroups, IsKeyed}
 use Rattle.pmt_causes.specs.Groups.{AreGrouped, IsIn, Tells, first_in}
+use Rattle.pmt_causes.specs.Inside.{AreInside}
 use Rattle.pmt_causes.proofs.KeyLemmas.{keyed-none}
+use Rattle.pmt_causes.proofs.MemberLemmas.{each-map, from-each, picks-each, to-each}
 use Rattle.pmt_explanation.specs.Causing.{first_members}
 use Rattle.pmt_explanation.specs.Showing.{Fails, AreShown}
 use Rattle.pmt_explanation.specs.declared.failures.ShownFailure.{ShownFailure}
 use Rattle.pmt_explanation.proofs.ShowingLemmas.{all-picked, all-take, failure-fails, number_of}
-
--- ---- What holds of all elements
-
-to-each : {X : Type 0} (P : X → Type 0) (xs : List X) → All P xs → AllByRecursion P xs
-to-each P [] h = tt
-to-each P (x ∷ xs) h = (h 0 x (omega arith), to-each P xs (λ k d within. h (suc k) d (omega (arith, within))))
-
-from-each : {X : Type 0} (P : X → Type 0) (xs : List X) → AllByRecursion P xs → (k : ℕ) (d : X) → k < length xs → P (slice_index_or xs k d)
-from-each P [] h k d within = absurd (omega (arith, within))
-from-each P (x ∷ xs) h zero d within = h.0
-from-each P (x ∷ xs) h (suc k) d within = from-each P xs h.1 k d (omega (arith, within))
-
-each-map : {X : Type 0} (f : X → ℕ) (P : ℕ → Type 0) (xs : List X) → AllByRecursion (λ x. P (f x)) xs → AllByRecursion P (map f xs)
-each-map f P [] h = tt
-each-map f P (x ∷ xs) h = (h.0, each-map f P xs h.1)
-
-picks-each : {X : Type 0} (P Q : X → Type 0) (xs ys : List X) → Picks Q xs ys → AllByRecursion P xs → AllByRecursion P ys
-picks-each P Q [] ys none h = subst (AllByRecursion P) (sym none) tt
-picks-each P Q (x ∷ xs) ys (inl (own, (zs, is, rest))) h = subst (AllByRecursion P) (sym is) (h.0, picks-each P Q xs zs rest h.1)
-picks-each P Q (x ∷ xs) ys (inr (other, rest)) h = picks-each P Q xs ys rest h.1
 
 -- ---- The first members of groups
 
@@ -73,6 +56,17 @@ pub causes-none : (T : Recording) (labels : List (Option ℕ)) (numbers : List �
 causes-none T labels numbers groups none is =
     subst (λ (ns : List ℕ). AreFailureGroups T labels ns groups) (sym (no-numbers numbers none))
     (subst (λ (gs : List (Group FailureKey)). AreFailureGroups T labels [] gs) (sym is) ([], keyed-none T labels, grouped-none))
+
+take-nothing : {X : Type 0} (k : ℕ) (xs : List X) → xs ≡ [] → take k xs ≡ []
+take-nothing zero xs none = refl
+take-nothing {X = X} (suc k) xs none = ap (λ (ys : List X). take (suc k) ys) none
+
+-- nothing is counted where nothing fails
+pub inside-none : (T : Recording) (frames whole : List (Option ℕ)) (limit : ℕ) (groups : List (Group FailureKey)) (counts : List CauseCounts) → groups ≡ [] → counts ≡ [] →
+    AreInside T frames whole (take limit groups) counts
+inside-none T frames whole limit groups counts no_group no_count =
+    subst (λ gs. AreInside T frames whole gs counts) (sym (take-nothing limit groups no_group))
+    (subst (λ cs. AreInside T frames whole [] cs) (sym no_count) (record { size = refl; each = λ n g c at here. absurd (none-some g at) }))
 
 item-fails : (T : Recording) (labels : List (Option ℕ)) (x : Keyed FailureKey) → IsKeyed T labels x → Fails T x.number
 item-fails T labels x h = failure-fails T x.number h.failure h.fails

@@ -8,6 +8,7 @@ use Rattle.pmt_explain.specs.OverwrittenGroups.{AreOverwrittenGroups}
 use Rattle.pmt_causes.specs.Dropped.{dropped_item}
 use Rattle.pmt_causes.specs.FailureKeys.{AreFailureGroups}
 use Rattle.pmt_causes.specs.Groups.{AreGrouped}
+use Rattle.pmt_causes.specs.Inside.{AreInside}
 use Rattle.pmt_causes.specs.Late.{AreWaited}
 use Rattle.pmt_causes.specs.LostCauses.{lost_item}
 use Rattle.pmt_causes.specs.Tables.{AreLabelRows, AreThreadRows}
@@ -39,6 +40,7 @@ pub record IsExplanation (a : Analysed) (labels : Labels) (o : Options) (x : Exp
   pub places : ArePlaces a.trace x.frames.items x.stores.items (map event_of x.dropped.items) x.places.items
   pub hints : AreHints a.trace labels x.frames.items o.choice x.hints.items
   pub causes : AreFailureGroups a.trace x.frames.items x.asked_failing.items x.causes.items
+  pub counts : AreInside a.trace x.frames.items x.label_numbers.items (take x.limit x.causes.items) x.counts.items
   pub failures : All (IsShown a.trace) x.failures.items
   pub shown : map (λ (s : ShownFailure). s.event) x.failures.items ≡ take x.limit (first_members x.causes.items)
   pub stores : x.stores.items ≡ told_stores a.trace labels o.ignored a.findings

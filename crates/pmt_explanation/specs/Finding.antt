@@ -7,6 +7,7 @@ use Rattle.pmt_explain.specs.Dropping.{AreDropped}
 use Rattle.pmt_causes.specs.Dropped.{dropped_item}
 use Rattle.pmt_causes.specs.FailureKeys.{AreFailureGroups}
 use Rattle.pmt_causes.specs.Groups.{AreGrouped}
+use Rattle.pmt_causes.specs.Inside.{AreInside}
 use Rattle.pmt_causes.specs.Late.{AreWaited}
 use Rattle.pmt_causes.specs.Tables.{AreLabelRows, AreThreadRows}
 use Rattle.pmt_explanation.specs.declared.choosing.Kind.TheVariants as kinds
@@ -23,6 +24,7 @@ pub record AreFound (T : Recording) (verdicts : List Verdict) (labels : Labels) 
   pub failing : x.failed.failing.items ≡ failing_events verdicts
   pub asked_failing : x.failed.asked.items ≡ asked_numbers T labels o.choice kinds.Failure x.failed.failing.items
   pub causes : AreFailureGroups T frames x.failed.asked.items x.failed.causes.items
+  pub counts : AreInside T frames numbers (take o.limit x.failed.causes.items) x.failed.counts.items
   pub shown : AreShown T (take o.limit (first_members x.failed.causes.items)) x.failed.shown.items
   pub dropped : AreDropped T x.dropped.items
   pub asked_dropped : x.effects.asked_dropped.items ≡ asked_dropped T labels o.choice x.dropped.items

@@ -18,7 +18,7 @@ use crate::losses::{Losses, losses_of};
 use crate::numbering::label_numbers;
 use crate::unwritten::{Unwritten, unwritten_assertions};
 use pmt_analysis::Analysis;
-use pmt_causes::{DroppedKey, FailureKey, Group, LateSpot, LostKey, Row};
+use pmt_causes::{CauseCounts, DroppedKey, FailureKey, Group, LateSpot, LostKey, Row};
 use pmt_explain::{Dropped, LostGroup, OverwrittenGroup};
 use pmt_fates::PlaceRow;
 use pmt_hints::Hint;
@@ -57,6 +57,8 @@ pub struct Explanation {
     pub hints: Vec<Hint>,
     /// Those of `asked_failing`, by cause and place.
     pub causes: Vec<Group<FailureKey>>,
+    /// What is counted inside each of the first `limit` causes, in their order.
+    pub counts: Vec<CauseCounts>,
     /// The first failure of each of the first `limit` causes in full, in the order of the causes.
     pub failures: Vec<ShownFailure>,
     /// The stores that are never persisted, by rising event number, without those that are ignored.
@@ -174,6 +176,7 @@ fn explained(analysis: Analysis, limit: usize, parts: Parts) -> Explanation
         label_numbers,
         frames,
         causes: found.failed.causes,
+        counts: found.failed.counts,
         failures: found.failed.shown,
         stores: lost.stores,
         ignored_never_persisted: lost.ignored_stores,

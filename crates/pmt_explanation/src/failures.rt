@@ -4,8 +4,8 @@ ghost use Rattle.pmt_reasons.specs.Failures.{IsFailureAt};
 ghost use Rattle.pmt_explanation.specs.Failing.{failing_events as failing_in};
 ghost use Rattle.pmt_explanation.specs.Showing.{AreRangesAfter, AreShown, IsRangeAfter, IsShown, failure_mend, lines_with_loss, store_line};
 
-use crate::limit::first;
 use crate::mending::mend_for;
+use pmt_causes::first;
 use pmt_explain::{CrashByte, LineCount, SafePlaces, cause, crash_bytes, crash_lines, failure_by};
 use pmt_model::{Op, OutOfMemory, Range, Trace, Verdict, line_of};
 use pmt_reasons::{Cause, Failure, Mend};

@@ -42,7 +42,15 @@ pub(crate) fn found_of(
     ensures places { IfOk result (λ found. ArePlaces analysis.now.trace frames.now told.now (map event_of found.dropped.items) found.places.items) }
 {
     let EventEffects { dropped, safe } = effects(alloc, analysis.trace())?;
-    let failed = failed_of(alloc, &safe, analysis.verdicts(), labels, frames, options)?;
+    let failed = failed_of(
+        alloc,
+        &safe,
+        analysis.verdicts(),
+        labels,
+        numbers,
+        frames,
+        options,
+    )?;
     let effects = effects_of(
         alloc,
         &safe,

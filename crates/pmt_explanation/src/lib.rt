@@ -17,7 +17,6 @@ pub mod frames;
 mod hinting;
 pub mod ignoring;
 pub mod labels;
-mod limit;
 mod losses;
 mod mending;
 mod numbering;
@@ -34,7 +33,7 @@ pub use crate::failures::{RangeAfter, ShownFailure, failing_events, shown_failur
 pub use crate::frames::frame_of;
 pub use crate::ignoring::{ByteRange, Ignored, IgnoredPlace, is_at_place, is_ignored};
 pub use crate::labels::Labels;
-pub use crate::limit::first;
 pub use crate::mending::mend_for;
 pub use crate::summing::{Summary, summary_of};
 pub use crate::unwritten::Unwritten;
+pub use pmt_causes::first;

@@ -1,13 +1,13 @@
-use Rattle.std.proofs.Common.{subst}
-use Rattle.std.proofs.lemmas.Result.{IfOk-weaker}
-use Rattle.pmt_causes.specs.Groups.{AreGrouped}
-use Rattle.pmt_causes.specs.FailureKeys.{AreKeyed}
-use Rattle.pmt_causes.proofs.ExactFailures.{failure-exact}
+use Rattle.std.proofs.Common.{IfOk, subst, take}
+use Rattle.pmt_causes.specs.FailureKeys.{AreFailureGroups}
+use Rattle.pmt_causes.specs.Inside.{AreInside}
+use Rattle.pmt_causes.specs.declared.failing.Causes.{Causes}
 use Rattle.pmt_causes.proofs.failing.failure_groups.Goals as goal
 
-pub groups-requires : goal.groups-requires
-groups-requires c = record { exact = failure-exact }
+pub returns-clause-groups : goal.returns-clause-groups
+returns-clause-groups c =
+    subst (λ T. IfOk c.causes_of.result (λ (x : Causes). AreFailureGroups T c.args.frames.now c.args.numbers.now x.groups.items)) c.trace.ensures c.causes_of.ensures.groups
 
-pub returns : goal.returns
-returns c =
-    IfOk-weaker c.groups.result _ _ (λ gs grouped. (c.in_ok-items.items.items, subst (λ T. AreKeyed T c.args.labels.now c.args.numbers.now c.in_ok-items.items.items) c.trace.ensures c.in_ok-items.ensures, subst (λ xs. AreGrouped xs gs.items) c.as_slice.ensures.value grouped)) c.groups.ensures
+pub returns-clause-counts : goal.returns-clause-counts
+returns-clause-counts c =
+    subst (λ T. IfOk c.causes_of.result (λ (x : Causes). AreInside T c.args.frames.now c.args.whole.now (take c.args.limit x.groups.items) x.counts.items)) c.trace.ensures c.causes_of.ensures.counts

@@ -1,7 +1,7 @@
-use Rattle.std.proofs.Common.{rules, ◌≡◌, List, [], ◌++◌, ℕ, take}
+use Rattle.std.proofs.Common.{rules, ◌≡◌, List, [], ◌++◌, ℕ, take, length}
 use Rattle.std.specs.List.{flat_map}
 use Rattle.pmt_explain_json.specs.Entries.{dropped_line, failure_line, lost_line, overwritten_line, unwritten_line}
-use Rattle.pmt_explain_json.specs.Groups.{cause_line}
+use Rattle.pmt_explain_json.specs.Groups.{cause_lines}
 use Rattle.pmt_explain_json.specs.Lines.{json_lines, summary_line}
 use Rattle.pmt_explain_json.specs.Tables.{table_lines}
 use Rattle.pmt_explain_json.proofs.Pushing.{pushed-8}
@@ -15,7 +15,7 @@ returns c =
     let labels = c.args.labels.now in
     let s = c.summary_of-counts.result in
     let a : List ℕ = summary_line x c.args.choice.now s in
-    let k : List ℕ = flat_map (cause_line labels) (take x.limit x.causes.items) in
+    let k : List ℕ = cause_lines labels (take x.limit x.causes.items) x.counts.items (length (take x.limit x.causes.items)) in
     let b : List ℕ = flat_map (failure_line T labels) x.failures.items in
     let d : List ℕ = flat_map (lost_line T labels) (take x.limit x.lost.items) in
     let e : List ℕ = flat_map (dropped_line T labels) (take x.limit x.asked_dropped.items) in

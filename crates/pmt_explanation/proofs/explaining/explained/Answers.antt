@@ -1,4 +1,5 @@
 use Rattle.std.proofs.Common.{◌≡◌, subst, sym, take, map}
+use Rattle.pmt_causes.specs.Inside.{AreInside}
 use Rattle.pmt_explanation.specs.Causing.{first_members}
 use Rattle.pmt_explanation.specs.declared.failures.ShownFailure.{ShownFailure}
 use Rattle.pmt_explanation.proofs.CausingLemmas.{shown-firsts}
@@ -18,6 +19,7 @@ returns-clause-explained c = λ labels o p same.
       places = p.places;
       hints = p.hints;
       causes = p.found.causes;
+      counts = subst (λ k. AreInside T parts.frames.items parts.label_numbers.items (take k failed.causes.items) failed.counts.items) (sym same) p.found.counts;
       failures = p.found.shown.each;
       shown = subst (λ k. map (λ (s : ShownFailure). s.event) failed.shown.items ≡ take k (first_members failed.causes.items)) (sym same) shown;
       stores = p.stores;

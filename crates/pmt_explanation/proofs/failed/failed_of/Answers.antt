@@ -15,9 +15,12 @@ returns-clause-asked c =
     (subst (λ ns. c.in_ok-asked.asked.items ≡ asked_numbers c.trace.result.now c.args.labels.now c.args.options.now.choice Failure ns) c.as_slice.ensures.value c.in_ok-asked.ensures)
 
 pub returns-clause-causes : goal.returns-clause-causes
-returns-clause-causes c = subst (λ ns. AreFailureGroups c.args.safe.now.trace.now c.args.frames.now ns c.in_ok-causes.causes.items) c.as_slice-2.ensures.value c.in_ok-causes.ensures
+returns-clause-causes c = subst (λ ns. AreFailureGroups c.args.safe.now.trace.now c.args.frames.now ns c.in_ok-causes.field-0.groups.items) c.as_slice-2.ensures.value c.in_ok-causes.ensures.groups
+
+pub returns-clause-counts : goal.returns-clause-counts
+returns-clause-counts c = c.in_ok-causes.ensures.counts
 
 pub returns-clause-shown : goal.returns-clause-shown
 returns-clause-shown c =
-    let firsts : c.as_slice-4.result.now ≡ first_members c.in_ok-causes.causes.items = c.as_slice-4.ensures.value ∙ c.in_ok-firsts.ensures ∙ ap first_members c.as_slice-3.ensures.value in
+    let firsts : c.as_slice-4.result.now ≡ first_members c.in_ok-causes.field-0.groups.items = c.as_slice-4.ensures.value ∙ c.in_ok-firsts.ensures ∙ ap first_members c.as_slice-3.ensures.value in
     subst (λ (ns : List ℕ). AreShown c.args.safe.now.trace.now (take c.args.options.now.limit ns) c.in_ok-shown.shown.items) firsts c.in_ok-shown.ensures

@@ -17,6 +17,7 @@ returns-clause-found c =
       failing = c.in_ok-failed.ensures.failing ∙ ap failing_events c.verdicts.ensures.value;
       asked_failing = c.in_ok-failed.ensures.asked;
       causes = c.in_ok-failed.ensures.causes;
+      counts = c.in_ok-failed.ensures.counts;
       shown = c.in_ok-failed.ensures.shown;
       dropped = subst (λ T. AreDropped T dropped.items) (sym is) all;
       asked_dropped = c.in_ok-effects.ensures.asked ∙ ap (asked_dropped U c.args.labels.now c.args.options.now.choice) c.as_slice.ensures.value;

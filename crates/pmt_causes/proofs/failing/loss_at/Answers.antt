@@ -2,26 +2,26 @@ use Rattle.std.proofs.Common.{rules, ◌≡◌, ◌≤◌, length, Option, None,
 use Rattle.pmt_model.specs.Traces.{event, act}
 use Rattle.pmt_laws.proofs.Histories.{act-within}
 use Rattle.pmt_reasons.specs.Failures.{IsFailureAt}
-use Rattle.pmt_causes.specs.declared.failure_keys.FailureKey.{FailureKey}
-use Rattle.pmt_causes.specs.FailureKeys.{IsFailureKey}
+use Rattle.pmt_causes.specs.declared.failing.Loss.{Loss}
+use Rattle.pmt_causes.specs.Losing.{IsLoss}
 use Rattle.pmt_causes.proofs.KeyLemmas.{persist-keyed, ordered-keyed}
-use Rattle.pmt_causes.proofs.failing.key_at.Goals as goal
+use Rattle.pmt_causes.proofs.failing.loss_at.Goals as goal
 
-pub returns-in_ok-found-in-IsPersist-clause-key : goal.returns-in_ok-found-in-IsPersist-clause-key
-returns-in_ok-found-in-IsPersist-clause-key c =
+pub returns-in_ok-found-in-IsPersist-clause-loss : goal.returns-in_ok-found-in-IsPersist-clause-loss
+returns-in_ok-found-in-IsPersist-clause-loss c =
     let T = c.args.trace.now in
     let i = c.args.number in
     let is : event T i ≡ Some c.in-Some.event = search rules in
     let within : c.args.number ≤ length T.events = (act-within T i (act T.format c.in-Some.event) (c.in-Some.event, is, refl)).1 in
-    subst (λ (o : Option FailureKey). MatchOption o (IsFailureAt T i None) (IsFailureKey T c.args.labels.now i)) (sym c.keyed.ensures)
+    subst (λ (o : Option Loss). MatchOption o (IsFailureAt T i None) (IsLoss T c.args.labels.now i)) (sym c.loss_of.ensures)
     (persist-keyed T c.args.labels.now c.args.flushes.now i c.in-Some.event c.in-IsPersist.range c.in_ok-found-in-IsPersist.found is c.in-IsPersist.is within c.requires.flushes
     c.in_ok-found-in-IsPersist.ensures.failure)
 
-pub returns-in_ok-found-in-IsOrderedBefore-clause-key : goal.returns-in_ok-found-in-IsOrderedBefore-clause-key
-returns-in_ok-found-in-IsOrderedBefore-clause-key c =
+pub returns-in_ok-found-in-IsOrderedBefore-clause-loss : goal.returns-in_ok-found-in-IsOrderedBefore-clause-loss
+returns-in_ok-found-in-IsOrderedBefore-clause-loss c =
     let T = c.args.trace.now in
     let i = c.args.number in
     let is : event T i ≡ Some c.in-Some.event = search rules in
-    subst (λ (o : Option FailureKey). MatchOption o (IsFailureAt T i None) (IsFailureKey T c.args.labels.now i)) (sym c.keyed-in-IsOrderedBefore.ensures)
+    subst (λ (o : Option Loss). MatchOption o (IsFailureAt T i None) (IsLoss T c.args.labels.now i)) (sym c.loss_of-in-IsOrderedBefore.ensures)
     (ordered-keyed T c.args.labels.now c.args.flushes.now i c.in-Some.event c.in-IsOrderedBefore.range c.in-IsOrderedBefore.second c.in_ok-found-in-IsOrderedBefore.found is c.in-IsOrderedBefore.is
     c.requires.flushes c.in_ok-found-in-IsOrderedBefore.ensures.failure)

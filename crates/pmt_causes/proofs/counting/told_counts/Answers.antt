@@ -1,0 +1,7 @@
+use Rattle.pmt_causes.proofs.CountLemmas.{told-more}
+use Rattle.pmt_causes.proofs.counting.told_counts.Goals as goal
+
+pub loop-group-preserved : goal.loop-group-preserved
+loop-group-preserved g c =
+    told-more c.args.groups.now c.loop-group.group-index c.group-item.result c.loop-group.told.items c.push.new.self.items c.count_of.result c.loop-group-test.true c.group-item.is
+    c.count_of.ensures c.loop-group.invariant c.in_ok-push.ensures.items
