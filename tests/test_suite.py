@@ -12,6 +12,7 @@ from checks import Checks, need_command
 from documents import outputs_of
 from installed import run, run_alone
 from program import TOP, find
+from sarif_types import sarif_schema
 from schemas import complaints
 from suites import CLEAN, KNOWN_BUGS, NEW_BUG, RIGHT, SUITE, Programs, counting_pmtrim, files_in, ids_of, put_run, put_save, report_of, suite
 
@@ -105,8 +106,14 @@ class Written(Checks):
 
     def sarif(self):
         value = json.loads((self.folder / "s.sarif").read_text())
-        self.expect_equal("the schema", complaints(SCHEMA, [json.dumps(value)]), [[]])
+        self.expect_equal("the schema", self.complaints(json.dumps(value)), [[], []])
         return value["runs"][0]
+
+    def complaints(self, text):
+        """What is refused by the schema of what is written, which has the bounds, and by that of all of SARIF."""
+        whole = self.new_folder() / "schema.json"
+        whole.write_text(sarif_schema())
+        return [each for schema in (SCHEMA, whole) for each in complaints(schema, [text])]
 
     def test_sarif(self):
         self.report("--sarif", "s.sarif")
@@ -119,7 +126,7 @@ class Written(Checks):
         self.expect_equal("events", related, {"claim": 15, "keeps": 12, "loses": 10})
         unlabelled = next(result for result in results if result["properties"]["places"] == ["(plain)"])["locations"][0]["physicalLocation"]
         self.expect_equal("without a label the line of the trace", (unlabelled["artifactLocation"]["uri"], unlabelled["region"]["startLine"]), (str(self.runs / "plain/trace").replace(str(self.runs), f"file://{self.runs}"), 2))
-        self.expect_equal("the schema can refuse", complaints(SCHEMA, ['{"version": "2.1.0", "runs": [{}]}']), [["$.runs[0]: 'tool' is a required property"]])
+        self.expect_equal("the schemas can refuse", self.complaints('{"version": "2.1.0", "runs": [{}]}'), 2 * [["$.runs[0]: 'tool' is a required property"]])
 
     def test_suppressed(self):
         self.report("--baseline", "known", "--update-baseline")
