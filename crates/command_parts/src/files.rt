@@ -1,12 +1,12 @@
 //! The files of parts.
+ghost use Rattle.std.specs.Prelude.{◌≡◌, IfOk};
 
 use crate::ending::cut_text;
-use crate::labels::PartLabels;
 use crate::stale::remove_beside;
 use crate::told::part_text;
+use crate::writing::Beside;
 use command_inputs::{Fault, Opener, Output, check_apart, write_outputs};
 use command_requests::PartsWords;
-use pmt_explanation::Cut;
 use pmt_parts::{Part, set_aside};
 use pmt_text::write_trace;
 use std::alloc::{AllocError, Global};
@@ -24,8 +24,8 @@ pub(crate) struct Turn {
 /// What was written by now.
 #[derive(Clone, Copy, Default)]
 pub(crate) struct Written {
-    // how many parts
-    parts: u64,
+    /// How many parts.
+    pub(crate) parts: u64,
     // how many events they answer for
     events: u64,
     // how many assertions they set aside
@@ -71,16 +71,8 @@ impl Written {
     }
 }
 
-/// What stands beside the whole trace.
-#[derive(Drop)]
-pub(crate) struct Beside<'a, R> {
-    /// Its labels.
-    pub(crate) labels: PartLabels<'a, R>,
-    /// Where and why it was cut; none where it was not.
-    pub(crate) cut: Option<Cut>,
-}
-
-/// Writes the part, its labels if a file of labels is named, and what tells of it. What an earlier run left beside it is removed.
+/// Writes the part, its labels if a file of labels is named, and what tells of it, and counts it. What an earlier run left beside it is
+/// removed.
 ///
 /// # Errors
 /// A usage fault where one of the files is read; the fault of a write, and none of them is left then; `OutOfMemory`.
@@ -91,8 +83,10 @@ pub(crate) fn write_part<O: Opener, R: Read + Drop>(
     beside: &Beside<'_, R>,
     part: &Part,
     turn: &Turn,
-    written: &mut Written,
-) -> Result<(), Fault> {
+    written: Written,
+) -> Result<Written, Fault>
+    ensures { IfOk result (λ now. (now.parts ≡ turn.now.number) × (now.events ≡ part.now.end)) }
+{
     let aside = set_aside(alloc, part)?;
     let name = part_name(alloc, words.out, turn.number)?;
     let name = name.as_str();
@@ -116,10 +110,11 @@ pub(crate) fn write_part<O: Opener, R: Read + Drop>(
     check_outputs(alloc, words, files, outputs.as_slice())?;
     remove_beside(alloc, words, files, name, turn.number)?;
     write_outputs(alloc, files, outputs.as_slice())?;
-    written.parts = turn.number;
-    written.events = part.end;
-    written.aside = written.aside.saturating_add(aside.len() as u64);
-    Ok(())
+    Ok(Written {
+        parts: turn.number,
+        events: part.end,
+        aside: written.aside.saturating_add(aside.len() as u64),
+    })
 }
 
 /// Refuses to write or remove what is read.

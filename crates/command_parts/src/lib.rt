@@ -9,5 +9,6 @@ mod parts;
 mod reading;
 mod stale;
 mod told;
+mod writing;
 
 pub use crate::parts::run_parts;

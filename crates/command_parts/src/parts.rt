@@ -1,14 +1,15 @@
 //! `parts`: a trace of any length, cut into parts while it is read.
-ghost use Rattle.std.specs.Prelude.{◌≡◌, IfOk};
+ghost use Rattle.std.specs.Prelude.{◌≡◌, List, [], OnOk, IfOk};
+ghost use Rattle.pmt_parts.specs.declared.part.Part.{Part};
+ghost use Rattle.pmt_part_run.specs.Runs.{IsCutText};
+ghost use Rattle.command_parts.specs.Counting.{IsCounted};
 
-use crate::carried::check_carried;
-use crate::files::{Beside, Turn, Written, write_part};
+use crate::files::Written;
 use crate::labels::PartLabels;
-use crate::reading::{add_piece, first_part, has_ended};
-use crate::stale::remove_later;
+use crate::writing::{Beside, PartFiles};
 use command_inputs::{Fault, Opener, cut_of, opened, write_answer};
 use command_requests::PartsWords;
-use pmt_parts::{Part, Pieces, next_part};
+use pmt_part_run::give_parts;
 use std::alloc::Global;
 use std::io::{Read, Write};
 
@@ -31,14 +32,26 @@ where
     W: Write,
     ensures { IfOk result (λ status. status ≡ 0) }
 {
-    let mut written = Written::default();
-    match cut_input(alloc, words, files, input, &mut written) {
+    let beside = beside_whole(alloc, words, files)?;
+    let mut taker = PartFiles::new(words, files, beside);
+    match cut_input(alloc, words, files, input, &mut taker) {
         Ok(()) => {}
-        Err(fault) => return Err(written.standing(alloc, words, fault)),
+        Err(fault) => return Err(taker.written.standing(alloc, words, fault)),
     }
-    let text = written.counts(alloc)?;
+    let text = taker.written.counts(alloc)?;
     write_answer(alloc, text.as_bytes(), out)?;
     Ok(0)
+}
+
+// What stands beside the whole trace.
+fn beside_whole<'a, O: Opener>(
+    alloc: Global,
+    words: &PartsWords<'a>,
+    files: &O,
+) -> Result<Beside<'a, O::Reader>, Fault> {
+    let labels = PartLabels::open(alloc, files, words.labels)?;
+    let cut = cut_of(alloc, files, words.file)?;
+    Ok(Beside { labels, cut })
 }
 
 // Cuts the trace of the file, or of `input` where none is named.
@@ -47,50 +60,32 @@ fn cut_input<O: Opener, I: Read>(
     words: &PartsWords<'_>,
     files: &O,
     input: &mut I,
-    written: &mut Written,
+    taker: &mut PartFiles<'_, O, O::Reader>,
 ) -> Result<(), Fault> {
-    let labels = PartLabels::open(alloc, files, words.labels)?;
-    let cut = cut_of(alloc, files, words.file)?;
-    let mut beside = Beside { labels, cut };
     match words.file {
         Some(name) => {
             let reader = opened(alloc, files, name)?;
-            cut_reader(alloc, words, files, &mut beside, reader, written)
+            cut_reader(alloc, words, reader, taker)
         }
-        None => cut_reader(alloc, words, files, &mut beside, input, written),
+        None => cut_reader(alloc, words, input, taker),
     }
 }
 
-// Cuts the trace that the reader gives.
-fn cut_reader<O: Opener, R: Read + Drop>(
+// Cuts the trace that the reader gives. What was written counts all its parts.
+fn cut_reader<O: Opener, L: Read + Drop, R: Read + Drop>(
     alloc: Global,
     words: &PartsWords<'_>,
-    files: &O,
-    beside: &mut Beside<'_, O::Reader>,
     reader: R,
-    written: &mut Written,
-) -> Result<(), Fault> {
-    let mut pieces = Pieces::new(reader);
-    let mut part = first_part(alloc, words, &mut pieces)?;
-    for number in 1..u64::MAX {
-        let is_last = has_ended(alloc, words, &mut pieces)?;
-        let turn = Turn { number, is_last };
-        beside.labels.read_to(alloc, part.end)?;
-        write_part(alloc, words, files, beside, &part, &turn, written)?;
-        if is_last {
-            return remove_later(alloc, words, files, number);
-        }
-        let mut next = begun(alloc, words, &part)?;
-        beside.labels.keep(alloc, next.numbers.as_slice())?;
-        add_piece(alloc, words, &mut pieces, &mut next)?;
-        part = next;
-    }
-    Ok(())
-}
-
-// The beginning of the next part, which carries no more than half of the most events.
-fn begun(alloc: Global, words: &PartsWords<'_>, part: &Part) -> Result<Part, Fault> {
-    let next = next_part(alloc, part, words.overlap, words.ignored.as_slice())?;
-    check_carried(alloc, words, &next)?;
-    Ok(next)
+    taker: &mut PartFiles<'_, O, L>,
+) -> Result<(), Fault>
+    ensures { OnOk result ((parts : List Part) × IsCutText words.now.ignored.items words.now.overlap (R.remaining reader) parts × (IsCounted [] taker.old.written → IsCounted parts taker.new.written)) }
+{
+    give_parts(
+        alloc,
+        reader,
+        words.events,
+        words.overlap,
+        words.ignored.as_slice(),
+        taker,
+    )
 }

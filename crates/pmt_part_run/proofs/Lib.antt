@@ -1,0 +1,2 @@
+pub mod AnsweredLemmas
+pub mod RunLemmas
