@@ -1,4 +1,5 @@
 //! What takes the parts: it writes the files of each.
+ghost use Rattle.std.specs.Prelude.{[]};
 ghost use Rattle.command_parts.specs.Counting.{IsCounted};
 
 use crate::carried::check_carried;
