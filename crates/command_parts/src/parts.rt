@@ -1,8 +1,8 @@
 //! `parts`: a trace of any length, cut into parts while it is read.
-ghost use Rattle.std.specs.Prelude.{◌≡◌, List, [], OnOk, IfOk};
+ghost use Rattle.std.specs.Prelude.{◌≡◌, List, [], None, OnOk, IfOk};
 ghost use Rattle.pmt_parts.specs.declared.part.Part.{Part};
 ghost use Rattle.pmt_part_run.specs.Runs.{IsCutText};
-ghost use Rattle.command_parts.specs.Counting.{IsCounted};
+ghost use Rattle.command_parts.specs.Counting.{IsCounted, IsLongText};
 
 use crate::files::Written;
 use crate::labels::PartLabels;
@@ -14,7 +14,7 @@ use std::alloc::Global;
 use std::io::{Read, Write};
 
 /// Writes the parts of the trace of the file or of `input`, each as soon as it is complete, and then a line that counts them to `out`. The
-/// status is 0.
+/// status is 0. Where that is answered, `input` has just the text of a trace of any length, if no file is named.
 ///
 /// # Errors
 /// The fault of a file, of the first line of the trace or the labels that is refused, of a write, or of a carry that passes half a part.
@@ -30,7 +30,8 @@ where
     O: Opener,
     I: Read,
     W: Write,
-    ensures { IfOk result (λ status. status ≡ 0) }
+    ensures status { IfOk result (λ status. status ≡ 0) }
+    ensures text { words.now.file ≡ None → OnOk result (IsLongText (I.remaining input.old)) }
 {
     let beside = beside_whole(alloc, words, files)?;
     let mut taker = PartFiles::new(words, files, beside);
@@ -61,7 +62,9 @@ fn cut_input<O: Opener, I: Read>(
     files: &O,
     input: &mut I,
     taker: &mut PartFiles<'_, O, O::Reader>,
-) -> Result<(), Fault> {
+) -> Result<(), Fault>
+    ensures { words.now.file ≡ None → OnOk result (IsLongText (I.remaining input.old)) }
+{
     match words.file {
         Some(name) => {
             let reader = opened(alloc, files, name)?;
