@@ -392,6 +392,8 @@ class Parts(Checks):
         self.expect("cut off", cut.status == 3 and cut.faults.startswith(b"standard input:11: the line does not end"), faulty.short(cut))
         endless = run(self.program, "parts", *WORDS, "--out", str(folder / "endless"), text=small_text().encode() + b"x" * 70_000_000)
         self.expect("an endless line", endless.status == 3 and endless.faults.startswith(b"standard input:12: "), faulty.short(endless))
+        long = run(self.program, "parts", *WORDS, "--out", str(folder / "long"), text=small_text().encode() + b"x" * 67_108_870 + b"\n" + b"sfence 0\n" * 3)
+        self.expect("a line that is longer than a text", long.status == 3 and long.faults.startswith(b"standard input:12: ") and b" is no event here\n" in long.faults, faulty.short(long))
         empty = run(self.program, "parts", "--out", str(folder / "empty"))
         self.expect("no bytes", empty.status == 3 and empty.faults.startswith(b"standard input:1: the input is empty"), faulty.short(empty))
 
