@@ -426,7 +426,9 @@ def clean_lines(explained):
     if explained.failing() or len(ignored) < len(explained.lost_stores()) or not stores or not explained.is_whole():
         return []
     but = f", but for {len(ignored)} that {'is' if len(ignored) == 1 else 'are'} ignored" if ignored else ""
-    safe = f"{'the store' if stores == 1 else f'each of the {stores} stores'} is safe by the end of the trace{but}"
+    late = sum(row["late"] for _, row in by_place.rows(explained))
+    delayed = f", {late} of them late" if late else ""
+    safe = f"{'the store' if stores == 1 else f'each of the {stores} stores'} is safe by the end of the trace{but}{delayed}"
     if claims == empty:
         return ["", f"{safe[0].upper()}{safe[1:]}; what a crash before that may not lose, no assertion says."]
     vain = f", {empty} of which {'checks' if empty == 1 else 'check'} nothing" if empty else ""

@@ -1,5 +1,6 @@
 //! The last words of the text for people, if nothing fails and nothing is lost.
 
+use crate::summary::late_stores;
 use crate::telling::{Telling, tells_all};
 use pmt_explanation::Summary;
 use pmt_pen::Pen;
@@ -17,11 +18,11 @@ pub(crate) fn clean_words(told: &Telling<'_>, counts: &Summary) -> Pen {
         pen.put("\nNothing that is claimed can be lost: ");
         push_claims(&mut pen, counts.assertions, empty);
         pen.put(",\nand ");
-        push_stores(&mut pen, counts, "the store", "each of the # stores");
+        push_stores(&mut pen, told, counts, "the store", "each of the # stores");
         pen.put(".\n");
     } else {
         pen.put("\n");
-        push_stores(&mut pen, counts, "The store", "Each of the # stores");
+        push_stores(&mut pen, told, counts, "The store", "Each of the # stores");
         pen.put("; what a crash before that may not lose, no assertion says.\n");
     }
     pen
@@ -43,8 +44,8 @@ fn push_claims(pen: &mut Pen, assertions: u64, empty: u64) {
     }
 }
 
-// Adds that the stores, which one of these names, are safe by the end, but for those that are ignored.
-fn push_stores(pen: &mut Pen, counts: &Summary, one: &str, many: &str) {
+// Adds that the stores, which one of these names, are safe by the end, but for those that are ignored, and how many are so late.
+fn push_stores(pen: &mut Pen, told: &Telling<'_>, counts: &Summary, one: &str, many: &str) {
     if counts.stores == 1 {
         pen.put(one);
     } else {
@@ -59,5 +60,9 @@ fn push_stores(pen: &mut Pen, counts: &Summary, one: &str, many: &str) {
         } else {
             "are ignored"
         });
+    }
+    let late = late_stores(told);
+    if late > 0 {
+        pen.fill(", # of them late", &[late]);
     }
 }

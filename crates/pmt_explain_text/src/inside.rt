@@ -25,11 +25,11 @@ pub(crate) fn push_inside(
         push_next(pen, told, group.key.cause, &inside.next, all);
         rows = rows.saturating_add(1);
     }
-    if tells_parts(inside) {
+    let is_whole = told.screen.rows.is_none();
+    if tells_parts(inside, is_whole) {
         push_parts(pen, told, &inside.parts, all);
         rows = rows.saturating_add(1);
     }
-    let is_whole = told.screen.rows.is_none();
     if inside.stores.told.len() > 1 && (is_whole || rows < FEW) {
         push_makers(pen, told, "  stored: ", &inside.stores, all);
         rows = rows.saturating_add(1);
@@ -64,13 +64,13 @@ fn has_label(counts: &Counts<Maker>) -> bool {
     is_found
 }
 
-// Whether some range has several lines.
-fn tells_parts(inside: &CauseCounts) -> bool {
+// Whether some range has several lines; on a screen, also whether the same of them is lost in all.
+fn tells_parts(inside: &CauseCounts, is_whole: bool) -> bool {
     let mut is_found = false;
     for count in inside.parts.told.iter() {
         is_found = is_found || count.key != RangePart::Only;
     }
-    is_found
+    is_found && (is_whole || inside.parts.told.len() == 1)
 }
 
 // Adds in how many there is which next flush or fence.

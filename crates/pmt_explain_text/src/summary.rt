@@ -46,16 +46,22 @@ fn push_counts(pen: &mut Pen, told: &Telling<'_>, counts: &Summary) {
 
 // Adds how many stores are saved late, if some are.
 fn push_late(pen: &mut Pen, told: &Telling<'_>, stores: u64) {
-    let mut late = 0u64;
-    for row in told.explanation.places.as_slice() {
-        late = late.saturating_add(row.late);
-    }
+    let late = late_stores(told);
     if late > 0 {
         pen.fill(
             "  stores saved late, which a crash can lose though their thread went on: # of #\n",
             &[late, stores],
         );
     }
+}
+
+// How many stores are saved late.
+pub(crate) fn late_stores(told: &Telling<'_>) -> u64 {
+    let mut late = 0u64;
+    for row in told.explanation.places.as_slice() {
+        late = late.saturating_add(row.late);
+    }
+    late
 }
 
 // Adds how many of them do nothing.
