@@ -11,7 +11,7 @@ use Rattle.pmt_text.specs.declared.kind.SourceError.TheVariants.{Failed}
 use Rattle.pmt_text.specs.declared.source.SourceState.{SourceState}
 use Rattle.pmt_text.specs.declared.source.SourceState.TheVariants as states
 use Rattle.pmt_text.specs.Coming.{Coming, ComesWhole}
-use Rattle.pmt_text.specs.Sources.{Gives, IsOver, TakesNext, HasFormat, TakesFormat, TellsNext, TellsFormat, KeepsFormat, LeavesFewer, CountsReads}
+use Rattle.pmt_text.specs.Sources.{Gives, IsOver, TakesNext, HasFormat, TakesFormat, TellsNext, TellsFormat, KeepsFormat, LeavesFewer, CountsReads, TakesReady}
 use Rattle.pmt_text.proofs.SourceLemmas.{Gives-over, Gives-same, Gives-trans, whole-parts}
 use Rattle.pmt_taking.specs.declared.taking.TakeError.{TakeError}
 use Rattle.pmt_taking.specs.declared.taking.TakeError.TheVariants as refusals
@@ -164,6 +164,29 @@ block-more most first now next B e within block takes tells kept counts fewer = 
   roomy = omega (arith, block.roomy, fewer, length-append B.events (e ∷ []));
   same_format = block.same_format;
 }
+
+-- after those that were ready
+reads-same : (old now next : Option ℕ) → SameReads old now → next ≡ now → SameReads old next
+reads-same old now next same is = subst (λ m. SameReads old m) (sym is) same
+
+pub block-ready : (most : ℕ) (first now next : Shown) (B after : Recording) → BlockSoFar most first now B → TakesReady now.coming next.coming B after → (length B.events ≤ most → length after.events ≤ most)
+    → next.room + length after.events ≤ now.room + length B.events → next.state ≡ now.state → next.format ≡ now.format → next.failures ≡ now.failures → BlockSoFar most first next after
+block-ready most first now next B after block ready few roomy state format failures =
+    let so_far = block.so_far in
+    record {
+      so_far = record {
+        given = subst (λ U. Gives first.coming U.events next.coming) (sym ready.added) (Gives-trans first.coming now.coming next.coming B.events ready.events so_far.given ready.taken);
+        format = subst (λ U. HasFormat first.coming (Some U.format)) (sym ready.added) so_far.format;
+        in_format = format ∙ so_far.in_format ∙ ap (λ U. Some U.format) (sym ready.added);
+        same_state = state ∙ so_far.same_state;
+        unfailed = so_far.unfailed;
+        same_reads = reads-same first.failures now.failures next.failures so_far.same_reads failures;
+        roomy = omega (arith, roomy, so_far.roomy);
+      };
+      few = few block.few;
+      roomy = omega (arith, roomy, block.roomy);
+      same_format = λ f was. ap (λ U. U.format) ready.added ∙ block.same_format f was;
+    }
 
 pub block-full : (most : ℕ) (first now : Shown) (B : Recording) → length B.events ≡ most → BlockSoFar most first now B → TakesBlock most first now B
 block-full most first now B full block = record {

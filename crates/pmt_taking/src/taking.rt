@@ -72,11 +72,13 @@ pub fn take_block<S: EventSource>(
 {
     let format = source.format()?;
     let mut block = Trace::new_with(alloc, format);
+    source.take_ready(&mut block, most as usize)?;
     'block: while (block.len() as u64) < most {
         match source.next()? {
             Some(event) => add(&mut block, event)?,
             None => return Ok(block),
         }
+        source.take_ready(&mut block, most as usize)?;
     }
     Ok(block)
 }

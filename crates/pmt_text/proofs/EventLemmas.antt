@@ -34,7 +34,7 @@ cut_list xs n within is =
     sym (take-append-drop n xs) ∙ ap (λ l. take n xs ++ l) after
 
 -- no byte is LF, and then LF stands
-one_line-free : (line : List ℕ) → IsFree 10 line → IsOneLine line
+pub one_line-free : (line : List ℕ) → IsFree 10 line → IsOneLine line
 one_line-free [] free k l = absurd (omega arith)
 one_line-free (b ∷ line) free zero l = eqb-false b 10 free.0
 one_line-free (b ∷ line) free (suc k) l = one_line-free line free.1 k (omega arith)

@@ -24,6 +24,7 @@ pub mod PieceLemmas
 pub mod SourceLemmas
 pub mod TextLemmas
 pub mod EventLemmas
+pub mod PlainLemmas
 pub mod WriteLemmas
 pub mod BoundLemmas
 pub mod InputLemmas

@@ -3,12 +3,13 @@ use Rattle.std.specs.Prelude.{◌≡◌, ◌≢◌, ℕ, ◌+◌, ◌<◌, ◌�
 use Rattle.std.specs.List.{AllByRecursion}
 use Rattle.pmt_model.specs.declared.event.Event.{Event}
 use Rattle.pmt_model.specs.Values.{Layout}
-use Rattle.pmt_model.specs.Traces.{IsEventIn}
+use Rattle.pmt_model.specs.Traces.{Recording, IsEventIn}
 use Rattle.pmt_text.specs.declared.kind.SourceError.{SourceError}
 use Rattle.pmt_text.specs.declared.kind.SourceError.TheVariants.{Text, TooMany, Read, OutOfMemory, Failed}
 use Rattle.pmt_text.specs.declared.source.SourceState.{SourceState}
 use Rattle.pmt_text.specs.declared.source.SourceState.TheVariants as states
 use Rattle.pmt_text.specs.Coming.{Coming}
+use Rattle.pmt_text.specs.Plain.{with_all}
 use Rattle.pmt_text.specs.Spelling.{event_text}
 
 -- ---- What was coming, where that is known
@@ -70,6 +71,14 @@ TellsFormat states.Open (Err e) new = (new ≡ states.Failed e) × (e ≢ Failed
 TellsFormat states.Ended (Ok f) new = new ≡ states.Ended
 TellsFormat states.Ended (Err e) new = ⊥
 TellsFormat (states.Failed told) result new = (result ≡ Err Failed) × (new ≡ states.Failed told)
+
+-- ---- Events that were ready
+
+-- Events that come next were put at the end of the trace, as next would give them one by one.
+pub record TakesReady (old new : Option Coming) (before after : Recording) : Type 0 where
+  pub events : List Event
+  pub added : after ≡ with_all before events
+  pub taken : Gives old events new
 
 -- ---- Lent lines
 

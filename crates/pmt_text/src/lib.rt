@@ -16,6 +16,7 @@ pub mod line_text;
 pub mod list_source;
 pub mod number;
 pub(crate) mod piece;
+mod plain;
 pub mod script_input;
 pub mod source;
 pub(crate) mod spelled;

@@ -1,16 +1,19 @@
 //! The lines of a reader.
-ghost use Rattle.std.specs.Prelude.{◌≡◌, ◌+◌, ◌-◌, ◌^◌, ◌<◌, ◌≤◌, [], ◌++◌, length, take, drop, OnOk, OnErr, IfErr, IfSome, ◌==◌};
+ghost use Rattle.std.specs.Prelude.{◌≡◌, ◌+◌, ◌-◌, ◌^◌, ◌<◌, ◌≤◌, ◌⊎◌, [], ◌++◌, length, take, drop, OnOk, OnErr, IfErr, IfSome, ◌==◌};
+ghost use Rattle.pmt_model.specs.Traces.{event_limit};
 ghost use Rattle.pmt_text.specs.Coming.{byte_limit};
 ghost use Rattle.pmt_text.specs.Counting.{inner_device, failure_count};
 ghost use Rattle.pmt_text.specs.OneLine.{IsOneLine};
+ghost use Rattle.pmt_text.specs.Plain.{AreFirstEvents};
 ghost use Rattle.pmt_text.specs.Sources.{read_faults};
 
 use crate::counted::Counted;
 use crate::kind::SourceError;
 use crate::piece::Piece;
+use crate::plain::first_events;
 use crate::spelled::first_event;
 use bstr::ByteSlice;
-use pmt_model::{Event, Format};
+use pmt_model::{Event, Format, OutOfMemory, Trace};
 use std::alloc::Global;
 use std::io::Read;
 
@@ -107,6 +110,27 @@ impl<R> LineReader<R> {
             }
             None => None,
         }
+    }
+
+    // Puts the events of the lines at the front of the piece at the end of the trace, where no front waits, until it has `most` or a line
+    // is not plain in one pass.
+    pub(crate) fn take_plain(&mut self, most: usize, trace: &mut Trace) -> Result<(), OutOfMemory>
+        requires { most ≤ event_limit }
+        ensures taken { OnOk result (AreFirstEvents (held self.old) (held self.new) trace.old trace.new) }
+        ensures few { OnOk result ((length trace.new.events ≤ length trace.old.events) ⊎ (length trace.new.events ≤ most)) }
+        ensures input { self.new.input ≡ self.old.input }
+        ensures room { self.new.room ≡ self.old.room }
+        ensures refused { OnErr result (held self.new ≡ held self.old) }
+    {
+        if !self.front.is_empty() {
+            return Ok(());
+        }
+        let piece = self.piece.as_slice();
+        let rest = first_events(piece, most, trace)?;
+        let count = piece.len() - rest.len();
+        self.last = 0;
+        self.piece.skip(count);
+        Ok(())
     }
 
     // Takes the line that was found, with its LF.

@@ -1,13 +1,13 @@
 //! Sources of events.
-ghost use Rattle.std.specs.Prelude.{◌≡◌, ℕ, ◌≤◌, List, Option, Some, None, IfOk, IfErr, IfSome, length};
+ghost use Rattle.std.specs.Prelude.{◌≡◌, ℕ, ◌+◌, ◌≤◌, List, Option, Some, None, IfOk, OnOk, OnErr, IfErr, IfSome, length};
 ghost use Rattle.pmt_model.specs.Values.{Layout};
 ghost use Rattle.pmt_model.specs.Traces.{event_limit};
 ghost use Rattle.pmt_text.specs.Coming.{Coming};
-ghost use Rattle.pmt_text.specs.Sources.{AreOf, TakesNext, TakesFormat, TellsNext, TellsFormat, KeepsFormat, IsGivenIn, IsOfFirstLine, IsOfLaterLine, LeavesFewer, LeavesUnknown, CountsReads, Lends, given_after};
+ghost use Rattle.pmt_text.specs.Sources.{AreOf, TakesNext, TakesFormat, TellsNext, TellsFormat, KeepsFormat, IsGivenIn, IsOfFirstLine, IsOfLaterLine, LeavesFewer, LeavesUnknown, CountsReads, Lends, TakesReady, given_after};
 ghost use Rattle.pmt_text.specs.declared.source.SourceState.{SourceState};
 
 use crate::kind::SourceError;
-use pmt_model::{Event, Format};
+use pmt_model::{Event, Format, OutOfMemory, Trace};
 
 /// What a source has told.
 #[derive(Clone, Copy, Debug, PartialEq, Eq)]
@@ -73,6 +73,27 @@ pub trait EventSource {
         ensures room { LeavesFewer (room self.old) result (room self.new) }
         ensures failures { CountsReads (failures self.old) result (failures self.new) }
         ensures lent { Lends result (lent self.new) };
+
+    /// Puts events that come next at the end of the trace, as `next` would give them one by one, until it has `most`: those that need no read
+    /// and are judged at once. A source may take none.
+    ///
+    /// # Errors
+    /// Where memory was refused to the trace. The source stands as it did then.
+    fn take_ready(&mut self, trace: &mut Trace, most: usize) -> Result<(), OutOfMemory>
+        requires known { known_format self.old ≡ Some trace.old.format }
+        requires roomy { length trace.old.events + room self.old ≤ event_limit }
+        ensures taken { OnOk result (TakesReady (coming self.old) (coming self.new) trace.old trace.new) }
+        ensures few { OnOk result (length trace.old.events ≤ most → length trace.new.events ≤ most) }
+        ensures given { OnOk result (given self.new + length trace.old.events ≡ given self.old + length trace.new.events) }
+        ensures room { OnOk result (room self.new + length trace.new.events ≤ room self.old + length trace.old.events) }
+        ensures state { state self.new ≡ state self.old }
+        ensures format { known_format self.new ≡ known_format self.old }
+        ensures failures { failures self.new ≡ failures self.old }
+        ensures refused { OnErr result (coming self.new ≡ coming self.old) }
+        ensures refused_room { OnErr result (room self.new ≡ room self.old) }
+    {
+        Ok(())
+    }
 
     /// The line of the event that `next` gave last, with its LF, where the source has it at hand: the one spelling of that event. A source
     /// may lend none. What it answers before the first event, after the end or after a fault is the line of no event.

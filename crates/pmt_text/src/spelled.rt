@@ -53,7 +53,7 @@ fn first_four(text: &[u8]) -> u32
 
 /// What stands after the word at the front. Four bytes are compared at once.
 #[inline(always)]
-fn take_word<'a>(word: &[u8], text: &'a [u8]) -> Option<&'a [u8]>
+pub(crate) fn take_word<'a>(word: &[u8], text: &'a [u8]) -> Option<&'a [u8]>
     ensures { IfSome result (λ rest. text.now ≡ word.now ++ rest.now) }
 {
     if text.len() < word.len() {
@@ -256,7 +256,7 @@ fn ordered_of(addr: u64, len: u64, later_addr: u64, later_len: u64) -> Result<Op
 
 /// The event of a store after its word, and what stands after the line.
 #[inline(always)]
-fn after_store(text: &[u8]) -> Option<(Event, &[u8])>
+pub(crate) fn after_store(text: &[u8]) -> Option<(Event, &[u8])>
     ensures { IfSome result (λ p. IsAfterWord Word.Store text.now p.0 p.1.now) }
 {
     let (thread, text) = take_thread(text)?;
@@ -271,7 +271,7 @@ fn after_store(text: &[u8]) -> Option<(Event, &[u8])>
 
 /// The event of a clwb after its word, and what stands after the line.
 #[inline(always)]
-fn after_clwb(text: &[u8]) -> Option<(Event, &[u8])>
+pub(crate) fn after_clwb(text: &[u8]) -> Option<(Event, &[u8])>
     ensures { IfSome result (λ p. IsAfterWord Word.Clwb text.now p.0 p.1.now) }
 {
     let (thread, text) = take_thread(text)?;
@@ -311,7 +311,7 @@ fn after_clflush(text: &[u8]) -> Option<(Event, &[u8])>
 
 /// The event of an sfence after its word, and what stands after the line.
 #[inline(always)]
-fn after_sfence(text: &[u8]) -> Option<(Event, &[u8])>
+pub(crate) fn after_sfence(text: &[u8]) -> Option<(Event, &[u8])>
     ensures { IfSome result (λ p. IsAfterWord Word.Sfence text.now p.0 p.1.now) }
 {
     let (thread, text) = take_thread(text)?;
@@ -375,7 +375,7 @@ fn take_event(text: &[u8]) -> Option<(Event, &[u8])>
 }
 
 /// As `take_event`, of the words that are rarer.
-fn take_other(text: &[u8]) -> Option<(Event, &[u8])>
+pub(crate) fn take_other(text: &[u8]) -> Option<(Event, &[u8])>
     ensures { IfSome result (λ p. text.now ≡ event_text p.0 ++ p.1.now) }
 {
     if let Some(rest) = take_word(b"isPersist ", text) {

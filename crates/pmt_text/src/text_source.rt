@@ -12,9 +12,11 @@ use crate::kind::SourceError;
 use crate::line_reader::LineReader;
 use crate::source::{EventSource, SourceState};
 use crate::text_events::{next_event, read_header};
-use pmt_model::{Event, Format};
+use pmt_model::{Event, Format, OutOfMemory, Trace};
 use std::alloc::Global;
 use std::io::Read;
+
+const EVENT_LIMIT: u64 = 1_000_000;
 
 /// The events of the text that a reader gives. It reads pieces of at most 4096 bytes, and judges a complete line before it reads
 /// on; bytes past the first 67,108,864 are not judged.
@@ -150,6 +152,18 @@ impl<R: Read> EventSource for TextSource<R> {
             None => self.format()?,
         };
         self.next_in(format)
+    }
+
+    fn take_ready(&mut self, trace: &mut Trace, most: usize) -> Result<(), OutOfMemory> {
+        match self.state {
+            SourceState::Open => {}
+            SourceState::Ended | SourceState::Failed(_) => return Ok(()),
+        }
+        let before = trace.len();
+        let room = (EVENT_LIMIT - self.given) as usize;
+        self.lines.take_plain(most.min(before + room), trace)?;
+        self.given += (trace.len() - before) as u64;
+        Ok(())
     }
 
     fn last_line(&self) -> Option<&[u8]> {

@@ -1,15 +1,7 @@
-use Rattle.std.proofs.Common.{◌≡◌, ◌<◌, length, arith}
+use Rattle.std.proofs.Common.{◌<◌, length, arith}
 use Rattle.pmt_taking.specs.Blocks.{shown_by}
-use Rattle.pmt_taking.proofs.SourceRunLemmas.{block-none, block-more, block-full, block-ended}
+use Rattle.pmt_taking.proofs.SourceRunLemmas.{BlockSoFar, block-more, block-ready, block-ended}
 use Rattle.pmt_taking.proofs.taking.take_block.Goals as goal
-
-pub block-init : goal.block-init
-block-init g c =
-    let source = g.S.EventSource in
-    let shown = shown_by source.coming source.state source.known_format source.failures source.room in
-    let said = c.in_ok-format.ensures in
-    rw c.new_with-block.ensures
-    (block-none c.args.most (shown c.args.source.now) (shown c.format.new.self) c.in_ok-format.format said.taken said.told said.known said.kept said.failures said.room (g.met.S.EventSource.few c.format.new.self))
 
 pub block-preserved : goal.block-preserved
 block-preserved g c =
@@ -21,15 +13,10 @@ block-preserved g c =
     let counted = rw c.in-Some.is at said.failures in
     let fewer = rw c.in-Some.is at said.room in
     let within : length c.block.block.events < c.args.most = omega (arith, c.block-test.true, c.len.ensures.value) in
-    rw c.in_ok-add-in-Some.ensures
-    (block-more c.args.most (shown c.args.source.now) (shown c.block.source) (shown c.next.new.self) c.block.block c.in-Some.event within c.block.invariant taken told said.kept counted fewer)
-
-pub returns-clause-block : goal.returns-clause-block
-returns-clause-block g c =
-    let source = g.S.EventSource in
-    let shown = shown_by source.coming source.state source.known_format source.failures source.room in
-    let full : length c.block.block.events ≡ c.args.most = omega (arith, c.block-test.false, c.len.ensures.value, c.block.invariant.few) in
-    block-full c.args.most (shown c.args.source.now) (shown c.block.source) c.block.block full c.block.invariant
+    let one : BlockSoFar c.args.most (shown c.args.source.now) (shown c.next.new.self) c.add.new.trace = rw c.in_ok-add-in-Some.ensures
+    (block-more c.args.most (shown c.args.source.now) (shown c.block.source) (shown c.next.new.self) c.block.block c.in-Some.event within c.block.invariant taken told said.kept counted fewer) in
+    let ready = c.in_ok-take_ready-2.ensures in
+    block-ready c.args.most (shown c.args.source.now) (shown c.next.new.self) (shown c.take_ready-in-block.new.self) c.add.new.trace c.take_ready-in-block.new.trace one ready.taken ready.few ready.room ready.state ready.format ready.failures
 
 pub returns-in-None-clause-block : goal.returns-in-None-clause-block
 returns-in-None-clause-block g c =
