@@ -1,5 +1,5 @@
 -- What a source has told and given while its events are taken.
-use Rattle.std.proofs.Common.{◌≡◌, ◌≢◌, ℕ, ◌+◌, ◌<◌, ◌≤◌, inl, inr, [], ◌∷◌, length, Option, Some, None, Result, Ok, Err, refl, ap, sym, subst, ◌∙◌, arith}
+use Rattle.std.proofs.Common.{◌≡◌, ◌≢◌, ℕ, ◌+◌, ◌<◌, ◌≤◌, inl, inr, List, [], ◌∷◌, length, Option, Some, None, Result, Ok, Err, refl, ap, sym, subst, ◌∙◌, arith}
 use Rattle.std.proofs.lemmas.List.{length-append}
 use Rattle.std.proofs.lemmas.Option.{same_Some}
 use Rattle.pmt_model.specs.declared.event.Event.{Event}
@@ -169,9 +169,9 @@ block-more most first now next B e within block takes tells kept counts fewer = 
 reads-same : (old now next : Option ℕ) → SameReads old now → next ≡ now → SameReads old next
 reads-same old now next same is = subst (λ m. SameReads old m) (sym is) same
 
-pub block-ready : (most : ℕ) (first now next : Shown) (B after : Recording) → BlockSoFar most first now B → TakesReady now.coming next.coming B after → (length B.events ≤ most → length after.events ≤ most)
+pub block-ready : (most : ℕ) (first now next : Shown) (lent : Option (List ℕ)) (B after : Recording) → BlockSoFar most first now B → TakesReady now.coming next.coming lent B after → (length B.events ≤ most → length after.events ≤ most)
     → next.room + length after.events ≤ now.room + length B.events → next.state ≡ now.state → next.format ≡ now.format → next.failures ≡ now.failures → BlockSoFar most first next after
-block-ready most first now next B after block ready few roomy state format failures =
+block-ready most first now next lent B after block ready few roomy state format failures =
     let so_far = block.so_far in
     record {
       so_far = record {

@@ -1,14 +1,15 @@
 -- Events that are taken one after another are those that were coming.
-use Rattle.std.proofs.Common.{◌≡◌, ℕ, ◌+◌, ◌≤◌, List, [], ◌∷◌, ◌++◌, length, Option, Some, refl, sym, ap, ◌∙◌, subst, ◌-◌, ◌⊎◌, inl, inr, arith, append_assoc, length-append}
+use Rattle.std.proofs.Common.{◌≡◌, ℕ, ◌+◌, ◌<◌, ◌≤◌, List, [], ◌∷◌, ◌++◌, length, Option, Some, None, IfSome, refl, sym, ap, ◌∙◌, subst, ◌-◌, ◌⊎◌, inl, inr, arith, append_assoc, length-append}
 use Rattle.std.specs.List.{AllByRecursion, flat_map}
+use Rattle.std.proofs.lemmas.List.{append_cancel_right}
 use Rattle.pmt_model.specs.declared.event.Event.{Event}
 use Rattle.pmt_model.specs.Values.{Layout}
 use Rattle.pmt_model.specs.Traces.{Recording, IsEventIn, event_limit}
 use Rattle.pmt_text.specs.declared.line_reader.LineReader.{LineReader}
 use Rattle.pmt_text.specs.Counting.{inner_device}
-use Rattle.pmt_text.specs.Lines.{known_ahead, known_of, held}
+use Rattle.pmt_text.specs.Lines.{known_ahead, known_of, held, last_line}
 use Rattle.pmt_text.specs.Plain.{AreFirstEvents, with_all}
-use Rattle.pmt_text.specs.Sources.{Gives, TakesReady}
+use Rattle.pmt_text.specs.Sources.{Gives, LendsAll, TakesReady}
 use Rattle.pmt_text.specs.declared.source.SourceState.{SourceState}
 use Rattle.pmt_text.specs.declared.source.SourceState.TheVariants.{Open}
 use Rattle.pmt_text.specs.Spelling.{event_line, event_text}
@@ -55,11 +56,24 @@ pub given-few : (given old new bound : ℕ) → (new ≤ old) ⊎ (new ≤ bound
 given-few given old new bound (inl fewer) most few = omega (arith, fewer, few)
 given-few given old new bound (inr fewer) most few = omega (arith, fewer, most, few)
 
+-- their lines are lent
+some_text : (e : Event) (rest : List ℕ) → 0 < length (event_text e ++ rest)
+unfolding event_text
+some_text e rest = omega (arith, length-append (event_line e ++ 10 ∷ []) rest, length-append (event_line e) (10 ∷ []))
+
+lends-all : (old new : List ℕ) (lent : Option (List ℕ)) (events : List Event) → old ≡ flat_map event_text events ++ new → (new ≡ old) ⊎ IfSome lent (λ lines. lines ++ new ≡ old) → LendsAll events lent
+lends-all old new lent [] is last = tt
+lends-all old new None (e ∷ es) is last = tt
+lends-all old new (Some text) (e ∷ es) is (inl same) =
+    absurd (omega (arith, ap length is, ap length same, length-append (flat_map event_text (e ∷ es)) new, some_text e (flat_map event_text es)))
+lends-all old new (Some text) (e ∷ es) is (inr last) = append_cancel_right text (flat_map event_text (e ∷ es)) new (last ∙ is)
+
 -- so the source of the reader's text gives them
 pub ready-taken : {R : Type 0} (remaining : R → Option (List ℕ)) (old new : LineReader R) (T now : Recording) (given after : ℕ) (state : SourceState) (format : Option Layout) → state ≡ Open → format ≡ Some T.format
     → AreFirstEvents (held old) (held new) T now → new.input ≡ old.input → new.room ≡ old.room → after ≡ given + (length now.events - length T.events) → after ≤ event_limit
-    → TakesReady (coming_in state (coming_from remaining format given old) format) (coming_in state (coming_from remaining format after new) format) T now
-ready-taken remaining old new T now given after state format is_open known h input room count few =
+    → (held new ≡ held old) ⊎ IfSome (last_line new) (λ lines. lines ++ held new ≡ held old)
+    → TakesReady (coming_in state (coming_from remaining format given old) format) (coming_in state (coming_from remaining format after new) format) (last_line new) T now
+ready-taken remaining old new T now given after state format is_open known h input room count few last =
     let long = length-taken T now h.events h.added in
     let is : after ≡ given + length h.events = omega (arith, count, long) in
     let taken = plain-taken remaining old new T now given h input room (omega (arith, is, few)) in
@@ -68,4 +82,5 @@ ready-taken remaining old new T now given after state format is_open known h inp
       events = h.events;
       added = h.added;
       taken = subst (λ s. P s format after) (sym is_open) (subst (λ f. P Open f after) (sym known) (subst (λ n. P Open (Some T.format) n) (sym is) taken));
+      lends = lends-all (held old) (held new) (last_line new) h.events h.spelled last;
     }

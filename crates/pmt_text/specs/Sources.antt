@@ -1,6 +1,6 @@
 -- What a source of events tells, call by call.
 use Rattle.std.specs.Prelude.{◌≡◌, ◌≢◌, ℕ, ◌+◌, ◌<◌, ◌⊎◌, List, [], ◌∷◌, ◌++◌, Option, Some, None, Result, Ok, Err}
-use Rattle.std.specs.List.{AllByRecursion}
+use Rattle.std.specs.List.{AllByRecursion, flat_map}
 use Rattle.pmt_model.specs.declared.event.Event.{Event}
 use Rattle.pmt_model.specs.Values.{Layout}
 use Rattle.pmt_model.specs.Traces.{Recording, IsEventIn}
@@ -74,11 +74,18 @@ TellsFormat (states.Failed told) result new = (result ≡ Err Failed) × (new �
 
 -- ---- Events that were ready
 
+-- Of events that were put, if any, the lines are lent one after another, or nothing is.
+abbrev pub LendsAll : List Event → Option (List ℕ) → Type 0
+LendsAll [] lent = Unit {0}
+LendsAll (e ∷ es) None = Unit {0}
+LendsAll (e ∷ es) (Some text) = text ≡ flat_map event_text (e ∷ es)
+
 -- Events that come next were put at the end of the trace, as next would give them one by one.
-pub record TakesReady (old new : Option Coming) (before after : Recording) : Type 0 where
+pub record TakesReady (old new : Option Coming) (lent : Option (List ℕ)) (before after : Recording) : Type 0 where
   pub events : List Event
   pub added : after ≡ with_all before events
   pub taken : Gives old events new
+  pub lends : LendsAll events lent
 
 -- ---- Lent lines
 

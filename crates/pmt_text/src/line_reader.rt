@@ -120,6 +120,7 @@ impl<R> LineReader<R> {
         ensures few { OnOk result ((length trace.new.events ≤ length trace.old.events) ⊎ (length trace.new.events ≤ most)) }
         ensures input { self.new.input ≡ self.old.input }
         ensures room { self.new.room ≡ self.old.room }
+        ensures last { OnOk result ((held self.new ≡ held self.old) ⊎ IfSome (last_line self.new) (λ lines. lines ++ held self.new ≡ held self.old)) }
         ensures refused { OnErr result (held self.new ≡ held self.old) }
     {
         if !self.front.is_empty() {
@@ -128,7 +129,7 @@ impl<R> LineReader<R> {
         let piece = self.piece.as_slice();
         let rest = first_events(piece, most, trace)?;
         let count = piece.len() - rest.len();
-        self.last = 0;
+        self.last = count;
         self.piece.skip(count);
         Ok(())
     }

@@ -82,7 +82,7 @@ pub trait EventSource {
     fn take_ready(&mut self, trace: &mut Trace, most: usize) -> Result<(), OutOfMemory>
         requires known { known_format self.old ≡ Some trace.old.format }
         requires roomy { length trace.old.events + room self.old ≤ event_limit }
-        ensures taken { OnOk result (TakesReady (coming self.old) (coming self.new) trace.old trace.new) }
+        ensures taken { OnOk result (TakesReady (coming self.old) (coming self.new) (lent self.new) trace.old trace.new) }
         ensures few { OnOk result (length trace.old.events ≤ most → length trace.new.events ≤ most) }
         ensures given { OnOk result (given self.new + length trace.old.events ≡ given self.old + length trace.new.events) }
         ensures room { OnOk result (room self.new + length trace.new.events ≤ room self.old + length trace.old.events) }
@@ -95,8 +95,9 @@ pub trait EventSource {
         Ok(())
     }
 
-    /// The line of the event that `next` gave last, with its LF, where the source has it at hand: the one spelling of that event. A source
-    /// may lend none. What it answers before the first event, after the end or after a fault is the line of no event.
+    /// The line of the event that `next` gave last, with its LF, or those of all events that `take_ready` put last, where the source has
+    /// them at hand: each the one spelling of its event. A source may lend none. What it answers before the first event, after the end,
+    /// after a fault or where `take_ready` put none is the line of no event.
     fn last_line(&self) -> Option<&[u8]>
         ensures { IfSome result (λ line. lent self.now ≡ Some line.now) }
     {

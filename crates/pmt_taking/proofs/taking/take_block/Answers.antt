@@ -16,7 +16,7 @@ block-preserved g c =
     let one : BlockSoFar c.args.most (shown c.args.source.now) (shown c.next.new.self) c.add.new.trace = rw c.in_ok-add-in-Some.ensures
     (block-more c.args.most (shown c.args.source.now) (shown c.block.source) (shown c.next.new.self) c.block.block c.in-Some.event within c.block.invariant taken told said.kept counted fewer) in
     let ready = c.in_ok-take_ready-2.ensures in
-    block-ready c.args.most (shown c.args.source.now) (shown c.next.new.self) (shown c.take_ready-in-block.new.self) c.add.new.trace c.take_ready-in-block.new.trace one ready.taken ready.few ready.room ready.state ready.format ready.failures
+    block-ready c.args.most (shown c.args.source.now) (shown c.next.new.self) (shown c.take_ready-in-block.new.self) (source.lent c.take_ready-in-block.new.self) c.add.new.trace c.take_ready-in-block.new.trace one ready.taken ready.few ready.room ready.state ready.format ready.failures
 
 pub returns-in-None-clause-block : goal.returns-in-None-clause-block
 returns-in-None-clause-block g c =

@@ -26,4 +26,4 @@ returns-clause-taken g c =
     let bound : c.min.result ≤ length c.args.trace.now.events + (event_limit - self.given) = omega (arith, c.min.ensures, c.len-before.ensures.value) in
     let few : after ≤ event_limit = omega (arith, count, given-few self.given _ _ c.min.result c.in_ok-take_plain.ensures.few bound self.few) in
     ready-taken g.R.Read.remaining self.lines c.take_plain.new.self c.args.trace.now c.take_plain.new.trace self.given after self.state self.format c.in-Open.is c.requires.known c.in_ok-take_plain.ensures.taken
-    c.take_plain.ensures.input c.take_plain.ensures.room count few
+    c.take_plain.ensures.input c.take_plain.ensures.room count few c.in_ok-take_plain.ensures.last
