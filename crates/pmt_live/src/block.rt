@@ -7,20 +7,20 @@ use indexmap::IndexSet;
 use pmt_model::OutOfMemory;
 use std::alloc::AllocError;
 
-/// Of sixteen neighbouring lines the place of each and one more, or 0 where it has none.
+/// Of eight neighbouring lines the place of each and one more, or 0 where it has none.
 #[derive(Clone, Copy, Debug, PartialEq, Eq)]
 pub(crate) struct Block {
-    pub(crate) places: [u32; 16],
+    pub(crate) places: [u32; 8],
 }
 
-const EMPTY: Block = Block { places: [0; 16] };
+const EMPTY: Block = Block { places: [0; 8] };
 
 // The place of the line that its block tells, if it tells one.
 pub(crate) fn told(block: &Block, line: u64) -> Option<usize>
     ensures told { result ≡ place_told block.now line }
     ensures small { IfSome result (λ place. place < 2 ^ 32) }
 {
-    match block.places[line as usize % 16] {
+    match block.places[line as usize % 8] {
         0 => None,
         told => Some(told as usize - 1),
     }
@@ -61,7 +61,7 @@ pub(crate) fn put(
     ensures place { IfOk result (λ place. place ≡ length lines.old.items) }
     ensures small { IfOk result (λ place. place < 2 ^ 32) }
     ensures lines { OnOk result (lines.new.items ≡ lines.old.items ++ line ∷ []) }
-    ensures blocks { OnOk result ((numbers : List ℕ) (d : Block) → slice_get numbers at ≡ Some (line / 16) → place_told (get_or blocks.old.items at d) line ≡ None → AreBlocks numbers blocks.old.items lines.old.items → AreBlocks numbers blocks.new.items lines.new.items) }
+    ensures blocks { OnOk result ((numbers : List ℕ) (d : Block) → slice_get numbers at ≡ Some (line / 8) → place_told (get_or blocks.old.items at d) line ≡ None → AreBlocks numbers blocks.old.items lines.old.items → AreBlocks numbers blocks.new.items lines.new.items) }
     ensures same_blocks { OnErr result (blocks.new.items ≡ blocks.old.items) }
     ensures same_lines { OnErr result (lines.new.items ≡ lines.old.items) }
 {
@@ -70,6 +70,6 @@ pub(crate) fn put(
         return Err(AllocError);
     }
     lines.push(line)?;
-    blocks[at].places[line as usize % 16] = place as u32 + 1;
+    blocks[at].places[line as usize % 8] = place as u32 + 1;
     Ok(place)
 }

@@ -10,8 +10,8 @@ use pmt_model::OutOfMemory;
 use std::alloc::Global;
 use std::marker::Model;
 
-/// Lines, each with a place: that of its first appearance. Lines that follow one another share a look-up, by blocks of 16: five to six
-/// bytes a line where all sixteen are there, some 90 bytes where one is alone, and 8 for the line itself.
+/// Lines, each with a place: that of its first appearance. Lines that follow one another share a look-up, by blocks of 8: seven to eight
+/// bytes a line where all eight are there, some 60 bytes where one is alone, and 8 for the line itself.
 #[derive(Drop)]
 pub struct LinePlaces {
     // The numbers of the blocks in which lines stand, and the blocks.
@@ -93,7 +93,7 @@ impl LinePlaces {
         ensures unique { OnOk result (IsDistinct nat_eq self.new) }
         ensures same { OnErr result (self.new ≡ self.old) }
     {
-        let number = line / 16;
+        let number = line / 8;
         let at = reach(&mut self.numbers, &mut self.blocks, self.last, number)?;
         self.last = at;
         if let Some(place) = told(&self.blocks[at], line) {
@@ -116,11 +116,11 @@ impl LinePlaces {
         Ok(copy)
     }
 
-    /// Where the block of the line stands, in which its fifteen neighbours are too; none where none of these has a place.
+    /// Where the block of the line stands, in which its seven neighbours are too; none where none of these has a place.
     pub fn block(&self, line: u64) -> Option<usize>
-        ensures { result ≡ None → (l place : ℕ) → l / 16 ≡ line / 16 → IsPlaceOf l place self.now → ⊥ }
+        ensures { result ≡ None → (l place : ℕ) → l / 8 ≡ line / 8 → IsPlaceOf l place self.now → ⊥ }
     {
-        self.numbers.get_index_of(&(line / 16))
+        self.numbers.get_index_of(&(line / 8))
     }
 
     /// The place of the line, if it has one. It is looked up only where its block isn't the one at `block`.
@@ -128,10 +128,10 @@ impl LinePlaces {
         ensures { IsFound line self.now result }
     {
         match self.numbers.get_index(block) {
-            Some(known) if *known == line / 16 => return told(&self.blocks[block], line),
+            Some(known) if *known == line / 8 => return told(&self.blocks[block], line),
             _ => {}
         }
-        match self.numbers.get_index_of(&(line / 16)) {
+        match self.numbers.get_index_of(&(line / 8)) {
             Some(at) => told(&self.blocks[at], line),
             None => None,
         }

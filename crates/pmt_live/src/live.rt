@@ -70,9 +70,9 @@ impl LiveLines {
         Ok(place)
     }
 
-    /// Where the block of the line stands, in which its fifteen neighbours are too; none where none of these has a place.
+    /// Where the block of the line stands, in which its seven neighbours are too; none where none of these has a place.
     pub fn block(&self, line: u64) -> Option<usize>
-        ensures { result ≡ None → (l place : ℕ) → l / 16 ≡ line / 16 → IsPlaceOf l place self.now.lines → ⊥ }
+        ensures { result ≡ None → (l place : ℕ) → l / 8 ≡ line / 8 → IsPlaceOf l place self.now.lines → ⊥ }
     {
         self.lines.block(line)
     }
