@@ -12,7 +12,7 @@ pub record IsLineAt (T : Recording) (n l place : ℕ) (k : Known) : Type 0 where
   pub known : IsKnownOf T n k
   pub at : IsPlaceOf l place (lines_of (history T n))
 
--- The block tells the places of those lines that give this number by a division by 16. Without a block none of them has a place.
+-- The block tells the places of those lines that give this number by a division by 8. Without a block none of them has a place.
 abbrev pub IsBlockOf : Recording → ℕ → ℕ → Option Block → Type 0
 IsBlockOf T n number found = MatchOption found (AreUnplaced number (lines_of (history T n))) (λ block. AreNeighbours block number (lines_of (history T n)))
 

@@ -22,7 +22,7 @@ impl Known {
         self.format
     }
 
-    /// The block of the sixteen lines that give this number by a division by 16, by which each of them is found; none where no event has
+    /// The block of the eight lines that give this number by a division by 8, by which each of them is found; none where no event has
     /// stored or flushed any of them.
     pub fn neighbours(&self, number: u64) -> Option<&Block>
         ensures { (T : Recording) (n : ℕ) → IsKnownOf T n self.now → IsBlockOf T n number (option_copied result) }

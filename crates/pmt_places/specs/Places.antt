@@ -13,7 +13,7 @@ IsFound l lines found = MatchOption found ((place : ℕ) → IsPlaceOf l place l
 
 -- What the block holds of line l: its place and one more, or 0.
 abbrev pub held : Block → ℕ → ℕ
-held block l = get_or block.places (l % 16) 0
+held block l = get_or block.places (l % 8) 0
 
 -- The place of line l that the block tells, if it tells one.
 abbrev pub place_told : Block → ℕ → Option ℕ
@@ -21,13 +21,13 @@ place_told block l = if held block l == 0 then None else Some (held block l - 1)
 
 -- Block `at` of these is the one of line l, and tells its place.
 pub record Tells (numbers : List ℕ) (blocks : List Block) (l place at : ℕ) : Type 0 where
-  pub numbered : slice_get numbers at ≡ Some (l / 16)
+  pub numbered : slice_get numbers at ≡ Some (l / 8)
   pub told : (d : Block) → held (get_or blocks at d) l ≡ suc place
 
--- The blocks, of which each holds sixteen neighbours, tell where these lines stand, and nothing else.
+-- The blocks, of which each holds eight neighbours, tell where these lines stand, and nothing else.
 pub record AreBlocks (numbers : List ℕ) (blocks : List Block) (lines : List ℕ) : Type 0 where
   pub paired : length blocks ≡ length numbers
-  pub sixteen : All (λ block. length block.places ≡ 16) blocks
+  pub eight : All (λ block. length block.places ≡ 8) blocks
   pub apart : IsDistinct nat_eq numbers
   pub once : IsDistinct nat_eq lines
   pub each : (l place : ℕ) → IsPlaceOf l place lines → (at : ℕ) × Tells numbers blocks l place at
@@ -35,8 +35,8 @@ pub record AreBlocks (numbers : List ℕ) (blocks : List Block) (lines : List �
 
 -- None of the lines of the block with this number stands among these.
 abbrev pub AreUnplaced : ℕ → List ℕ → Type 0
-AreUnplaced number lines = (l place : ℕ) → l / 16 ≡ number → IsPlaceOf l place lines → ⊥
+AreUnplaced number lines = (l place : ℕ) → l / 8 ≡ number → IsPlaceOf l place lines → ⊥
 
 -- The block tells where each of them stands.
 abbrev pub AreNeighbours : Block → ℕ → List ℕ → Type 0
-AreNeighbours block number lines = (l : ℕ) → l / 16 ≡ number → IsFound l lines (place_told block l)
+AreNeighbours block number lines = (l : ℕ) → l / 8 ≡ number → IsFound l lines (place_told block l)

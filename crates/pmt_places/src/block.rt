@@ -7,23 +7,23 @@ use indexmap::IndexSet;
 use pmt_model::OutOfMemory;
 use std::alloc::AllocError;
 
-/// Of sixteen neighbouring lines the place of each that has one.
+/// Of eight neighbouring lines the place of each that has one.
 #[derive(Clone, Copy, Debug, PartialEq, Eq)]
 pub struct Block {
     // Of each line its place and one more, or 0.
-    pub(crate) places: [u32; 16],
+    pub(crate) places: [u32; 8],
 }
 
-const EMPTY: Block = Block { places: [0; 16] };
+const EMPTY: Block = Block { places: [0; 8] };
 
 impl Block {
-    /// The place of this line, one of the sixteen, if it has one.
+    /// The place of this line, one of the eight, if it has one.
     #[inline(always)]
     pub fn place(&self, line: u64) -> Option<usize>
         ensures told { result ≡ place_told self.now line }
         ensures small { IfSome result (λ place. place < 2 ^ 32) }
     {
-        match self.places[line as usize % 16] {
+        match self.places[line as usize % 8] {
             0 => None,
             told => Some(told as usize - 1),
         }
@@ -65,7 +65,7 @@ pub(crate) fn put(
     ensures place { IfOk result (λ place. place ≡ length lines.old.items) }
     ensures small { IfOk result (λ place. place < 2 ^ 32) }
     ensures lines { OnOk result (lines.new.items ≡ lines.old.items ++ line ∷ []) }
-    ensures blocks { OnOk result ((numbers : List ℕ) (d : Block) → slice_get numbers at ≡ Some (line / 16) → place_told (get_or blocks.old.items at d) line ≡ None → AreBlocks numbers blocks.old.items lines.old.items → AreBlocks numbers blocks.new.items lines.new.items) }
+    ensures blocks { OnOk result ((numbers : List ℕ) (d : Block) → slice_get numbers at ≡ Some (line / 8) → place_told (get_or blocks.old.items at d) line ≡ None → AreBlocks numbers blocks.old.items lines.old.items → AreBlocks numbers blocks.new.items lines.new.items) }
     ensures same_blocks { OnErr result (blocks.new.items ≡ blocks.old.items) }
     ensures same_lines { OnErr result (lines.new.items ≡ lines.old.items) }
 {
@@ -74,6 +74,6 @@ pub(crate) fn put(
         return Err(AllocError);
     }
     lines.push(line)?;
-    blocks[at].places[line as usize % 16] = place as u32 + 1;
+    blocks[at].places[line as usize % 8] = place as u32 + 1;
     Ok(place)
 }

@@ -10,8 +10,8 @@ use pmt_model::OutOfMemory;
 use std::alloc::Global;
 use std::marker::Model;
 
-/// Lines, each with a place: that of its first appearance. Lines that follow one another share a look-up, by blocks of 16: five to six
-/// bytes a line where all sixteen are there, some 90 bytes where one is alone, and 8 for the line itself.
+/// Lines, each with a place: that of its first appearance. Lines that follow one another share a look-up, by blocks of 8: seven to eight
+/// bytes a line where all eight are there, some 60 bytes where one is alone, and 8 for the line itself.
 #[derive(Drop)]
 pub struct LinePlaces {
     // The numbers of the blocks in which lines stand, and the blocks.
@@ -73,7 +73,7 @@ impl LinePlaces {
         ensures unique { OnOk result (IsDistinct nat_eq self.new) }
         ensures same { OnErr result (self.new ≡ self.old) }
     {
-        let number = line / 16;
+        let number = line / 8;
         let at = reach(&mut self.numbers, &mut self.blocks, self.last, number)?;
         self.last = at;
         if let Some(place) = self.blocks[at].place(line) {
@@ -83,7 +83,7 @@ impl LinePlaces {
         Ok((place, true))
     }
 
-    /// The block with this number, of the sixteen lines whose numbers are it by a division by 16; none where none of these has a place.
+    /// The block with this number, of the eight lines whose numbers are it by a division by 8; none where none of these has a place.
     pub fn neighbours(&self, number: u64) -> Option<&Block>
         ensures { MatchOption result (AreUnplaced number self.now) (λ block. AreNeighbours block.now number self.now) }
     {

@@ -17,7 +17,7 @@ pub(crate) struct Placed {
     pub(crate) place: usize,
 }
 
-// The lines from one up to the one before another that have a place, one after the other, by one look-up for sixteen.
+// The lines from one up to the one before another that have a place, one after the other, by one look-up for eight.
 #[derive(Drop)]
 pub(crate) struct PlacedLines<'a> {
     known: &'a Known,
@@ -37,7 +37,7 @@ impl<'a> PlacedLines<'a> {
         ensures end { result.end ≡ lines.now.last + 1 }
         ensures walk { (T : Recording) (n : ℕ) → IsKnownOf T n known.now → IsWalk T n result }
     {
-        let number = lines.first / 16;
+        let number = lines.first / 8;
         PlacedLines {
             known,
             block: known.neighbours(number),
@@ -60,7 +60,7 @@ impl<'a> PlacedLines<'a> {
         while self.line < end {
             let line = self.line;
             self.line = line + 1;
-            self.reach(line / 16);
+            self.reach(line / 8);
             if let Some(place) = place_in(self.block, line) {
                 return Some(Placed { line, place });
             }
@@ -87,7 +87,7 @@ impl<'a> PlacedLines<'a> {
 #[inline(always)]
 fn place_in(block: Option<&Block>, line: u64) -> Option<usize>
     ensures small { IfSome result (λ place. place < 2 ^ 32) }
-    ensures found { (T : Recording) (n : ℕ) → IsBlockOf T n (line / 16) (option_copied block.entry) → IsFound line (lines_of (history T n)) result }
+    ensures found { (T : Recording) (n : ℕ) → IsBlockOf T n (line / 8) (option_copied block.entry) → IsFound line (lines_of (history T n)) result }
 {
     match block {
         Some(block) => block.place(line),
