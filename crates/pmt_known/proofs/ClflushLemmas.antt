@@ -23,10 +23,10 @@ use Rattle.pmt_waiting.specs.Waiting.{AreWaiting}
 use Rattle.pmt_waiting.proofs.OpenLemmas.{waits-on}
 use Rattle.pmt_known.specs.declared.known.Known.{Known}
 use Rattle.pmt_known.specs.LineWords.{AreWordsOf}
-use Rattle.pmt_known.specs.Since.{AreFlushedOf}
+use Rattle.pmt_known.specs.First.{AreFlushedOf}
 use Rattle.pmt_known.specs.Known.{IsKnownAmong}
 use Rattle.pmt_known.proofs.WordsLemmas.{words-other}
-use Rattle.pmt_known.proofs.FlushedLemmas.{flushed-clflush, flushed-assertion}
+use Rattle.pmt_known.proofs.FirstLemmas.{flushed-clflush, flushed-assertion}
 use Rattle.pmt_known.proofs.KnownLemmas.{stepped}
 
 -- entries are told by the last safe store of each line, however that is said
@@ -104,8 +104,8 @@ module _ (T : Recording) (n l place : ℕ) (lines : List ℕ) (k : Known) (is : 
   pub cleared-words : AreWordsOf T (suc n) k.words_of_line lines k.words
   cleared-words = words-other T n k.words_of_line lines k.words (Clflushes l) next (λ m w e. cc) is.words
 
-  pub cleared-flushed : AreFlushedOf lines (history T (suc n)) k.flushed.lines.items
-  cleared-flushed = stepped (λ h. AreFlushedOf lines h k.flushed.lines.items) T n (Clflushes l) next (flushed-clflush lines l (history T n) k.flushed.lines.items is.flushed)
+  pub cleared-flushed : AreFlushedOf lines (history T (suc n)) k.flushed.first.items k.flushed.others.lines.items
+  cleared-flushed = stepped (λ h. AreFlushedOf lines h k.flushed.first.items k.flushed.others.lines.items) T n (Clflushes l) next (flushed-clflush lines l (history T n) k.flushed.first.items k.flushed.others.lines.items is.flushed)
 
   pub cleared-waiting : AreWaiting lines (history T (suc n)) k.waiting
   cleared-waiting = stepped (λ h. AreWaiting lines h k.waiting) T n (Clflushes l) next (waits-on.others lines (history T n) k.waiting (Clflushes l) (λ t m e. cc) (λ t e. cc) is.waiting)
@@ -144,8 +144,8 @@ module _ (T : Recording) (n : ℕ) (lines : List ℕ) (k : Known) (is : IsKnownA
       let same : k.links ++ suc n ∷ [] ≡ links = sym (pushed ∙ ap (λ m. k.links ++ m ∷ []) e) in
       stepped (λ h. AreLinked T (suc n) (λ m. safe_store m h) links) T n Asserts next (subst (AreLinked T (suc n) (λ m. safe_store_at T m n)) same linked)
 
-  pub judged-flushed : AreFlushedOf lines (history T (suc n)) k.flushed.lines.items
-  judged-flushed = stepped (λ h. AreFlushedOf lines h k.flushed.lines.items) T n Asserts next (flushed-assertion lines (history T n) k.flushed.lines.items is.flushed)
+  pub judged-flushed : AreFlushedOf lines (history T (suc n)) k.flushed.first.items k.flushed.others.lines.items
+  judged-flushed = stepped (λ h. AreFlushedOf lines h k.flushed.first.items k.flushed.others.lines.items) T n Asserts next (flushed-assertion lines (history T n) k.flushed.first.items k.flushed.others.lines.items is.flushed)
 
   pub judged-waiting : AreWaiting lines (history T (suc n)) k.waiting
   judged-waiting = stepped (λ h. AreWaiting lines h k.waiting) T n Asserts next (waits-on.others lines (history T n) k.waiting Asserts (λ t m e. cc) (λ t e. cc) is.waiting)

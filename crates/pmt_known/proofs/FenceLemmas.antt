@@ -26,10 +26,10 @@ use Rattle.pmt_fencing.specs.Fencing.{AreAtFence, IsAtFence, IsRaisable, raisers
 use Rattle.pmt_known.specs.declared.known.Known.{Known}
 use Rattle.pmt_known.specs.Flags.{FlagsKept}
 use Rattle.pmt_known.specs.LineWords.{AreWordsOf}
-use Rattle.pmt_known.specs.Since.{AreFlushedOf}
+use Rattle.pmt_known.specs.First.{AreFlushedOf}
 use Rattle.pmt_known.specs.Known.{IsKnownAmong}
 use Rattle.pmt_known.proofs.WordsLemmas.{words-other}
-use Rattle.pmt_known.proofs.FlushedLemmas.{flushed-fence}
+use Rattle.pmt_known.proofs.FirstLemmas.{flushed-fence}
 use Rattle.pmt_known.proofs.KnownLemmas.{length-before, stepped}
 use Rattle.pmt_known.proofs.ClflushLemmas.{linked-same}
 use Rattle.pmt_known.proofs.KeepingLemmas.{flags_kept}
@@ -230,8 +230,8 @@ module _ (T : Recording) (n t : ℕ) (lines : List ℕ) (k : Known) (is : IsKnow
   pub fenced-words : AreWordsOf T (suc n) k.words_of_line lines k.words
   fenced-words = words-other T n k.words_of_line lines k.words (Fences t) next (λ m w e. cc) is.words
 
-  pub fenced-flushed : AreFlushedOf lines (history T (suc n)) k.flushed.lines.items
-  fenced-flushed = stepped (λ h. AreFlushedOf lines h k.flushed.lines.items) T n (Fences t) next (flushed-fence lines t (history T n) k.flushed.lines.items is.flushed)
+  pub fenced-flushed : AreFlushedOf lines (history T (suc n)) k.flushed.first.items k.flushed.others.lines.items
+  fenced-flushed = stepped (λ h. AreFlushedOf lines h k.flushed.first.items k.flushed.others.lines.items) T n (Fences t) next (flushed-fence lines t (history T n) k.flushed.first.items k.flushed.others.lines.items is.flushed)
 
   pub fenced-waiting : (new : List (List OpenFlush)) → list_at t new ≡ [] → ((u : ℕ) → u ≢ t → list_at u new ≡ list_at u k.waiting) → AreWaiting lines (history T (suc n)) new
   fenced-waiting new own others = stepped (λ h. AreWaiting lines h new) T n (Fences t) next (waits-on.fence lines t (history T n) k.waiting new own others is.waiting)

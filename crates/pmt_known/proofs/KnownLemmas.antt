@@ -27,13 +27,13 @@ use Rattle.pmt_waiting.specs.declared.open.OpenFlush.{OpenFlush}
 use Rattle.pmt_waiting.proofs.OpenLemmas.{waits-on}
 use Rattle.pmt_known.specs.declared.known.Known.{Known}
 use Rattle.pmt_known.specs.LineWords.{word_address, AreWordsOf}
-use Rattle.pmt_known.specs.Since.{none_since, tells_flush, AreFlushedOf}
-use Rattle.pmt_known.specs.Flushing.{HasFlush}
+use Rattle.pmt_known.specs.First.{AreFlushedOf, HasFirst, tells_at}
+use Rattle.pmt_known.specs.declared.first_flush.FirstFlush.{FirstFlush}
 use Rattle.pmt_known.specs.declared.flushed.SinceStore.{SinceStore}
 use Rattle.pmt_known.specs.Known.{IsActAt, IsKnownAmong, IsKnownOf, IsStoreAt, IsStoreNext, AddsOverwrittenBy}
 use Rattle.pmt_known.specs.declared.line_words.WordBytes.{WordBytes}
 use Rattle.pmt_known.proofs.WordsLemmas.{AreAdded, words-new, words-other}
-use Rattle.pmt_known.proofs.FlushedLemmas.{flushed-new, flushed-store, flushed-flush}
+use Rattle.pmt_known.proofs.FirstLemmas.{flushed-new, flushed-store, flushed-flush}
 
 -- ---- A place for a line
 
@@ -64,12 +64,12 @@ module _ (T : Recording) (n l : ℕ) (lines : List ℕ) (k : Known) (rows : Rows
   no-flush : has_line l lines ≡ false → last_flush l (history T n) ≡ 0
   no-flush new = ap (λ (r : Row). r.last_flush) (is.rows.others l new)
 
-  pub placed-flushed : AreFlushedOf (with_line l lines) (history T n) k.flushed.lines.items
+  pub placed-flushed : AreFlushedOf (with_line l lines) (history T n) k.flushed.first.items k.flushed.others.lines.items
   placed-flushed = go (has_line l lines) refl
     where
-      go : (b : Bool) → has_line l lines ≡ b → AreFlushedOf (if b then lines else lines ++ l ∷ []) (history T n) k.flushed.lines.items
+      go : (b : Bool) → has_line l lines ≡ b → AreFlushedOf (if b then lines else lines ++ l ∷ []) (history T n) k.flushed.first.items k.flushed.others.lines.items
       go true e = is.flushed
-      go false e = flushed-new lines l (history T n) k.flushed.lines.items (no-flush e) is.flushed
+      go false e = flushed-new lines l (history T n) k.flushed.first.items k.flushed.others.lines.items (no-flush e) is.flushed
 
   pub placed-waiting : AreWaiting (with_line l lines) (history T n) k.waiting
   placed-waiting = go (has_line l lines)
@@ -120,8 +120,8 @@ module _ (T : Recording) (n l place word low high : ℕ) (w : Written) (lines : 
       let same : k.links ++ last_line_store_at T l n ∷ [] ≡ links = sym (pushed ∙ ap (λ m. k.links ++ m ∷ []) e) in
       stepped (λ h. AreLinked T (suc n) (λ m. safe_store m h) links) T n (Stores l w) next (subst (AreLinked T (suc n) (λ m. safe_store_at T m n)) same linked)
 
-  pub stored-flushed : AreFlushedOf lines (history T (suc n)) k.flushed.lines.items
-  stored-flushed = stepped (λ h. AreFlushedOf lines h k.flushed.lines.items) T n (Stores l w) next (flushed-store lines l w (history T n) k.flushed.lines.items is.flushed)
+  pub stored-flushed : AreFlushedOf lines (history T (suc n)) k.flushed.first.items k.flushed.others.lines.items
+  stored-flushed = stepped (λ h. AreFlushedOf lines h k.flushed.first.items k.flushed.others.lines.items) T n (Stores l w) next (flushed-store lines l w (history T n) k.flushed.first.items k.flushed.others.lines.items is.flushed)
 
   pub stored-waiting : AreWaiting lines (history T (suc n)) k.waiting
   stored-waiting = stepped (λ h. AreWaiting lines h k.waiting) T n (Stores l w) next (waits-on.others lines (history T n) k.waiting (Stores l w) (λ t m e. cc) (λ t e. cc) is.waiting)
@@ -191,8 +191,8 @@ module _ (T : Recording) (n l t place : ℕ) (lines : List ℕ) (k : Known) (is 
       let same : k.links ++ suc n ∷ [] ≡ links = sym (pushed ∙ ap (λ m. k.links ++ m ∷ []) e) in
       stepped (λ h. AreLinked T (suc n) (λ m. safe_store m h) links) T n (Flushes t l) next (subst (AreLinked T (suc n) (λ m. safe_store_at T m n)) same linked)
 
-  pub flushed-flushed : (last : ℕ) (new : List SinceStore) → last ≡ last_line_store_at T l n → HasFlush place last t k.flushed.lines.items new → AreFlushedOf lines (history T (suc n)) new
-  flushed-flushed last new e has = stepped (λ h. AreFlushedOf lines h new) T n (Flushes t l) next (flushed-flush lines t l place last (history T n) k.flushed.lines.items new is.rows.once at e has is.flushed)
+  pub flushed-flushed : (last : ℕ) (new : List FirstFlush) (others : List SinceStore) → last ≡ last_line_store_at T l n → HasFirst place last t k.flushed.first.items k.flushed.others.lines.items new others → AreFlushedOf lines (history T (suc n)) new others
+  flushed-flushed last new others e has = stepped (λ h. AreFlushedOf lines h new others) T n (Flushes t l) next (flushed-flush lines t l place last (history T n) k.flushed.first.items k.flushed.others.lines.items new others is.rows.once at e has is.flushed)
 
   pub flushed-waiting : (f : OpenFlush) (new : List (List OpenFlush)) → f.place ≡ place → f.number ≡ suc n → f.store ≡ last_line_store_at T l n → list_at t new ≡ list_at t k.waiting ++ f ∷ [] → ((u : ℕ) → u ≢ t → list_at u new ≡ list_at u k.waiting) →
       AreWaiting lines (history T (suc n)) new
@@ -202,7 +202,7 @@ module _ (T : Recording) (n l t place : ℕ) (lines : List ℕ) (k : Known) (is 
       let many = length-before T n (Flushes t l) next in
       stepped (λ h. AreWaiting lines h new) T n (Flushes t l) next (waits-on.flush lines t l (history T n) f k.waiting new within line (omega (arith, numbered, many)) marked own others is.waiting)
 
-  pub flushed-tells : (again result : Bool) (safe last : ℕ) → again ≡ tells_flush last (get_or k.flushed.lines.items place none_since) t → t < 256 → safe ≡ safe_store_at T l n → last ≡ last_line_store_at T l n → result ≡ (again || (safe == last)) →
+  pub flushed-tells : (again result : Bool) (safe last : ℕ) → again ≡ tells_at last k.flushed.first.items k.flushed.others.lines.items place t → t < 256 → safe ≡ safe_store_at T l n → last ≡ last_line_store_at T l n → result ≡ (again || (safe == last)) →
       (result ≡ true) ↔ IsRedundantFlush T t l (suc n)
   flushed-tells again result safe last told small safe_is last_is answer = (there, back)
     where
@@ -210,7 +210,7 @@ module _ (T : Recording) (n l t place : ℕ) (lines : List ℕ) (k : Known) (is 
       law = redundant_flush_by_stores T t l n next
 
       again-is : again ≡ has_flushed t l (history T n)
-      again-is = told ∙ ap (λ m. tells_flush m (get_or k.flushed.lines.items place none_since) t) last_is ∙ is.flushed.each l place t at small
+      again-is = told ∙ ap (λ m. tells_at m k.flushed.first.items k.flushed.others.lines.items place t) last_is ∙ is.flushed.each l place t at small
 
       there : result ≡ true → IsRedundantFlush T t l (suc n)
       there yes_it = elim (or-told again (safe == last) (sym answer ∙ yes_it)) [

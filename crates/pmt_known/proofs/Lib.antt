@@ -1,6 +1,7 @@
 pub mod WordsLemmas
 pub mod ReadingLemmas
 mod FlushedLemmas
+mod FirstLemmas
 mod KnownLemmas
 mod ClflushLemmas
 mod FenceLemmas

@@ -1,5 +1,6 @@
 pub mod LineWords
 pub mod Since
+pub mod First
 pub mod Parts
 pub mod Known
 pub mod Flushing

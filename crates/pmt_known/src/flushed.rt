@@ -1,5 +1,5 @@
-//! Of each line the threads that have flushed it since its last store.
-ghost use Rattle.std.specs.Prelude.{◌≡◌, ℕ, ◌+◌, ◌<◌, ◌^◌, ◌==◌, ◌||◌, [], length, max, get_or, IfOk, OnOk};
+//! Of each line threads that have flushed it since its last store.
+ghost use Rattle.std.specs.Prelude.{◌≡◌, ◌≢◌, ℕ, ◌+◌, ◌<◌, ◌^◌, ◌==◌, ◌||◌, false, [], length, max, get_or, IfOk, OnOk};
 ghost use Rattle.pmt_known.specs.Flushing.{HasFlush, IsAlike};
 ghost use Rattle.pmt_known.specs.Since.{none_since, tells_flush};
 
@@ -14,11 +14,11 @@ pub(crate) struct SinceStore {
     threads: Flushers,
 }
 
-/// Of each line, by its place, the threads that have flushed it since its last store. A store changes nothing here: what is of an older
-/// store is let go at the next flush.
+/// Of each line, by its place, threads that have flushed it since its last store. A store changes nothing here: what is of an older store
+/// is let go at the next flush.
 #[derive(Drop)]
 pub(crate) struct FlushedLines {
-    lines: Vec<SinceStore>,
+    pub(crate) lines: Vec<SinceStore>,
 }
 
 impl FlushedLines {
@@ -31,7 +31,7 @@ impl FlushedLines {
     }
 
     // A flush by the thread of the line at this place, whose last store is this one: whether it has flushed it since.
-    #[inline(always)]
+    #[inline(never)]
     pub(crate) fn flush(
         &mut self,
         place: usize,
@@ -44,6 +44,17 @@ impl FlushedLines {
     {
         self.reach(place)?;
         flush_line(&mut self.lines[place], store, thread)
+    }
+
+    // Nobody has flushed the line at this place any more.
+    #[inline(always)]
+    pub(crate) fn clear(&mut self, place: usize)
+        ensures own { (last t : ℕ) → t < 256 → tells_flush last (get_or self.new.lines.items place none_since) t ≡ false }
+        ensures others { (p : ℕ) → p ≢ place → get_or self.new.lines.items p none_since ≡ get_or self.old.lines.items p none_since }
+    {
+        if place < self.lines.len() {
+            self.lines[place].threads.clear();
+        }
     }
 
     // Makes a place for the line.

@@ -9,7 +9,7 @@ ghost use Rattle.pmt_places.specs.Places.{IsPlaceOf};
 ghost use Rattle.pmt_known.specs.Flags.{FlagsKept};
 ghost use Rattle.pmt_known.specs.Known.{AddsOverwrittenBy, IsActAt, IsKnownAmong, IsKnownOf, IsStoreAt, IsStoreNext};
 
-use crate::flushed::FlushedLines;
+use crate::first_flush::FirstFlushes;
 use crate::line_words::{WordBytes, add_words, bytes_of};
 use pmt_fencing::fence;
 use pmt_links::Links;
@@ -37,7 +37,7 @@ pub struct Known {
     pub(crate) rows: Rows,
     pub(crate) words: Words,
     pub(crate) links: Links,
-    pub(crate) flushed: FlushedLines,
+    pub(crate) flushed: FirstFlushes,
     pub(crate) waiting: OpenFlushes,
 }
 
@@ -55,7 +55,7 @@ impl Known {
             rows: Rows::new(alloc),
             words: Words::new(alloc),
             links: Links::new(alloc)?,
-            flushed: FlushedLines::new(alloc),
+            flushed: FirstFlushes::new(alloc),
             waiting: OpenFlushes::new(alloc),
         })
     }

@@ -4,6 +4,7 @@
 #![tactic(auto)]
 
 pub mod ends;
+mod first_flush;
 mod flushed;
 pub mod known;
 pub mod laws;

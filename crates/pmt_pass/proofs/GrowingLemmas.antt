@@ -28,7 +28,7 @@ use Rattle.pmt_waiting.specs.Waiting.{AreWaiting}
 use Rattle.pmt_known.specs.declared.known.Known.{Known}
 use Rattle.pmt_known.specs.Known.{IsKnownAmong, IsKnownOf}
 use Rattle.pmt_known.specs.LineWords.{AreWordsOf, word_address}
-use Rattle.pmt_known.specs.Since.{AreFlushedOf}
+use Rattle.pmt_known.specs.First.{AreFlushedOf}
 use Rattle.pmt_ending.specs.Late.{is_known_late}
 use Rattle.pmt_pass.specs.declared.sweeping.Sweeper.{Sweeper}
 use Rattle.pmt_pass.specs.Known.{AreKnownTo}
@@ -166,7 +166,7 @@ module _ (S : Recording) (more : List Event) where
     rows = subst (λ h. IsKnownWith (lines_of (history S size)) h (λ l. safe_store l h) k.rows) here known.rows;
     words = words-more k.words_of_line (lines_of (history S size)) k.words known.words;
     entries = entries-more k.links known.entries;
-    flushed = subst (λ h. AreFlushedOf (lines_of (history S size)) h k.flushed.lines.items) here known.flushed;
+    flushed = subst (λ h. AreFlushedOf (lines_of (history S size)) h k.flushed.first.items k.flushed.others.lines.items) here known.flushed;
     waiting = subst (λ h. AreWaiting (lines_of (history S size)) h k.waiting) here known.waiting;
   })
 

@@ -25,7 +25,7 @@ returns-then-again-clause-known c = λ T n l it.
       rows = flushed-rows T n l t place lines k it.known it.is it.at c.flush-2.new.self (c.flush-2.ensures lines (history T n) (λ m. safe_store_at T m n) l t (numbered ∙ ap suc (sym counted)) it.at it.known.rows);
       words = flushed-words T n l t place lines k it.known it.is it.at;
       entries = flushed-links T n l t place lines k it.known it.is it.at c.len-number.result c.push.new.self numbered c.in_ok-push.ensures.added;
-      flushed = flushed-flushed T n l t place lines k it.known it.is it.at c.row-row.result.last_store c.flush.new.self.lines.items marked c.in_ok-again.ensures.flushed;
+      flushed = flushed-flushed T n l t place lines k it.known it.is it.at c.row-row.result.last_store c.flush.new.self.first.items c.flush.new.self.others.lines.items marked c.in_ok-again.ensures.flushed;
       waiting = flushed-waiting T n l t place lines k it.known it.is it.at (record { number = c.len-number.result; place = place; store = c.row-row.result.last_store }) c.add.new.self refl numbered marked c.in_ok-add.ensures.own c.in_ok-add.ensures.others;
     }
 
@@ -57,7 +57,7 @@ returns-else-again-clause-known c = λ T n l it.
       rows = flushed-rows T n l t place lines k it.known it.is it.at c.flush-2.new.self (c.flush-2.ensures lines (history T n) (λ m. safe_store_at T m n) l t (numbered ∙ ap suc (sym counted)) it.at it.known.rows);
       words = flushed-words T n l t place lines k it.known it.is it.at;
       entries = flushed-links T n l t place lines k it.known it.is it.at c.len-number.result c.push.new.self numbered c.in_ok-push.ensures.added;
-      flushed = flushed-flushed T n l t place lines k it.known it.is it.at c.row-row.result.last_store c.flush.new.self.lines.items marked c.in_ok-again.ensures.flushed;
+      flushed = flushed-flushed T n l t place lines k it.known it.is it.at c.row-row.result.last_store c.flush.new.self.first.items c.flush.new.self.others.lines.items marked c.in_ok-again.ensures.flushed;
       waiting = flushed-waiting T n l t place lines k it.known it.is it.at (record { number = c.len-number.result; place = place; store = c.row-row.result.last_store }) c.add.new.self refl numbered marked c.in_ok-add.ensures.own c.in_ok-add.ensures.others;
     }
 
