@@ -1,5 +1,6 @@
 pub mod FindingLists
 pub mod JoiningLemmas
+mod MixingLemmas
 pub mod KnownLemmas
 pub mod FlagLemmas
 pub mod VerdictLemmas
