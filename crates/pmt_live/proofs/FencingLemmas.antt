@@ -1,10 +1,10 @@
 -- What a fence does, flush by flush from the newest to the oldest.
 use Rattle.std.proofs.Common.{◌≡◌, ◌≢◌, ℕ, zero, suc, ◌+◌, ◌-◌, ◌<◌, ◌≤◌, inl, inr, Bool, true, false, List, [], ◌∷◌, ◌++◌, length, get_or, set, map, take, drop, Some, refl, sym, ap, subst, ◌∙◌, arith}
-use Rattle.std.specs.Prelude.{◌↔◌, if◌then◌else◌, slice_get, max, nat_eq, nat_lt, All}
+use Rattle.std.specs.Prelude.{◌↔◌, ◌||◌, if◌then◌else◌, slice_get, max, nat_eq, nat_lt, All}
 use Rattle.std.specs.List.{IsDistinct}
 use Rattle.std.proofs.Math.Seq.{get_or-append_seam, set-append_seam}
-use Rattle.std.proofs.lemmas.Bool.{cases_eq, eq-eqb, ne_eqb, true≢false, lt-ltb, le-ltb, ltb-true}
-use Rattle.std.proofs.lemmas.List.{append_assoc, get_or-map, length-map, length-set, length-take-le, map-append, take_all, take_more, drop_more}
+use Rattle.std.proofs.lemmas.Bool.{cases_eq, eq-eqb, ne_eqb, true≢false, lt-ltb, le-ltb, ltb-true, ltb-false}
+use Rattle.std.proofs.lemmas.List.{append_assoc, get_or-map, length-map, length-set, length-take-le, map-append, take_all, take_more, drop_more, set-get_or}
 use Rattle.std.proofs.lemmas.List.Elements.{All-set}
 use Rattle.std.proofs.lemmas.Option.{slice_get-get_or}
 use Rattle.pmt_model.specs.Machine.{Act, Fences, count}
@@ -22,8 +22,11 @@ use Rattle.pmt_live.specs.Fencing.{number_of, place_in, DecidesFence, front_by, 
 use Rattle.pmt_live.proofs.ListLemmas.{map-same, map-set_one}
 use Rattle.pmt_live.proofs.OpenLemmas.{lists-fence, each-fence}
 
-abbrev row_with : ℕ → ℕ → LineRow
+abbrev pub row_with : ℕ → ℕ → LineRow
 row_with c f = record { count = c; front = f }
+
+abbrev pub flush_with : OpenFlush → ℕ → OpenFlush
+flush_with f n = record { number = f.number; place = f.place; stores = n }
 
 -- The row of line l once these flushes, the newest of all, are decided.
 abbrev row_by : List ℕ → List Act → List OpenFlush → ℕ → LineRow
@@ -154,6 +157,14 @@ pub within-set : (size : ℕ) (flushes : List OpenFlush) (j : ℕ) (g : OpenFlus
 within-set size flushes j g stores read inside within =
     All-set (λ (f : OpenFlush). f.place < size) flushes j (record { number = g.number; place = g.place; stores = stores }) (omega (arith, within j g inside, ap place_in read)) within
 
+or-true : (b : Bool) → (b || true) ≡ true
+or-true true = refl
+or-true false = refl
+
+or-false : (b : Bool) → (b || false) ≡ b
+or-false true = refl
+or-false false = refl
+
 module _ (lines : List ℕ) (h : List Act) (t : ℕ) (start : List LineRow) (first : List OpenFlush) (at : IsAtFence lines h t start first) (f : OpenFlush) (rows : List LineRow) (flushes : List OpenFlush) (rises : Bool)
     (x : LineRow) (read : x ≡ get_or rows f.place x) where
   read-first : (j : ℕ) → j < length first → f ≡ get_or flushes j f → IsDeciding lines h (suc j) first rows flushes rises → f ≡ get_or first j f
@@ -179,6 +190,20 @@ module _ (lines : List ℕ) (h : List Act) (t : ℕ) (start : List LineRow) (fir
       let within : j < length first = omega arith in
       let is_first = read-first j within (rw e at got) before in
       rw e (deciding-same lines h j first f rows flushes rises at.once (inside-lines j within is_first) within is_first before x g new read above (rw e at reread) (rw e at is))
+
+  -- whether it raises a front or not
+  pub next-decided : (i : ℕ) (raises : Bool) (new : List LineRow) (marked : List OpenFlush) → 0 < i → i ≤ length first → f ≡ get_or flushes (i - 1) f → raises ≡ nat_lt x.front f.stores →
+      new ≡ set rows f.place (row_with x.count (if raises then f.stores else x.front)) →
+      marked ≡ set flushes (i - 1) (record { number = f.number; place = f.place; stores = if raises then f.stores else 0 }) →
+      IsDeciding lines h i first rows flushes rises → IsDeciding lines h (i - 1) first new marked (rises || raises)
+  next-decided i true new marked some many got tells is are before =
+      let below : x.front < f.stores = ltb-true x.front f.stores (sym tells) in
+      let same : marked ≡ flushes = are ∙ ap (set flushes (i - 1)) got ∙ set-get_or flushes (i - 1) f in
+      rw (same, or-true rises) (next-raised i x new some many got read below is before)
+  next-decided i false new marked some many got tells is are before =
+      let above : f.stores ≤ x.front = ltb-false x.front f.stores (sym tells) in
+      let same : new ≡ rows = is ∙ ap (set rows f.place) read ∙ set-get_or rows f.place x in
+      rw (same, or-false rises) (next-same i f marked some many got above got are before)
 
 -- no flush is left
 pub deciding-all : (lines : List ℕ) (h : List Act) (t : ℕ) (start rows : List LineRow) (first flushes : List OpenFlush) (rises : Bool) → IsAtFence lines h t start first →
