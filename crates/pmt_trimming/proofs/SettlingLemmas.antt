@@ -15,6 +15,11 @@ use Rattle.pmt_trimming.specs.declared.pass.Mark.TheVariants as marks
 use Rattle.pmt_trimming.specs.declared.pass.Pass.{Pass}
 use Rattle.pmt_trimming.specs.Passing.{TellsMark, AreMarks, decision_by, flag_by, HasJudged, IsPassOf, Settles, AreFlags}
 
+-- the first mark, if there is one
+pub first-is : (list : List Mark) (m : Mark) → Some m ≡ slice_get list 0 → (0 < length list) × (m ≡ get_or list 0 m)
+first-is [] m is = absurd (none-some m (sym is))
+first-is (x ∷ list) m is = (omega arith, same_Some m x is)
+
 -- the mark of the oldest event
 first-told : (T : Recording) (settled : ℕ) (list : List Mark) (m : Mark) → 0 < length list → m ≡ get_or list 0 m → AreMarks T settled list → TellsMark T (suc settled) m
 first-told T settled [] m some read told = absurd (omega arith)

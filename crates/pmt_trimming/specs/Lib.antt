@@ -1,5 +1,6 @@
 pub mod Headline
 pub mod AllEvents
+pub mod MarkRows
 pub mod Passing
 pub mod Fencing
 pub mod Streaming

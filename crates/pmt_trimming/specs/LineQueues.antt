@@ -1,5 +1,5 @@
 -- A text and lines after it, that lie in a row, and what leaves the front of the lines.
-use Rattle.std.specs.Prelude.{◌≡◌, ℕ, ◌+◌, ◌<◌, ◌≤◌, ◌⊎◌, Bool, true, false, List, [], ◌∷◌, ◌++◌, length, take, drop, sum}
+use Rattle.std.specs.Prelude.{◌≡◌, ℕ, ◌+◌, ◌-◌, ◌<◌, ◌≤◌, ◌⊎◌, Bool, true, false, List, [], ◌∷◌, ◌++◌, length, take, drop, sum}
 
 -- These bytes, cut into lines of these lengths.
 abbrev pub cut_by : List ℕ → List ℕ → List (List ℕ)
@@ -39,3 +39,18 @@ kept_texts (b ∷ flags) (line ∷ lines) = kept_text b line ++ kept_texts flags
 abbrev pub Pops : List (List ℕ) → Bool → List ℕ → List (List ℕ) → List ℕ → Type 0
 Pops [] kept text lines new = (lines ≡ []) × (new ≡ text)
 Pops (line ∷ rest) kept text lines new = (lines ≡ rest) × (new ≡ text ++ kept_text kept line)
+
+-- The first bytes end before a run of bytes, or where it begins.
+pub record IsRun (end from at : ℕ) : Type 0 where
+  pub before : end ≤ from
+  pub whole : from ≤ at
+
+-- The first bytes, and after them the run.
+abbrev pub run_text : ℕ → ℕ → ℕ → List ℕ → List ℕ
+run_text end from at bytes = take end bytes ++ take (at - from) (drop from bytes)
+
+-- The bytes from the end of the run on are just those of the lines, of which so many have left.
+pub record AreHeld (end from at left : ℕ) (lengths bytes : List ℕ) : Type 0 where
+  pub run : IsRun end from at
+  pub some : left ≤ length lengths
+  pub cut : AreCut (drop left lengths) at bytes

@@ -1,8 +1,24 @@
 -- The text of all that a source gives, trimmed.
-use Rattle.std.specs.Prelude.{ℕ, List, Option}
+use Rattle.std.specs.Prelude.{◌≡◌, ℕ, List, map, Option}
+use Rattle.pmt_model.specs.declared.event.Event.{Event}
 use Rattle.pmt_model.specs.Traces.{Recording}
 use Rattle.pmt_text.specs.Coming.{Coming, ComesWhole}
+use Rattle.pmt_text.specs.Spelling.{event_text}
+use Rattle.pmt_trimming.specs.declared.whole_text.Whole.{Whole}
+use Rattle.pmt_trimming.specs.Leaving.{HaveLeft}
+use Rattle.pmt_trimming.specs.Passing.{IsPassOf}
 use Rattle.pmt_trimming.specs.Streaming.{IsTextOfTrimmed}
+
+-- The events of T have come, and the lines of those that have not left are held.
+pub record IsWholeOf (T : Recording) (w : Whole) : Type 0 where
+  pub pass : IsPassOf T w.pass
+  pub waiting : List Event
+  pub lines : w.held.lines ≡ map event_text waiting
+  pub left : HaveLeft T w.pass.settled waiting w.held.text
+
+-- Those of some trace have.
+abbrev pub IsWhole : Whole → Type 0
+IsWhole w = (T : Recording) × IsWholeOf T w
 
 -- The text is that of the trimmed trace of all that comes, and then the end comes.
 pub record IsTextOfWhole (coming : Option Coming) (text : List ℕ) : Type 0 where

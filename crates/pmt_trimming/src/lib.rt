@@ -3,8 +3,10 @@
 //! The definitions stand in `specs/`; those of useful flushes and fences, of cuts and of crashes are pmt_model's.
 #![tactic(auto)]
 
+mod held_lines;
 pub mod laws;
 mod line_queue;
+mod marks;
 mod pass;
 pub mod shortest;
 mod stream;

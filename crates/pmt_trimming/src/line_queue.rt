@@ -131,7 +131,7 @@ impl LineQueue {
 
 // Moves so many bytes from the start to the end of the text.
 #[inline(always)]
-fn move_down(bytes: &mut Vec<u8>, end: usize, start: usize, len: usize)
+pub(crate) fn move_down(bytes: &mut Vec<u8>, end: usize, start: usize, len: usize)
     requires before { end ≤ start }
     requires within { start + len ≤ length bytes.old.items }
     ensures text { take (end + len) bytes.new.items ≡ take end bytes.old.items ++ take len (drop start bytes.old.items) }

@@ -10,10 +10,10 @@ ghost use Rattle.pmt_live.specs.Fencing.{number_of};
 ghost use Rattle.pmt_trimming.specs.Passing.{HasJudged, IsPassOf, IsPassing, taken, Settles, AreFlags, AreMarks, mark_from, decision_by, flag_by};
 ghost use Rattle.pmt_trimming.specs.Fencing.{HaveMarks, AreDecided};
 
+use crate::marks::Marks;
 use pmt_live::{LiveLines, OpenFlush};
 use pmt_model::{Event, Format, Op, OutOfMemory, line_of};
 use std::alloc::Global;
-use std::collections::VecDeque;
 
 /// What is known of an event.
 #[derive(Clone, Copy, Debug, PartialEq, Eq)]
@@ -34,7 +34,7 @@ pub(crate) enum Mark {
 pub(crate) struct Pass {
     format: Format,
     live: LiveLines,
-    marks: VecDeque<Mark>,
+    marks: Marks,
     settled: u64,
 }
 
@@ -49,7 +49,7 @@ impl Pass {
         Ok(Pass {
             format,
             live: LiveLines::new(alloc),
-            marks: VecDeque::new(alloc),
+            marks: Marks::new(alloc),
             settled: 0,
         })
     }
@@ -66,7 +66,7 @@ impl Pass {
         ensures settled { self.new.settled ≡ self.old.settled }
     {
         let mark = self.judge(event)?;
-        self.marks.push_back(mark)?;
+        self.marks.push(mark)?;
         Ok(())
     }
 
@@ -89,7 +89,7 @@ impl Pass {
                 Ok(Some(kept))
             }
             None => {
-                self.marks.push_back(mark)?;
+                self.marks.push(mark)?;
                 Ok(None)
             }
         }
@@ -133,6 +133,7 @@ impl Pass {
     }
 
     // A flush of the line by the thread.
+    #[inline(always)]
     fn judge_flush(&mut self, thread: u8, line: u64) -> Result<Mark, OutOfMemory>
         requires passing { IsPassing self.old }
         requires room { taken self.old < event_limit }
@@ -178,9 +179,9 @@ impl Pass {
         ensures passing { (T : Recording) → IsPassOf T self.old → IsPassOf T self.new }
         ensures settles { (T : Recording) → IsPassOf T self.old → Settles T self.old.settled result self.new.settled }
     {
-        match decision(*self.marks.front()?) {
+        match decision(self.marks.first()?) {
             Some(kept) => {
-                let _ = self.marks.pop_front();
+                self.marks.pop();
                 self.settled += 1;
                 Some(kept)
             }
@@ -195,7 +196,14 @@ impl Pass {
     pub(crate) fn finish(self, alloc: Global) -> Result<Vec<bool>, OutOfMemory>
         ensures { IfOk result (λ flags. (T : Recording) → IsPassOf T self → AreFlags T self.settled flags.items) }
     {
-        flags(alloc, &self.marks)
+        flags(alloc, self.marks.as_slice())
+    }
+
+    /// The marks of the events that were not given out, the oldest first.
+    pub(crate) fn marks(&self) -> &[Mark]
+        ensures { result.now ≡ self.now.marks.items }
+    {
+        self.marks.as_slice()
     }
 }
 
@@ -218,14 +226,15 @@ fn decision(mark: Mark) -> Option<bool>
 }
 
 // Of each mark whether it is that of a kept event.
-fn flags(alloc: Global, marks: &VecDeque<Mark>) -> Result<Vec<bool>, OutOfMemory>
-    ensures { IfOk result (λ flags. flags.items ≡ map (λ m. flag_by m) marks.now.items) }
+fn flags(alloc: Global, marks: &[Mark]) -> Result<Vec<bool>, OutOfMemory>
+    ensures { IfOk result (λ flags. flags.items ≡ map (λ m. flag_by m) marks.now) }
 {
     marks.iter().map(|mark| flag(*mark)).collect(alloc)
 }
 
 // Whether the mark is that of a kept event.
-fn flag(mark: Mark) -> bool
+#[inline(always)]
+pub(crate) fn flag(mark: Mark) -> bool
     ensures { result ≡ flag_by mark }
 {
     match mark {
@@ -235,12 +244,13 @@ fn flag(mark: Mark) -> bool
 }
 
 // Marks the flushes that a fence has decided.
-fn mark_decided(marks: &mut VecDeque<Mark>, settled: u64, flushes: &[OpenFlush])
+fn mark_decided(marks: &mut Marks, settled: u64, flushes: &[OpenFlush])
     requires { HaveMarks settled marks.old.items (map number_of flushes.now) }
     ensures size { length marks.new.items ≡ length marks.old.items }
     ensures marks { (T : Recording) → AreDecided T settled marks.old.items flushes.now → AreMarks T settled marks.new.items }
 {
     for flush in flushes {
-        marks[(flush.number as u64 - settled - 1) as usize] = mark_of(flush.is_kept());
+        let index = (flush.number as u64 - settled - 1) as usize;
+        marks.put(index, mark_of(flush.is_kept()));
     }
 }

@@ -124,14 +124,6 @@ impl Stream {
         queue.clear_text();
         text_of(alloc, pass, queue)
     }
-
-    // All has come: the text, and after it that of the kept events that still wait.
-    pub(crate) fn into_text(self, alloc: Global) -> Result<Vec<u8>, OutOfMemory>
-        ensures { IfOk result (λ whole. (T : Recording) → IsStreamOf T self self.queue.text → IsTextOfTrimmed T whole.items) }
-    {
-        let Stream { pass, queue } = self;
-        text_of(alloc, pass, queue)
-    }
 }
 
 // The text of the queue, and after it the lines of the events that the pass keeps of those that it holds.

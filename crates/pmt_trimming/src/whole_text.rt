@@ -1,21 +1,24 @@
 //! The trimmer that gives the whole text.
-ghost use Rattle.std.specs.Prelude.{◌≡◌, ◌<◌, IfOk, IfErr, IfSome, OnOk};
-ghost use Rattle.pmt_model.specs.Pushing.{with_event};
+ghost use Rattle.std.specs.Prelude.{◌≡◌, ◌++◌, ◌∷◌, [], ◌<◌, Bool, List, map, IfOk, IfErr, IfSome, OnOk};
+ghost use Rattle.pmt_model.specs.Pushing.{empty, with_event};
 ghost use Rattle.pmt_model.specs.Traces.{Recording, event_limit};
 ghost use Rattle.pmt_text.specs.Spelling.{event_text};
 ghost use Rattle.pmt_text.specs.Sources.{CountsReads};
 ghost use Rattle.pmt_taking.specs.Sourcing.{IsFaultOf, TellsTaken, told_by};
-ghost use Rattle.pmt_trimming.specs.Leaving.{IsStream, IsStreamOf};
-ghost use Rattle.pmt_trimming.specs.Passing.{taken};
-ghost use Rattle.pmt_trimming.specs.WholeTexts.{IsTextOfWhole};
+ghost use Rattle.pmt_trimming.specs.LineQueues.{kept_texts};
+ghost use Rattle.pmt_trimming.specs.Passing.{flag_by, taken};
+ghost use Rattle.pmt_trimming.specs.Streaming.{IsTextOfTrimmed};
+ghost use Rattle.pmt_trimming.specs.WholeTexts.{IsTextOfWhole, IsWhole, IsWholeOf};
 
-use crate::stream::Stream;
-use pmt_model::{Event, OutOfMemory};
+use crate::held_lines::HeldLines;
+use crate::pass::{Mark, Pass, flag};
+use pmt_model::{Event, Format, OutOfMemory};
 use pmt_taking::TakeError;
 use pmt_text::EventSource;
+use pmt_text::write::{LINE_ROOM, push_header, spell_event};
 use std::alloc::Global;
 
-/// The text of the trimmed trace whose events the source has still to give. Memory is that of the text and of the events that wait.
+/// The text of the trimmed trace whose events the source has still to give. Memory is that of the text of all that comes.
 ///
 /// # Errors
 /// `Source` with the fault that the source told, or with `Failed` where it had told a fault before. `OutOfMemory` where memory was
@@ -27,10 +30,93 @@ pub fn trimmed_text<S: EventSource>(alloc: Global, source: &mut S) -> Result<Vec
     ensures failures { CountsReads (S.failures source.old) (told_by result) (S.failures source.new) }
 {
     let format = source.format()?;
-    let mut stream = Stream::new(alloc, format)?;
+    let mut whole = Whole::new(alloc, format)?;
     while let Some(event) = source.next()? {
-        stream.take_more(&event, source.last_line())?;
+        whole.take(&event, source.last_line())?;
     }
-    let text = stream.into_text(alloc)?;
-    Ok(text)
+    Ok(whole.into_text())
+}
+
+/// The header, and the lines of all events that have come.
+#[derive(Drop)]
+pub(crate) struct Whole {
+    pub(crate) pass: Pass,
+    pub(crate) held: HeldLines,
+}
+
+impl Whole {
+    // No event has come.
+    fn new(alloc: Global, format: Format) -> Result<Self, OutOfMemory>
+        ensures { IfOk result (IsWholeOf (empty format)) }
+    {
+        let mut text = Vec::new(alloc);
+        push_header(&mut text, format)?;
+        Ok(Whole {
+            pass: Pass::new(alloc, format)?,
+            held: HeldLines::new(alloc, text),
+        })
+    }
+
+    // The next event comes, perhaps with its line, which is not spelled again then.
+    #[inline(always)]
+    fn take(&mut self, event: &Event, line: Option<&[u8]>) -> Result<(), OutOfMemory>
+        requires whole { IsWhole self.old }
+        requires line { IfSome line (λ bytes. bytes.now ≡ event_text event.now) }
+        requires room { taken self.old.pass < event_limit }
+        ensures { (T : Recording) → IsWholeOf T self.old → OnOk result (IsWholeOf (with_event T event.now) self.new) }
+    {
+        hold(&mut self.held, event, line)?;
+        self.pass.take(event)?;
+        Ok(())
+    }
+
+    // All has come: the text of the kept events.
+    fn into_text(self) -> Vec<u8>
+        ensures { (T : Recording) → IsWholeOf T self → IsTextOfTrimmed T result.items }
+    {
+        let Whole { pass, mut held } = self;
+        pop_kept(&mut held, pass.marks());
+        held.into_text()
+    }
+}
+
+// Puts the lines whose mark is that of a kept event at the end of the text.
+fn pop_kept(held: &mut HeldLines, marks: &[Mark])
+    ensures { held.new.text ≡ held.old.text ++ kept_texts (map (λ m. flag_by m) marks.now) held.old.lines }
+{
+    for mark in marks {
+        pop_one(held, flag(*mark));
+    }
+}
+
+// The first of the lines, where it is kept. It is gone from the lines then.
+#[inline(always)]
+fn pop_one(held: &mut HeldLines, kept: bool)
+    ensures { (flags : List Bool) → held.new.text ++ kept_texts flags held.new.lines ≡ held.old.text ++ kept_texts (kept ∷ flags) held.old.lines }
+{
+    held.pop(kept);
+}
+
+// The line of the event is held. It is spelled where none was given that fits.
+#[inline(always)]
+fn hold(held: &mut HeldLines, event: &Event, line: Option<&[u8]>) -> Result<(), OutOfMemory>
+    requires { IfSome line (λ bytes. bytes.now ≡ event_text event.now) }
+    ensures text { OnOk result (held.new.text ≡ held.old.text) }
+    ensures lines { OnOk result (held.new.lines ≡ held.old.lines ++ event_text event.now ∷ []) }
+{
+    if let Some(bytes) = line {
+        if bytes.len() < 256 {
+            return held.push(bytes);
+        }
+    }
+    hold_spelled(held, *event)
+}
+
+// The line of the event is spelled, and held.
+fn hold_spelled(held: &mut HeldLines, event: Event) -> Result<(), OutOfMemory>
+    ensures text { OnOk result (held.new.text ≡ held.old.text) }
+    ensures lines { OnOk result (held.new.lines ≡ held.old.lines ++ event_text event ∷ []) }
+{
+    let mut room = [0; LINE_ROOM];
+    held.push(spell_event(&mut room, &event))
 }

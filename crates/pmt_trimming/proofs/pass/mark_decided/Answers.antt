@@ -1,4 +1,4 @@
-use Rattle.std.proofs.Common.{arith, ◌∙◌}
+use Rattle.std.proofs.Common.{length, ap, arith, ◌∙◌}
 use Rattle.std.proofs.lemmas.List.{length-set}
 use Rattle.pmt_live.specs.declared.open.OpenFlush.{OpenFlush}
 use Rattle.pmt_trimming.proofs.FencingLemmas.{decided-next, decided-all, has-mark}
@@ -8,29 +8,30 @@ use Rattle.pmt_trimming.proofs.pass.mark_decided.Goals as goal
 abbrev none : OpenFlush
 none = record { number = 0; place = 0; stores = 0 }
 
-pub overflow_sub-flush : goal.overflow_sub-flush
-overflow_sub-flush c =
+pub overflow_sub-index : goal.overflow_sub-index
+overflow_sub-index c =
     let range = has-mark c.args.settled c.args.marks.now.items c.args.flushes.now c.loop-flush.flush-index none c.requires (omega (arith, c.loop-flush-test.true)) in
     omega (arith, range.0)
 
-pub overflow_sub-flush-in-loop-flush : goal.overflow_sub-flush-in-loop-flush
-overflow_sub-flush-in-loop-flush c =
+pub overflow_sub-index-in-loop-flush : goal.overflow_sub-index-in-loop-flush
+overflow_sub-index-in-loop-flush c =
     let range = has-mark c.args.settled c.args.marks.now.items c.args.flushes.now c.loop-flush.flush-index none c.requires (omega (arith, c.loop-flush-test.true)) in
     omega (arith, range.0)
 
-pub index_mut-requires : goal.index_mut-requires
-index_mut-requires c =
+pub put-requires : goal.put-requires
+put-requires c =
     let range = has-mark c.args.settled c.args.marks.now.items c.args.flushes.now c.loop-flush.flush-index none c.requires (omega (arith, c.loop-flush-test.true)) in
-    omega (arith, range.0, range.1, c.loop-flush.invariant.size, c.loop-flush.marks.ok.0)
+    omega (arith, range.0, range.1, c.loop-flush.invariant.size)
 
 pub loop-flush-preserved : goal.loop-flush-preserved
 loop-flush-preserved c =
     let range = has-mark c.args.settled c.args.marks.now.items c.args.flushes.now c.loop-flush.flush-index none c.requires (omega (arith, c.loop-flush-test.true)) in
     record {
-      size = length-set c.loop-flush.marks.items _ c.mark_of.result ∙ c.loop-flush.invariant.size;
+      size = ap length c.put.ensures ∙ length-set c.loop-flush.marks.items _ c.mark_of.result ∙ c.loop-flush.invariant.size;
       decided = λ T all.
-          decided-next T c.args.settled c.loop-flush.flush-index c.args.flushes.now none c.is_kept.result c.mark_of.result c.loop-flush.marks.items (omega (arith, c.loop-flush-test.true)) range.0 c.is_kept.ensures c.mark_of.ensures
-          (c.loop-flush.invariant.decided T all);
+          rw c.put.ensures
+          (decided-next T c.args.settled c.loop-flush.flush-index c.args.flushes.now none c.is_kept.result c.mark_of.result c.loop-flush.marks.items (omega (arith, c.loop-flush-test.true)) range.0 c.is_kept.ensures c.mark_of.ensures
+          (c.loop-flush.invariant.decided T all));
     }
 
 pub returns-clause-marks : goal.returns-clause-marks

@@ -14,11 +14,11 @@ returns-in-Some-clause-settles c = λ T before.
     alone-some (with_event T c.args.event.now) c.judge.new.self c.in_ok-mark.mark c.in-Some.kept _ (c.in_ok-mark.ensures.follows T before) (c.in_ok-mark.ensures.size ∙ ap length c.requires.alone)
     (sym c.decision.ensures ∙ c.in-Some.is) c.in_ok-mark.ensures.settled
 
-pub returns-in_ok-push_back-in-None-clause-follows : goal.returns-in_ok-push_back-in-None-clause-follows
-returns-in_ok-push_back-in-None-clause-follows c = λ T before.
-    passed (with_event T c.args.event.now) c.judge.new.self _ c.in_ok-mark.mark (c.in_ok-mark.ensures.follows T before) refl refl refl c.in_ok-push_back-in-None.ensures.items
+pub returns-in_ok-push-in-None-clause-follows : goal.returns-in_ok-push-in-None-clause-follows
+returns-in_ok-push-in-None-clause-follows c = λ T before.
+    passed (with_event T c.args.event.now) c.judge.new.self _ c.in_ok-mark.mark (c.in_ok-mark.ensures.follows T before) refl refl refl c.in_ok-push-in-None.ensures.items
 
-pub returns-in_ok-push_back-in-None-clause-settles : goal.returns-in_ok-push_back-in-None-clause-settles
-returns-in_ok-push_back-in-None-clause-settles c = λ T before.
+pub returns-in_ok-push-in-None-clause-settles : goal.returns-in_ok-push-in-None-clause-settles
+returns-in_ok-push-in-None-clause-settles c = λ T before.
     alone-none (with_event T c.args.event.now) c.judge.new.self c.in_ok-mark.mark _ (c.in_ok-mark.ensures.follows T before) (c.in_ok-mark.ensures.size ∙ ap length c.requires.alone)
     (sym c.decision.ensures ∙ c.in-None.is) c.in_ok-mark.ensures.settled

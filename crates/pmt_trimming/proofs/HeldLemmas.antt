@@ -1,0 +1,53 @@
+-- Lines that are held until all have come.
+use Rattle.std.proofs.Common.{◌≡◌, ℕ, ◌+◌, ◌-◌, ◌≤◌, List, [], ◌∷◌, ◌++◌, length, take, drop, sum, refl, sym, ap, ap₂, ◌∙◌, arith, append_assoc, length-append, length-drop}
+use Rattle.std.proofs.Math.Seq.{take-add}
+use Rattle.std.proofs.lemmas.List.{drop-append-le, drop-drop, take-append-le}
+use Rattle.std.proofs.lemmas.List.Sums.{sum_by-append}
+use Rattle.pmt_trimming.specs.LineQueues.{cut_by, AreHeld, run_text}
+use Rattle.pmt_trimming.proofs.QueueLemmas.{queue-more}
+
+-- ---- A line leaves
+
+-- the line becomes part of the run
+pub run-kept : (end from at len : ℕ) (bytes : List ℕ) → from ≤ at → run_text end from (at + len) bytes ≡ run_text end from at bytes ++ take len (drop at bytes)
+run-kept end from at len bytes whole =
+    let size : at + len - from ≡ (at - from) + len = omega arith in
+    let seam : from + (at - from) ≡ at = omega arith in
+    let rest : drop (at - from) (drop from bytes) ≡ drop at bytes = drop-drop (at - from) from bytes ∙ ap (λ (n : ℕ). drop n bytes) seam in
+    ap (λ (n : ℕ). take end bytes ++ take n (drop from bytes)) size
+    ∙ ap (λ (ys : List ℕ). take end bytes ++ ys) (take-add (at - from) len (drop from bytes))
+    ∙ ap (λ (ys : List ℕ). take end bytes ++ (take (at - from) (drop from bytes) ++ take len ys)) rest
+    ∙ sym (append_assoc (take end bytes) (take (at - from) (drop from bytes)) (take len (drop at bytes)))
+
+-- and what comes after a line that is gone stays
+pub rest-moved : (from at len : ℕ) (old new : List ℕ) → from ≤ at → drop (from + (at - from)) new ≡ drop (from + (at - from)) old → drop (at + len) new ≡ drop (at + len) old
+rest-moved from at len old new whole same =
+    let seam : from + (at - from) ≡ at = omega arith in
+    let here : drop at new ≡ drop at old = ap (λ (n : ℕ). drop n new) (sym seam) ∙ same ∙ ap (λ (n : ℕ). drop n old) seam in
+    sym (drop-drop len at new) ∙ ap (drop len) here ∙ drop-drop len at old
+
+-- ---- A line comes
+
+pub held-with : (end from at left : ℕ) (lengths longer bytes more line : List ℕ) → AreHeld end from at left lengths bytes → longer ≡ lengths ++ length line ∷ [] → more ≡ bytes ++ line →
+    AreHeld end from at left longer more
+held-with end from at left lengths longer bytes more line held lengths_are bytes_are = record {
+  run = held.run;
+  some = omega (arith, held.some, ap length lengths_are, length-append lengths (length line ∷ []));
+  cut = omega (arith, held.cut, size, ap length bytes_are, length-append bytes line);
+}
+  where
+    size : sum (drop left longer) ≡ sum (drop left lengths) + length line
+    size = ap (λ (ns : List ℕ). sum (drop left ns)) lengths_are ∙ ap sum (drop-append-le left lengths (length line ∷ []) held.some)
+        ∙ sum_by-append (λ x. x) (drop left lengths) (length line ∷ []) ∙ omega arith
+
+pub held-lines : (end from at left : ℕ) (lengths longer bytes more line : List ℕ) → AreHeld end from at left lengths bytes → longer ≡ lengths ++ length line ∷ [] → more ≡ bytes ++ line →
+    cut_by (drop left longer) (drop at more) ≡ cut_by (drop left lengths) (drop at bytes) ++ line ∷ []
+held-lines end from at left lengths longer bytes more line held lengths_are bytes_are =
+    queue-more (drop left lengths) (drop left longer) at (length line) bytes more line held.cut refl (ap (drop left) lengths_are ∙ drop-append-le left lengths (length line ∷ []) held.some) bytes_are
+
+pub held-text : (end from at left : ℕ) (lengths bytes more line : List ℕ) → AreHeld end from at left lengths bytes → more ≡ bytes ++ line → run_text end from at more ≡ run_text end from at bytes
+held-text end from at left lengths bytes more line held is =
+    ap (run_text end from at) is
+    ∙ ap₂ (λ (xs ys : List ℕ). xs ++ ys) (take-append-le end bytes line (omega (arith, held.run.before, held.run.whole, held.cut)))
+    (ap (take (at - from)) (drop-append-le from bytes line (omega (arith, held.run.whole, held.cut)))
+    ∙ take-append-le (at - from) (drop from bytes) line (omega (arith, held.run.whole, held.cut, length-drop from bytes)))

@@ -1,0 +1,127 @@
+//! A text, and after it lines, of which those that are kept end the text once all have come.
+ghost use Rattle.std.specs.Prelude.{◌≡◌, ◌+◌, ◌<◌, ◌≤◌, [], ◌∷◌, ◌++◌, length, take, drop, OnOk};
+ghost use Rattle.pmt_trimming.specs.LineQueues.{AreHeld, IsRun, Pops, kept_text, run_text};
+
+use crate::line_queue::move_down;
+use pmt_model::OutOfMemory;
+use std::alloc::Global;
+use std::marker::Model;
+
+/// A text: the first `end` bytes, and after them the run of those between `from` and `at`, which is moved at once.
+#[derive(Clone, Copy)]
+pub(crate) struct Run {
+    end: usize,
+    from: usize,
+    at: usize,
+}
+
+/// A text, and after it lines of at most 255 bytes, the first of which leaves first: it ends the text then, or is gone. Room is given up
+/// at the end alone, so they are best held until all have come.
+#[derive(Drop)]
+pub(crate) struct HeldLines {
+    bytes: Vec<u8>,
+    run: Run,
+    lengths: Vec<u8>,
+    left: usize,
+}
+
+impl Model for HeldLines {
+    ghost use Rattle.std.specs.Prelude.{drop};
+    ghost use Rattle.pmt_trimming.specs.LineQueues.{Queued, AreHeld, cut_by, run_text};
+
+    ghost Value = { Queued };
+
+    ghost view = { λ q. record { text = run_text q.run.end q.run.from q.run.at q.bytes.items; lines = cut_by (drop q.left q.lengths.items) (drop q.run.at q.bytes.items) } };
+
+    ghost invariant = { λ q. AreHeld q.run.end q.run.from q.run.at q.left q.lengths.items q.bytes.items };
+}
+
+impl HeldLines {
+    // This text, and no line.
+    pub(crate) fn new(alloc: Global, text: Vec<u8>) -> Self
+        ensures text { result.text ≡ text.items }
+        ensures lines { result.lines ≡ [] }
+    {
+        let end = text.len();
+        HeldLines {
+            bytes: text,
+            run: Run {
+                end,
+                from: end,
+                at: end,
+            },
+            lengths: Vec::new(alloc),
+            left: 0,
+        }
+    }
+
+    // Puts the line at the end.
+    #[inline(always)]
+    pub(crate) fn push(&mut self, line: &[u8]) -> Result<(), OutOfMemory>
+        requires { length line.now < 256 }
+        ensures text { OnOk result (self.new.text ≡ self.old.text) }
+        ensures lines { OnOk result (self.new.lines ≡ self.old.lines ++ line.now ∷ []) }
+    {
+        self.lengths.reserve(1)?;
+        self.bytes.extend_from_slice(line)?;
+        self.lengths.push_reserved(line.len() as u8);
+        Ok(())
+    }
+
+    // Takes the first line, and puts it at the end of the text where it is kept.
+    #[inline(always)]
+    pub(crate) fn pop(&mut self, kept: bool)
+        ensures { Pops self.old.lines kept self.old.text self.new.lines self.new.text }
+    {
+        if self.left == self.lengths.len() {
+            return;
+        }
+        let len = self.lengths[self.left];
+        self.run = past(&mut self.bytes, self.run, len as usize, kept);
+        self.left += 1;
+    }
+
+    // The text.
+    pub(crate) fn into_text(self) -> Vec<u8>
+        ensures { result.items ≡ self.text }
+    {
+        let HeldLines {
+            mut bytes,
+            run,
+            lengths: _,
+            left: _,
+        } = self;
+        let size = run.at - run.from;
+        move_down(&mut bytes, run.end, run.from, size);
+        bytes.truncate(run.end + size);
+        bytes
+    }
+}
+
+// The text once the line of this length at the end of its run is part of the run, or is gone: then the run is moved.
+#[inline(always)]
+fn past(bytes: &mut Vec<u8>, run: Run, len: usize, kept: bool) -> Run
+    requires run { IsRun run.end run.from run.at }
+    requires within { run.at + len ≤ length bytes.old.items }
+    ensures run { IsRun result.end result.from result.at }
+    ensures at { result.at ≡ run.at + len }
+    ensures size { length bytes.new.items ≡ length bytes.old.items }
+    ensures text { run_text result.end result.from result.at bytes.new.items ≡ run_text run.end run.from run.at bytes.old.items ++ kept_text kept (take len (drop run.at bytes.old.items)) }
+    ensures rest { drop (run.at + len) bytes.new.items ≡ drop (run.at + len) bytes.old.items }
+{
+    let at = run.at + len;
+    if kept {
+        return Run {
+            end: run.end,
+            from: run.from,
+            at,
+        };
+    }
+    let size = run.at - run.from;
+    move_down(bytes, run.end, run.from, size);
+    Run {
+        end: run.end + size,
+        from: at,
+        at,
+    }
+}
