@@ -217,7 +217,7 @@ def unlike_spelled(schema):
 
 def kind_names():
     """What --only takes."""
-    return re.search(r"^kind_name .*?\n\n", (TOP / "crates/pmt_explanation/specs/Choosing.antt").read_text(), re.M | re.S)[0]
+    return re.search(r"^kind_name .*?\n\n", (TOP / "crates/pmt_asked/specs/Choosing.antt").read_text(), re.M | re.S)[0]
 
 
 def unnamed_members(schema):

@@ -3,11 +3,13 @@ ghost use Rattle.std.specs.Prelude.{◌≡◌, IfOk};
 
 use command_inputs::{Fault, Input, Opener, bytes_of, labels_of, taken_fault, write_named};
 use command_requests::{AskedEvents, Drawing};
+use pmt_asked::{Choice, Ignored, Kind, Labels, Options};
 use pmt_causes::Group;
 use pmt_draw::{Label, svg_text};
 use pmt_explain::{LostGroup, OverwrittenGroup};
 use pmt_explain_run::explain;
-use pmt_explanation::{Choice, Explanation, Ignored, Kind, Labels, Options, Unwritten};
+use pmt_explanation::Explanation;
+use pmt_failures::Unwritten;
 use pmt_model::OutOfMemory;
 use pmt_picture::{
     Known, Picture, Refusal, Subject, about_of, first_subject, lines_of_addresses, picture_of,

@@ -8,10 +8,11 @@ use command_inputs::{
 };
 use command_page::page_of;
 use command_requests::{Color, ExplainWords, Form};
+use pmt_asked::{Cut, Labels};
 use pmt_explain_json::json_text;
 use pmt_explain_run::explain;
 use pmt_explain_text::{Screen, text};
-use pmt_explanation::{Cut, Explanation, Labels, has_failed};
+use pmt_explanation::{Explanation, has_failed};
 use pmt_model::OutOfMemory;
 use pmt_taking::TakeError;
 use pmt_text::{Counted, TextSource};

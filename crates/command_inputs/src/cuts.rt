@@ -4,7 +4,7 @@ use crate::fault::Fault;
 use crate::inputs::{open_fault, read_file};
 use crate::opener::{OpenError, Opener};
 use crate::refused::{Wrong, refused_line, split_line};
-use pmt_explanation::Cut;
+use pmt_asked::Cut;
 use pmt_text::fields::split_field;
 use pmt_text::number::read_number;
 use std::alloc::{AllocError, Global};

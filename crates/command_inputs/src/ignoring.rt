@@ -4,7 +4,7 @@ use crate::fault::Fault;
 use crate::labels::has_control;
 use crate::ranges::range_of;
 use crate::refused::{Wrong, refused_line, split_line};
-use pmt_explanation::{Ignored, IgnoredPlace, frame_of};
+use pmt_asked::{Ignored, IgnoredPlace, frame_of};
 use std::alloc::{AllocError, Global};
 
 // How a place is named.

@@ -9,7 +9,7 @@ use crate::labels::read_labels;
 use crate::opener::{OpenError, Opener};
 use crate::reading::{read_whole, system_fault};
 use crate::refused::{line_of_text, refused_line};
-use pmt_explanation::Labels;
+use pmt_asked::Labels;
 use pmt_model::Trace;
 use pmt_report::RunError;
 use pmt_taking::{TakeError, take_trace};

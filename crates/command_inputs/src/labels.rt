@@ -2,7 +2,7 @@
 
 use crate::fault::Fault;
 use crate::refused::{Wrong, refused_line, shown, split_line};
-use pmt_explanation::Labels;
+use pmt_asked::Labels;
 use pmt_text::fields::split_field;
 use pmt_text::number::read_number;
 use std::alloc::{AllocError, Global};

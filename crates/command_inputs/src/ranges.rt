@@ -1,7 +1,7 @@
 //! Ranges of bytes as words and files name them: A:N.
 
 use crate::fault::Fault;
-use pmt_explanation::ByteRange;
+use pmt_asked::ByteRange;
 use pmt_text::number::{read_address, read_number};
 use std::alloc::{AllocError, Global};
 

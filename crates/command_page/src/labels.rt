@@ -1,6 +1,6 @@
 //! The labels that a page has room for.
 
-use pmt_explanation::Labels;
+use pmt_asked::Labels;
 use pmt_model::OutOfMemory;
 use pmt_page::{Label, labels_text};
 use std::alloc::{AllocError, Global};

@@ -7,7 +7,8 @@ use crate::told::told_within;
 use command_draw::first_picture;
 use command_inputs::{Fault, Opener, STANDARD_INPUT};
 use command_requests::{ExplainWords, VERSION};
-use pmt_explanation::{Explanation, Labels};
+use pmt_asked::Labels;
+use pmt_explanation::Explanation;
 use pmt_model::OutOfMemory;
 use pmt_page::{
     About, Blocks, Columns, Found, Kept, Label, about_text, columns_of, digest_of, page_text,

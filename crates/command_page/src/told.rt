@@ -2,9 +2,11 @@
 
 use crate::labels::size_on_page;
 use command_requests::ExplainWords;
+use pmt_asked::Labels;
 use pmt_explain::SafePlaces;
 use pmt_explain_json::json_text;
-use pmt_explanation::{Explanation, Labels, ShownFailure, shown_failures};
+use pmt_explanation::{Explanation, first};
+use pmt_failures::{ShownFailure, shown_failures};
 use pmt_model::OutOfMemory;
 use pmt_page::explained_text;
 use std::alloc::Global;
@@ -67,7 +69,8 @@ fn each_failure(
 ) -> Result<Vec<ShownFailure>, OutOfMemory> {
     let safe = SafePlaces::of(alloc, explanation.analysis.trace())?;
     let asked = explanation.asked_failing.as_slice();
-    shown_failures(alloc, &safe, asked, most_failures(explanation, words))
+    let most = most_failures(explanation, words);
+    shown_failures(alloc, &safe, first(asked, most))
 }
 
 // How many failed assertions the page has at most.

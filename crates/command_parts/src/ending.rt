@@ -1,7 +1,7 @@
 //! Why a part ends where it does: the file FILE.cut beside it.
 
 use crate::files::Turn;
-use pmt_explanation::Cut;
+use pmt_asked::Cut;
 use pmt_parts::Part;
 use std::alloc::{AllocError, Global};
 

@@ -2,7 +2,7 @@
 
 use crate::reading::piece_error;
 use command_inputs::{Fault, Opener, label_of, opened};
-use pmt_explanation::Labels;
+use pmt_asked::Labels;
 use pmt_parts::Pieces;
 use pmt_text::write::push_number;
 use std::alloc::{AllocError, Global};

@@ -2,7 +2,7 @@
 
 use crate::files::Turn;
 use command_requests::PartsWords;
-use pmt_explanation::ByteRange;
+use pmt_asked::ByteRange;
 use pmt_parts::{Part, number_at, place_in};
 use pmt_text::write::push_number;
 use std::alloc::{AllocError, Global};

@@ -9,7 +9,7 @@ use crate::reading::part_fault;
 use crate::stale::remove_later;
 use command_inputs::{Fault, Opener};
 use command_requests::PartsWords;
-use pmt_explanation::Cut;
+use pmt_asked::Cut;
 use pmt_part_run::{PartError, PartTaker};
 use pmt_parts::Part;
 use std::alloc::Global;

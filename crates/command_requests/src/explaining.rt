@@ -1,6 +1,6 @@
 //! What `explain` is asked for.
 
-use pmt_explanation::Options;
+use pmt_asked::Options;
 
 /// In which form `explain` tells.
 #[derive(Clone, Copy, PartialEq, Eq)]

@@ -1,6 +1,6 @@
 //! What `parts` is asked for.
 
-use pmt_explanation::ByteRange;
+use pmt_asked::ByteRange;
 
 /// What `parts` is asked for.
 #[derive(Drop)]

@@ -6,8 +6,8 @@ use command_inputs::{
     write_outputs,
 };
 use command_requests::{SliceSubject, SliceWords};
+use pmt_asked::Labels;
 use pmt_explain::failure;
-use pmt_explanation::Labels;
 use pmt_model::{Selection, Trace};
 use pmt_slices::{Slice, sliced, store_sliced};
 use pmt_text::write::{push_number, write_trace};

@@ -1,11 +1,10 @@
 //! What is measured of a trace.
 
 use command_inputs::{Fault, Input, Opener, bytes_of, cut_of, labels_of, taken_fault};
+use pmt_asked::{Choice, Cut, Ignored, Kind, Labels, Options, frame_of};
 use pmt_causes::Origin;
 use pmt_explain_run::explain;
-use pmt_explanation::{
-    Choice, Cut, Explanation, Ignored, Kind, Labels, Options, Summary, frame_of, summary_of,
-};
+use pmt_explanation::{Explanation, Summary, summary_of};
 use pmt_fates::PlaceRow;
 use pmt_model::OutOfMemory;
 use pmt_stat::{Cost, Figures, PlaceCost, cost_of, figures_of, sort_places};

@@ -4,7 +4,7 @@ use crate::changes::Changed;
 use crate::judging::Excess;
 use crate::measured::Measured;
 use crate::tables::unfenced;
-use pmt_explanation::Cut;
+use pmt_asked::Cut;
 use pmt_model::OutOfMemory;
 use pmt_stat::{Cost, Counts, Limits, PlaceCost, ThreadCounts};
 use serde_json::{Map, Value, put};

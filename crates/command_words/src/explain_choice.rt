@@ -3,7 +3,7 @@
 use crate::arguments::{bad_word, event_of};
 use clap::ArgMatches;
 use command_inputs::{Fault, asked_range};
-use pmt_explanation::{ByteRange, Choice, Kind};
+use pmt_asked::{ByteRange, Choice, Kind};
 use pmt_text::number::read_number;
 use std::alloc::Global;
 

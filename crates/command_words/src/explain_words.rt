@@ -5,7 +5,7 @@ use crate::explain_choice::choice_of;
 use clap::ArgMatches;
 use command_inputs::{Fault, asked_place, asked_range};
 use command_requests::{Color, ExplainWords, Form};
-use pmt_explanation::{ByteRange, Choice, Ignored, IgnoredPlace, Options};
+use pmt_asked::{ByteRange, Choice, Ignored, IgnoredPlace, Options};
 use pmt_text::number::read_number;
 use std::alloc::Global;
 

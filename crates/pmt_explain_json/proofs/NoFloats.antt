@@ -25,14 +25,14 @@ use Rattle.pmt_causes.specs.declared.late.LateSpot.{LateSpot}
 use Rattle.pmt_causes.specs.declared.tables.Row.{Row}
 use Rattle.pmt_causes.specs.Groups.{first_in}
 use Rattle.pmt_explanation.specs.declared.explaining.Explanation.{Explanation}
-use Rattle.pmt_explanation.specs.declared.failures.RangeAfter.{RangeAfter}
-use Rattle.pmt_explanation.specs.declared.failures.ShownFailure.{ShownFailure}
-use Rattle.pmt_explanation.specs.declared.labels.Labels.{Labels}
+use Rattle.pmt_failures.specs.declared.failures.RangeAfter.{RangeAfter}
+use Rattle.pmt_failures.specs.declared.failures.ShownFailure.{ShownFailure}
+use Rattle.pmt_asked.specs.declared.labels.Labels.{Labels}
 use Rattle.pmt_reasons.specs.declared.mend.Mend.{Mend}
 use Rattle.pmt_reasons.specs.declared.mend.Mend.TheVariants as mends
 use Rattle.pmt_explanation.specs.declared.summing.Summary.{Summary}
-use Rattle.pmt_explanation.specs.declared.unwritten.Unwritten.{Unwritten}
-use Rattle.pmt_explanation.specs.Labelling.{label_of}
+use Rattle.pmt_failures.specs.declared.unwritten.Unwritten.{Unwritten}
+use Rattle.pmt_asked.specs.Labelling.{label_of}
 use Rattle.pmt_reasons.specs.Mends.{mend_of}
 use Rattle.pmt_explain_json.specs.Parts.{or_null, count_data, address_data, address_of, known_event_data, event_data, line_data, byte_store_data, range_data, cause_data, by_of, reason_data, mend_data}
 use Rattle.pmt_explain_json.specs.Entries.{line_count_data, byte_store, byte_value, range_after_data, failure_data, lost_data, dropped_data, overwritten_data, ranges_of, unwritten_data}
@@ -40,11 +40,11 @@ use Rattle.pmt_explain_json.specs.Groups.{cause_group_data}
 use Rattle.pmt_explain_json.specs.Inside.{maker_count_data, maker_label, maker_thread, part_count_data}
 use Rattle.pmt_explain_json.specs.Places.{place_label, place_thread}
 use Rattle.pmt_explain_json.specs.Tables.{label_row_data, late_data, spot_label, spot_line}
-use Rattle.pmt_explanation.specs.declared.choosing.Choice.{Choice}
-use Rattle.pmt_explanation.specs.declared.choosing.Kind.{Kind}
-use Rattle.pmt_explanation.specs.declared.ignoring.ByteRange.{ByteRange}
+use Rattle.pmt_asked.specs.declared.choosing.Choice.{Choice}
+use Rattle.pmt_asked.specs.declared.choosing.Kind.{Kind}
+use Rattle.pmt_asked.specs.declared.ignoring.ByteRange.{ByteRange}
 use Rattle.pmt_explain_json.specs.Lines.{summary_data, more_data, asked_data, byte_range_data}
-use Rattle.pmt_explanation.specs.Choosing.{kind_name}
+use Rattle.pmt_asked.specs.Choosing.{kind_name}
 
 pub both : (a b : Bool) → a ≡ false → b ≡ false → (a || b) ≡ false
 both true b p q = p

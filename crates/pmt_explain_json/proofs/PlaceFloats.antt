@@ -4,7 +4,7 @@ use Rattle.serde_json.specs.Data.{Data, string}
 use Rattle.serde_json.specs.Written.{has_float}
 use Rattle.pmt_model.specs.Traces.{Recording}
 use Rattle.pmt_fates.specs.declared.place_row.PlaceRow.{PlaceRow}
-use Rattle.pmt_explanation.specs.declared.labels.Labels.{Labels}
+use Rattle.pmt_asked.specs.declared.labels.Labels.{Labels}
 use Rattle.pmt_explain_json.specs.Parts.{count_data, event_data, or_null}
 use Rattle.pmt_hints.specs.declared.hint.Hint.{Hint}
 use Rattle.pmt_explain_json.specs.Hints.{hint_data}

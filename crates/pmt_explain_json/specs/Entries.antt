@@ -9,10 +9,10 @@ use Rattle.pmt_explain.specs.declared.bytes.CrashByte.{CrashByte}
 use Rattle.pmt_explain.specs.declared.dropped_event.Dropped.{Dropped}
 use Rattle.pmt_explain.specs.declared.lost_grouping.LostGroup.{LostGroup}
 use Rattle.pmt_explain.specs.declared.overwritten_grouping.OverwrittenGroup.{OverwrittenGroup}
-use Rattle.pmt_explanation.specs.declared.failures.RangeAfter.{RangeAfter}
-use Rattle.pmt_explanation.specs.declared.failures.ShownFailure.{ShownFailure}
-use Rattle.pmt_explanation.specs.declared.labels.Labels.{Labels}
-use Rattle.pmt_explanation.specs.declared.unwritten.Unwritten.{Unwritten}
+use Rattle.pmt_failures.specs.declared.failures.RangeAfter.{RangeAfter}
+use Rattle.pmt_failures.specs.declared.failures.ShownFailure.{ShownFailure}
+use Rattle.pmt_asked.specs.declared.labels.Labels.{Labels}
+use Rattle.pmt_failures.specs.declared.unwritten.Unwritten.{Unwritten}
 use Rattle.pmt_reasons.specs.Mends.{mend_of}
 use Rattle.pmt_explain_json.specs.Parts.{json_line, object_of, array_of, count_data, or_null, address_data, line_data, event_data, byte_store_data, range_data, cause_data, reason_data, mend_data}
 

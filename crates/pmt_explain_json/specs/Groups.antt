@@ -8,7 +8,7 @@ use Rattle.pmt_causes.specs.declared.failure_keys.CauseKind.{CauseKind}
 use Rattle.pmt_causes.specs.declared.failure_keys.CauseKind.TheVariants.{Later, Unflushed, Unfenced}
 use Rattle.pmt_causes.specs.declared.failure_keys.FailureKey.{FailureKey}
 use Rattle.pmt_causes.specs.declared.grouping.Group.{Group}
-use Rattle.pmt_explanation.specs.declared.labels.Labels.{Labels}
+use Rattle.pmt_asked.specs.declared.labels.Labels.{Labels}
 use Rattle.pmt_explain_json.specs.Inside.{maker_count_data, part_count_data}
 use Rattle.pmt_explain_json.specs.Parts.{array_of, count_data, json_line, object_of, or_null}
 use Rattle.pmt_explain_json.specs.Places.{place_label, place_thread}

@@ -5,7 +5,7 @@ use Rattle.pmt_model.specs.Traces.{Recording}
 use Rattle.pmt_hints.specs.declared.hint.Hint.{Hint}
 use Rattle.pmt_hints.specs.declared.hint.HintKind.{HintKind}
 use Rattle.pmt_hints.specs.declared.hint.HintKind.TheVariants.{OpenAtStore, SplitWord, StoredAfterFlush}
-use Rattle.pmt_explanation.specs.declared.labels.Labels.{Labels}
+use Rattle.pmt_asked.specs.declared.labels.Labels.{Labels}
 use Rattle.pmt_explain_json.specs.Parts.{count_data, event_data, json_line, object_of, or_null}
 use Rattle.pmt_explain_json.specs.Places.{place_label, place_thread}
 

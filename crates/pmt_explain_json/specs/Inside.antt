@@ -6,9 +6,9 @@ use Rattle.pmt_causes.specs.declared.details.Maker.{Maker}
 use Rattle.pmt_causes.specs.declared.details.Maker.TheVariants.{Nobody, Thread, Label}
 use Rattle.pmt_causes.specs.declared.details.RangePart.{RangePart}
 use Rattle.pmt_causes.specs.declared.details.RangePart.TheVariants.{Only, First, Inner, Last}
-use Rattle.pmt_explanation.specs.declared.labels.Labels.{Labels}
-use Rattle.pmt_explanation.specs.Framing.{frame_of}
-use Rattle.pmt_explanation.specs.Labelling.{label_of}
+use Rattle.pmt_asked.specs.declared.labels.Labels.{Labels}
+use Rattle.pmt_asked.specs.Framing.{frame_of}
+use Rattle.pmt_asked.specs.Labelling.{label_of}
 use Rattle.pmt_explain_json.specs.Parts.{count_data, object_of, or_null}
 
 abbrev pub part_name : RangePart → List ℕ

@@ -2,12 +2,12 @@
 use Rattle.std.specs.Prelude.{◌≡◌, ℕ, ◌-◌, List, [], ◌∷◌, ◌++◌, length, take, codes, string_bytes}
 use Rattle.std.specs.List.{flat_map}
 use Rattle.serde_json.specs.Data.{Data, string}
-use Rattle.pmt_explanation.specs.declared.choosing.Choice.{Choice}
+use Rattle.pmt_asked.specs.declared.choosing.Choice.{Choice}
 use Rattle.pmt_explanation.specs.declared.explaining.Explanation.{Explanation}
-use Rattle.pmt_explanation.specs.declared.ignoring.ByteRange.{ByteRange}
-use Rattle.pmt_explanation.specs.declared.labels.Labels.{Labels}
+use Rattle.pmt_asked.specs.declared.ignoring.ByteRange.{ByteRange}
+use Rattle.pmt_asked.specs.declared.labels.Labels.{Labels}
 use Rattle.pmt_explanation.specs.declared.summing.Summary.{Summary}
-use Rattle.pmt_explanation.specs.Choosing.{kind_name}
+use Rattle.pmt_asked.specs.Choosing.{kind_name}
 use Rattle.pmt_explanation.specs.Counting.{per_cent}
 use Rattle.pmt_explanation.specs.Summing.{IsSummary}
 use Rattle.pmt_explain_json.specs.Parts.{json_line, object_of, count_data, address_data, or_null}

@@ -16,10 +16,10 @@ use Rattle.pmt_reasons.specs.declared.cause.Cause.TheVariants as causes
 use Rattle.pmt_reasons.specs.declared.reason.Reason.{Reason}
 use Rattle.pmt_reasons.specs.declared.reason.Reason.TheVariants as reasons
 use Rattle.pmt_reasons.specs.declared.failure.ByteStore.{ByteStore}
-use Rattle.pmt_explanation.specs.declared.labels.Labels.{Labels}
+use Rattle.pmt_asked.specs.declared.labels.Labels.{Labels}
 use Rattle.pmt_reasons.specs.declared.mend.Mend.{Mend}
 use Rattle.pmt_reasons.specs.declared.mend.Mend.TheVariants as mends
-use Rattle.pmt_explanation.specs.Labelling.{label_of}
+use Rattle.pmt_asked.specs.Labelling.{label_of}
 
 -- A line of the answer: the value, and LF.
 abbrev pub json_line : Data → List ℕ

@@ -5,8 +5,8 @@ use Rattle.pmt_model.specs.Traces.{Recording}
 use Rattle.pmt_causes.specs.declared.failure_keys.Origin.{Origin}
 use Rattle.pmt_causes.specs.declared.failure_keys.Origin.TheVariants.{Label, Thread}
 use Rattle.pmt_fates.specs.declared.place_row.PlaceRow.{PlaceRow}
-use Rattle.pmt_explanation.specs.declared.labels.Labels.{Labels}
-use Rattle.pmt_explanation.specs.Framing.{frame_of}
+use Rattle.pmt_asked.specs.declared.labels.Labels.{Labels}
+use Rattle.pmt_asked.specs.Framing.{frame_of}
 use Rattle.pmt_explain_json.specs.Parts.{count_data, event_data, json_line, object_of, or_null}
 
 -- The innermost frame of a place whose events have a label.

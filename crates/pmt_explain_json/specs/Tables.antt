@@ -9,9 +9,9 @@ use Rattle.pmt_causes.specs.declared.late.LateSpot.TheVariants.{Label, Line}
 use Rattle.pmt_causes.specs.declared.tables.Row.{Row}
 use Rattle.pmt_causes.specs.Groups.{first_in}
 use Rattle.pmt_explanation.specs.declared.explaining.Explanation.{Explanation}
-use Rattle.pmt_explanation.specs.declared.labels.Labels.{Labels}
-use Rattle.pmt_explanation.specs.Framing.{frame_of}
-use Rattle.pmt_explanation.specs.Labelling.{label_of}
+use Rattle.pmt_asked.specs.declared.labels.Labels.{Labels}
+use Rattle.pmt_asked.specs.Framing.{frame_of}
+use Rattle.pmt_asked.specs.Labelling.{label_of}
 use Rattle.pmt_explain_json.specs.Hints.{hint_line}
 use Rattle.pmt_explain_json.specs.Parts.{count_data, event_data, json_line, line_data, object_of, or_null}
 use Rattle.pmt_explain_json.specs.Places.{place_line}

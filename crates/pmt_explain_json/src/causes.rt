@@ -8,8 +8,8 @@ ghost use Rattle.pmt_explain_json.specs.Groups.{assertion_name, cause_group_data
 use crate::inside::{makers_value, parts_value};
 use crate::objects::object_made;
 use crate::places::{label_or_null, thread_or_null};
+use pmt_asked::Labels;
 use pmt_causes::{AssertionKind, CauseCounts, CauseKind, FailureKey, Group};
-use pmt_explanation::Labels;
 use pmt_model::OutOfMemory;
 use serde_json::Value;
 use std::alloc::Global;

@@ -7,8 +7,9 @@ ghost use Rattle.pmt_explain_json.specs.Entries.{byte_store, byte_value, failure
 use crate::objects::{object_made, object_value};
 use crate::parts::{byte_store_value, cause_value, event_value, line_value, mend_value};
 use crate::words::address_text;
+use pmt_asked::Labels;
 use pmt_explain::{CrashByte, LineCount};
-use pmt_explanation::{Labels, RangeAfter, ShownFailure};
+use pmt_failures::{RangeAfter, ShownFailure};
 use pmt_model::{OutOfMemory, Trace};
 use pmt_reasons::ByteStore;
 use serde_json::Value;

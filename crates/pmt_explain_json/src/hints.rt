@@ -8,7 +8,7 @@ use crate::lines::push_value;
 use crate::objects::object_made;
 use crate::parts::event_value;
 use crate::places::{label_or_null, thread_or_null};
-use pmt_explanation::Labels;
+use pmt_asked::Labels;
 use pmt_hints::{Hint, HintKind};
 use pmt_model::{OutOfMemory, Trace};
 use serde_json::Value;

@@ -7,8 +7,8 @@ ghost use Rattle.pmt_explain_json.specs.Inside.{maker_count_data, maker_label, m
 
 use crate::objects::object_made;
 use crate::parts::{frame_value, label_value};
+use pmt_asked::Labels;
 use pmt_causes::{Count, Maker, RangePart};
-use pmt_explanation::Labels;
 use pmt_model::OutOfMemory;
 use serde_json::Value;
 use std::alloc::Global;

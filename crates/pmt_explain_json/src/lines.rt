@@ -13,11 +13,11 @@ use crate::entries::{dropped_value, lost_value, overwritten_value, unwritten_val
 use crate::failures::failure_value;
 use crate::summary::{more_value, summary_value};
 use crate::tables::push_tables;
+use pmt_asked::{Choice, Labels};
 use pmt_causes::{CauseCounts, FailureKey, Group};
 use pmt_explain::{Dropped, LostGroup, OverwrittenGroup};
-use pmt_explanation::{
-    Choice, Explanation, Labels, ShownFailure, Summary, Unwritten, first, summary_of,
-};
+use pmt_explanation::{Explanation, Summary, first, summary_of};
+use pmt_failures::{ShownFailure, Unwritten};
 use pmt_model::{OutOfMemory, Trace};
 use serde_json::Value;
 use std::alloc::Global;

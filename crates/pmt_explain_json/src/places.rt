@@ -9,8 +9,8 @@ ghost use Rattle.pmt_explain_json.specs.Places.{place_data, place_label, place_l
 use crate::lines::push_value;
 use crate::objects::object_made;
 use crate::parts::{event_or_null, event_value, frame_value};
+use pmt_asked::Labels;
 use pmt_causes::Origin;
-use pmt_explanation::Labels;
 use pmt_fates::PlaceRow;
 use pmt_model::{OutOfMemory, Trace};
 use serde_json::Value;

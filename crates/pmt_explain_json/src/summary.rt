@@ -3,13 +3,14 @@ ghost use Rattle.std.specs.Prelude.{◌≡◌, IfOk, string_bytes};
 ghost use Rattle.serde_json.specs.Data.{string};
 ghost use Rattle.serde_json.specs.View.{view};
 ghost use Rattle.pmt_explain_json.specs.Parts.{or_null, count_data};
-ghost use Rattle.pmt_explanation.specs.Choosing.{kind_name};
+ghost use Rattle.pmt_asked.specs.Choosing.{kind_name};
 ghost use Rattle.pmt_explain_json.specs.Lines.{asked_data, byte_range_data, more_data, summary_data};
 
 use crate::objects::{object_made, object_value};
 use crate::parts::count_or_null;
 use crate::words::address_text;
-use pmt_explanation::{ByteRange, Choice, Explanation, Kind, Summary, per_cent};
+use pmt_asked::{ByteRange, Choice, Kind};
+use pmt_explanation::{Explanation, Summary, per_cent};
 use pmt_model::OutOfMemory;
 use serde_json::Value;
 use std::alloc::Global;

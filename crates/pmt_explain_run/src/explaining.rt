@@ -6,7 +6,8 @@ ghost use Rattle.pmt_taking.specs.Sourcing.{IsFaultOf, TellsTaken, told_by};
 ghost use Rattle.pmt_analysis.specs.Analysing.{IsAnalysed};
 ghost use Rattle.pmt_explanation.specs.Explaining.{IsExplanation};
 
-use pmt_explanation::{Explanation, Labels, Options, explanation_of};
+use pmt_asked::{Labels, Options};
+use pmt_explanation::{Explanation, explanation_of};
 use pmt_report::swept;
 use pmt_taking::TakeError;
 use pmt_text::EventSource;

@@ -4,8 +4,8 @@ use crate::parts::plural;
 use crate::rows::{WIDTH, push_cut, width_of};
 use crate::spelling::word_of;
 use crate::telling::Telling;
+use pmt_asked::frame_of;
 use pmt_causes::{FailureKey, Group};
-use pmt_explanation::frame_of;
 use pmt_model::Op;
 use pmt_pen::Pen;
 

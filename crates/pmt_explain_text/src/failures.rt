@@ -10,7 +10,7 @@ use crate::screen::Section;
 use crate::story::push_story;
 use crate::telling::{Telling, failure_of, line_address};
 use pmt_causes::{FailureKey, Group};
-use pmt_explanation::ShownFailure;
+use pmt_failures::ShownFailure;
 use pmt_pen::Pen;
 
 // The most cache lines that are named.

@@ -1,7 +1,8 @@
 //! What the ranges and places to ignore leave out, in words.
 
 use crate::telling::Telling;
-use pmt_explanation::{ByteRange, IgnoredPlace, Summary, is_at_place, is_ignored};
+use pmt_asked::{ByteRange, IgnoredPlace, is_at_place, is_ignored};
+use pmt_explanation::Summary;
 use pmt_model::{Finding, Op, Trace};
 use pmt_pen::Pen;
 

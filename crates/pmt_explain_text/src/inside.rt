@@ -2,8 +2,8 @@
 
 use crate::rows::push_line;
 use crate::telling::Telling;
+use pmt_asked::frame_of;
 use pmt_causes::{CauseCounts, CauseKind, Count, Counts, FailureKey, Group, Maker, RangePart};
-use pmt_explanation::frame_of;
 use pmt_pen::Pen;
 
 // The most rows on a screen.

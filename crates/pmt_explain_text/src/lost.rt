@@ -6,7 +6,8 @@ use crate::screen::Section;
 use crate::telling::{Telling, line_address, tells_all};
 use pmt_causes::{Group, LostKey};
 use pmt_explain::LostGroup;
-use pmt_explanation::{first, mend_for};
+use pmt_explanation::first;
+use pmt_failures::mend_for;
 use pmt_pen::Pen;
 
 // The most cache lines that are named beside the one in full.

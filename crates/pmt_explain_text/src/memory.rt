@@ -4,7 +4,7 @@ ghost use Rattle.std.specs.Prelude.{◌≤◌, length};
 use crate::parts::push_count;
 use crate::telling::Telling;
 use pmt_explain::CrashByte;
-use pmt_explanation::RangeAfter;
+use pmt_failures::RangeAfter;
 use pmt_model::{Op, OutOfMemory, WordStore};
 use pmt_pen::Pen;
 

@@ -1,6 +1,6 @@
 //! Ranges of bytes that are joined.
 
-use pmt_explanation::ByteRange;
+use pmt_asked::ByteRange;
 use pmt_model::OutOfMemory;
 use std::alloc::Global;
 

@@ -1,8 +1,8 @@
 //! Events, causes and mends in words.
 
 use crate::telling::{Telling, line_address};
+use pmt_asked::frame_of;
 use pmt_causes::{Origin, origin_of};
-use pmt_explanation::frame_of;
 use pmt_model::{Event, Op};
 use pmt_pen::Pen;
 use pmt_reasons::{Cause, Mend};

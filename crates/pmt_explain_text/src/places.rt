@@ -10,7 +10,8 @@ use crate::parts::{
 use crate::screen::Section;
 use crate::sharing::{Sharing, push_shared, sharing_of};
 use crate::telling::{Telling, line_address, tells_all};
-use pmt_explanation::{first, mend_for};
+use pmt_explanation::first;
+use pmt_failures::mend_for;
 use pmt_fates::{PlaceRow, Standing, standing_of};
 use pmt_model::{Op, OutOfMemory, line_of};
 use pmt_pen::Pen;

@@ -3,7 +3,7 @@
 use crate::memory::{Cell, cells_of, push_memory};
 use crate::parts::{push_count, push_words};
 use crate::telling::{Telling, line_address};
-use pmt_explanation::{RangeAfter, ShownFailure};
+use pmt_failures::{RangeAfter, ShownFailure};
 use pmt_model::{Event, Op, OutOfMemory, Range, Trace, line_of};
 use pmt_pen::Pen;
 use std::alloc::Global;

@@ -5,7 +5,7 @@ use crate::parts::{place_of, plural, push_place_name};
 use crate::rows::{push_column, push_line, push_spaces, width_of};
 use crate::spelling::{Spelling, push_spelled, spelling_of};
 use crate::telling::Telling;
-use pmt_explanation::ShownFailure;
+use pmt_failures::ShownFailure;
 use pmt_model::OutOfMemory;
 use pmt_pen::Pen;
 use pmt_reasons::Cause;

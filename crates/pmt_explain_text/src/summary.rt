@@ -4,7 +4,8 @@ use crate::ignored::push_ignored;
 use crate::parts::{is_unflushed, push_count};
 use crate::telling::{Telling, failure_of};
 use crate::unknown::{push_cut, push_unknown};
-use pmt_explanation::{Choice, Summary, per_cent};
+use pmt_asked::Choice;
+use pmt_explanation::{Summary, per_cent};
 use pmt_pen::Pen;
 
 // Adds the counts, and what the words mean.

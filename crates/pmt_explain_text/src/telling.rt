@@ -1,6 +1,7 @@
 //! What each part of the text for people is told of.
 
-use pmt_explanation::{Choice, Cut, Explanation, Ignored, Kind, Labels};
+use pmt_asked::{Choice, Cut, Ignored, Kind, Labels};
+use pmt_explanation::Explanation;
 use pmt_model::Trace;
 use std::alloc::Global;
 

@@ -15,9 +15,9 @@ use Rattle.pmt_causes.specs.Inside.{AreInside}
 use Rattle.pmt_causes.proofs.KeyLemmas.{keyed-none}
 use Rattle.pmt_causes.proofs.MemberLemmas.{each-map, from-each, picks-each, to-each}
 use Rattle.pmt_explanation.specs.Causing.{first_members}
-use Rattle.pmt_explanation.specs.Showing.{Fails, AreShown}
-use Rattle.pmt_explanation.specs.declared.failures.ShownFailure.{ShownFailure}
-use Rattle.pmt_explanation.proofs.ShowingLemmas.{all-picked, all-take, failure-fails, number_of}
+use Rattle.pmt_failures.specs.Showing.{Fails, AreShown}
+use Rattle.pmt_failures.specs.declared.failures.ShownFailure.{ShownFailure}
+use Rattle.pmt_failures.proofs.ShowingLemmas.{all-picked, all-take, failure-fails, number_of}
 
 -- ---- The first members of groups
 

@@ -7,10 +7,11 @@ use Rattle.std.proofs.lemmas.Option.{slice_get-get_or, slice_get_past}
 use Rattle.std.proofs.lemmas.Slice.Eq.{bytes_eq-Decides}
 use Rattle.pmt_causes.specs.Labels.{label_of as number_of}
 use Rattle.pmt_explain.proofs.GroupingLemmas.{get-before, get-last}
-use Rattle.pmt_explanation.specs.declared.labels.Labels.{Labels}
-use Rattle.pmt_explanation.specs.Labelling.{label_of}
+use Rattle.pmt_asked.specs.declared.labels.Labels.{Labels}
+use Rattle.pmt_asked.specs.Labelling.{label_of}
 use Rattle.pmt_explanation.specs.Numbering.{AreLabelNumbers, IsLabelNumber}
-use Rattle.pmt_explanation.specs.Framing.{AreFirstFrames, AreFrameNumbers, IsFirstFrame, IsFrameAmong, IsFrameNumber, frame_of, inner_frame}
+use Rattle.pmt_asked.specs.Framing.{frame_of, inner_frame}
+use Rattle.pmt_explanation.specs.Framing.{AreFirstFrames, AreFrameNumbers, IsFrameAmong, IsFrameNumber}
 
 -- an event with the same label has the same frame
 pub framed : (labels : Labels) (i : ℕ) (text : List ℕ) → label_of labels i ≡ Some text → frame_of labels i ≡ Some (inner_frame text)

@@ -1,11 +1,4 @@
-pub mod CallerLemmas
 pub mod CausingLemmas
 pub mod CountingLemmas
 pub mod FramingLemmas
-pub mod IgnoringLemmas
-pub mod LabellingLemmas
-pub mod MendingLemmas
 pub mod NumberingLemmas
-pub mod ShowingLemmas
-pub mod UnwritingLemmas
-pub mod WrittenLemmas

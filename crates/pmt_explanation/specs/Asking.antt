@@ -1,18 +1,14 @@
 -- The findings that are asked for.
-use Rattle.std.specs.Prelude.{ℕ, ◌&&◌, ◌||◌, Bool, List, filter}
+use Rattle.std.specs.Prelude.{ℕ, ◌||◌, Bool, List, filter}
 use Rattle.pmt_model.specs.Traces.{Recording}
 use Rattle.pmt_explain.specs.declared.dropped_event.Dropped.{Dropped}
 use Rattle.pmt_explain.specs.declared.overwritten_grouping.Overwriting.{Overwriting}
-use Rattle.pmt_explanation.specs.declared.choosing.Choice.{Choice}
-use Rattle.pmt_explanation.specs.declared.choosing.Kind.{Kind}
-use Rattle.pmt_explanation.specs.declared.choosing.Kind.TheVariants as kinds
-use Rattle.pmt_explanation.specs.declared.labels.Labels.{Labels}
-use Rattle.pmt_explanation.specs.declared.unwritten.Unwritten.{Unwritten}
-use Rattle.pmt_explanation.specs.Choosing.{is_chosen, is_kind_chosen}
-
--- The finding of this kind at event i is asked for.
-abbrev pub is_asked_for : Recording → Labels → Choice → Kind → ℕ → Bool
-is_asked_for T labels c kind i = is_kind_chosen c kind && is_chosen T labels c i
+use Rattle.pmt_asked.specs.declared.choosing.Choice.{Choice}
+use Rattle.pmt_asked.specs.declared.choosing.Kind.{Kind}
+use Rattle.pmt_asked.specs.declared.choosing.Kind.TheVariants as kinds
+use Rattle.pmt_asked.specs.declared.labels.Labels.{Labels}
+use Rattle.pmt_failures.specs.declared.unwritten.Unwritten.{Unwritten}
+use Rattle.pmt_asked.specs.Choosing.{is_asked_for}
 
 abbrev pub asked_numbers : Recording → Labels → Choice → Kind → List ℕ → List ℕ
 asked_numbers T labels c kind numbers = filter (is_asked_for T labels c kind) numbers

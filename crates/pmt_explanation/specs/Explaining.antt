@@ -15,21 +15,22 @@ use Rattle.pmt_causes.specs.Tables.{AreLabelRows, AreThreadRows}
 use Rattle.pmt_fates.specs.Places.{ArePlaces}
 use Rattle.pmt_analysis.specs.Analysing.{Analysed}
 use Rattle.pmt_explanation.specs.declared.explaining.Explanation.{Explanation}
-use Rattle.pmt_explanation.specs.declared.failures.ShownFailure.{ShownFailure}
-use Rattle.pmt_explanation.specs.declared.explaining.Options.{Options}
+use Rattle.pmt_failures.specs.declared.failures.ShownFailure.{ShownFailure}
+use Rattle.pmt_asked.specs.declared.options.Options.{Options}
 use Rattle.pmt_explanation.specs.declared.explaining.Parts.{Parts}
 use Rattle.pmt_explanation.specs.Finding.{AreFound}
-use Rattle.pmt_explanation.specs.declared.choosing.Kind.TheVariants as kinds
-use Rattle.pmt_explanation.specs.declared.labels.Labels.{Labels}
-use Rattle.pmt_explanation.specs.Asking.{asked_dropped, asked_numbers, asked_pairs, asked_unwritten, is_asked_for}
+use Rattle.pmt_asked.specs.declared.choosing.Kind.TheVariants as kinds
+use Rattle.pmt_asked.specs.declared.labels.Labels.{Labels}
+use Rattle.pmt_asked.specs.Choosing.{is_asked_for}
+use Rattle.pmt_explanation.specs.Asking.{asked_dropped, asked_numbers, asked_pairs, asked_unwritten}
 use Rattle.pmt_explanation.specs.Causing.{AreAskedLate, first_members}
-use Rattle.pmt_explanation.specs.Failing.{failing_events}
+use Rattle.pmt_failures.specs.Failing.{failing_events}
 use Rattle.pmt_explanation.specs.Framing.{AreFrameNumbers}
 use Rattle.pmt_explanation.specs.Hinting.{AreHints}
-use Rattle.pmt_explanation.specs.Ignoring.{lost_store, told_stores, overwriting, told_pairs}
+use Rattle.pmt_explanation.specs.Losing.{lost_store, told_stores, overwriting, told_pairs}
 use Rattle.pmt_explanation.specs.Numbering.{AreLabelNumbers}
-use Rattle.pmt_explanation.specs.Showing.{IsShown}
-use Rattle.pmt_explanation.specs.Unwriting.{unwritten_of}
+use Rattle.pmt_failures.specs.Showing.{IsShown}
+use Rattle.pmt_failures.specs.Unwriting.{unwritten_of}
 
 -- What is told of an analysis, with these labels, where this is asked.
 pub record IsExplanation (a : Analysed) (labels : Labels) (o : Options) (x : Explanation) : Type 0 where

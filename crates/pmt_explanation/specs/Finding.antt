@@ -10,14 +10,15 @@ use Rattle.pmt_causes.specs.Groups.{AreGrouped}
 use Rattle.pmt_causes.specs.Inside.{AreInside}
 use Rattle.pmt_causes.specs.Late.{AreWaited}
 use Rattle.pmt_causes.specs.Tables.{AreLabelRows, AreThreadRows}
-use Rattle.pmt_explanation.specs.declared.choosing.Kind.TheVariants as kinds
-use Rattle.pmt_explanation.specs.declared.explaining.Options.{Options}
+use Rattle.pmt_asked.specs.declared.choosing.Kind.TheVariants as kinds
+use Rattle.pmt_asked.specs.declared.options.Options.{Options}
 use Rattle.pmt_explanation.specs.declared.found.Found.{Found}
-use Rattle.pmt_explanation.specs.declared.labels.Labels.{Labels}
-use Rattle.pmt_explanation.specs.Asking.{asked_dropped, asked_numbers, is_asked_for}
+use Rattle.pmt_asked.specs.declared.labels.Labels.{Labels}
+use Rattle.pmt_asked.specs.Choosing.{is_asked_for}
+use Rattle.pmt_explanation.specs.Asking.{asked_dropped, asked_numbers}
 use Rattle.pmt_explanation.specs.Causing.{AreAskedLate, first_members}
-use Rattle.pmt_explanation.specs.Failing.{failing_events}
-use Rattle.pmt_explanation.specs.Showing.{AreShown}
+use Rattle.pmt_failures.specs.Failing.{failing_events}
+use Rattle.pmt_failures.specs.Showing.{AreShown}
 
 -- What is found in a trace with these verdicts, with these labels, whose numbers and whose innermost frames' numbers are these, where this is asked.
 pub record AreFound (T : Recording) (verdicts : List Verdict) (labels : Labels) (numbers frames : List (Option ℕ)) (o : Options) (x : Found) : Type 0 where

@@ -6,11 +6,11 @@ use Rattle.pmt_hints.specs.Placing.{AreHintsOf}
 use Rattle.pmt_hints.specs.declared.hint.Hint.{Hint}
 use Rattle.pmt_hints.specs.declared.hint.HintKind.{HintKind}
 use Rattle.pmt_hints.specs.declared.hint.HintKind.TheVariants.{OpenAtStore, SplitWord, StoredAfterFlush}
-use Rattle.pmt_explanation.specs.declared.choosing.Choice.{Choice}
-use Rattle.pmt_explanation.specs.declared.choosing.Kind.TheVariants as kinds
-use Rattle.pmt_explanation.specs.declared.labels.Labels.{Labels}
+use Rattle.pmt_asked.specs.declared.choosing.Choice.{Choice}
+use Rattle.pmt_asked.specs.declared.choosing.Kind.TheVariants as kinds
+use Rattle.pmt_asked.specs.declared.labels.Labels.{Labels}
 use Rattle.pmt_explanation.specs.Asking.{asked_numbers}
-use Rattle.pmt_explanation.specs.Choosing.{is_kind_chosen}
+use Rattle.pmt_asked.specs.Choosing.{is_kind_chosen}
 
 -- The hints of one kind, by place: of those of the events with its property that are asked for.
 pub record AreHintsAsked (T : Recording) (labels : Labels) (frames : List (Option ℕ)) (c : Choice) (kind : HintKind) (P : ℕ → Type 0) (hints : List Hint) : Type 0 where

@@ -1,15 +1,10 @@
 pub mod Asking
 pub mod Causing
-pub mod Choosing
 pub mod Counting
 pub mod Explaining
-pub mod Failing
 pub mod Finding
 pub mod Framing
 pub mod Hinting
-pub mod Ignoring
-pub mod Labelling
+pub mod Losing
 pub mod Numbering
-pub mod Showing
 pub mod Summing
-pub mod Unwriting

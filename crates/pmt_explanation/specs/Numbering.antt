@@ -5,8 +5,8 @@ use Rattle.std.specs.declared.hash.FoldHasher.{FoldHasher}
 use Rattle.std.specs.declared.hash.BuildHasherDefault.{BuildHasherDefault}
 use Rattle.std.specs.HashMap.{HashMap, get_by}
 use Rattle.pmt_causes.specs.Labels.{label_of as number_of}
-use Rattle.pmt_explanation.specs.declared.labels.Labels.{Labels}
-use Rattle.pmt_explanation.specs.Labelling.{label_of}
+use Rattle.pmt_asked.specs.declared.labels.Labels.{Labels}
+use Rattle.pmt_asked.specs.Labelling.{label_of}
 
 -- Event j is the first one that has this label.
 pub record IsFirstWith (labels : Labels) (text : List ℕ) (j : ℕ) : Type 0 where

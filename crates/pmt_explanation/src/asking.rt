@@ -1,23 +1,16 @@
 //! The findings that are asked for.
 ghost use Rattle.std.specs.Prelude.{◌≡◌, IfOk};
-ghost use Rattle.pmt_explanation.specs.Asking.{asked_dropped, asked_numbers as numbers_asked, asked_pairs as pairs_asked, asked_unwritten, is_asked_for as asked_for, is_pair_asked as pair_asked};
+ghost use Rattle.pmt_explanation.specs.Asking.{asked_dropped, asked_numbers as numbers_asked, asked_pairs as pairs_asked, asked_unwritten, is_pair_asked as pair_asked};
 ghost use Rattle.pmt_explanation.specs.Causing.{asked_items};
-ghost use Rattle.pmt_explanation.specs.declared.choosing.Kind.TheVariants.{Late};
+ghost use Rattle.pmt_asked.specs.Choosing.{is_asked_for as asked_for};
+ghost use Rattle.pmt_asked.specs.declared.choosing.Kind.TheVariants.{Late};
 
-use crate::choosing::{Choice, Kind, is_asked, is_chosen};
-use crate::labels::Labels;
-use crate::unwritten::Unwritten;
+use pmt_asked::{Choice, Kind, Labels, is_asked_for};
 use pmt_causes::{Keyed, LateSpot};
 use pmt_explain::{Dropped, Overwriting};
+use pmt_failures::Unwritten;
 use pmt_model::{OutOfMemory, Trace};
 use std::alloc::Global;
-
-// Whether the finding of this kind at the event is asked for.
-fn is_asked_for(trace: &Trace, labels: &Labels, choice: &Choice, kind: Kind, number: u64) -> bool
-    ensures { result ≡ asked_for trace.now labels.now choice.now kind number }
-{
-    is_asked(choice, kind) && is_chosen(trace, labels, choice, number)
-}
 
 // Those of the events whose finding of this kind is asked for, in the same order.
 pub(crate) fn asked_numbers(

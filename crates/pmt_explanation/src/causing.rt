@@ -4,13 +4,12 @@ ghost use Rattle.pmt_causes.specs.FailureKeys.{AreFailureGroups};
 ghost use Rattle.pmt_causes.specs.Groups.{first_in};
 ghost use Rattle.pmt_causes.specs.Inside.{AreInside};
 ghost use Rattle.pmt_causes.specs.Late.{AreWaited};
-ghost use Rattle.pmt_explanation.specs.Asking.{is_asked_for as asked_for};
+ghost use Rattle.pmt_asked.specs.Choosing.{is_asked_for as asked_for};
 ghost use Rattle.pmt_explanation.specs.Causing.{AreAskedLate, first_members as first_members_of};
-ghost use Rattle.pmt_explanation.specs.declared.choosing.Kind.TheVariants.{Late};
+ghost use Rattle.pmt_asked.specs.declared.choosing.Kind.TheVariants.{Late};
 
 use crate::asking::keep_asked;
-use crate::choosing::Choice;
-use crate::labels::Labels;
+use pmt_asked::{Choice, Labels};
 use pmt_causes::{Causes, Group, LateSpot, LateStores, failure_groups, groups, late_stores};
 use pmt_explain::SafePlaces;
 use pmt_model::OutOfMemory;

@@ -5,14 +5,14 @@ ghost use Rattle.pmt_causes.specs.Dropped.{dropped_item};
 ghost use Rattle.pmt_causes.specs.Groups.{AreGrouped};
 ghost use Rattle.pmt_causes.specs.Late.{AreWaited};
 ghost use Rattle.pmt_causes.specs.Tables.{AreLabelRows, AreThreadRows};
-ghost use Rattle.pmt_explanation.specs.Asking.{asked_dropped as drops_asked, is_asked_for};
+ghost use Rattle.pmt_explanation.specs.Asking.{asked_dropped as drops_asked};
 ghost use Rattle.pmt_explanation.specs.Causing.{AreAskedLate};
-ghost use Rattle.pmt_explanation.specs.declared.choosing.Kind.TheVariants.{Late};
+ghost use Rattle.pmt_asked.specs.Choosing.{is_asked_for};
+ghost use Rattle.pmt_asked.specs.declared.choosing.Kind.TheVariants.{Late};
 
 use crate::asking::asked_drops;
 use crate::causing::asked_late;
-use crate::explaining::Options;
-use crate::labels::Labels;
+use pmt_asked::{Labels, Options};
 use pmt_causes::{DroppedKey, Group, LateSpot, Row, dropped_groups, label_table, thread_table};
 use pmt_explain::{Dropped, SafePlaces};
 use pmt_model::OutOfMemory;

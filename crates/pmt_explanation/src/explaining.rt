@@ -2,39 +2,25 @@
 ghost use Rattle.std.specs.Prelude.{◌≡◌, IfOk};
 ghost use Rattle.pmt_explanation.specs.Asking.{asked_unwritten};
 ghost use Rattle.pmt_explanation.specs.Explaining.{AreParts, IsExplanation, has_failed as fails};
-ghost use Rattle.pmt_explanation.specs.declared.explaining.Options.{Options};
-ghost use Rattle.pmt_explanation.specs.declared.labels.Labels.{Labels};
-ghost use Rattle.pmt_explanation.specs.Unwriting.{unwritten_of};
+ghost use Rattle.pmt_asked.specs.declared.options.Options.{Options};
+ghost use Rattle.pmt_asked.specs.declared.labels.Labels.{Labels};
+ghost use Rattle.pmt_failures.specs.Unwriting.{unwritten_of};
 
 use crate::asking::asked_unwrittens;
-use crate::choosing::Choice;
-use crate::failures::ShownFailure;
 use crate::found::{Found, found_of};
 use crate::frames::frame_numbers;
 use crate::hinting::hints_asked;
-use crate::ignoring::Ignored;
-use crate::labels::Labels;
 use crate::losses::{Losses, losses_of};
 use crate::numbering::label_numbers;
-use crate::unwritten::{Unwritten, unwritten_assertions};
 use pmt_analysis::Analysis;
+use pmt_asked::{Choice, Labels, Options};
 use pmt_causes::{CauseCounts, DroppedKey, FailureKey, Group, LateSpot, LostKey, Row};
 use pmt_explain::{Dropped, LostGroup, OverwrittenGroup};
+use pmt_failures::{ShownFailure, Unwritten, unwritten_assertions};
 use pmt_fates::PlaceRow;
 use pmt_hints::Hint;
 use pmt_model::{OutOfMemory, Trace};
 use std::alloc::Global;
-
-/// What is asked of an explanation.
-#[derive(Drop)]
-pub struct Options {
-    /// The stores that may be lost or overwritten.
-    pub ignored: Ignored,
-    /// The most entries of each kind that are shown.
-    pub limit: usize,
-    /// Which findings are told.
-    pub choice: Choice,
-}
 
 /// What is to be told of a trace.
 #[derive(Drop)]

@@ -4,18 +4,16 @@ ghost use Rattle.pmt_causes.specs.FailureKeys.{AreFailureGroups};
 ghost use Rattle.pmt_causes.specs.Inside.{AreInside};
 ghost use Rattle.pmt_explanation.specs.Asking.{asked_numbers as numbers_asked};
 ghost use Rattle.pmt_explanation.specs.Causing.{first_members as firsts_of};
-ghost use Rattle.pmt_explanation.specs.Failing.{failing_events as failing_of};
-ghost use Rattle.pmt_explanation.specs.Showing.{AreShown};
-ghost use Rattle.pmt_explanation.specs.declared.choosing.Kind.TheVariants.{Failure};
+ghost use Rattle.pmt_failures.specs.Failing.{failing_events as failing_of};
+ghost use Rattle.pmt_failures.specs.Showing.{AreShown};
+ghost use Rattle.pmt_asked.specs.declared.choosing.Kind.TheVariants.{Failure};
 
 use crate::asking::asked_numbers;
 use crate::causing::{causes_of, first_members};
-use crate::choosing::Kind;
-use crate::explaining::Options;
-use crate::failures::{ShownFailure, failing_events, shown_failures};
-use crate::labels::Labels;
-use pmt_causes::{CauseCounts, Causes, FailureKey, Group};
+use pmt_asked::{Kind, Labels, Options};
+use pmt_causes::{CauseCounts, Causes, FailureKey, Group, first};
 use pmt_explain::SafePlaces;
+use pmt_failures::{ShownFailure, failing_events, shown_failures};
 use pmt_model::{OutOfMemory, Verdict};
 use std::alloc::Global;
 
@@ -72,7 +70,8 @@ pub(crate) fn failed_of(
         options.limit,
     )?;
     let firsts = first_members(alloc, causes.as_slice())?;
-    let shown = shown_failures(alloc, safe, firsts.as_slice(), options.limit)?;
+    let few = first(firsts.as_slice(), options.limit);
+    let shown = shown_failures(alloc, safe, few)?;
     Ok(Failed {
         failing,
         asked,

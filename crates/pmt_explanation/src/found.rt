@@ -5,10 +5,9 @@ ghost use Rattle.pmt_fates.specs.Places.{ArePlaces};
 ghost use Rattle.pmt_explanation.specs.Finding.{AreFound};
 
 use crate::effects::{Effects, effects_of};
-use crate::explaining::Options;
 use crate::failed::{Failed, failed_of};
-use crate::labels::Labels;
 use pmt_analysis::Analysis;
+use pmt_asked::{Labels, Options};
 use pmt_explain::{Dropped, EventEffects, effects};
 use pmt_fates::{PlaceRow, place_table};
 use pmt_model::OutOfMemory;

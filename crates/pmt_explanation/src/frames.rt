@@ -1,26 +1,13 @@
-//! The innermost frames of labels, and their numbers.
+//! The numbers of innermost frames.
 ghost use Rattle.std.specs.Prelude.{◌≡◌, ◌+◌, ◌-◌, ◌^◌, ◌<◌, length, IfOk, OnOk};
-ghost use Rattle.pmt_explanation.specs.Framing.{AreFirstFrames, AreFrameNumbers, IsFrameNumber, inner_frame};
+ghost use Rattle.pmt_explanation.specs.Framing.{AreFirstFrames, AreFrameNumbers, IsFrameNumber};
 ghost use Rattle.pmt_explanation.specs.Numbering.{AreLabelNumbers, IsLabelNumber, first_in};
 
-use crate::labels::Labels;
 use crate::numbering::{Firsts, first_with};
+use pmt_asked::{Labels, frame_of};
 use pmt_model::OutOfMemory;
 use std::alloc::Global;
 use std::collections::HashMap;
-
-// What stands between a place and that of its caller.
-const CALLER: &str = " < ";
-
-/// The innermost frame of a label: what stands before its first caller, as `list.c:57 insert` of `list.c:57 insert < main list.c:90`.
-pub fn frame_of(label: &str) -> &str
-    ensures { result.now ≡ inner_frame label.now }
-{
-    match label.split_once(CALLER) {
-        Some((frame, _)) => frame,
-        None => label,
-    }
-}
 
 // Of each of so many events, in order, the number of its innermost frame: that of the first event which has it. None where the event has
 // no label. `numbers` are the numbers of their labels.

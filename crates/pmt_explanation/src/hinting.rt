@@ -4,12 +4,11 @@ ghost use Rattle.pmt_model.specs.Keeping.{IsKeep};
 ghost use Rattle.pmt_hints.specs.Placing.{AreHintsOf};
 ghost use Rattle.pmt_explanation.specs.Asking.{asked_numbers as numbers_asked};
 ghost use Rattle.pmt_explanation.specs.Hinting.{AreAllHints, AreHints};
-ghost use Rattle.pmt_explanation.specs.declared.choosing.Kind.TheVariants as kinds;
+ghost use Rattle.pmt_asked.specs.declared.choosing.Kind.TheVariants as kinds;
 
 use crate::asking::asked_numbers;
-use crate::choosing::{Choice, Kind, is_asked};
-use crate::labels::Labels;
 use pmt_analysis::Analysis;
+use pmt_asked::{Choice, Kind, Labels, is_asked};
 use pmt_hints::{Hint, HintKind, hints_of, split_words, stored_after_flush, told_open};
 use pmt_model::{OutOfMemory, Selection, Trace};
 use std::alloc::Global;

@@ -2,7 +2,7 @@
 ghost use Rattle.std.specs.Prelude.{◌≡◌, ◌+◌, ◌-◌, ◌^◌, ◌<◌, ℕ, List, Some, IfOk, OnOk, bytes_eq, if◌then◌else◌, unwrap_or};
 ghost use Rattle.pmt_explanation.specs.Numbering.{AreFirsts, AreLabelNumbers, IsLabelNumber, first_in};
 
-use crate::labels::Labels;
+use pmt_asked::Labels;
 use pmt_model::OutOfMemory;
 use std::alloc::Global;
 use std::collections::HashMap;

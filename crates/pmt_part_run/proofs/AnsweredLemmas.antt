@@ -7,7 +7,7 @@ use Rattle.pmt_model.specs.Traces.{Recording, event}
 use Rattle.pmt_model.specs.Selections.{IsRising, Has, matching_place}
 use Rattle.pmt_laws.proofs.Histories.{event-some}
 use Rattle.pmt_laws.proofs.CutLemmas.{has-above, place-low}
-use Rattle.pmt_explanation.specs.declared.ignoring.ByteRange.{ByteRange}
+use Rattle.pmt_asked.specs.declared.ignoring.ByteRange.{ByteRange}
 use Rattle.pmt_part_laws.specs.Laws.{stretch}
 use Rattle.pmt_parts.specs.declared.part.Part.{Part}
 use Rattle.pmt_parts.specs.Making.{IsPartOf}

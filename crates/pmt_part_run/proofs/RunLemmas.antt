@@ -13,7 +13,7 @@ use Rattle.pmt_model.specs.Traces.{Recording, IsTrace, IsEventIn}
 use Rattle.pmt_text.specs.Coming.{Coming, judged, whole}
 use Rattle.pmt_text.specs.Spelling.{ended, event_text, header, spelling}
 use Rattle.pmt_text.proofs.WholeLemmas.{read_is_spelled}
-use Rattle.pmt_explanation.specs.declared.ignoring.ByteRange.{ByteRange}
+use Rattle.pmt_asked.specs.declared.ignoring.ByteRange.{ByteRange}
 use Rattle.pmt_part_laws.specs.Parts.{IsWellFormed}
 use Rattle.pmt_parts.specs.declared.part.Part.{Part}
 use Rattle.pmt_parts.specs.Making.{IsPartOf, ComesNext}

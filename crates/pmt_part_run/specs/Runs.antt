@@ -5,7 +5,7 @@ use Rattle.pmt_model.specs.declared.event.Event.{Event}
 use Rattle.pmt_model.specs.Traces.{Recording}
 use Rattle.pmt_model.specs.Selections.{matching_place}
 use Rattle.pmt_text.specs.Spelling.{spelling}
-use Rattle.pmt_explanation.specs.declared.ignoring.ByteRange.{ByteRange}
+use Rattle.pmt_asked.specs.declared.ignoring.ByteRange.{ByteRange}
 use Rattle.pmt_part_laws.specs.Parts.{IsWellFormed}
 use Rattle.pmt_parts.specs.declared.part.Part.{Part}
 use Rattle.pmt_parts.specs.Making.{IsPartOf}

@@ -1,6 +1,6 @@
 //! Reading the events of a part from a text of any length.
 ghost use Rattle.std.specs.Prelude.{◌≡◌, List, [], ℕ, IfOk, OnOk};
-ghost use Rattle.pmt_explanation.specs.declared.ignoring.ByteRange.{ByteRange};
+ghost use Rattle.pmt_asked.specs.declared.ignoring.ByteRange.{ByteRange};
 ghost use Rattle.pmt_text.specs.Spelling.{spelling};
 ghost use Rattle.pmt_parts.specs.Reading.{coming};
 ghost use Rattle.pmt_part_run.specs.Running.{Extends, IsCutSoFar, ReadsOn};

@@ -8,7 +8,7 @@ ghost use Rattle.pmt_part_run.specs.Running.{IsCutSoFar};
 
 use crate::reading::{first_part, read_on};
 use crate::taker::{PartError, PartTaker};
-use pmt_explanation::ByteRange;
+use pmt_asked::ByteRange;
 use pmt_parts::{Part, Pieces, next_part};
 use std::alloc::Global;
 use std::io::Read;

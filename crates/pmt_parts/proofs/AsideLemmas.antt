@@ -9,7 +9,7 @@ use Rattle.pmt_laws.proofs.OverwrittenLemmas.{IsLastWriter, last_store_number-is
 use Rattle.pmt_slices.specs.Scanning.{IsUnwritten}
 use Rattle.pmt_slices.specs.Slices.{IsSubsequence}
 use Rattle.pmt_slices.proofs.CuttingLemmas.{kept-event, kept-act, act-origin, placed-later, placed-by, later-origin}
-use Rattle.pmt_explanation.specs.declared.ignoring.ByteRange.{ByteRange}
+use Rattle.pmt_asked.specs.declared.ignoring.ByteRange.{ByteRange}
 use Rattle.pmt_parts.specs.Making.{IsPartBut}
 use Rattle.pmt_parts.specs.Aside.{IsOlderOrdered, AsideByWhole, AsideIsAll}
 use Rattle.pmt_parts.proofs.CarryLemmas.{subsequence, has-late}

@@ -14,8 +14,8 @@ use Rattle.pmt_laws.proofs.CutLemmas.{place-mono}
 use Rattle.pmt_safety.specs.Safety.{safe_store_at}
 use Rattle.pmt_safety.proofs.SafetyLemmas.{front-below}
 use Rattle.pmt_explain.specs.Following.{ByFence, ByItself, IsCompletedAfter}
-use Rattle.pmt_explanation.specs.declared.ignoring.ByteRange.{ByteRange}
-use Rattle.pmt_explanation.specs.Ignoring.{is_op_ignored, is_event_ignored, is_ignored}
+use Rattle.pmt_asked.specs.declared.ignoring.ByteRange.{ByteRange}
+use Rattle.pmt_asked.specs.Ignoring.{is_op_ignored, is_event_ignored, is_ignored}
 use Rattle.pmt_slices.specs.Slices.{IsSubsequence}
 use Rattle.pmt_slices.proofs.CuttingLemmas.{kept-event, kept-act, act-origin, placed-later, later-origin, placed-by}
 use Rattle.pmt_slices.proofs.CoverLemmas.{completed-safe}

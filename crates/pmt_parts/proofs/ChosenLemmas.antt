@@ -4,8 +4,8 @@ use Rattle.std.specs.Prelude.{◌⊎◌, ◌↔◌, not}
 use Rattle.std.proofs.lemmas.Bool.{cases_lt}
 use Rattle.pmt_model.specs.Traces.{Recording}
 use Rattle.pmt_model.specs.Selections.{IsRising, Has}
-use Rattle.pmt_explanation.specs.declared.ignoring.ByteRange.{ByteRange}
-use Rattle.pmt_explanation.specs.Ignoring.{is_ignored}
+use Rattle.pmt_asked.specs.declared.ignoring.ByteRange.{ByteRange}
+use Rattle.pmt_asked.specs.Ignoring.{is_ignored}
 use Rattle.pmt_part_laws.specs.Parts.{IsCarried, IsCarry}
 use Rattle.pmt_part_laws.specs.Laws.{stretch}
 use Rattle.pmt_parts.specs.Making.{IsTaken}

@@ -9,7 +9,7 @@ use Rattle.pmt_model.specs.Selections.{IsRising, Has, cut, matching_place}
 use Rattle.pmt_laws.proofs.Histories.{event-some, act-within}
 use Rattle.pmt_laws.proofs.CutLemmas.{has-above}
 use Rattle.pmt_slices.proofs.CuttingLemmas.{kept-act, placed-later, later-origin}
-use Rattle.pmt_explanation.specs.declared.ignoring.ByteRange.{ByteRange}
+use Rattle.pmt_asked.specs.declared.ignoring.ByteRange.{ByteRange}
 use Rattle.pmt_parts.specs.declared.part.Part.{Part}
 use Rattle.pmt_parts.specs.Making.{IsTaken, IsPartBut, IsPartOf}
 use Rattle.pmt_parts.specs.Picking.{through, AreChosen}

@@ -10,7 +10,7 @@ use Rattle.pmt_model.specs.Selections.{Has, cut}
 use Rattle.pmt_model.specs.Pushing.{with_event}
 use Rattle.pmt_laws.proofs.Histories.{act-within}
 use Rattle.pmt_model.specs.Machine.{Stores, Flushes}
-use Rattle.pmt_explanation.specs.declared.ignoring.ByteRange.{ByteRange}
+use Rattle.pmt_asked.specs.declared.ignoring.ByteRange.{ByteRange}
 use Rattle.pmt_parts.specs.declared.part.Part.{Part}
 use Rattle.pmt_parts.specs.Making.{IsTaken, IsPartBut, IsPartOf, ComesNext}
 use Rattle.pmt_parts.proofs.CarryLemmas.{by-end}

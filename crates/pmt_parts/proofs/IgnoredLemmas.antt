@@ -6,7 +6,7 @@ use Rattle.pmt_model.specs.declared.event.Event.{Event}
 use Rattle.pmt_model.specs.declared.event.Op.{Op}
 use Rattle.pmt_model.specs.declared.event.Op.TheVariants as ops
 use Rattle.pmt_model.specs.Traces.{Recording, IsEventIn, IsOp}
-use Rattle.pmt_explanation.specs.Ignoring.{are_ignored, is_op_ignored, is_event_ignored, is_ignored}
+use Rattle.pmt_asked.specs.Ignoring.{are_ignored, is_op_ignored, is_event_ignored, is_ignored}
 use Rattle.pmt_part_laws.specs.Parts.{IsWellFormed}
 use Rattle.pmt_parts.specs.Laws.{PartOfAll}
 

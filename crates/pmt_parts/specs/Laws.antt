@@ -2,7 +2,7 @@
 use Rattle.std.specs.Prelude.{ℕ, ◌≤◌, ◌↔◌, List, []}
 use Rattle.pmt_model.specs.Traces.{Recording}
 use Rattle.pmt_model.specs.Selections.{Has, cut, matching_place}
-use Rattle.pmt_explanation.specs.declared.ignoring.ByteRange.{ByteRange}
+use Rattle.pmt_asked.specs.declared.ignoring.ByteRange.{ByteRange}
 use Rattle.pmt_part_laws.specs.Parts.{IsWellFormed, IsPart}
 use Rattle.pmt_parts.specs.Making.{IsTaken, IsPartBut}
 

@@ -3,8 +3,8 @@ use Rattle.std.specs.Prelude.{◌≡◌, ℕ, ◌<◌, ◌≤◌, ◌⊎◌, ◌
 use Rattle.pmt_model.specs.declared.event.Event.{Event}
 use Rattle.pmt_model.specs.Traces.{Recording}
 use Rattle.pmt_model.specs.Selections.{IsRising, Has, cut}
-use Rattle.pmt_explanation.specs.declared.ignoring.ByteRange.{ByteRange}
-use Rattle.pmt_explanation.specs.Ignoring.{is_ignored}
+use Rattle.pmt_asked.specs.declared.ignoring.ByteRange.{ByteRange}
+use Rattle.pmt_asked.specs.Ignoring.{is_ignored}
 use Rattle.pmt_part_laws.specs.Parts.{IsCarried}
 use Rattle.pmt_parts.specs.declared.part.Part.{Part}
 

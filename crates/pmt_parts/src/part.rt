@@ -3,14 +3,14 @@ ghost use Rattle.std.specs.Prelude.{◌≡◌, ◌⊎◌, suc, ◌+◌, ◌-◌,
 ghost use Rattle.pmt_model.specs.Pushing.{with_event};
 ghost use Rattle.pmt_model.specs.Selections.{IsRising, matching_place};
 ghost use Rattle.pmt_model.specs.Traces.{Recording, event as event_at, event_limit, IsEventIn};
-ghost use Rattle.pmt_explanation.specs.declared.ignoring.ByteRange.{ByteRange};
-ghost use Rattle.pmt_explanation.specs.Ignoring.{is_ignored as event_ignored};
+ghost use Rattle.pmt_asked.specs.declared.ignoring.ByteRange.{ByteRange};
+ghost use Rattle.pmt_asked.specs.Ignoring.{is_ignored as event_ignored};
 ghost use Rattle.pmt_part_laws.specs.Laws.{stretch};
 ghost use Rattle.pmt_parts.specs.Making.{IsPartOf, ComesNext};
 ghost use Rattle.pmt_parts.specs.Picking.{AreChosen, number_in, through};
 
+use pmt_asked::{ByteRange, is_ignored};
 use pmt_carry::carry_at;
-use pmt_explanation::{ByteRange, is_ignored};
 use pmt_model::{Event, Format, OutOfMemory, Selection, Trace};
 use pmt_taking::add;
 use std::alloc::Global;

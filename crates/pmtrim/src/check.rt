@@ -8,7 +8,7 @@ use command_inputs::{
 };
 use command_requests::{CheckWords, TraceWords};
 use pmt_analysis::Analysis;
-use pmt_explanation::Labels;
+use pmt_asked::Labels;
 use pmt_report::{failed, report_text, run_check, run_error, swept};
 use pmt_taking::TakeError;
 use pmt_text::{Counted, TextSource};

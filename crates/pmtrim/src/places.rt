@@ -1,7 +1,7 @@
 //! A report whose entries have places, and no more of them than are asked for.
 
 use command_inputs::split_line;
-use pmt_explanation::Labels;
+use pmt_asked::Labels;
 use pmt_text::fields::split_field;
 use pmt_text::number::read_number;
 use std::alloc::{AllocError, Global};

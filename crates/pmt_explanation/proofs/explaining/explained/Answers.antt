@@ -1,7 +1,7 @@
 use Rattle.std.proofs.Common.{◌≡◌, subst, sym, take, map}
 use Rattle.pmt_causes.specs.Inside.{AreInside}
 use Rattle.pmt_explanation.specs.Causing.{first_members}
-use Rattle.pmt_explanation.specs.declared.failures.ShownFailure.{ShownFailure}
+use Rattle.pmt_failures.specs.declared.failures.ShownFailure.{ShownFailure}
 use Rattle.pmt_explanation.proofs.CausingLemmas.{shown-firsts}
 use Rattle.pmt_explanation.proofs.explaining.explained.Goals as goal
 

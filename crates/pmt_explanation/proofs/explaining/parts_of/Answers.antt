@@ -4,7 +4,7 @@ use Rattle.pmt_causes.specs.Groups.{AreGrouped}
 use Rattle.pmt_causes.specs.LostCauses.{lost_item}
 use Rattle.pmt_explanation.specs.Asking.{asked_unwritten}
 use Rattle.pmt_explanation.specs.Finding.{AreFound}
-use Rattle.pmt_explanation.specs.Unwriting.{unwritten_of}
+use Rattle.pmt_failures.specs.Unwriting.{unwritten_of}
 use Rattle.pmt_explanation.proofs.explaining.parts_of.Goals as goal
 
 pub returns : goal.returns

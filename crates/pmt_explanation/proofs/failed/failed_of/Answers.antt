@@ -2,8 +2,8 @@ use Rattle.std.proofs.Common.{◌≡◌, List, ℕ, take, subst, ◌∙◌, ap}
 use Rattle.pmt_causes.specs.FailureKeys.{AreFailureGroups}
 use Rattle.pmt_explanation.specs.Asking.{asked_numbers}
 use Rattle.pmt_explanation.specs.Causing.{first_members}
-use Rattle.pmt_explanation.specs.Showing.{AreShown}
-use Rattle.pmt_explanation.specs.declared.choosing.Kind.TheVariants.{Failure}
+use Rattle.pmt_failures.specs.Showing.{AreShown}
+use Rattle.pmt_asked.specs.declared.choosing.Kind.TheVariants.{Failure}
 use Rattle.pmt_explanation.proofs.failed.failed_of.Goals as goal
 
 pub returns-clause-failing : goal.returns-clause-failing
@@ -23,4 +23,5 @@ returns-clause-counts c = c.in_ok-causes.ensures.counts
 pub returns-clause-shown : goal.returns-clause-shown
 returns-clause-shown c =
     let firsts : c.as_slice-4.result.now ≡ first_members c.in_ok-causes.field-0.groups.items = c.as_slice-4.ensures.value ∙ c.in_ok-firsts.ensures ∙ ap first_members c.as_slice-3.ensures.value in
-    subst (λ (ns : List ℕ). AreShown c.args.safe.now.trace.now (take c.args.options.now.limit ns) c.in_ok-shown.shown.items) firsts c.in_ok-shown.ensures
+    let few : c.first-few.result.now ≡ take c.args.options.now.limit (first_members c.in_ok-causes.field-0.groups.items) = c.first-few.ensures ∙ ap (λ (ns : List ℕ). take c.args.options.now.limit ns) firsts in
+    subst (λ (ns : List ℕ). AreShown c.args.safe.now.trace.now ns c.in_ok-shown.shown.items) few c.in_ok-shown.ensures

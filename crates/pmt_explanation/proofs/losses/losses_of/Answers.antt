@@ -4,8 +4,8 @@ use Rattle.pmt_causes.specs.Groups.{AreGrouped}
 use Rattle.pmt_causes.specs.LostCauses.{lost_item}
 use Rattle.pmt_explain.specs.LostGroups.{AreLostGroups}
 use Rattle.pmt_explanation.specs.Asking.{asked_numbers}
-use Rattle.pmt_explanation.specs.Ignoring.{told_pairs}
-use Rattle.pmt_explanation.specs.declared.choosing.Kind.TheVariants.{NeverPersisted}
+use Rattle.pmt_explanation.specs.Losing.{told_pairs}
+use Rattle.pmt_asked.specs.declared.choosing.Kind.TheVariants.{NeverPersisted}
 use Rattle.pmt_explanation.proofs.losses.losses_of.Goals as goal
 
 pub returns-clause-groups : goal.returns-clause-groups

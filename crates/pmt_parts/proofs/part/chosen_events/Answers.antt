@@ -2,7 +2,7 @@ use Rattle.std.proofs.Common.{◌≡◌, ℕ, Bool, ◌-◌, ◌++◌, filter, s
 use Rattle.std.specs.Prelude.{not}
 use Rattle.pmt_flags.proofs.FlagLemmas.{rising-no_fall}
 use Rattle.pmt_model.specs.Selections.{IsRising}
-use Rattle.pmt_explanation.specs.Ignoring.{is_ignored}
+use Rattle.pmt_asked.specs.Ignoring.{is_ignored}
 use Rattle.pmt_part_laws.specs.Laws.{stretch}
 use Rattle.pmt_parts.specs.Picking.{AreChosen}
 use Rattle.pmt_parts.proofs.ChosenLemmas.{chosen_list, chosen-rising, chosen-are}

@@ -1,6 +1,6 @@
 use Rattle.std.proofs.Common.{◌≡◌, ◌+◌, ◌++◌, List, take}
 use Rattle.pmt_model.specs.Traces.{Recording}
-use Rattle.pmt_explanation.specs.declared.ignoring.ByteRange.{ByteRange}
+use Rattle.pmt_asked.specs.declared.ignoring.ByteRange.{ByteRange}
 use Rattle.pmt_parts.specs.Making.{IsPartOf, ComesNext}
 use Rattle.pmt_parts.proofs.part.Part.extend.Given as goal
 

@@ -1,0 +1,3 @@
+pub mod CallerLemmas
+pub mod IgnoringLemmas
+pub mod LabellingLemmas

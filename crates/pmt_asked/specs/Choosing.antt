@@ -1,0 +1,103 @@
+-- Which findings are asked for.
+use Rattle.std.specs.Prelude.{ℕ, ◌+◌, ◌-◌, ◌*◌, ◌^◌, ◌==◌, ◌&&◌, ◌||◌, nat_lt, nat_le, nat_eq, Bool, true, false, List, length, drop, Option, None, Some, unwrap_or, option_map, string_bytes, codes}
+use Rattle.std.specs.List.{list_any, range_with_len, starts_with}
+use Rattle.pmt_model.specs.Values.{Layout, line_of}
+use Rattle.pmt_model.specs.declared.event.Event.{Event}
+use Rattle.pmt_model.specs.declared.event.Op.{Op}
+use Rattle.pmt_model.specs.declared.event.Op.TheVariants.{Store, Clwb, ClflushOpt, Clflush, Sfence, Mfence, IsPersist, IsOrderedBefore}
+use Rattle.pmt_model.specs.Traces.{Recording, event}
+use Rattle.pmt_asked.specs.declared.choosing.Choice.{Choice}
+use Rattle.pmt_asked.specs.declared.choosing.Kind.{Kind}
+use Rattle.pmt_asked.specs.declared.choosing.Kind.TheVariants as kinds
+use Rattle.pmt_asked.specs.declared.ignoring.ByteRange.{ByteRange}
+use Rattle.pmt_asked.specs.declared.labels.Labels.{Labels}
+use Rattle.pmt_asked.specs.Labelling.{label_of}
+
+-- What a kind is called.
+abbrev pub kind_name : Kind → List ℕ
+kind_name kinds.Failure = codes "failure"
+kind_name kinds.NeverPersisted = codes "never_persisted"
+kind_name kinds.Dropped = codes "dropped"
+kind_name kinds.Overwritten = codes "overwritten"
+kind_name kinds.Unwritten = codes "unwritten"
+kind_name kinds.Late = codes "late"
+kind_name kinds.Hint = codes "hint"
+
+abbrev pub is_same_kind : Kind → Kind → Bool
+is_same_kind kinds.Failure kinds.Failure = true
+is_same_kind kinds.NeverPersisted kinds.NeverPersisted = true
+is_same_kind kinds.Dropped kinds.Dropped = true
+is_same_kind kinds.Overwritten kinds.Overwritten = true
+is_same_kind kinds.Unwritten kinds.Unwritten = true
+is_same_kind kinds.Late kinds.Late = true
+is_same_kind kinds.Hint kinds.Hint = true
+is_same_kind a b = false
+
+abbrev pub kind_allowed : Option Kind → Kind → Bool
+kind_allowed None k = true
+kind_allowed (Some only) k = is_same_kind only k
+
+-- Findings of this kind are asked for.
+abbrev pub is_kind_chosen : Choice → Kind → Bool
+is_kind_chosen c k = kind_allowed c.only k
+
+-- Event i is none before the first that is asked for, and none after the last.
+abbrev pub stands_between : Choice → ℕ → Bool
+stands_between c i = nat_le (unwrap_or c.from 0) i && nat_le i (unwrap_or c.to (2 ^ 64 - 1))
+
+abbrev pub thread_allowed : Option ℕ → ℕ → Bool
+thread_allowed None t = true
+thread_allowed (Some asked) t = asked == t
+
+abbrev pub is_thread_chosen : Choice → ℕ → Bool
+is_thread_chosen c t = thread_allowed c.thread t
+
+-- The bytes of r and the len bytes from a on meet.
+abbrev pub meets : ByteRange → ℕ → ℕ → Bool
+meets r a len = nat_lt r.addr (a + len) && nat_lt a (r.addr + r.len)
+
+-- A byte of the line of address a is one of those of r.
+abbrev pub meets_line : ByteRange → Layout → ℕ → Bool
+meets_line r format a = meets r (line_of format a * format.line_size) format.line_size
+
+abbrev pub op_touches : Layout → ByteRange → Op → Bool
+op_touches format r (Store w) = meets r w.addr (length w.bytes)
+op_touches format r (Clwb a) = meets_line r format a
+op_touches format r (ClflushOpt a) = meets_line r format a
+op_touches format r (Clflush a) = meets_line r format a
+op_touches format r Sfence = false
+op_touches format r Mfence = false
+op_touches format r (IsPersist s) = meets r s.addr s.len
+op_touches format r (IsOrderedBefore s q) = meets r s.addr s.len || meets r q.addr q.len
+
+-- The op stores, asserts or flushes one of the bytes, if any are asked for.
+abbrev pub op_meets : Layout → Option ByteRange → Op → Bool
+op_meets format None op = true
+op_meets format (Some r) op = op_touches format r op
+
+-- The text stands in the label.
+abbrev pub has_text : List ℕ → List ℕ → Bool
+has_text label text = list_any (λ k. starts_with nat_eq (drop k label) text) (range_with_len 0 (length label))
+
+abbrev pub label_has : Option (List ℕ) → List ℕ → Bool
+label_has None text = false
+label_has (Some label) text = has_text label text
+
+abbrev pub label_allowed : Option (List ℕ) → Option (List ℕ) → Bool
+label_allowed None label = true
+label_allowed (Some text) label = label_has label text
+
+abbrev pub is_label_chosen : Labels → Choice → ℕ → Bool
+is_label_chosen labels c i = label_allowed (option_map (λ s. string_bytes s) c.label) (label_of labels i)
+
+abbrev pub is_event_chosen : Recording → Labels → Choice → ℕ → Option Event → Bool
+is_event_chosen T labels c i None = false
+is_event_chosen T labels c i (Some e) = stands_between c i && is_thread_chosen c e.thread && op_meets T.format c.range e.op && is_label_chosen labels c i
+
+-- Findings of event i are asked for.
+abbrev pub is_chosen : Recording → Labels → Choice → ℕ → Bool
+is_chosen T labels c i = is_event_chosen T labels c i (event T i)
+
+-- The finding of this kind at event i is asked for.
+abbrev pub is_asked_for : Recording → Labels → Choice → Kind → ℕ → Bool
+is_asked_for T labels c kind i = is_kind_chosen c kind && is_chosen T labels c i

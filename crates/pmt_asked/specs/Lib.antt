@@ -1,0 +1,4 @@
+pub mod Choosing
+pub mod Framing
+pub mod Ignoring
+pub mod Labelling

@@ -1,6 +1,0 @@
-use Rattle.std.proofs.Common.{take}
-use Rattle.pmt_explanation.specs.Showing.{AreShown}
-use Rattle.pmt_explanation.proofs.failures.shown_failures.Given as goal
-
-abbrev pub invariant-loop-number : goal.invariant-loop-number
-invariant-loop-number l = AreShown l.safe.trace.now (take l.number-index l.few) l.shown.items

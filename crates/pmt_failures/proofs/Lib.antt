@@ -1,0 +1,4 @@
+pub mod MendingLemmas
+pub mod ShowingLemmas
+pub mod UnwritingLemmas
+pub mod WrittenLemmas
