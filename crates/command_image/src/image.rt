@@ -11,6 +11,7 @@ use pmt_image::{
     CountFault, Crash, ImageFault, LineStores, Pool, Stop, crash_at, crash_of_failure, write_image,
 };
 use pmt_model::{Format, Trace, line_of};
+use pmt_names::line_address;
 use pmt_report::RunError;
 use pmt_text::Counted;
 use std::alloc::Global;
@@ -184,7 +185,7 @@ fn count_fault(alloc: Global, format: Format, fault: CountFault) -> Result<Fault
             least,
             greatest,
         } => {
-            let address = asked.line.saturating_mul(format.line_size());
+            let address = line_address(format, asked.line);
             let stores = asked.stores;
             let line = format!(in alloc;
                 "line {address:#x}: {stores} stores asked, a crash leaves at least {least} and at most {greatest}\n"

@@ -4,8 +4,9 @@ use crate::shapes::push_shape;
 use crate::words::{
     push_assertion, push_cause, push_claim, push_event, push_kept, push_reason, push_shown,
 };
+use pmt_names::line_address;
 use pmt_pen::Pen;
-use pmt_picture::{Crash, MOST_CRASHES, Picture, Subject, address_of};
+use pmt_picture::{Crash, MOST_CRASHES, Picture, Subject};
 
 // The width of a letter of the told lines, in tenths of a pixel.
 const LETTER: u64 = 79;
@@ -37,7 +38,7 @@ fn push_headline(pen: &mut Pen, picture: &Picture) {
             pen.put(".");
         },
         Subject::Lost(group) => if let Some(crash) = picture.focus() {
-            let line = address_of(picture.format, group.line);
+            let line = line_address(picture.format, group.line);
             let count = crash.lost.len() as u64;
             pen.fill("Never persisted: #", &[count]);
             pen.put(if count == 1 { " store" } else { " stores" });

@@ -4,9 +4,10 @@ use crate::layout::Layout;
 use crate::marks::push_mark;
 use crate::missing::missing_words;
 use crate::page::Page;
-use crate::words::{push_event_words, push_reason, word_of};
+use crate::words::{push_event_words, push_reason};
+use pmt_names::{line_address, word_of};
 use pmt_pen::Pen;
-use pmt_picture::{Column, Picture, address_of, line_of_op};
+use pmt_picture::{Column, Picture, line_of_op};
 
 // The most letters of a label that stands upright.
 const LABEL_LETTERS: u64 = 28;
@@ -34,7 +35,7 @@ pub fn words_height(picture: &Picture, layout: &Layout, labels: &[Label]) -> u64
 
 // How many letters stand upright over the column.
 fn letters_of(column: &Column, labels: &[Label]) -> u64 {
-    let word = word_of(column.event.op).len() as u64;
+    let word = word_of(&column.event.op).len() as u64;
     let digits = column.number.checked_ilog10().unwrap_or(0) as u64;
     let label = match label_of(labels, column.number) {
         Some(label) => room_of(label, label.len())
@@ -80,7 +81,7 @@ fn push_column(pen: &mut Pen, page: Page<'_>, column: &Column) {
         &[column.number, thread as u64, x],
     );
     if let Some(line) = line_of_op(page.picture.format, column.event.op) {
-        pen.fill(" data-line='@'", &[address_of(page.picture.format, line)]);
+        pen.fill(" data-line='@'", &[line_address(page.picture.format, line)]);
     }
     if let Some(fence) = column.fence {
         pen.fill(" data-fence='#'", &[fence]);
@@ -128,7 +129,7 @@ fn push_upright(pen: &mut Pen, page: Page<'_>, column: &Column, label: &str, x: 
             column.number,
         ],
     );
-    pen.put(word_of(column.event.op));
+    pen.put(word_of(&column.event.op));
     pen.put(" <tspan class='soft label'>");
     push_cut(pen, label, LABEL_LETTERS);
     pen.put("</tspan></text>");
@@ -146,7 +147,7 @@ fn push_flat(pen: &mut Pen, page: Page<'_>, column: &Column, label: &str, x: u64
             page.threads.saturating_sub(24),
         ],
     );
-    pen.put(word_of(column.event.op));
+    pen.put(word_of(&column.event.op));
     pen.put("</text>");
     if !label.is_empty() {
         pen.fill(

@@ -1,8 +1,9 @@
 //! What is missing where the crash loses stores: each event with its mark and its words, where it is put in.
 use crate::marks::push_missing_mark;
 use crate::page::Page;
+use pmt_names::line_address;
 use pmt_pen::Pen;
-use pmt_picture::{Missing, Wanted, address_of};
+use pmt_picture::{Missing, Wanted};
 
 /// Adds what is missing in the band, from left to right.
 pub fn push_missing(pen: &mut Pen, page: Page<'_>) {
@@ -53,7 +54,7 @@ fn push_title(pen: &mut Pen, page: Page<'_>, missing: &Missing) {
         Wanted::Store(store) => pen.fill("missing: store #", &[store]),
         Wanted::Flush(line) => pen.fill(
             "missing: clwb @",
-            &[address_of(page.picture.format, line)],
+            &[line_address(page.picture.format, line)],
         ),
         Wanted::Fence => pen.put("missing: sfence"),
     }

@@ -4,8 +4,9 @@ use crate::layout::{EDGE, LEFT};
 use crate::marks::{push_small_flush, worth_of};
 use crate::page::Page;
 use crate::segments::push_bar;
+use pmt_names::line_address;
 use pmt_pen::Pen;
-use pmt_picture::{Role, Row, address_of};
+use pmt_picture::{Role, Row};
 
 /// Adds the rows of the lines that have something in the band.
 pub fn push_rows(pen: &mut Pen, page: Page<'_>) {
@@ -23,7 +24,7 @@ pub fn push_rows(pen: &mut Pen, page: Page<'_>) {
 
 // Adds the row of a line, which begins there.
 fn push_row(pen: &mut Pen, page: Page<'_>, row: &Row, top: u64, height: u64, shaded: bool) {
-    let address = address_of(page.picture.format, row.line);
+    let address = line_address(page.picture.format, row.line);
     pen.fill("<g class='line' data-line='@'>", &[address]);
     if shaded {
         pen.fill(

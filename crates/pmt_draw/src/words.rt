@@ -1,24 +1,10 @@
 //! The words of the picture.
 use crate::labels::{Label, label_of};
-use pmt_model::{Event, Op};
+use pmt_model::Event;
 use pmt_pen::Pen;
 use pmt_picture::{Assertion, Column, Crash, Picture};
 use pmt_reasons::{Cause, Reason};
 use pmt_text::write_event;
-
-/// The word of the op in a trace's text.
-pub fn word_of(op: Op) -> &'static str {
-    match op {
-        Op::Store(_) => "store",
-        Op::Clwb(_) => "clwb",
-        Op::ClflushOpt(_) => "clflushopt",
-        Op::Clflush(_) => "clflush",
-        Op::Sfence => "sfence",
-        Op::Mfence => "mfence",
-        Op::IsPersist(_) => "isPersist",
-        Op::IsOrderedBefore(_, _) => "isOrderedBefore",
-    }
-}
 
 /// Adds the text, so that it stands for itself inside an element or an attribute.
 pub fn push_escaped(pen: &mut Pen, words: &str) {

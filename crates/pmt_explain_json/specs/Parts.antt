@@ -1,5 +1,5 @@
 -- Events, causes, reasons and mends as JSON.
-use Rattle.std.specs.Prelude.{ℕ, ◌+◌, ◌-◌, ◌*◌, ◌^◌, min, ◌≡◌, Bool, List, [], ◌∷◌, ◌++◌, Option, None, Some, Result, IsOkAnd, codes}
+use Rattle.std.specs.Prelude.{ℕ, ◌+◌, ◌-◌, ◌^◌, min, ◌≡◌, Bool, List, [], ◌∷◌, ◌++◌, Option, None, Some, Result, IsOkAnd, codes}
 use Rattle.std.specs.Borrow.{Bor}
 use Rattle.serde_json.specs.Data.{Data, null, boolean, number, string, array, object, unsigned, Members, no_members, member, put}
 use Rattle.serde_json.specs.View.{view, items_of}
@@ -20,6 +20,7 @@ use Rattle.pmt_asked.specs.declared.labels.Labels.{Labels}
 use Rattle.pmt_reasons.specs.declared.mend.Mend.{Mend}
 use Rattle.pmt_reasons.specs.declared.mend.Mend.TheVariants as mends
 use Rattle.pmt_asked.specs.Labelling.{label_of}
+use Rattle.pmt_names.specs.Naming.{line_address}
 
 -- A line of the answer: the value, and LF.
 abbrev pub json_line : Data → List ℕ
@@ -56,12 +57,9 @@ or_null f (Some x) = f x
 abbrev pub address_data : ℕ → Data
 address_data a = string (address a)
 
--- The address of a line's first byte, at most the highest number of 64 bits.
-abbrev pub line_address : Recording → ℕ → ℕ
-line_address T l = min (l * T.format.line_size) (2 ^ 64 - 1)
-
+-- A line by the address of its first byte.
 abbrev pub line_data : Recording → ℕ → Data
-line_data T l = address_data (line_address T l)
+line_data T l = address_data (line_address T.format l)
 
 -- The address of a store, of a flush, or of an assertion's range or its first one.
 abbrev pub address_of : Op → Option ℕ

@@ -4,12 +4,13 @@ ghost use Rattle.serde_json.specs.Data.{string};
 ghost use Rattle.serde_json.specs.View.{view};
 ghost use Rattle.pmt_asked.specs.Framing.{frame_of as frame_in};
 ghost use Rattle.pmt_asked.specs.Labelling.{label_of};
-ghost use Rattle.pmt_explain_json.specs.Parts.{address_data, by_of as by_in, byte_store_data, cause_data, count_data, event_data, fence_data, flush_data, line_address as line_start, line_data, mend_data, named_cause, or_null, range_data, reason_data, reason_name as name_in, store_first_data, unfenced_data};
+ghost use Rattle.pmt_explain_json.specs.Parts.{address_data, by_of as by_in, byte_store_data, cause_data, count_data, event_data, fence_data, flush_data, line_data, mend_data, named_cause, or_null, range_data, reason_data, reason_name as name_in, store_first_data, unfenced_data};
 
 use crate::objects::{object_made, object_value};
 use crate::words::{address_of, address_text, words_of};
 use pmt_asked::{Labels, frame_of};
 use pmt_model::{OutOfMemory, Range, Trace};
+use pmt_names::line_address;
 use pmt_reasons::{ByteStore, Cause, Mend, Reason};
 use serde_json::Value;
 use std::alloc::Global;
@@ -87,18 +88,11 @@ pub(crate) fn frame_value(alloc: Global, labels: &Labels, number: u64) -> Result
     }
 }
 
-// The address of the line's first byte.
-pub(crate) fn line_address(trace: &Trace, line: u64) -> u64
-    ensures { result ≡ line_start trace.now line }
-{
-    line.saturating_mul(trace.format().line_size())
-}
-
 // The line by the address of its first byte.
 pub(crate) fn line_value(alloc: Global, trace: &Trace, line: u64) -> Result<Value, OutOfMemory>
     ensures { IfOk result (λ v. view v ≡ line_data trace.now line) }
 {
-    Ok(Value::String(address_text(alloc, line_address(trace, line))?))
+    Ok(Value::String(address_text(alloc, line_address(trace.format(), line))?))
 }
 
 // A byte, and the store that writes it.

@@ -2,11 +2,11 @@
 
 use crate::parts::plural;
 use crate::rows::{WIDTH, push_cut, width_of};
-use crate::spelling::word_of;
 use crate::telling::Telling;
 use pmt_asked::frame_of;
 use pmt_causes::{FailureKey, Group};
 use pmt_model::Op;
+use pmt_names::word_of;
 use pmt_pen::Pen;
 
 // The most events that are named beside the one in full.

@@ -3,8 +3,10 @@
 use crate::parts::{push_count, push_label};
 use crate::screen::Section;
 use crate::telling::{Telling, line_address};
-use pmt_causes::{DropWord, DroppedKey, Group, ReasonKind, Spot};
+use pmt_causes::{DroppedKey, Group, ReasonKind, Spot};
 use pmt_explanation::{first, first_of};
+use pmt_model::Trace;
+use pmt_names::word_of;
 use pmt_pen::Pen;
 use pmt_reasons::Reason;
 
@@ -31,15 +33,23 @@ fn push_dropped(pen: &mut Pen, told: &Telling<'_>, group: &Group<DroppedKey>) {
     pen.put("  ");
     push_count(pen, group.members.len() as u64, "time");
     pen.put(" ");
-    pen.put(drop_word(group.key.word));
-    push_spot(pen, told, group.key.spot);
     let number = first_of(group);
+    push_word(pen, told.trace, number);
+    push_spot(pen, told, group.key.spot);
     pen.fill(", first event #: ", &[number]);
     pen.put(reason_words(group.key.reason));
     if let Some(by) = by_of(told, number) {
         pen.fill(" (event #)", &[by]);
     }
     pen.put("\n");
+}
+
+// Adds the word of the event, which all of its group have.
+fn push_word(pen: &mut Pen, trace: &Trace, number: u64) {
+    if let Some(event) = trace.get(number) {
+        let op = event.op;
+        pen.put(word_of(&op));
+    }
 }
 
 // Adds where the events of a group stand.
@@ -71,17 +81,6 @@ fn reason_at(told: &Telling<'_>, number: u64) -> Option<Reason> {
             None => None,
         },
         Err(_) => None,
-    }
-}
-
-// The word of a flush or fence.
-fn drop_word(word: DropWord) -> &'static str {
-    match word {
-        DropWord::Clwb => "clwb",
-        DropWord::ClflushOpt => "clflushopt",
-        DropWord::Clflush => "clflush",
-        DropWord::Sfence => "sfence",
-        DropWord::Mfence => "mfence",
     }
 }
 

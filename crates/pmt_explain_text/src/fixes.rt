@@ -2,10 +2,10 @@
 
 use crate::parts::next_fence;
 use crate::rows::push_line;
-use crate::spelling::word_of;
 use crate::telling::{Telling, line_address};
 use pmt_failures::ShownFailure;
 use pmt_model::{Event, Op, Range, Trace, line_of};
+use pmt_names::word_of;
 use pmt_pen::Pen;
 use pmt_reasons::Mend;
 

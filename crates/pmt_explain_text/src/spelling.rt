@@ -1,6 +1,7 @@
 //! How the events of a story are spelled: by the words of the trace, but without what is the same in all of them.
 
 use pmt_model::{Addr, Event, Op, Range, Trace};
+use pmt_names::word_of;
 use pmt_pen::Pen;
 
 // How events are spelled.
@@ -127,20 +128,6 @@ pub(crate) fn push_spelled(pen: &mut Pen, event: Event, spelling: Spelling) {
             push_range(pen, first, spelling);
             push_range(pen, second, spelling);
         }
-    }
-}
-
-// The word of the op in the text of a trace.
-pub(crate) fn word_of(op: &Op) -> &'static str {
-    match op {
-        Op::Store(_) => "store",
-        Op::Clwb(_) => "clwb",
-        Op::ClflushOpt(_) => "clflushopt",
-        Op::Clflush(_) => "clflush",
-        Op::Sfence => "sfence",
-        Op::Mfence => "mfence",
-        Op::IsPersist(_) => "isPersist",
-        Op::IsOrderedBefore(_, _) => "isOrderedBefore",
     }
 }
 

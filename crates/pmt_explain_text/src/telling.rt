@@ -53,7 +53,7 @@ pub(crate) fn failure_of(choice: &Choice) -> Option<u64> {
     }
 }
 
-// The address of the line's first byte.
+// The address of the first byte of the trace's line.
 pub(crate) fn line_address(trace: &Trace, line: u64) -> u64 {
-    line.saturating_mul(trace.format().line_size())
+    pmt_names::line_address(trace.format(), line)
 }

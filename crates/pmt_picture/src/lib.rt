@@ -28,7 +28,7 @@ pub use crate::crash::{Assertion, Crash};
 pub use crate::known::Known;
 pub use crate::missing::{Missing, Wanted};
 pub use crate::picture::{Column, MOST_CRASHES, Picture, picture_of};
-pub use crate::spans::{address_of, line_of_op, lines_of_addresses};
+pub use crate::spans::{line_of_op, lines_of_addresses};
 pub use crate::subject::{Refusal, Subject, first_subject, refusal_of};
 pub use crate::told::Told;
 pub use crate::waiting::waits_for_fence;

@@ -56,8 +56,3 @@ pub fn lines_of_addresses(
     }
     lines.rising()
 }
-
-/// The first address of the line.
-pub fn address_of(format: Format, line: u64) -> u64 {
-    line.saturating_mul(format.line_size())
-}
