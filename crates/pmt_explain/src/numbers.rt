@@ -61,7 +61,7 @@ impl Numbers {
         self.lines.find(line, block)
     }
 
-    // Where the block of the line and its fifteen neighbours stands, if it does. Nothing is promised of it.
+    // Where the block of the line and its seven neighbours stands, if it does. Nothing is promised of it.
     pub(crate) fn block(&self, line: u64) -> usize {
         self.lines.block(line).unwrap_or(0)
     }

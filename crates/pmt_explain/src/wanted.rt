@@ -132,7 +132,7 @@ impl LastWriters {
         let mut block = self.table.places.block(low / 64);
         let mut first = None;
         for near in low / 64..(high - 1) / 64 + 1 {
-            if near % 16 == 0 {
+            if near % 8 == 0 {
                 block = self.table.places.block(near);
             }
             first = self.first_near(trace, safe, wanted, low, high, near, block, first);
