@@ -168,8 +168,9 @@ class Findings {
     this.places = tellsAll(summary.asked) ? troubled : null;
     this.summary = { ...summary, more: { ...leftOut(summary.more ?? {}, explained), ...this.leftPlaces(summary.more ?? {}, explained) } };
     this.all = listedEntries(explained, summary, this.places).map((entry, order) => this.finding(entry, order));
-    // How many failed assertions each cause has, with those that are not on the page.
-    this.counts = new Map(explained.filter((entry) => entry.kind === 'cause').map((cause) => [this.causeKey(cause), cause.count]));
+    // Each cause with all its failed assertions, also those that are not on the page, and with what is counted inside.
+    this.causes = new Map(explained.filter((entry) => entry.kind === 'cause').map((cause) => [this.causeKey(cause), cause]));
+    for (const finding of this.all) if (finding.kind === 'failure') finding.cause = this.causes.get(finding.key);
     this.filter({});
   }
 
@@ -194,7 +195,8 @@ class Findings {
     const isOfPlace = this.places !== null && (entry.kind === 'never_persisted' || entry.kind === 'late');
     const section = isOfPlace ? 'place' : entry.kind;
     const number = NAMED_BY[entry.kind](entry).event;
-    return { kind: entry.kind, name: nameOf(entry), section, order, entry, number, words, owner, stands, key: this.key(section, common) };
+    const { threads } = this.summary;
+    return { kind: entry.kind, name: nameOf(entry), section, order, entry, number, words, owner, stands, threads, key: this.key(section, common) };
   }
 
   // Keeps the findings that meet all that is asked for, and puts those of one cause or place together, in the order of explain.
@@ -242,7 +244,7 @@ class Findings {
     if (group.section === 'place') group.order = group.place === null ? Infinity : this.places.indexOf(group.place);
     else if (group.section === 'overwritten') this.orderByOthers(group);
     else if (group.section !== 'hint') group.order = 0;
-    if (group.section === 'failure' && this.isWhole) group.stands = this.counts.get(group.key) ?? group.stands;
+    if (group.section === 'failure' && this.isWhole) group.stands = this.causes.get(group.key)?.count ?? group.stands;
   }
 
   orderByOthers(group) {

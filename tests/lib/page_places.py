@@ -77,6 +77,11 @@ SHARED = re.compile(r"^error: cache line 0x[0-9a-f]+ is never flushed: (\d+) pla
 HINT = re.compile(r"^hint: (.*): (\d+) (?:time|store)s? .*; first: event (\d+)(?:, [a-z ]+ event (\d+))?\n(?:  before: .*\n)?  fix:    (.*)", re.M)
 WAITED = re.compile(r"^  late:   event (\d+) .*\n  why:    (\d+) fence", re.M)
 ERROR = re.compile(r"^error: a crash .*?(?: \((\d+) times\))?$", re.M)
+INSIDE = re.compile(r"^  (next|range|stored|called): +(.*)$", re.M)
+
+# The rows of what is counted inside a cause, by name and words.
+INSIDE_ROWS = """[...document.querySelectorAll('#details dt')].map((name) => [name.textContent, name.nextSibling.textContent])
+  .filter(([name]) => ['next', 'range', 'stored', 'called'].includes(name))"""
 
 # The rows of a part of the list: how many, in words, and where.
 ROWS = """[...document.querySelectorAll('#groups ul.PART button.group')].map((row) => {
@@ -96,6 +101,17 @@ def wrong_causes(pages, text, told):
     causes = [entry["count"] for entry in told if entry["kind"] == "cause"]
     errors = [int(times or 1) for times in ERROR.findall(text)]
     return "" if found == causes == errors else f"{found} on the page, {errors} in the text, {causes} in the JSON"
+
+
+def wrong_inside(pages, text, _):
+    """What is counted inside a cause, as its first assertion is chosen by its row."""
+    for at, wanted in enumerate(INSIDE.findall(entry) for entry in re.split(r"^(?=[a-z]+: )", text, flags=re.M) if ERROR.match(entry)):
+        pages.browser.run(f"document.querySelectorAll('#groups ul.failure button.group')[{at}].click()")
+        found = [tuple(row) for row in pages.browser.run(INSIDE_ROWS)]
+        cut = [(name, words[: len(other) - 1] + "…" if other.endswith("…") else words) for (name, words), (_, other) in zip(found, wanted)]
+        if len(found) != len(wanted) or cut != wanted:
+            return f"{found}, and not {wanted}"
+    return ""
 
 
 def wrong_places(pages, text, told):
@@ -159,6 +175,7 @@ def wrong_overwritten(pages, _, told):
 
 WRONG = {
     "causes": wrong_causes,
+    "counts inside causes": wrong_inside,
     "places": wrong_places,
     "late stores": wrong_late,
     "hints": wrong_hints,
