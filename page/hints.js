@@ -17,6 +17,11 @@ const HINTS = {
     told: ({ count: many }) => `${count(many, 'time')} a store comes after the flush of its cache line, which misses it`,
     other: 'flush',
   },
+  one_line_short: {
+    row: 'flushes end one line short',
+    told: ({ count: many }) => `${count(many, 'time')} flushes end one cache line short of what is stored, and miss the rest`,
+    other: 'missed store',
+  },
   open_at_store: {
     row: 'flush unfenced at a store to another line',
     told: ({ count: many }) => `${count(many, 'time')} a flush is unfenced at a store to another line, which a crash can keep alone`,
@@ -45,6 +50,7 @@ function goesWith(trace, hint, line, other) {
   const isStore = trace.kind(other) === 'store';
   if (hint === 'split_word') return isStore;
   if (hint === 'open_at_store') return isStore && trace.lineOf[other] !== line;
+  if (hint === 'one_line_short') return isStore && trace.addressOfLine(trace.lineOf[other]) === trace.addressOfLine(line) + trace.lineSize;
   return trace.lineOf[other] === line && !isStore && trace.word(other) !== 'clflush';
 }
 
@@ -63,7 +69,7 @@ function hintEvents(trace, entry) {
   const [first, other] = [entry.first.event, otherOf(trace, entry)];
   const fence = trace.nextFence(trace.thread[first], first);
   if (entry.hint === 'one_fence_late') return storeSlice(trace, first);
-  const flush = entry.hint === 'open_at_store' ? first : entry.hint === 'stored_after_flush' ? other : 0;
+  const flush = ['one_line_short', 'open_at_store'].includes(entry.hint) ? first : entry.hint === 'stored_after_flush' ? other : 0;
   const covered = flush === 0 ? 0 : lastStoreBefore(trace, flush);
   const stores = [first, other].filter((number) => number !== 0 && trace.kind(number) === 'store');
   return [first, other, covered, fence, ...stores.flatMap((store) => tellsOf(trace, store, trace.events))].filter((number) => number !== 0);
@@ -109,11 +115,11 @@ function fencesWaited(trace, store) {
   return by(Math.min(trace.safe[store], trace.events + 1) - 1) - by(store);
 }
 
-// The flush that a thread forgot after its store.
-function ownFlushNodes(trace, store) {
-  const thread = trace.thread[store];
-  const fence = trace.nextFence(thread, store);
-  const nodes = [`Flush cache line ${lineAddressOf(trace, store)} by thread ${thread} after `, ...placeNodes(trace, store), ', before its next fence'];
+// The flush that a thread forgot after an event: of the line of a store.
+function ownFlushNodes(trace, after, store) {
+  const thread = trace.thread[after];
+  const fence = trace.nextFence(thread, after);
+  const nodes = [`Flush cache line ${lineAddressOf(trace, store)} by thread ${thread} after `, ...placeNodes(trace, after), ', before its next fence'];
   return fence === 0 ? [...nodes, '.'] : [...nodes, ', ', ...placeNodes(trace, fence), '.'];
 }
 
@@ -121,7 +127,7 @@ function ownFlushNodes(trace, store) {
 // 0 of anything else.
 function shownAt(trace, { kind, hint, first }, other) {
   if (hint === 'open_at_store') return other;
-  if (kind !== 'late' && hint !== 'one_fence_late' && hint !== 'stored_after_flush') return 0;
+  if (kind !== 'late' && !['one_fence_late', 'one_line_short', 'stored_after_flush'].includes(hint)) return 0;
   const thread = trace.thread[first.event];
   const fence = trace.nextFence(thread, first.event);
   return kind === 'late' && fence !== 0 ? trace.nextFence(thread, fence) : fence;
@@ -164,5 +170,7 @@ function hintTold(trace, entry) {
 
 function hintRemedy(trace, entry) {
   const { remedy } = HINTS[entry.hint] ?? { remedy: '' };
-  return remedy === undefined ? ownFlushNodes(trace, entry.first.event) : [remedy];
+  const { event } = entry.first;
+  if (remedy !== undefined) return [remedy];
+  return ownFlushNodes(trace, event, entry.hint === 'one_line_short' ? otherOf(trace, entry) || event : event);
 }

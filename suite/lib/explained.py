@@ -18,6 +18,7 @@ WHY = {
 HINTS = {
     "split_word": "a word lies in two cache lines, so a crash can keep one half",
     "stored_after_flush": "the store comes after the flush of its cache line, so the fence does not save it",
+    "one_line_short": "the flushes end one cache line before what was stored does, so the fence does not save the rest",
     "open_at_store": "the flush is not fenced when its thread stores to another cache line, so a crash can keep that store alone",
 }
 

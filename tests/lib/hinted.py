@@ -1,10 +1,10 @@
-"""What `explain` hints at, by the definitions: three sets of events, their groups by kind and place, and places by what becomes of their stores.
+"""What `explain` hints at, by the definitions: four sets of events, their groups by kind and place, and places by what becomes of their stores.
 
 What a run can reach, and so what is kept, is that of machine.py. Places are those of placed.py.
 """
 import functools
 
-from grouped import grouped, safe_place
+from grouped import fences_waited, grouped, safe_place
 from machine import FENCES, FLUSHES, is_kept
 from placed import name_of, place, rows
 
@@ -12,9 +12,10 @@ HEADING = "hints: no rule forbids these, and most are slips; the status does not
 WORDS = {
     "split_word": "a word is stored in two cache lines, of which a crash can keep one",
     "stored_after_flush": "a store comes after the flush of its cache line, which misses it",
+    "one_line_short": "flushes end one cache line short of what is stored, and miss the rest",
     "open_at_store": "a flush is unfenced at a store to another line, which a crash can keep alone",
 }
-OTHERS = {"split_word": "other part event", "stored_after_flush": "flush event", "open_at_store": "store event"}
+OTHERS = {"split_word": "other part event", "stored_after_flush": "flush event", "one_line_short": "missed store event", "open_at_store": "store event"}
 FIXES = {
     "split_word": "Lay the word out in one cache line, or let a log or a checksum vouch for both parts.",
     "open_at_store": "If that store may not be saved first, fence before it; isOrderedBefore claims the order.",
@@ -60,6 +61,35 @@ def flush_before(explained, number):
     return flushes[-1] if flushes and not again else None
 
 
+def goes_on(explained, number, line):
+    """Whether the event goes on from the line: it is a store to the line right after it, and the store that its thread made before it, from
+    the same place, is one to the line."""
+    trace = explained.trace
+    if trace.event(number)[0] != "store" or trace.line(number) != line + 1:
+        return False
+    before = own(trace, trace.event(number)[1], ("store",), range(1, number))
+    return bool(before) and trace.line(before[-1]) == line and place(explained, before[-1]) == place(explained, number)
+
+
+def is_lost_or_late(trace, store):
+    """Whether later fences of its thread leave the store unsafe: two of them, or one if it is never safe."""
+    return fences_waited(trace, store) >= (2 if safe_place(trace, store) <= len(trace.events) else 1)
+
+
+def missed_before(explained, number):
+    """One line short: a flush of a line. Since the last fence of its thread a store of the thread goes on from that line, and is lost or
+    late; and none goes on from the line right after. The last store of the thread to that line is what the flushes miss."""
+    trace = explained.trace
+    word, thread = trace.event(number)[:2]
+    if word not in FLUSHES:
+        return None
+    line = trace.line(number)
+    stores = [other for other in own(trace, thread, ("store",), range(1, number)) if number in until_fence(trace, other)]
+    missed = [store for store in stores if goes_on(explained, store, line) and is_lost_or_late(trace, store)]
+    further = [store for store in stores if goes_on(explained, store, line + 1)]
+    return [store for store in stores if trace.line(store) == line + 1][-1] if missed and not further else None
+
+
 def store_past(trace, number):
     """The next store by the thread of a flush to another line that comes before the thread's next fence, if one does."""
     stores = [other for other in own(trace, trace.event(number)[1], ("store",), until_fence(trace, number)) if trace.line(other) != trace.line(number)]
@@ -84,7 +114,7 @@ def store_elsewhere(explained, number):
     return store_past(explained.trace, number) if is_told else None
 
 
-SETS = {"split_word": half_before, "stored_after_flush": flush_before, "open_at_store": store_elsewhere}
+SETS = {"split_word": half_before, "stored_after_flush": flush_before, "one_line_short": missed_before, "open_at_store": store_elsewhere}
 
 
 @functools.lru_cache(maxsize=1)
@@ -113,11 +143,11 @@ def named(explained, number):
 
 def fix(explained, kind, number):
     """What to do about the event."""
-    if kind != "stored_after_flush":
+    if kind in FIXES:
         return FIXES[kind]
     trace, fence = explained.trace, until_fence(explained.trace, number).stop
     at = f", {named(explained, fence)}" if fence <= len(trace.events) else ""
-    line, thread = explained.address(trace.line(number)), trace.event(number)[1]
+    line, thread = explained.address(trace.line(number) + (kind == "one_line_short")), trace.event(number)[1]
     return f"Flush cache line {line} by thread {thread} after {named(explained, number)}, before its next fence{at}."
 
 

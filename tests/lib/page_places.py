@@ -69,6 +69,11 @@ store 3 0x8040 02|other.c:2 put
 clwb 3 0x8000|other.c:3 put
 clwb 3 0x8040|other.c:3 put
 sfence 3|other.c:4 put
+store 3 0x9030 01|short.c:1 put
+store 3 0x9038 01|short.c:1 put
+store 3 0x9040 01|short.c:1 put
+clwb 3 0x9000|short.c:2 put
+sfence 3|short.c:3 put
 """
 
 PLACE = re.compile(r"^(?:error|warning|note): (.*): \d+ stores?: (\d+) never persisted, (\d+) saved late, (\d+) in time", re.M)
@@ -212,4 +217,4 @@ def agree(pages):
             yield f"{what} of {name} are those of text and JSON", wrong(pages, text, told)
         yield f"console of the rows of {name}", pages.faults(page)
     kinds = pages.browser.run("page.findings.groups.filter((g) => g.section === 'hint').map((g) => g.entry.hint)")
-    yield "a hint of each kind was told", "" if set(kinds) == {"split_word", "stored_after_flush", "open_at_store", "one_fence_late"} else kinds
+    yield "a hint of each kind was told", "" if set(kinds) == {"split_word", "stored_after_flush", "one_line_short", "open_at_store", "one_fence_late"} else kinds

@@ -4,7 +4,7 @@ use Rattle.serde_json.specs.Data.{Data, string}
 use Rattle.pmt_model.specs.Traces.{Recording}
 use Rattle.pmt_hints.specs.declared.hint.Hint.{Hint}
 use Rattle.pmt_hints.specs.declared.hint.HintKind.{HintKind}
-use Rattle.pmt_hints.specs.declared.hint.HintKind.TheVariants.{OpenAtStore, SplitWord, StoredAfterFlush}
+use Rattle.pmt_hints.specs.declared.hint.HintKind.TheVariants.{OneLineShort, OpenAtStore, SplitWord, StoredAfterFlush}
 use Rattle.pmt_asked.specs.declared.labels.Labels.{Labels}
 use Rattle.pmt_explain_json.specs.Parts.{count_data, event_data, json_line, object_of, or_null}
 use Rattle.pmt_explain_json.specs.Places.{place_label, place_thread}
@@ -14,6 +14,7 @@ abbrev pub hint_name : HintKind → List ℕ
 hint_name OpenAtStore = codes "open_at_store"
 hint_name StoredAfterFlush = codes "stored_after_flush"
 hint_name SplitWord = codes "split_word"
+hint_name OneLineShort = codes "one_line_short"
 
 -- The events of one kind of hint that come from one place.
 abbrev pub hint_data : Recording → Labels → Hint → Data

@@ -76,5 +76,6 @@ fn hint_name(kind: HintKind) -> &'static str
         HintKind::OpenAtStore => "open_at_store",
         HintKind::StoredAfterFlush => "stored_after_flush",
         HintKind::SplitWord => "split_word",
+        HintKind::OneLineShort => "one_line_short",
     }
 }

@@ -62,6 +62,8 @@ fn words_of(kind: HintKind) -> &'static str {
             " a store comes after the flush of its cache line, which misses it",
         HintKind::OpenAtStore =>
             " a flush is unfenced at a store to another line, which a crash can keep alone",
+        HintKind::OneLineShort =>
+            " flushes end one cache line short of what is stored, and miss the rest",
     }
 }
 
@@ -71,6 +73,7 @@ fn other_words(kind: HintKind) -> &'static str {
         HintKind::SplitWord => ", other part event #",
         HintKind::StoredAfterFlush => ", flush event #",
         HintKind::OpenAtStore => ", store event #",
+        HintKind::OneLineShort => ", missed store event #",
     }
 }
 
@@ -89,7 +92,18 @@ fn push_fix(pen: &mut Pen, told: &Telling<'_>, hint: &Hint) {
         HintKind::OpenAtStore => pen.put(
             "  fix:    If that store may not be saved first, fence before it; isOrderedBefore claims the order.\n",
         ),
+        HintKind::OneLineShort => push_next_flush(pen, told, hint.first),
     }
+}
+
+// Adds the flush of the line right after that of the flush.
+fn push_next_flush(pen: &mut Pen, told: &Telling<'_>, flush: u64) {
+    let Some(event) = told.trace.get(flush) else {
+        return;
+    };
+    let thread = event.thread;
+    let line = line_in(told.trace, event.op).unwrap_or(0).saturating_add(1);
+    push_own_flush(pen, told, line, thread, flush);
 }
 
 // The event that the first one goes with, if it stands near: the other part of the word, the flush, or the store.
@@ -99,7 +113,7 @@ fn other_of(trace: &Trace, hint: &Hint) -> Option<u64> {
     let thread = event.thread;
     let line = line_in(trace, event.op);
     match hint.kind {
-        HintKind::SplitWord | HintKind::StoredAfterFlush => {
+        HintKind::SplitWord | HintKind::StoredAfterFlush | HintKind::OneLineShort => {
             for other in (number.saturating_sub(NEAR)..number).rev() {
                 if goes_with(trace, hint.kind, thread, line, other) {
                     return Some(other);
@@ -123,12 +137,15 @@ fn goes_with(trace: &Trace, kind: HintKind, thread: u8, line: Option<u64>, other
         return false;
     };
     let Event { thread: own, op } = event;
-    let is_same_line = line_in(trace, op) == line;
+    let own_line = line_in(trace, op);
+    let is_same_line = own_line == line;
     own == thread
         && match kind {
             HintKind::SplitWord => is_store(&op),
             HintKind::StoredAfterFlush => !is_store(&op) && is_same_line,
             HintKind::OpenAtStore => is_store(&op) && !is_same_line,
+            HintKind::OneLineShort => is_store(&op)
+                && own_line == Some(line.unwrap_or(0).saturating_add(1)),
         }
 }
 

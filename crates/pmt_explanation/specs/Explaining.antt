@@ -64,7 +64,7 @@ pub record AreParts (a : Analysed) (labels : Labels) (o : Options) (p : Parts) :
   pub label_numbers : AreLabelNumbers labels (length a.trace.events) p.label_numbers.items
   pub frames : AreFrameNumbers labels (length a.trace.events) p.frames.items
   pub places : ArePlaces a.trace p.frames.items p.lost.stores.items (map event_of p.found.dropped.items) p.found.places.items
-  pub hints : AreHints a.trace labels p.frames.items o.choice p.hints.items
+  pub hints : AreHints a.trace labels p.frames.items o.choice p.found.hints.items
   pub found : AreFound a.trace a.verdicts labels p.label_numbers.items p.frames.items o p.found
   pub stores : p.lost.stores.items ≡ told_stores a.trace labels o.ignored a.findings
   pub lost : AreLostGroups a.trace (asked_numbers a.trace labels o.choice kinds.NeverPersisted p.lost.stores.items) p.lost.groups.items

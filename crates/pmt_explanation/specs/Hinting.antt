@@ -1,11 +1,11 @@
 -- The hints that are asked for.
 use Rattle.std.specs.Prelude.{◌≡◌, ℕ, ◌++◌, Bool, true, false, List, [], Option}
 use Rattle.pmt_model.specs.Traces.{Recording}
-use Rattle.pmt_hints.specs.Hints.{AreThose, IsSplitWord, IsStoredAfterFlush, IsToldOpen}
+use Rattle.pmt_hints.specs.Hints.{AreThose, IsOneLineShort, IsSplitWord, IsStoredAfterFlush, IsToldOpen}
 use Rattle.pmt_hints.specs.Placing.{AreHintsOf}
 use Rattle.pmt_hints.specs.declared.hint.Hint.{Hint}
 use Rattle.pmt_hints.specs.declared.hint.HintKind.{HintKind}
-use Rattle.pmt_hints.specs.declared.hint.HintKind.TheVariants.{OpenAtStore, SplitWord, StoredAfterFlush}
+use Rattle.pmt_hints.specs.declared.hint.HintKind.TheVariants.{OneLineShort, OpenAtStore, SplitWord, StoredAfterFlush}
 use Rattle.pmt_asked.specs.declared.choosing.Choice.{Choice}
 use Rattle.pmt_asked.specs.declared.choosing.Kind.TheVariants as kinds
 use Rattle.pmt_asked.specs.declared.labels.Labels.{Labels}
@@ -18,15 +18,29 @@ pub record AreHintsAsked (T : Recording) (labels : Labels) (frames : List (Optio
   pub those : AreThose P numbers
   pub told : AreHintsOf T frames kind (asked_numbers T labels c kinds.Hint numbers) hints
 
--- The hints of each kind, one kind after the other. A place is an innermost frame, or without a label a thread.
-pub record AreAllHints (T : Recording) (labels : Labels) (frames : List (Option ℕ)) (c : Choice) (hints : List Hint) : Type 0 where
+-- The hints of stores, one kind after the other. A place is an innermost frame, or without a label a thread.
+pub record AreStoreHints (T : Recording) (labels : Labels) (frames : List (Option ℕ)) (c : Choice) (hints : List Hint) : Type 0 where
   pub split_words : List Hint
   pub stored_after : List Hint
-  pub open_flushes : List Hint
   pub are_split : AreHintsAsked T labels frames c SplitWord (IsSplitWord T frames) split_words
   pub are_after : AreHintsAsked T labels frames c StoredAfterFlush (IsStoredAfterFlush T) stored_after
+  pub whole : hints ≡ split_words ++ stored_after
+
+-- Those of flushes, alike.
+pub record AreFlushHints (T : Recording) (labels : Labels) (frames : List (Option ℕ)) (c : Choice) (hints : List Hint) : Type 0 where
+  pub short_runs : List Hint
+  pub open_flushes : List Hint
+  pub are_short : AreHintsAsked T labels frames c OneLineShort (IsOneLineShort T frames) short_runs
   pub are_open : AreHintsAsked T labels frames c OpenAtStore (IsToldOpen T frames) open_flushes
-  pub whole : hints ≡ split_words ++ stored_after ++ open_flushes
+  pub whole : hints ≡ short_runs ++ open_flushes
+
+-- The hints of each kind: those of stores before those of flushes.
+pub record AreAllHints (T : Recording) (labels : Labels) (frames : List (Option ℕ)) (c : Choice) (hints : List Hint) : Type 0 where
+  pub stores : List Hint
+  pub flushes : List Hint
+  pub are_stores : AreStoreHints T labels frames c stores
+  pub are_flushes : AreFlushHints T labels frames c flushes
+  pub whole : hints ≡ stores ++ flushes
 
 abbrev pub AreHintsIf : Bool → Recording → Labels → List (Option ℕ) → Choice → List Hint → Type 0
 AreHintsIf true T labels frames c hints = AreAllHints T labels frames c hints

@@ -9,7 +9,6 @@ ghost use Rattle.pmt_failures.specs.Unwriting.{unwritten_of};
 use crate::asking::asked_unwrittens;
 use crate::found::{Found, found_of};
 use crate::frames::frame_numbers;
-use crate::hinting::hints_asked;
 use crate::losses::{Losses, losses_of};
 use crate::numbering::label_numbers;
 use pmt_analysis::Analysis;
@@ -82,7 +81,6 @@ pub struct Explanation {
 struct Parts {
     label_numbers: Vec<Option<u64>>,
     frames: Vec<Option<u64>>,
-    hints: Vec<Hint>,
     found: Found,
     lost: Losses,
     unwritten: Vec<Unwritten>,
@@ -118,7 +116,6 @@ fn parts_of(
     let label_numbers = label_numbers(alloc, labels, analysis.trace().len())?;
     let numbers = label_numbers.as_slice();
     let frames = frame_numbers(alloc, labels, numbers, analysis.trace().len())?;
-    let hints = hints_asked(alloc, analysis, labels, frames.as_slice(), &options.choice)?;
     let lost = losses_of(alloc, analysis, labels, frames.as_slice(), options)?;
     let found = found_of(
         alloc,
@@ -133,7 +130,6 @@ fn parts_of(
     Ok(Parts {
         label_numbers,
         frames,
-        hints,
         found,
         lost,
         unwritten,
@@ -149,7 +145,6 @@ fn explained(analysis: Analysis, limit: usize, parts: Parts) -> Explanation
     let Parts {
         label_numbers,
         frames,
-        hints,
         found,
         lost,
         unwritten,
@@ -176,7 +171,7 @@ fn explained(analysis: Analysis, limit: usize, parts: Parts) -> Explanation
         threads: found.effects.threads,
         labelled: found.effects.labelled,
         places: found.places,
-        hints,
+        hints: found.hints,
         overwritten: lost.overwritten,
         ignored_overwritten: lost.ignored_pairs,
         unwritten,

@@ -3,13 +3,16 @@ ghost use Rattle.std.specs.Prelude.{IfOk, map};
 ghost use Rattle.pmt_explain.specs.Dropping.{event_of};
 ghost use Rattle.pmt_fates.specs.Places.{ArePlaces};
 ghost use Rattle.pmt_explanation.specs.Finding.{AreFound};
+ghost use Rattle.pmt_explanation.specs.Hinting.{AreHints};
 
 use crate::effects::{Effects, effects_of};
 use crate::failed::{Failed, failed_of};
+use crate::hinting::hints_asked;
 use pmt_analysis::Analysis;
 use pmt_asked::{Labels, Options};
 use pmt_explain::{Dropped, EventEffects, effects};
 use pmt_fates::{PlaceRow, place_table};
+use pmt_hints::Hint;
 use pmt_model::OutOfMemory;
 use std::alloc::Global;
 
@@ -24,6 +27,8 @@ pub(crate) struct Found {
     pub(crate) effects: Effects,
     /// What each place has.
     pub(crate) places: Vec<PlaceRow>,
+    /// The hints that are asked for.
+    pub(crate) hints: Vec<Hint>,
 }
 
 // What is found in the trace that was analysed, where its events have these numbers of labels and of innermost frames, and where these
@@ -39,6 +44,7 @@ pub(crate) fn found_of(
 ) -> Result<Found, OutOfMemory>
     ensures found { IfOk result (AreFound analysis.now.trace analysis.now.verdicts labels.now numbers.now frames.now options.now) }
     ensures places { IfOk result (λ found. ArePlaces analysis.now.trace frames.now told.now (map event_of found.dropped.items) found.places.items) }
+    ensures hints { IfOk result (λ found. AreHints analysis.now.trace labels.now frames.now options.now.choice found.hints.items) }
 {
     let EventEffects { dropped, safe } = effects(alloc, analysis.trace())?;
     let failed = failed_of(
@@ -67,10 +73,21 @@ pub(crate) fn found_of(
         told,
         dropped.as_slice(),
     )?;
+    let waited = effects.waited.as_slice();
+    let hints = hints_asked(
+        alloc,
+        analysis,
+        &safe,
+        waited,
+        labels,
+        frames,
+        &options.choice,
+    )?;
     Ok(Found {
         dropped,
         failed,
         effects,
         places,
+        hints,
     })
 }

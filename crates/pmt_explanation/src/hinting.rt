@@ -1,80 +1,106 @@
 //! The hints that are asked for.
 ghost use Rattle.std.specs.Prelude.{◌≡◌, IfOk};
 ghost use Rattle.pmt_model.specs.Keeping.{IsKeep};
+ghost use Rattle.pmt_causes.specs.Late.{AreWaited};
 ghost use Rattle.pmt_hints.specs.Placing.{AreHintsOf};
 ghost use Rattle.pmt_explanation.specs.Asking.{asked_numbers as numbers_asked};
-ghost use Rattle.pmt_explanation.specs.Hinting.{AreAllHints, AreHints};
+ghost use Rattle.pmt_explanation.specs.Hinting.{AreAllHints, AreFlushHints, AreHints, AreStoreHints};
 ghost use Rattle.pmt_asked.specs.declared.choosing.Kind.TheVariants as kinds;
 
 use crate::asking::asked_numbers;
 use pmt_analysis::Analysis;
 use pmt_asked::{Choice, Kind, Labels, is_asked};
-use pmt_hints::{Hint, HintKind, hints_of, split_words, stored_after_flush, told_open};
+use pmt_explain::SafePlaces;
+use pmt_hints::{
+    Hint, HintKind, hints_of, one_line_short, split_words, stored_after_flush, told_open,
+};
 use pmt_model::{OutOfMemory, Selection, Trace};
 use std::alloc::Global;
 
-// The hints of the trace that was analysed, where its events have these numbers of innermost frames: first the words in two lines, then
-// the stores after their flush, and then the flushes that are open at a store. The trace is looked at only where hints are asked for.
+// The hints of the trace that was analysed, if these are the safe places of its stores, its events wait for so many fences, and they have
+// these numbers of innermost frames. The trace is looked at only if hints are asked for.
 pub(crate) fn hints_asked(
     alloc: Global,
     analysis: &Analysis,
+    safe: &SafePlaces<'_>,
+    waited: &[u64],
     labels: &Labels,
     frames: &[Option<u64>],
     choice: &Choice,
 ) -> Result<Vec<Hint>, OutOfMemory>
+    requires same { safe.now.trace.now ≡ analysis.now.trace }
+    requires waited { AreWaited safe.now.trace.now waited.now }
     ensures { IfOk result (λ hints. AreHints analysis.now.trace labels.now frames.now choice.now hints.items) }
 {
     if !is_asked(choice, Kind::Hint) {
         return Ok(Vec::new(alloc));
     }
     let kept = analysis.selection();
-    all_hints(alloc, analysis.trace(), kept, labels, frames, choice)
+    all_hints(alloc, safe, waited, kept, labels, frames, choice)
 }
 
-// The hints of each kind, where this is kept of the trace.
+// The hints of each kind, if this is kept of the trace: first those of stores, and then those of flushes.
 fn all_hints(
     alloc: Global,
-    trace: &Trace,
+    safe: &SafePlaces<'_>,
+    waited: &[u64],
     kept: &Selection,
     labels: &Labels,
     frames: &[Option<u64>],
     choice: &Choice,
 ) -> Result<Vec<Hint>, OutOfMemory>
-    requires { IsKeep trace.now kept.now }
-    ensures { IfOk result (λ hints. AreAllHints trace.now labels.now frames.now choice.now hints.items) }
+    requires waited { AreWaited safe.now.trace.now waited.now }
+    requires kept { IsKeep safe.now.trace.now kept.now }
+    ensures { IfOk result (λ hints. AreAllHints safe.now.trace.now labels.now frames.now choice.now hints.items) }
+{
+    let mut hints = store_hints(alloc, safe.trace(), labels, frames, choice)?;
+    let more = flush_hints(alloc, safe, waited, kept, labels, frames, choice)?;
+    hints.extend_from_slice(more.as_slice())?;
+    Ok(hints)
+}
+
+// Those of stores: first the words in two lines, and then the stores after their flush.
+fn store_hints(
+    alloc: Global,
+    trace: &Trace,
+    labels: &Labels,
+    frames: &[Option<u64>],
+    choice: &Choice,
+) -> Result<Vec<Hint>, OutOfMemory>
+    ensures { IfOk result (λ hints. AreStoreHints trace.now labels.now frames.now choice.now hints.items) }
 {
     let split = split_words(alloc, trace, frames)?;
+    let kind = HintKind::SplitWord;
+    let mut hints = hints_at(alloc, trace, labels, frames, choice, kind, &split)?;
     let after = stored_after_flush(alloc, trace)?;
-    let unfenced = told_open(alloc, trace, kept, frames)?;
-    let mut hints = hints_at(
-        alloc,
-        trace,
-        labels,
-        frames,
-        choice,
-        HintKind::SplitWord,
-        &split,
-    )?;
-    let more = hints_at(
-        alloc,
-        trace,
-        labels,
-        frames,
-        choice,
-        HintKind::StoredAfterFlush,
-        &after,
-    )?;
-    let last = hints_at(
-        alloc,
-        trace,
-        labels,
-        frames,
-        choice,
-        HintKind::OpenAtStore,
-        &unfenced,
-    )?;
+    let kind = HintKind::StoredAfterFlush;
+    let more = hints_at(alloc, trace, labels, frames, choice, kind, &after)?;
     hints.extend_from_slice(more.as_slice())?;
-    hints.extend_from_slice(last.as_slice())?;
+    Ok(hints)
+}
+
+// Those of flushes: first those that are one line short, and then those that are open at a store.
+fn flush_hints(
+    alloc: Global,
+    safe: &SafePlaces<'_>,
+    waited: &[u64],
+    kept: &Selection,
+    labels: &Labels,
+    frames: &[Option<u64>],
+    choice: &Choice,
+) -> Result<Vec<Hint>, OutOfMemory>
+    requires waited { AreWaited safe.now.trace.now waited.now }
+    requires kept { IsKeep safe.now.trace.now kept.now }
+    ensures { IfOk result (λ hints. AreFlushHints safe.now.trace.now labels.now frames.now choice.now hints.items) }
+{
+    let trace = safe.trace();
+    let short = one_line_short(alloc, safe, waited, frames)?;
+    let kind = HintKind::OneLineShort;
+    let mut hints = hints_at(alloc, trace, labels, frames, choice, kind, &short)?;
+    let unfenced = told_open(alloc, trace, kept, frames)?;
+    let kind = HintKind::OpenAtStore;
+    let more = hints_at(alloc, trace, labels, frames, choice, kind, &unfenced)?;
+    hints.extend_from_slice(more.as_slice())?;
     Ok(hints)
 }
 

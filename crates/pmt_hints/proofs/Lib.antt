@@ -1,8 +1,10 @@
 pub mod FlagLemmas
+pub mod GoingLemmas
 pub mod NearLemmas
 pub mod NumberLemmas
 pub mod OpenAtLemmas
 pub mod PartingLemmas
+pub mod ShortLemmas
 pub mod SplitLemmas
 pub mod StepLemmas
 pub mod StoredAfterLemmas

@@ -68,7 +68,7 @@ pub origin-same : (p : Origin) → (origin_eq.ghosts).eq p p ≡ true
 origin-same (Label a) = eq-eqb a a refl
 origin-same (Thread t) = eq-eqb t t refl
 
-place-told : (labels : List (Option ℕ)) (j i t : ℕ) → (is_same_place labels j i t ≡ true) ↔ (origin_of labels j t ≡ origin_of labels i t)
+pub place-told : (labels : List (Option ℕ)) (j i t : ℕ) → (is_same_place labels j i t ≡ true) ↔ (origin_of labels j t ≡ origin_of labels i t)
 place-told labels j i t = (origin-exact (origin_of labels j t) (origin_of labels i t), λ e. ap (λ p. (origin_eq.ghosts).eq p (origin_of labels i t)) e ∙ origin-same (origin_of labels i t))
 
 either-told : (a b : Bool) → ((a || b) ≡ true) ↔ ((a ≡ true) ⊎ (b ≡ true))

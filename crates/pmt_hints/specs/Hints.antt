@@ -1,5 +1,5 @@
 -- What hints are told of: each kind is a set of events.
-use Rattle.std.specs.Prelude.{◌≡◌, ◌≢◌, ◌↔◌, ◌⊎◌, ℕ, ◌+◌, ◌%◌, ◌<◌, ◌≤◌, List, length, Option, Some}
+use Rattle.std.specs.Prelude.{◌≡◌, ◌≢◌, ◌↔◌, ◌⊎◌, ℕ, suc, ◌+◌, ◌%◌, ◌<◌, ◌≤◌, List, length, Option, Some}
 use Rattle.pmt_model.specs.declared.event.Event.{Event}
 use Rattle.pmt_model.specs.declared.event.Op.TheVariants.{Store}
 use Rattle.pmt_model.specs.Values.{Layout, Written}
@@ -8,7 +8,9 @@ use Rattle.pmt_model.specs.Traces.{Recording, IsAct, act, event}
 use Rattle.pmt_model.specs.Findings.{IsFlushOf}
 use Rattle.pmt_model.specs.Keeping.{IsKept}
 use Rattle.pmt_model.specs.Selections.{IsRising, Has}
+use Rattle.pmt_explain.specs.Saving.{IsSafePlace}
 use Rattle.pmt_causes.specs.FailureKeys.{origin_of}
+use Rattle.pmt_causes.specs.Late.{fences_between}
 
 -- These are the events that have the property, in their order.
 pub record AreThose (P : ℕ → Type 0) (numbers : List ℕ) : Type 0 where
@@ -81,3 +83,32 @@ pub record IsSplitWord (T : Recording) (labels : List (Option ℕ)) (i : ℕ) : 
   pub none_between : (k : ℕ) (w : Written) → earlier < k → k < i → ¬ IsStoreOf T thread w k
   pub joined : Joins T.format first second ⊎ Joins T.format second first
   pub same_place : origin_of labels earlier thread ≡ origin_of labels i thread
+
+-- Store i to line l by thread t is lost or late: fences of its thread after it leave it unsafe, two of them, or one if it is safe from no
+-- place of the trace on.
+abbrev pub IsLostOrLate : Recording → ℕ → ℕ → ℕ → Type 0
+IsLostOrLate T t l i = (p : ℕ) × IsSafePlace T l i p × ((2 ≤ fences_between T t i p) ⊎ ((1 ≤ fences_between T t i p) × (length T.events < p)))
+
+-- Event i goes on from line l: it is a store by thread t to the line right after l, and the store that the thread made before it, from
+-- the same place, is one to line l.
+pub record GoesOn (T : Recording) (labels : List (Option ℕ)) (t l i : ℕ) : Type 0 where
+  pub earlier : ℕ
+  pub is_earlier : IsStoreBy T t l earlier
+  pub is_store : IsStoreBy T t (suc l) i
+  pub order : earlier < i
+  pub none_between : (k m : ℕ) → earlier < k → k < i → ¬ IsStoreBy T t m k
+  pub same_place : origin_of labels earlier t ≡ origin_of labels i t
+
+-- One line short: event i flushes a line from which a store before it goes on, and that store is lost or late. So the run of lines that the
+-- thread flushes by its next fence, of one line or more, ends with this line. The two come with no fence of the thread between them, and
+-- no store of the thread since that fence goes on from the line right after: what was stored ends there, one line behind the run.
+pub record IsOneLineShort (T : Recording) (labels : List (Option ℕ)) (i : ℕ) : Type 0 where
+  pub thread : ℕ
+  pub line : ℕ
+  pub rest : ℕ
+  pub is_flush : IsAct T i (Flushes thread line)
+  pub goes_on : GoesOn T labels thread line rest
+  pub missed : IsLostOrLate T thread (suc line) rest
+  pub earlier : rest < i
+  pub still_open : ¬ FencesBetween T thread rest i
+  pub ends : (k : ℕ) → GoesOn T labels thread (suc line) k → k < i → FencesBetween T thread k i

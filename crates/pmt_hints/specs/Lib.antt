@@ -1,4 +1,5 @@
 pub mod Flagging
+pub mod GoingOn
 pub mod Hints
 pub mod Near
 pub mod Numbers

@@ -30,6 +30,14 @@ flush_by (Clflushes k) number t l old = old
 flush_by (Fences u) number t l old = old
 flush_by Asserts number t l old = old
 
+-- The store of thread t, alike, where the act is thread u's.
+abbrev pub any_store_by : Act → ℕ → ℕ → ℕ → ℕ → ℕ
+any_store_by (Stores l w) u number t old = if u == t then number else old
+any_store_by (Flushes v l) u number t old = old
+any_store_by (Clflushes l) u number t old = old
+any_store_by (Fences v) u number t old = old
+any_store_by Asserts u number t old = old
+
 -- By the last fences and flushes before it: the act by thread t is a store to a line with an open flush.
 abbrev pub after_open : PerThread → LastFlushes → ℕ → Act → Bool
 after_open fences flushes t (Stores l w) = nat_lt (of_thread fences t) (flush_at flushes t l)

@@ -18,6 +18,8 @@ pub enum HintKind {
     StoredAfterFlush,
     /// Stores that write the rest of a word which the store before them began, in another line.
     SplitWord,
+    /// Flushes of a run of lines that ends one line before what was stored does.
+    OneLineShort,
 }
 
 /// The events of one kind of hint that come from one place.

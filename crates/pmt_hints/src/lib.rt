@@ -4,6 +4,7 @@
 #![tactic(auto)]
 
 mod flushers;
+mod going_on;
 pub mod hint;
 mod near;
 mod near_open;
@@ -12,10 +13,12 @@ mod next_stores;
 mod numbers;
 pub mod open_at;
 mod per_thread;
+pub mod short_runs;
 pub mod split_word;
 pub mod stored_after;
 
 pub use crate::hint::{Hint, HintKind, hints_of};
 pub use crate::open_at::{open_at_store, told_open};
+pub use crate::short_runs::one_line_short;
 pub use crate::split_word::split_words;
 pub use crate::stored_after::stored_after_flush;

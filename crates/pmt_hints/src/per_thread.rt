@@ -2,7 +2,7 @@
 
 ghost use Rattle.std.specs.Prelude.{◌≡◌, ◌==◌, ℕ, ◌<◌, if◌then◌else◌, length};
 ghost use Rattle.pmt_hints.specs.Numbers.{of_thread};
-ghost use Rattle.pmt_hints.specs.Stepping.{any_flush_by, fence_by};
+ghost use Rattle.pmt_hints.specs.Stepping.{any_flush_by, any_store_by, fence_by};
 ghost use Rattle.pmt_model.specs.Traces.{act_of};
 
 use pmt_model::{Format, Op};
@@ -60,6 +60,22 @@ impl PerThread {
         match op {
             Op::Clwb(_) | Op::ClflushOpt(_) => self.set(thread, number),
             Op::Store(_)
+            | Op::Clflush(_)
+            | Op::Sfence
+            | Op::Mfence
+            | Op::IsPersist(_)
+            | Op::IsOrderedBefore(_, _) => {}
+        }
+    }
+
+    // The number of the event becomes that of its thread, if it is a store.
+    pub(crate) fn note_store(&mut self, format: Format, thread: u8, op: Op, number: u64)
+        ensures { (t : ℕ) → t < 256 → of_thread self.new t ≡ any_store_by (act_of format thread op) thread number t (of_thread self.old t) }
+    {
+        match op {
+            Op::Store(_) => self.set(thread, number),
+            Op::Clwb(_)
+            | Op::ClflushOpt(_)
             | Op::Clflush(_)
             | Op::Sfence
             | Op::Mfence

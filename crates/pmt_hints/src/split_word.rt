@@ -111,7 +111,7 @@ fn part_of(op: Op) -> Option<Part>
 }
 
 // Whether the two events of the thread come from one place.
-fn is_one_place(labels: &[Option<u64>], earlier: u64, number: u64, thread: u8) -> bool
+pub(crate) fn is_one_place(labels: &[Option<u64>], earlier: u64, number: u64, thread: u8) -> bool
     ensures { result ≡ is_same_place labels.now earlier number thread }
 {
     origin_of(labels, earlier, thread) == origin_of(labels, number, thread)

@@ -1,0 +1,15 @@
+use Rattle.pmt_hints.specs.GoingOn.{GoesFurther, IsRest}
+use Rattle.pmt_hints.specs.Hints.{IsOneLineShort}
+use Rattle.pmt_hints.specs.Near.{AreUpTo}
+use Rattle.pmt_hints.proofs.GoingLemmas.{AnyStoresUpTo, LinesUpTo}
+use Rattle.pmt_hints.proofs.StoredAfterLemmas.{FencesUpTo}
+use Rattle.pmt_hints.proofs.short_runs.short_numbers.Given as goal
+
+abbrev pub invariant-loop-index : goal.invariant-loop-index
+invariant-loop-index l = record {
+  fences : FencesUpTo l.trace l.index l.fences;
+  stores : AnyStoresUpTo l.trace l.index l.stores;
+  rests : LinesUpTo (IsRest l.trace l.labels) l.index l.rests;
+  further : LinesUpTo (GoesFurther l.trace l.labels) l.index l.further;
+  numbers : AreUpTo (IsOneLineShort l.trace l.labels) l.index l.numbers.items;
+}

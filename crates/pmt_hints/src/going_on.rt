@@ -1,0 +1,130 @@
+//! Stores that go on from one line to the next.
+
+ghost use Rattle.std.specs.Prelude.{◌≡◌, ◌==◌, ◌<◌, ℕ, suc, OnOk};
+ghost use Rattle.pmt_model.specs.Traces.{act_of, event};
+ghost use Rattle.pmt_hints.specs.GoingOn.{event_line, is_lost_or_late as lost_or_late, line_before as before, line_by, line_if as if_so, line_left as left};
+ghost use Rattle.pmt_hints.specs.Near.{store_line};
+ghost use Rattle.pmt_hints.specs.Numbers.{flush_at};
+
+use crate::flushers::{Flusher, LastFlushes};
+use crate::split_word::is_one_place;
+use pmt_model::{Format, Op, OutOfMemory, Trace, line_of};
+
+// The line from which the op with this number by the thread goes on, if its store before it is the event `earlier`.
+pub(crate) fn line_left(
+    trace: &Trace,
+    labels: &[Option<u64>],
+    earlier: u64,
+    thread: u8,
+    op: Op,
+    number: u64,
+) -> Option<u64>
+    ensures value { result ≡ left trace.now labels.now earlier thread (act_of trace.now.format thread op) number }
+    ensures small { thread < 256 }
+{
+    let Some(line) = stored_line(trace.format(), thread, op) else {
+        return None;
+    };
+    let Some(from) = line_at(trace, earlier) else {
+        return None;
+    };
+    if is_next(from, line) && is_one_place(labels, earlier, number, thread) {
+        Some(from)
+    } else {
+        None
+    }
+}
+
+// The same, if the store is lost or late.
+pub(crate) fn rest_left(
+    trace: &Trace,
+    labels: &[Option<u64>],
+    earlier: u64,
+    is_missed: bool,
+    thread: u8,
+    op: Op,
+    number: u64,
+) -> Option<u64>
+    ensures value { result ≡ if_so is_missed (left trace.now labels.now earlier thread (act_of trace.now.format thread op) number) }
+    ensures small { thread < 256 }
+{
+    if !is_missed {
+        return None;
+    }
+    line_left(trace, labels, earlier, thread, op, number)
+}
+
+// The line of the event with this number, if it is a store.
+fn line_at(trace: &Trace, number: u64) -> Option<u64>
+    ensures { result ≡ event_line trace.now.format (event trace.now number) }
+{
+    let Some(event) = trace.get(number) else {
+        return None;
+    };
+    stored_line(trace.format(), event.thread, event.op)
+}
+
+// The line of the op, if it is a store.
+fn stored_line(format: Format, thread: u8, op: Op) -> Option<u64>
+    ensures { result ≡ store_line (act_of format thread op) }
+{
+    match op {
+        Op::Store(store) => Some(line_of(format, store.addr())),
+        Op::Clwb(_)
+        | Op::ClflushOpt(_)
+        | Op::Clflush(_)
+        | Op::Sfence
+        | Op::Mfence
+        | Op::IsPersist(_)
+        | Op::IsOrderedBefore(_, _) => None,
+    }
+}
+
+// Whether the second line comes right after the first one.
+fn is_next(first: u64, second: u64) -> bool
+    ensures { result ≡ (suc first == second) }
+{
+    first < second && second - first == 1
+}
+
+// The line before.
+pub(crate) fn line_before(line: Option<u64>) -> Option<u64>
+    ensures { result ≡ before line }
+{
+    match line {
+        None => None,
+        Some(line) => { if line == 0 { None } else { Some(line - 1) } }
+    }
+}
+
+// The line, if it is so.
+pub(crate) fn line_if(is_so: bool, line: Option<u64>) -> Option<u64>
+    ensures { result ≡ if_so is_so line }
+{
+    if is_so { line } else { None }
+}
+
+// Whether a store of a trace with so many events is lost or late, if it waits for so many fences and this is its safe place.
+pub(crate) fn is_lost_or_late(waited: u64, safe: u64, events: u64) -> bool
+    ensures { result ≡ lost_or_late waited safe events }
+{
+    2 <= waited || (1 <= waited && events < safe)
+}
+
+// Notes that the thread's event with this number tells of the line, if there is one.
+pub(crate) fn note_line(
+    lines: &mut LastFlushes,
+    thread: u8,
+    line: Option<u64>,
+    number: u64,
+) -> Result<(), OutOfMemory>
+    ensures { OnOk result ((t l : ℕ) → flush_at lines.new t l ≡ line_by line thread number t l (flush_at lines.old t l)) }
+{
+    match line {
+        None => Ok(()),
+        Some(line) => {
+            lines.insert(Flusher { thread, line }, number)?;
+            Ok(())
+        }
+    }
+}

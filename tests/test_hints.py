@@ -1,0 +1,133 @@
+"""What `explain` hints at: the JSON and the texts of small random traces of records that are flushed a line short, or not, against hinted.py,
+and hints by hand."""
+import json
+import random
+import subprocess
+
+from checks import Checks
+from explained import Explained, judged
+from explained_text import wrong_text
+from machine import Trace, spelled, text_of
+from program import find
+
+TRACES = 300
+HEADER = "pmtrace 2 64"
+# A record of 16 bytes from the last word of one line on, of which one line is flushed.
+SHORT = ("store 0 0x1038 01", "store 0 0x1040 02", "clwb 0 0x1038", "sfence 0")
+LABELS = ("log.c:30 copy < append log.c:12", "log.c:30 copy < append log.c:12", "log.c:40 flush < append log.c:13", "log.c:41 fence < append log.c:14")
+
+
+def setUpModule():
+    find()
+
+
+def record(choose, size, thread, start, lines):
+    """The events of one record, with their labels: a store to each of its lines, of which the first is `start`, flushes of all of them or
+    of one less, and a fence; at times from another place, with a store elsewhere in the middle, backwards, or without the fence."""
+    place = f"log.c:{choose.choice((10, 10, 10, 11))} copy"
+    places = [start, *((start // size + line) * size for line in range(1, lines))]
+    stores = [(("store", thread, at, b"\1"), place) for at in places]
+    if choose.random() < 0.2:
+        stores.insert(choose.randrange(len(stores) + 1), (("store", choose.randrange(2), 0x4000, b"\1"), choose.choice((place, "stat.c:5 count"))))
+    if choose.random() < 0.1:
+        stores.reverse()
+    flushed = places[: max(1, lines - choose.choice((0, 1, 1, 1, 2)))]
+    flushes = [((choose.choice(("clwb", "clflushopt")), thread, at), "log.c:20 flush") for at in flushed]
+    fence = [(("sfence", thread), "log.c:21 flush")]
+    return stores + flushes + fence * choose.choice((0, 1, 1, 1, 1, 2))
+
+
+def random_records(choose):
+    """The header, a trace of a few records one after the other by two threads, and the labels of its events."""
+    size = choose.choice((32, 64))
+    events, at = [], [0x1000 + size - 8, 0x2000]
+    for _ in range(choose.choice((1, 2, 2, 3))):
+        thread, lines = choose.choice((0, 0, 1)), choose.choice((1, 2, 2, 3))
+        events += record(choose, size, thread, at[thread], lines)
+        at[thread] = (at[thread] // size + lines - 1) * size + choose.choice((8, 8, size))
+    labels = {number: label for number, (_, label) in enumerate(events, 1)} if choose.random() < 0.8 else {}
+    return f"pmtrace 2 {size}", Trace(size, [event for event, _ in events]), labels
+
+
+def asked_words(choose, trace):
+    """Which findings are asked for, and the words for that."""
+    if choose.random() < 0.5:
+        return {}, []
+    asked = {"only": "hint"} if choose.random() < 0.5 else {"thread": choose.randrange(2)}
+    if choose.random() < 0.3:
+        asked["from"] = choose.randrange(1, len(trace.events) + 1)
+    return asked, [word for name, value in asked.items() for word in (f"--{name}", str(value))]
+
+
+def hints_of(text):
+    return [entry for entry in map(json.loads, text.splitlines()) if entry["kind"] == "hint"]
+
+
+def compare(program, folder, choose, found):
+    """What is wrong with the answer to one random trace, if anything, and that trace; its hints are added to those found."""
+    head, trace, labels = random_records(choose)
+    asked, words = asked_words(choose, trace)
+    file, names = folder / "trace", folder / "labels"
+    file.write_bytes(text_of([head, *map(spelled, trace.events)]))
+    names.write_bytes(text_of(f"{number} {label}" for number, label in labels.items()))
+    explained = Explained(trace, [], labels, asked, [])
+    words += ["--labels", names] * bool(labels)
+    run = lambda *more: subprocess.run([program, "explain", *words, *more, file], capture_output=True, timeout=120).stdout
+    told = run("--json", "--limit", "100")
+    found += [(entry["hint"], bool(labels)) for entry in hints_of(told)]
+    wrong = judged(explained, told, 100) or wrong_text(explained, run("--limit", "all"))
+    return wrong, f"{' '.join(map(str, words))}\n{file.read_text()}"
+
+
+class Hints(Checks):
+    def told(self, events, labels=(), *words):
+        """The hints of a trace, and the text."""
+        folder = self.new_folder()
+        (folder / "trace").write_bytes(text_of([HEADER, *events]))
+        (folder / "labels").write_bytes(text_of(f"{number} {label}" for number, label in enumerate(labels, 1)))
+        words = [*words, *(["--labels", folder / "labels"] if labels else []), folder / "trace"]
+        run = lambda *more: subprocess.run([self.program, "explain", *more, *words], capture_output=True, text=True, timeout=60).stdout
+        return run("--json"), run("--limit", "9")
+
+    def expect_short(self, what, events, wanted, labels=(), *words):
+        """What is told as one line short: of each place the first event and how many they are."""
+        told, text = self.told(events, labels, *words)
+        found = [(entry["label"] or entry["thread"], entry["first"]["event"], entry["count"]) for entry in hints_of(told) if entry["hint"] == "one_line_short"]
+        self.expect_equal(what, found, wanted)
+        return text
+
+    def test_random_records(self):
+        choose, folder, found = random.Random(23), self.new_folder(), []
+        for number in range(TRACES):
+            wrong, trace = compare(find(), folder, choose, found)
+            self.expect(f"records {number}", not wrong, f"{wrong}\nof {trace}")
+        self.expect("many are one line short, with and without labels", all(found.count(("one_line_short", is_labelled)) > 9 for is_labelled in (False, True)), found)
+
+    def test_one_line_short(self):
+        text = self.expect_short("a lost rest", SHORT, [("log.c:40 flush", 3, 1)], LABELS)
+        wanted = """hint: log.c:40 flush: 1 time flushes end one cache line short of what is stored, and miss the rest; first: event 3, missed store event 2
+  fix:    Flush cache line 0x1040 by thread 0 after event 3 (log.c:40 flush < append log.c:13), before its next fence, event 4 (log.c:41 fence < append log.c:14).
+"""
+        self.expect("in words", wanted in text, text)
+        more = ("store 0 0x1048 03", "store 0 0x1050 03", "clwb 0 0x1048", "sfence 0")
+        self.expect_short("a rest that the next record's flush saves", SHORT + more, [], LABELS)
+        mark = ("store 0 0x2000 01", "clwb 0 0x2000", "sfence 0")
+        self.expect_short("one that waits for two fences", SHORT + mark + more, [(0, 3, 1)])
+        self.expect_short("of a run of two lines its last", ("store 0 0x1000 01", *SHORT[:2], "clwb 0 0x1000", *SHORT[3:]), [(0, 4, 1)])
+        lines = [f"store 0 {at:#x} 01" for at in range(0x1000, 0x10C8, 8)]
+        self.expect_short("a run of three lines", (*lines, *(f"clwb 0 {at:#x}" for at in (0x1000, 0x1040, 0x1080)), "sfence 0"), [(0, 28, 1)])
+        self.expect_short("two lines short", (*lines, *(f"clwb 0 {at:#x}" for at in (0x1000, 0x1040)), "sfence 0"), [])
+
+    def test_not_short(self):
+        """What is none, each by one change."""
+        self.expect_short("the line is flushed", (*SHORT[:3], "clwb 0 0x1040", SHORT[3]), [])
+        self.expect_short("no fence comes", SHORT[:3], [])
+        self.expect_short("a fence before the flush", (*SHORT[:2], "sfence 0", *SHORT[2:]), [])
+        self.expect_short("from another place", SHORT, [], ("log.c:29 head", *LABELS[1:]))
+        self.expect_short("a store between", (SHORT[0], "store 0 0x3000 01", *SHORT[1:]), [])
+        self.expect_short("one of another thread between", (SHORT[0], "store 1 0x3000 01", *SHORT[1:]), [(0, 4, 1)])
+        self.expect_short("by two threads", ("store 1 0x1038 01", *SHORT[1:]), [])
+        self.expect_short("the next line but one", (SHORT[0], "store 0 0x1080 02", *SHORT[2:]), [])
+        self.expect_short("the line before", ("store 0 0x1040 01", "store 0 0x1038 02", "clwb 0 0x1040", "sfence 0"), [])
+        self.expect_short("flushed before it is stored", (SHORT[0], SHORT[2], SHORT[1], SHORT[3]), [])
+        self.expect_short("a clflush", (*SHORT[:2], "clflush 0 0x1038", *SHORT[3:]), [])
