@@ -199,10 +199,15 @@ def explained(run, folder):
     labels.write_text("1 save.c:3\n2 save.c:4\n7 save.c:9 claim\n")
     ranges = folder / "ranges"
     ranges.write_text("0x1000:8\nlabel save.c:*\n0x2000:8\n")
+    source = folder / "source"
+    source.mkdir()
+    (source / "save.c").write_text("\n\n\tstore(a);\n\tflush(\ta);\n")
     for words, status in (
         ([trace], 1),
         (["--json", "--labels", labels, "--ignore", "0x1000:8", "--ignore", "0x1004:8", trace], 1),
         (["--html", "--labels", labels, trace], 1),
+        (["--labels", labels, "--source", source, "--color", "always", trace], 1),
+        (["--labels", labels, "--source", folder / "none", trace], 4),
         (["--label", "save", "--range", "0x1000:8", "--labels", labels, "--ignore-file", ranges, trace], 1),
         (["--labels", labels, "--ignore-label", "save.c:4", "--ignore-label", "save*", trace], 1),
         (["--limit", "0", EXAMPLES / "flushed_by_two_threads.trace"], 0),

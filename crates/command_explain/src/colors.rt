@@ -1,4 +1,5 @@
-//! Colors of the text for people: of the words that begin its paragraphs, and of what mends a loss.
+//! Colors of the text for people: of the words that begin its paragraphs, of what mends a loss, and of the numbers of source lines.
+ghost use Rattle.std.specs.Prelude.{◌≤◌, length, IfSome};
 
 use command_inputs::split_line;
 use std::alloc::{AllocError, Global};
@@ -46,6 +47,12 @@ const HEADS: [Head; 8] = [
     },
 ];
 
+// How the number of a source line is shown.
+const NUMBER: &[u8] = b"\x1b[1;34m";
+
+// A line of source has so many blanks at its start, or more.
+const BLANKS: &[u8] = b"      ";
+
 /// The text with the words that begin its lines in color.
 ///
 /// # Errors
@@ -64,22 +71,39 @@ pub(crate) fn colored(alloc: Global, text: &[u8]) -> Result<Vec<u8>, AllocError>
     Ok(shown)
 }
 
-// Adds the line, with the word that begins it in color.
+// Adds the line, with what begins it in color.
 fn push_line(shown: &mut Vec<u8>, line: &[u8]) -> Result<(), AllocError> {
     let mut rest = line;
     for head in &HEADS {
         if let Some(after) = rest.strip_prefix(head.word) {
-            push_head(shown, head)?;
+            push_colored(shown, head.color, head.word)?;
             rest = after;
             break;
         }
+    }
+    if let Some(bar) = bar_of(rest) {
+        let (number, text) = rest.split_at(bar);
+        push_colored(shown, NUMBER, number)?;
+        rest = text;
     }
     shown.extend_from_slice(rest)?;
     shown.extend_from_slice(b"\n")
 }
 
-fn push_head(shown: &mut Vec<u8>, head: &Head) -> Result<(), AllocError> {
-    shown.extend_from_slice(head.color)?;
-    shown.extend_from_slice(head.word)?;
+// Where the text of a line of source begins, after its number and a bar; none of any other line.
+fn bar_of(line: &[u8]) -> Option<usize>
+    ensures { IfSome result (λ bar. bar ≤ length line.now) }
+{
+    let bar = line.iter().position(|byte| *byte == b'|')?;
+    let number = line.get(..bar)?.strip_prefix(BLANKS)?.trim_ascii();
+    if number.is_empty() || !number.iter().all(|byte| byte.is_ascii_digit()) {
+        return None;
+    }
+    Some(bar.saturating_add(1).min(line.len()))
+}
+
+fn push_colored(shown: &mut Vec<u8>, color: &[u8], text: &[u8]) -> Result<(), AllocError> {
+    shown.extend_from_slice(color)?;
+    shown.extend_from_slice(text)?;
     shown.extend_from_slice(PLAIN)
 }

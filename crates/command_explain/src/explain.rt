@@ -2,6 +2,7 @@
 ghost use Rattle.std.specs.Prelude.{◌≤◌, IfOk};
 
 use crate::colors::colored;
+use crate::sources::sources_of;
 use command_inputs::{
     Doing, Fault, Input, Opener, Watch, WatchedText, bytes_of, cut_of, labels_of, no_failure,
     read_file, read_ignored, taken_fault, write_named,
@@ -11,9 +12,10 @@ use command_requests::{Color, ExplainWords, Form};
 use pmt_asked::{Cut, Labels};
 use pmt_explain_json::json_text;
 use pmt_explain_run::explain;
-use pmt_explain_text::{Screen, text};
+use pmt_explain_text::{Screen, source_places, text};
 use pmt_explanation::{Explanation, has_failed};
 use pmt_model::OutOfMemory;
+use pmt_sources::Sources;
 use pmt_taking::TakeError;
 use pmt_text::{Counted, TextSource};
 use std::alloc::{AllocError, Global};
@@ -214,14 +216,17 @@ fn answer_of<O: Opener>(
 ) -> Result<Vec<u8>, Fault> {
     let labels = &known.labels;
     match words.form {
-        Form::Text if known.colors => {
-            let text = people_text(alloc, explanation, known, words)?;
-            Ok(colored(alloc, text.as_slice())?)
+        Form::Text => {
+            let text = text_with_sources(alloc, files, explanation, known, words)?;
+            if known.colors {
+                Ok(colored(alloc, text.as_slice())?)
+            } else {
+                Ok(text)
+            }
         }
-        Form::Text => Ok(people_text(alloc, explanation, known, words)?),
         Form::Json => Ok(json_text(alloc, explanation, labels, &words.options.choice)?),
         Form::Page => {
-            let text = people_text(alloc, explanation, known, words)?;
+            let text = people_text(alloc, explanation, known, words, None)?;
             page_of(
                 alloc,
                 files,
@@ -235,12 +240,30 @@ fn answer_of<O: Opener>(
     }
 }
 
-// The text for people: a screen, or all rows where a limit or one failure is asked for.
+// The text for people, with lines of source files where their folder is named.
+fn text_with_sources<O: Opener>(
+    alloc: Global,
+    files: &O,
+    explanation: &Explanation,
+    known: &Known,
+    words: &ExplainWords<'_>,
+) -> Result<Vec<u8>, Fault> {
+    let Some(folder) = words.source else {
+        return Ok(people_text(alloc, explanation, known, words, None)?);
+    };
+    let choice = &words.options.choice;
+    let wanted = source_places(alloc, explanation, &known.labels, choice)?;
+    let sources = sources_of(alloc, files, folder, wanted.as_slice())?;
+    Ok(people_text(alloc, explanation, known, words, Some(&sources))?)
+}
+
+// The text for people: a screen, or all rows where a limit or one failure is asked for; with these lines of source files.
 fn people_text(
     alloc: Global,
     explanation: &Explanation,
     known: &Known,
     words: &ExplainWords<'_>,
+    sources: Option<&Sources<'_>>,
 ) -> Result<Vec<u8>, OutOfMemory> {
     let is_whole = words.is_limited || words.failure.is_some();
     let screen = Screen {
@@ -250,6 +273,7 @@ fn people_text(
         trace: words.file,
         labels: words.labels,
         cut: known.cut.as_ref(),
+        sources,
     };
     text(alloc, explanation, &known.labels, &screen)
 }

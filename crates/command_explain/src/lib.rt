@@ -3,5 +3,6 @@
 
 mod colors;
 mod explain;
+mod sources;
 
 pub use crate::explain::run_explain;

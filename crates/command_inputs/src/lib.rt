@@ -20,6 +20,8 @@ mod reasons;
 mod recalling;
 mod refused;
 mod shell;
+mod source_text;
+mod sources;
 mod watching;
 mod writing;
 
@@ -42,5 +44,7 @@ pub use crate::reasons::{open_input, reasoned, write_output};
 pub use crate::recalling::{Memory, Recalling, Recalls};
 pub use crate::refused::split_line;
 pub use crate::shell::shell_word;
+pub use crate::source_text::shown_source;
+pub use crate::sources::{Places, SourceFolder, SourceText, Wanted};
 pub use crate::watching::{Doing, Unwatched, Watch, WatchedText};
 pub use crate::writing::{write_answer, write_whole};

@@ -1,7 +1,7 @@
 //! The lines of a source file round those that labels name.
 
 use crate::labels::size_quoted;
-use command_inputs::split_line;
+use command_inputs::{shown_source, split_line};
 use std::alloc::{AllocError, Global};
 
 // How many bytes the LF of a line has on a page.
@@ -12,9 +12,6 @@ pub const PART_SIZE: usize = 60;
 
 // How many lines are shown before and behind one that is named.
 const AROUND: u64 = 5;
-
-// The most characters of a line.
-const MOST_LETTERS: usize = 200;
 
 /// Lines of a source file that follow each other.
 #[derive(Drop)]
@@ -106,7 +103,7 @@ impl Lines {
         number: u64,
         line: &[u8],
     ) -> Result<bool, AllocError> {
-        let shown = shown_line(alloc, line)?;
+        let shown = shown_source(alloc, line)?;
         let size = size_quoted(shown.as_bytes());
         let follows = match self.parts.last() {
             Some(last) => last.file == file && last.next == number,
@@ -140,35 +137,4 @@ fn has_passed(wanted: &[u64], at: usize, number: u64) -> bool {
         Some(line) => line.saturating_add(AROUND) < number,
         None => false,
     }
-}
-
-// The line as it is shown: without a CR at its end, cut, and where it is no UTF-8 with a sign for each byte that is no ASCII.
-fn shown_line(alloc: Global, line: &[u8]) -> Result<String, AllocError> {
-    let line = line.strip_suffix(b"\r".as_slice()).unwrap_or(line);
-    let mut text = String::new(alloc);
-    match str::from_utf8(line) {
-        Ok(whole) => {
-            for (place, letter) in whole.chars().enumerate() {
-                if place == MOST_LETTERS {
-                    text.push('…')?;
-                    break;
-                }
-                text.push(letter)?;
-            }
-        }
-        Err(_) => {
-            for (place, byte) in line.iter().enumerate() {
-                if place == MOST_LETTERS {
-                    text.push('…')?;
-                    break;
-                }
-                text.push(if byte.is_ascii() {
-                    char::from(*byte)
-                } else {
-                    '\u{fffd}'
-                })?;
-            }
-        }
-    }
-    Ok(text)
 }

@@ -41,7 +41,7 @@ pub struct ExplainWords<'a> {
     pub color: Color,
     /// The file that is written; none for standard output.
     pub out: Option<&'a str>,
-    /// The folder of the source files whose lines a page shows.
+    /// The folder of the source files whose lines the text or the page shows.
     pub source: Option<&'a str>,
     /// The most entries of a kind that a page has.
     pub page_limit: usize,

@@ -12,7 +12,7 @@ const ONLY: &str =
 
 // How `explain` is used.
 const USAGE: &str =
-    "pmtrim explain [--ignore A:N].. [--ignore-label LABEL].. [--ignore-file FILE].. [--limit N]\n                      [--only KIND] [--thread T] [--range A:N] [--from I] [--to J] [--label TEXT]\n                      [--failure N] [--labels FILE] [--json | --html [--source DIR] | --color WHEN]\n                      [--out FILE] [FILE]";
+    "pmtrim explain [--ignore A:N].. [--ignore-label LABEL].. [--ignore-file FILE].. [--limit N]\n                      [--only KIND] [--thread T] [--range A:N] [--from I] [--to J] [--label TEXT]\n                      [--failure N] [--labels FILE [--source DIR]] [--json | --html | --color WHEN]\n                      [--out FILE] [FILE]";
 
 /// The command `explain`.
 pub const EXPLAIN: CommandText<'static> = CommandText {
@@ -94,7 +94,7 @@ pub const EXPLAIN: CommandText<'static> = CommandText {
         Word {
             name: "source",
             kind: WordKind::Value("DIR"),
-            help: "Put the source lines that labels name into the page, from files below{n}this folder; wants --html and --labels",
+            help: "Put the source lines that labels name into the text or page, from{n}files below this folder; wants --labels, and no --json",
         },
         Word {
             name: "color",

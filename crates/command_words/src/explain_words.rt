@@ -63,13 +63,14 @@ fn color_of(given: &ArgMatches<'_>) -> Color {
     }
 }
 
-// The folder of the source files: lines of them stand on a page alone, and labels say which.
+// The folder of the source files: labels say which lines of them are shown, and JSON has none.
 fn source_of<'a>(alloc: Global, given: &ArgMatches<'a>) -> Result<Option<&'a str>, Fault> {
     let Some(folder) = given.get_str("source") else {
         return Ok(None);
     };
-    if !given.get_flag("html") {
-        let message = "'--source' wants '--html', the page that shows lines of source files";
+    if given.get_flag("json") {
+        let message =
+            "'--source' puts source lines into the text or the page, and '--json' has none";
         return Err(Fault::usage(alloc, message)?);
     }
     if given.get_str("labels").is_none() {

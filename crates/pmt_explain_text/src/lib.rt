@@ -29,6 +29,7 @@ mod ranges;
 mod rows;
 mod screen;
 mod sharing;
+mod sources;
 mod spelling;
 mod story;
 mod summary;
@@ -36,6 +37,8 @@ mod tables;
 mod telling;
 mod unknown;
 mod unwritten;
+mod wanted;
 
 pub use crate::people::text;
 pub use crate::telling::Screen;
+pub use crate::wanted::source_places;

@@ -3,10 +3,12 @@
 use crate::commands::push_draw;
 use crate::parts::{plural, push_count, push_named, push_remedy};
 use crate::screen::Section;
+use crate::sources::{SOURCE, push_source};
 use crate::telling::{Telling, line_address, tells_all};
+use pmt_asked::Choice;
 use pmt_causes::{Group, LostKey};
 use pmt_explain::LostGroup;
-use pmt_explanation::first;
+use pmt_explanation::{Explanation, first};
 use pmt_failures::mend_for;
 use pmt_pen::Pen;
 
@@ -15,15 +17,7 @@ const NAMED: usize = 10;
 
 // What is never persisted, each cause once, where something is asked for: else it is told by place.
 pub(crate) fn lost_section(told: &Telling<'_>) -> Section {
-    let all = told.explanation.lost_causes.as_slice();
-    let causes = first(
-        all,
-        if tells_all(told.screen.choice) {
-            0
-        } else {
-            all.len()
-        },
-    );
+    let causes = shown_causes(told.explanation, told.screen.choice);
     let mut section = Section::new(
         told.alloc,
         "",
@@ -37,6 +31,15 @@ pub(crate) fn lost_section(told: &Telling<'_>) -> Section {
         section.add(pen);
     }
     section
+}
+
+// The causes of what is never persisted; none where nothing is asked for.
+pub(crate) fn shown_causes<'a>(
+    explanation: &'a Explanation,
+    choice: &Choice,
+) -> &'a [Group<LostKey>] {
+    let all = explanation.lost_causes.as_slice();
+    first(all, if tells_all(choice) { 0 } else { all.len() })
 }
 
 // Adds the stores that are lost for one cause, of which these are the first ones to their cache lines: those to the first cache line
@@ -96,8 +99,10 @@ fn push_head(pen: &mut Pen, told: &Telling<'_>, members: &[u64], group: &LostGro
 fn push_stores(pen: &mut Pen, told: &Telling<'_>, group: &LostGroup) {
     if group.count == 1 {
         push_named(pen, told, "  store:  ", group.first);
+        push_source(pen, told, group.first, SOURCE);
     } else {
         push_named(pen, told, "  first:  ", group.first);
+        push_source(pen, told, group.first, SOURCE);
         push_named(pen, told, "  last:   ", group.last);
     }
 }

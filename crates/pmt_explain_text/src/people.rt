@@ -12,6 +12,7 @@ use crate::marks::marks_section;
 use crate::overwritten::overwritten_section;
 use crate::places::places_section;
 use crate::screen::{lines_of, push_sections};
+use crate::sources::sources_section;
 use crate::summary::push_summary;
 use crate::tables::{labels_section, threads_section};
 use crate::telling::{Screen, Telling, tells_all};
@@ -54,6 +55,7 @@ pub fn text(
         guesses_section(&told, &claims),
         threads_section(&told),
         labels_section(&told),
+        sources_section(&told),
     ]?;
     let counts = summary_of(explanation);
     let last = clean_words(&told, &counts);

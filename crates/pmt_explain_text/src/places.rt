@@ -9,8 +9,10 @@ use crate::parts::{
 };
 use crate::screen::Section;
 use crate::sharing::{Sharing, push_shared, sharing_of};
+use crate::sources::{SOURCE, push_source};
 use crate::telling::{Telling, line_address, tells_all};
-use pmt_explanation::first;
+use pmt_asked::Choice;
+use pmt_explanation::{Explanation, first};
 use pmt_failures::mend_for;
 use pmt_fates::{PlaceRow, Standing, standing_of};
 use pmt_model::{Op, OutOfMemory, line_of};
@@ -24,11 +26,7 @@ const THREADS: &str =
 
 // The places that lose or delay stores, unless something is asked for.
 pub(crate) fn places_section(told: &Telling<'_>, claims: &Claims) -> Section {
-    let rows = if tells_all(told.screen.choice) {
-        troubled(told)
-    } else {
-        &[]
-    };
+    let rows = troubled(told.explanation, told.screen.choice);
     let heading = if told.labels.texts.is_empty() {
         THREADS
     } else {
@@ -71,9 +69,12 @@ fn is_told(sharing: &Sharing, rows: &[PlaceRow], number: usize) -> bool {
     }
 }
 
-// The places that lose or delay stores, which come first.
-fn troubled<'a>(told: &Telling<'a>) -> &'a [PlaceRow] {
-    let rows = told.explanation.places.as_slice();
+// The places that lose or delay stores, which come first; none where something is asked for.
+pub(crate) fn troubled<'a>(explanation: &'a Explanation, choice: &Choice) -> &'a [PlaceRow] {
+    if !tells_all(choice) {
+        return &[];
+    }
+    let rows = explanation.places.as_slice();
     let count = rows.iter().filter(|row| is_troubled(row)).count();
     first(rows, count)
 }
@@ -150,6 +151,7 @@ fn push_head(pen: &mut Pen, told: &Telling<'_>, row: &PlaceRow) {
 // Adds the first store of a place that is never persisted: why, and what mends it.
 fn push_lost(pen: &mut Pen, told: &Telling<'_>, members: &Members, store: u64) {
     push_named(pen, told, "  store:  ", store);
+    push_source(pen, told, store, SOURCE);
     if let Some(group) = members.group_of(told, store) {
         push_cause(pen, told, group.cause, group.line);
         if is_unflushed(group.cause) {
@@ -170,6 +172,7 @@ fn push_lost(pen: &mut Pen, told: &Telling<'_>, members: &Members, store: u64) {
 // Adds the first store of a place that is saved late: for how long it is not safe, and what mends that.
 fn push_late(pen: &mut Pen, told: &Telling<'_>, store: u64) {
     push_named(pen, told, "  late:   ", store);
+    push_source(pen, told, store, SOURCE);
     pen.fill(
         "  why:    # fences of its thread left it unsafe\n",
         &[waited_by(told, store)],

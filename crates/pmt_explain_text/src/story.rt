@@ -3,6 +3,7 @@
 use crate::memory::cells_of;
 use crate::parts::{place_of, plural, push_place_name};
 use crate::rows::{push_column, push_line, push_spaces, width_of};
+use crate::sources::{line_under, push_found};
 use crate::spelling::{Spelling, push_spelled, spelling_of};
 use crate::telling::Telling;
 use pmt_failures::ShownFailure;
@@ -10,19 +11,22 @@ use pmt_model::OutOfMemory;
 use pmt_pen::Pen;
 use pmt_reasons::Cause;
 use pmt_slices::{Part, Story, story_of};
+use pmt_sources::SourceLine;
 
 // The most columns of the place of an event.
 const PLACE: u64 = 24;
 
 // An event of a story.
 #[derive(Drop)]
-struct Row {
+struct Row<'a> {
     number: u64,
     // The place where it is made.
     place: String,
     words: String,
     // What it is to the failure.
     note: String,
+    // Its line of source, if that stands below.
+    source: Option<&'a SourceLine<'a>>,
 }
 
 // How many columns the parts of rows take.
@@ -50,15 +54,15 @@ fn add_story(pen: &mut Pen, told: &Telling<'_>, shown: &ShownFailure) -> Result<
 }
 
 // The rows of the story.
-fn rows_of(
-    told: &Telling<'_>,
+fn rows_of<'a>(
+    told: &Telling<'a>,
     shown: &ShownFailure,
     story: &Story,
-) -> Result<Vec<Row>, OutOfMemory> {
+) -> Result<Vec<Row<'a>>, OutOfMemory> {
     let beside = lost_beside(told, shown)?;
     let spelling = spelling_of(told.trace, story.numbers());
     let mut rows = Vec::with_capacity(told.alloc, story.numbers().len())?;
-    for number in story.numbers() {
+    for (index, number) in story.numbers().iter().enumerate() {
         let mut note = Pen::new(told.alloc);
         push_note(
             &mut note,
@@ -66,7 +70,8 @@ fn rows_of(
             *number > shown.failure.place,
             beside,
         );
-        rows.push(row_of(told, *number, spelling, note)?)?;
+        let source = line_under(told, story.numbers(), index);
+        rows.push(row_of(told, *number, spelling, note, source)?)?;
     }
     Ok(rows)
 }
@@ -88,13 +93,14 @@ fn lost_beside(told: &Telling<'_>, shown: &ShownFailure) -> Result<u64, OutOfMem
     Ok((lost.len() as u64).saturating_sub(1))
 }
 
-// The row of the event, with this note.
-fn row_of(
-    told: &Telling<'_>,
+// The row of the event, with this note, and this line of source below it.
+fn row_of<'a>(
+    told: &Telling<'a>,
     number: u64,
     spelling: Spelling,
     note: Pen,
-) -> Result<Row, OutOfMemory> {
+    source: Option<&'a SourceLine<'a>>,
+) -> Result<Row<'a>, OutOfMemory> {
     let mut place = Pen::new(told.alloc);
     push_place_name(&mut place, told, place_of(told, number));
     let mut words = Pen::new(told.alloc);
@@ -106,6 +112,7 @@ fn row_of(
         place: place.finish()?,
         words: words.finish()?,
         note: note.finish()?,
+        source,
     })
 }
 
@@ -133,7 +140,7 @@ const LATE: &str = "flushed only after the crash";
 const UNFENCED: &str = "its thread makes no fence by the crash";
 
 // Adds the rows, with the crash after the last one that comes before it.
-fn push_rows(pen: &mut Pen, shown: &ShownFailure, rows: &[Row]) {
+fn push_rows(pen: &mut Pen, shown: &ShownFailure, rows: &[Row<'_>]) {
     let columns = columns_of(rows);
     let mut is_crashed = false;
     for row in rows {
@@ -149,7 +156,7 @@ fn push_rows(pen: &mut Pen, shown: &ShownFailure, rows: &[Row]) {
 }
 
 // The columns that the rows need: of the words, those of rows with a note.
-fn columns_of(rows: &[Row]) -> Columns {
+fn columns_of(rows: &[Row<'_>]) -> Columns {
     let mut columns = Columns {
         number: 1,
         place: 1,
@@ -179,8 +186,8 @@ fn digits_of(number: u64) -> u64 {
     digits
 }
 
-// Adds the row.
-fn push_row(pen: &mut Pen, columns: Columns, row: &Row) {
+// Adds the row, with its line of source below its place.
+fn push_row(pen: &mut Pen, columns: Columns, row: &Row<'_>) {
     let mut line = Pen::new(pen.alloc());
     push_spaces(
         &mut line,
@@ -201,6 +208,9 @@ fn push_row(pen: &mut Pen, columns: Columns, row: &Row) {
         line.put(row.note.as_str());
     }
     push_line(pen, &line);
+    if let Some(found) = row.source {
+        push_found(pen, columns.number.saturating_add(6), found);
+    }
 }
 
 // Adds the crash, with why the lost store is lost, where no row says that.

@@ -3,6 +3,7 @@
 use pmt_asked::{Choice, Cut, Ignored, Kind, Labels};
 use pmt_explanation::Explanation;
 use pmt_model::Trace;
+use pmt_sources::Sources;
 use std::alloc::Global;
 
 /// How long the text is, and what the commands that it names are given.
@@ -20,6 +21,8 @@ pub struct Screen<'a> {
     pub labels: Option<&'a str>,
     /// Where and why the trace was cut, if it was.
     pub cut: Option<&'a Cut>,
+    /// What was read of source files, if a folder of them was named.
+    pub sources: Option<&'a Sources<'a>>,
 }
 
 // What is told, and how.

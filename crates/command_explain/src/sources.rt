@@ -1,0 +1,77 @@
+//! The lines of source files that stand in the text for people.
+
+use command_inputs::{Fault, Opener, Places, SourceFolder, SourceText, Wanted, shown_source};
+use pmt_model::OutOfMemory;
+use pmt_sources::{SourceLine, SourcePlace, Sources, line_in, visible};
+use std::alloc::{AllocError, Global};
+
+/// The lines of these places, in files below this folder.
+///
+/// # Errors
+/// The fault of the folder, where it has no real name; `OutOfMemory`.
+pub(crate) fn sources_of<'a, O: Opener>(
+    alloc: Global,
+    files: &O,
+    given: &str,
+    wanted: &[SourcePlace<'a>],
+) -> Result<Sources<'a>, Fault> {
+    let folder = SourceFolder::open(alloc, files, given)?;
+    let mut places = Places::new(alloc);
+    for place in wanted {
+        places.insert(*place)?;
+    }
+    let mut sources = Sources {
+        lines: Vec::new(alloc),
+        notes: Vec::new(alloc),
+    };
+    for one in places.files(alloc)?.as_slice() {
+        let name = one.name;
+        match folder.read(alloc, files, name)? {
+            SourceText::Bytes(bytes) => add_lines(alloc, &mut sources, one, bytes.as_slice())?,
+            SourceText::Refused(why) => {
+                let why = why.as_str();
+                add_note(&mut sources, format!(in alloc; "{name}: {why}")?)?;
+            }
+        }
+    }
+    Ok(sources)
+}
+
+// Adds the lines of the file with this text.
+fn add_lines<'a>(
+    alloc: Global,
+    sources: &mut Sources<'a>,
+    wanted: &Wanted<'a>,
+    text: &[u8],
+) -> Result<(), OutOfMemory> {
+    let file = wanted.name;
+    for line in &wanted.lines {
+        let line = *line;
+        match line_in(text, line) {
+            Some(bytes) => {
+                let found = SourceLine {
+                    place: SourcePlace { file, line },
+                    text: shown_line(alloc, bytes)?,
+                };
+                if sources.lines.push(found).is_err() {
+                    return Err(AllocError);
+                }
+            }
+            None => add_note(sources, format!(in alloc; "{file} has no line {line}")?)?,
+        }
+    }
+    Ok(())
+}
+
+fn add_note(sources: &mut Sources<'_>, note: String) -> Result<(), OutOfMemory> {
+    match sources.notes.push(note) {
+        Ok(()) => Ok(()),
+        Err(_) => Err(AllocError),
+    }
+}
+
+// The line as a terminal may show it, without the blanks at its start.
+fn shown_line(alloc: Global, line: &[u8]) -> Result<String, OutOfMemory> {
+    let shown = shown_source(alloc, line.trim_ascii())?;
+    visible(alloc, shown.as_str())
+}

@@ -1,0 +1,60 @@
+//! Which lines of source files the text may have rows of.
+
+use crate::lost::shown_causes;
+use crate::places::troubled;
+use pmt_asked::{Choice, Labels};
+use pmt_explanation::Explanation;
+use pmt_model::OutOfMemory;
+use pmt_slices::story_of;
+use pmt_sources::{SourcePlace, place_at};
+use std::alloc::{AllocError, Global};
+
+/// The places of source files that the text may have rows of, some of them more than once: of the stories of the failed assertions, and of
+/// the first stores that are lost or late.
+///
+/// # Errors
+/// Where memory was refused.
+pub fn source_places<'a>(
+    alloc: Global,
+    explanation: &Explanation,
+    labels: &'a Labels,
+    choice: &Choice,
+) -> Result<Vec<SourcePlace<'a>>, OutOfMemory> {
+    let mut found = Vec::new(alloc);
+    if explanation.limit == 0 {
+        return Ok(found);
+    }
+    let trace = explanation.analysis.trace();
+    for shown in explanation.failures.iter() {
+        if let Some(story) = story_of(alloc, trace, shown.event, &shown.failure)? {
+            add_places(&mut found, labels, story.numbers())?;
+        }
+    }
+    for row in troubled(explanation, choice) {
+        if let Some(store) = row.first_lost.or(row.first_late) {
+            add_places(&mut found, labels, &[store])?;
+        }
+    }
+    for cause in shown_causes(explanation, choice) {
+        if let Some(store) = cause.members.first() {
+            add_places(&mut found, labels, &[*store])?;
+        }
+    }
+    Ok(found)
+}
+
+// Adds the places of these events.
+fn add_places<'a>(
+    found: &mut Vec<SourcePlace<'a>>,
+    labels: &'a Labels,
+    events: &[u64],
+) -> Result<(), OutOfMemory> {
+    for event in events {
+        if let Some(place) = place_at(labels, *event) {
+            if found.push(place).is_err() {
+                return Err(AllocError);
+            }
+        }
+    }
+    Ok(())
+}

@@ -1,0 +1,3 @@
+mod LineLemmas
+mod NamingLemmas
+mod PlaceLemmas

@@ -1,0 +1,4 @@
+pub mod Choosing
+pub mod Lines
+pub mod Places
+pub mod Visible
