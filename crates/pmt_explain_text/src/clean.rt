@@ -1,9 +1,9 @@
 //! The last words of the text for people, if nothing fails and nothing is lost.
 
 use crate::summary::late_stores;
-use crate::telling::{Telling, tells_all};
 use pmt_explanation::Summary;
 use pmt_pen::Pen;
+use pmt_telling::{Telling, tells_all};
 
 // What is known of a trace of which no assertion fails and no store is told as lost: that no crash violates its assertions, and that its
 // stores are safe by the end; or that nothing is claimed. Nothing where something is asked for, or nothing was stored.

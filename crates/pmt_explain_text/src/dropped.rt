@@ -1,14 +1,12 @@
 //! Flushes and fences that do nothing, in words: by source place, or by thread and cache line.
 
-use crate::parts::{push_count, push_label};
-use crate::screen::Section;
-use crate::telling::{Telling, line_address};
 use pmt_causes::{DroppedKey, Group, ReasonKind, Spot};
 use pmt_explanation::{first, first_of};
 use pmt_model::Trace;
 use pmt_names::word_of;
 use pmt_pen::Pen;
 use pmt_reasons::Reason;
+use pmt_telling::{Section, Telling, line_address, push_count, push_label};
 
 // What does nothing.
 pub(crate) fn dropped_section(told: &Telling<'_>) -> Section {

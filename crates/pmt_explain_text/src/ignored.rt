@@ -1,10 +1,10 @@
 //! What the ranges and places to ignore leave out, in words.
 
-use crate::telling::Telling;
 use pmt_asked::{ByteRange, IgnoredPlace, is_at_place, is_ignored};
 use pmt_explanation::Summary;
 use pmt_model::{Finding, Op, Trace};
 use pmt_pen::Pen;
+use pmt_telling::Telling;
 
 // Adds how many findings are left out as ignored, if any are, and how many of the ranges and places leave out nothing, if some do.
 pub(crate) fn push_ignored(pen: &mut Pen, told: &Telling<'_>, counts: &Summary) {

@@ -1,13 +1,11 @@
 //! Stores that are overwritten before any flush, in words.
 
 use crate::overwritten_places::places_section_of;
-use crate::parts::{push_count, push_label};
-use crate::screen::Section;
-use crate::telling::{Telling, line_address};
 use pmt_explain::OverwrittenGroup;
 use pmt_explanation::first;
 use pmt_model::OutOfMemory;
 use pmt_pen::Pen;
+use pmt_telling::{Section, Telling, line_address, push_count, push_label};
 use std::alloc::Global;
 
 // What is overwritten, those first that write other bytes: on a screen with other kinds of findings by place, if there are labels, else by

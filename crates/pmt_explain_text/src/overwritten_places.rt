@@ -1,14 +1,12 @@
 //! Stores that are overwritten before any flush, by source place, in words: for a screen.
 
 use crate::overwritten::differing;
-use crate::parts::{place_of, plural, push_count, push_place_name};
-use crate::screen::Section;
-use crate::telling::Telling;
 use pmt_causes::Origin;
 use pmt_explain::OverwrittenGroup;
 use pmt_explanation::first;
 use pmt_model::OutOfMemory;
 use pmt_pen::Pen;
+use pmt_telling::{Section, Telling, place_of, plural, push_count, push_place_name};
 use std::collections::HashMap;
 
 const HEADING: &str =

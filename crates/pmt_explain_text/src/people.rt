@@ -1,26 +1,21 @@
 //! An explanation as a text for people.
 
-use crate::claims::{Claims, claims_of};
 use crate::clean::clean_words;
 use crate::dropped::dropped_section;
-use crate::failures::failures_section;
-use crate::guesses::{guesses_section, loses_all};
-use crate::hints::hints_section;
-use crate::late::late_section;
-use crate::lost::lost_section;
-use crate::marks::marks_section;
 use crate::overwritten::overwritten_section;
-use crate::places::places_section;
-use crate::screen::{lines_of, push_sections};
-use crate::sources::sources_section;
 use crate::summary::push_summary;
 use crate::tables::{labels_section, threads_section};
-use crate::telling::{Screen, Telling, tells_all};
 use crate::unwritten::unwritten_section;
 use pmt_asked::Labels;
 use pmt_explanation::{Explanation, summary_of};
+use pmt_failure_text::failures_section;
 use pmt_model::OutOfMemory;
 use pmt_pen::Pen;
+use pmt_place_text::{
+    claims_wanted, guesses_section, hints_section, late_section, lost_section, marks_section,
+    places_section,
+};
+use pmt_telling::{Screen, Telling, lines_of, push_sections, sources_section, tells_all};
 use std::alloc::Global;
 
 /// The explanation for people: the summary, and then what was found, what matters most first, and last what may be none of the
@@ -80,14 +75,4 @@ pub fn text(
 fn rows_before(screen: &Screen<'_>, last: &Pen) -> Option<usize> {
     let rows = screen.rows?;
     Some(rows.saturating_sub(lines_of(last.as_str().as_bytes())))
-}
-
-// The lines of which the program speaks, where a place loses all that it stores; else nothing asks for them, and none is noted.
-fn claims_wanted(told: &Telling<'_>) -> Result<Claims, OutOfMemory> {
-    let rows = told.explanation.places.as_slice();
-    if tells_all(told.screen.choice) && rows.iter().any(|row| loses_all(row)) {
-        claims_of(told)
-    } else {
-        Ok(Claims::new(told.alloc))
-    }
 }

@@ -1,12 +1,11 @@
 //! The head of the text for people: counts, what is asked for, and what the words mean.
 
 use crate::ignored::push_ignored;
-use crate::parts::{is_unflushed, push_count};
-use crate::telling::{Telling, failure_of};
 use crate::unknown::{push_cut, push_unknown};
 use pmt_asked::Choice;
 use pmt_explanation::{Summary, per_cent};
 use pmt_pen::Pen;
+use pmt_telling::{Telling, failure_of, is_unflushed, push_count};
 
 // Adds the counts, and what the words mean.
 pub(crate) fn push_summary(pen: &mut Pen, told: &Telling<'_>, counts: &Summary) {

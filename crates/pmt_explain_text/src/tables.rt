@@ -1,11 +1,9 @@
 //! What each thread and each label has in the trace, in tables.
 
-use crate::parts::push_label;
-use crate::screen::Section;
-use crate::telling::{Telling, tells_all};
 use pmt_causes::Row;
 use pmt_explanation::first;
 use pmt_pen::Pen;
+use pmt_telling::{Section, Telling, push_label, tells_all};
 
 const THREADS: &str =
     "table: what threads make whose flushes and fences do nothing, and how many do:

@@ -1,8 +1,8 @@
 //! What `explain` can't tell of a trace, in words.
 
-use crate::telling::Telling;
 use pmt_explanation::Summary;
 use pmt_pen::Pen;
+use pmt_telling::Telling;
 
 // Adds that the trace was cut, if it was.
 pub(crate) fn push_cut(pen: &mut Pen, told: &Telling<'_>) {

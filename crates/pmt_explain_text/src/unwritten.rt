@@ -1,11 +1,9 @@
 //! What is never stored, in words.
 
-use crate::parts::{push_count, push_event};
-use crate::screen::Section;
-use crate::telling::Telling;
 use pmt_explanation::first;
 use pmt_model::Range;
 use pmt_pen::Pen;
+use pmt_telling::{Section, Telling, push_count, push_event};
 
 // Assertions on bytes that no store has written.
 pub(crate) fn unwritten_section(told: &Telling<'_>) -> Section {

@@ -1,0 +1,106 @@
+//! Failed assertions in words: each by its story, and one that is asked for in full.
+
+use crate::causes::{push_head, push_others};
+use crate::fixes::push_fix;
+use crate::inside::push_inside;
+use crate::ranges::push_range;
+use crate::story::push_story;
+use pmt_causes::{FailureKey, Group};
+use pmt_failures::ShownFailure;
+use pmt_pen::Pen;
+use pmt_telling::{
+    Section, Telling, failure_of, line_address, plural, push_cause, push_draw, push_event,
+    push_mend, push_named,
+};
+
+// The most cache lines that are named.
+const FEW: usize = 3;
+
+const HEADING: &str =
+    "assertions that fail, by cause, most first; --failure N tells one in full:\n";
+
+/// The failed assertions, each cause once.
+pub fn failures_section(told: &Telling<'_>) -> Section {
+    let failures = told.explanation.failures.as_slice();
+    let causes = told.explanation.causes.as_slice();
+    let mut section = Section::new(
+        told.alloc,
+        if failure_of(told.screen.choice).is_some() {
+            ""
+        } else {
+            HEADING
+        },
+        causes.len(),
+        "causes of failed assertions",
+        "--only failure --limit all",
+    );
+    let counts = told.explanation.counts.as_slice();
+    for index in 0..failures.len() {
+        let shown = &failures[index];
+        let Some(group) = causes.get(index) else {
+            continue;
+        };
+        let Some(inside) = counts.get(index) else {
+            continue;
+        };
+        let mut pen = Pen::new(told.alloc);
+        push_head(&mut pen, told, group, shown.event);
+        push_story(&mut pen, told, shown);
+        push_fix(&mut pen, told, shown);
+        push_inside(&mut pen, told, group, inside);
+        push_others(&mut pen, group);
+        if failure_of(told.screen.choice).is_some() {
+            push_failure(&mut pen, told, shown, group);
+        }
+        pen.put("  draw: ");
+        push_draw(&mut pen, told, "--failure #", shown.event, shown.event);
+        section.add(pen);
+    }
+    section
+}
+
+// Adds the failed assertion in full.
+fn push_failure(
+    pen: &mut Pen,
+    told: &Telling<'_>,
+    shown: &ShownFailure,
+    group: &Group<FailureKey>,
+) {
+    push_named(pen, told, "  claim:  ", shown.event);
+    push_crash(pen, told, shown);
+    let line = shown.failure.lost.byte / told.trace.format().line_size();
+    push_cause(pen, told, shown.cause, line);
+    pen.put("  mend:   ");
+    push_mend(pen, told, shown.mend);
+    push_range(pen, told, shown);
+    push_lines(pen, told, shown);
+}
+
+// Adds the crash: where it comes, and which store it keeps, if that is told, and which it loses.
+fn push_crash(pen: &mut Pen, told: &Telling<'_>, shown: &ShownFailure) {
+    pen.fill("  crash:  right after event #\n", &[shown.failure.place]);
+    if let Some(kept) = shown.failure.kept {
+        pen.fill("  keeps:  byte @ of ", &[kept.byte]);
+        push_event(pen, told, kept.store);
+    }
+    let lost = shown.failure.lost;
+    pen.fill("  loses:  byte @ of ", &[lost.byte]);
+    push_event(pen, told, lost.store);
+}
+
+// Adds of which cache lines the crash keeps fewer stores than there are, and of how many it keeps all.
+fn push_lines(pen: &mut Pen, told: &Telling<'_>, shown: &ShownFailure) {
+    pen.put("  kept:  ");
+    for line in shown.lines.iter().take(FEW) {
+        let addr = line_address(told.trace, line.line);
+        pen.fill(" # of # in @;", &[line.persisted, line.stores, addr]);
+    }
+    let more = shown.lines.len().saturating_sub(FEW);
+    if more > 0 {
+        pen.fill(" not all in # more (--json has them);", &[more as u64]);
+    }
+    let whole = shown.whole_lines;
+    pen.fill(" all stores in # other cache line", &[whole]);
+    pen.put(plural(whole));
+    pen.put("\n");
+}

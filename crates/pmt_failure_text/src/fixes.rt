@@ -1,0 +1,142 @@
+//! What mends a failed assertion, in a line.
+
+use pmt_failures::ShownFailure;
+use pmt_model::{Event, Op, Range, Trace, line_of};
+use pmt_names::word_of;
+use pmt_pen::Pen;
+use pmt_reasons::Mend;
+use pmt_telling::{Telling, line_address, next_fence, push_line};
+
+// Adds what mends it.
+pub(crate) fn push_fix(pen: &mut Pen, told: &Telling<'_>, shown: &ShownFailure) {
+    let mut line = Pen::new(told.alloc);
+    line.put("  fix: ");
+    match shown.mend {
+        Mend::Fence {
+            thread,
+            after,
+            before,
+        } => push_fence(&mut line, told, shown, thread, after, before),
+        Mend::FlushAndFence {
+            line: flushed,
+            after,
+            before,
+        } => push_flush(
+            &mut line,
+            told,
+            line_address(told.trace, flushed),
+            after,
+            before,
+        ),
+        Mend::StoreFirst {
+            store,
+            before,
+            same_line,
+        } => push_order(&mut line, store, before, same_line),
+    }
+    push_line(pen, &line);
+}
+
+// Adds the fence that is missing: after the last flush of the range by its thread.
+fn push_fence(
+    pen: &mut Pen,
+    told: &Telling<'_>,
+    shown: &ShownFailure,
+    thread: u8,
+    after: u64,
+    before: Option<u64>,
+) {
+    let last = match shown.ranges.first() {
+        Some(range) => last_flush(told.trace, range.range, thread, after, before),
+        None => after,
+    };
+    pen.fill(
+        "sfence by thread # right after event #",
+        &[thread as u64, last],
+    );
+    pen.put(if last > after {
+        ", the last flush of the range"
+    } else {
+        ", the flush of the lost store's line"
+    });
+}
+
+// Adds the flush that is missing: before a fence of the store's thread, if one comes in time.
+fn push_flush(pen: &mut Pen, told: &Telling<'_>, addr: u64, after: u64, before: Option<u64>) {
+    let thread = match told.trace.get(after) {
+        Some(event) => event.thread,
+        None => 0,
+    };
+    match next_fence(told, thread, after, before) {
+        Some(fence) => {
+            pen.fill(
+                "clwb @ by thread # after event #, before its ",
+                &[addr, thread as u64, after],
+            );
+            push_fence_word(pen, told.trace, fence);
+            pen.fill(", event #", &[fence]);
+        }
+        None => {
+            pen.fill(
+                "clwb @ and sfence by one thread, after event #",
+                &[addr, after],
+            );
+            if let Some(event) = before {
+                pen.fill(" and before event #", &[event]);
+            }
+        }
+    }
+}
+
+// Adds the word of the fence.
+fn push_fence_word(pen: &mut Pen, trace: &Trace, fence: u64) {
+    if let Some(event) = trace.get(fence) {
+        let op = event.op;
+        pen.put(word_of(&op));
+    }
+}
+
+// Adds which store has to come earlier.
+fn push_order(pen: &mut Pen, store: u64, before: Option<u64>, same_line: bool) {
+    pen.fill("make the store of event #", &[store]);
+    if let Some(event) = before {
+        pen.fill(" before event #", &[event]);
+    }
+    if !same_line {
+        pen.put("; clwb and sfence between, by one thread");
+    }
+}
+
+// The last flush of a line of the range by the thread before that event; the first one of these is event `first`.
+fn last_flush(trace: &Trace, range: Range, thread: u8, first: u64, before: Option<u64>) -> u64 {
+    let end = before.unwrap_or(first);
+    for number in (first..end).rev() {
+        let Some(event) = trace.get(number) else {
+            break;
+        };
+        let Event { thread: own, op } = event;
+        if own == thread && flushes(trace, op, range) {
+            return number;
+        }
+    }
+    first
+}
+
+// Whether the op flushes a line of the range, by a flush that wants a fence.
+fn flushes(trace: &Trace, op: Op, range: Range) -> bool {
+    match op {
+        Op::Clwb(addr) | Op::ClflushOpt(addr) => {
+            let format = trace.format();
+            let line = line_of(format, addr);
+            let start = range.addr().get();
+            let last = start.saturating_add(range.len()).saturating_sub(1);
+            start / format.line_size() <= line && line <= last / format.line_size()
+        }
+        Op::Store(_)
+        | Op::Clflush(_)
+        | Op::Sfence
+        | Op::Mfence
+        | Op::IsPersist(_)
+        | Op::IsOrderedBefore(_, _) => false,
+    }
+}

@@ -1,0 +1,13 @@
+//! What `pmtrim explain` writes of assertions that fail, for people.
+#![tactic(auto)]
+
+mod causes;
+mod failures;
+mod fixes;
+mod inside;
+mod memory;
+mod ranges;
+mod spelling;
+mod story;
+
+pub use crate::failures::failures_section;

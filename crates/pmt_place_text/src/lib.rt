@@ -1,0 +1,25 @@
+//! What `pmtrim explain` writes of places of the source, of their stores, and of hints, for people.
+#![tactic(auto)]
+
+mod claims;
+mod guesses;
+mod hints;
+mod instead;
+mod late;
+mod left;
+mod lost;
+mod marks;
+mod members;
+mod merging;
+mod places;
+mod sharing;
+mod wanted;
+
+pub use crate::claims::{Claims, claims_wanted};
+pub use crate::guesses::guesses_section;
+pub use crate::hints::hints_section;
+pub use crate::late::late_section;
+pub use crate::lost::lost_section;
+pub use crate::marks::marks_section;
+pub use crate::places::places_section;
+pub use crate::wanted::source_places;

@@ -1,0 +1,62 @@
+//! What each part of the text for people is told of.
+
+use pmt_asked::{Choice, Cut, Ignored, Kind, Labels};
+use pmt_explanation::Explanation;
+use pmt_model::Trace;
+use pmt_sources::Sources;
+use std::alloc::Global;
+
+/// How long the text is, and what the commands that it names are given.
+#[derive(Drop)]
+pub struct Screen<'a> {
+    /// The most lines; none where all entries up to the limit are shown.
+    pub rows: Option<usize>,
+    /// What was asked for.
+    pub choice: &'a Choice,
+    /// The stores that are ignored.
+    pub ignored: &'a Ignored,
+    /// The file of the trace; none for standard input.
+    pub trace: Option<&'a str>,
+    /// The file of the labels, if there is one.
+    pub labels: Option<&'a str>,
+    /// Where and why the trace was cut, if it was.
+    pub cut: Option<&'a Cut>,
+    /// What was read of source files, if a folder of them was named.
+    pub sources: Option<&'a Sources<'a>>,
+}
+
+/// What is told, and how.
+#[derive(Drop)]
+pub struct Telling<'a> {
+    pub alloc: Global,
+    pub trace: &'a Trace,
+    pub explanation: &'a Explanation,
+    pub labels: &'a Labels,
+    pub screen: &'a Screen<'a>,
+}
+
+/// Whether the words choose nothing, so that the whole trace is told of.
+pub fn tells_all(choice: &Choice) -> bool {
+    choice.only.is_none()
+        && choice.thread.is_none()
+        && choice.range.is_none()
+        && choice.from.is_none()
+        && choice.to.is_none()
+        && choice.label.is_none()
+}
+
+/// The event of the failed assertion that is told alone, if one is.
+pub fn failure_of(choice: &Choice) -> Option<u64> {
+    let is_failure = matches!(choice.only, Some(Kind::Failure));
+    let is_all = choice.thread.is_none() && choice.range.is_none() && choice.label.is_none();
+    if is_failure && is_all && choice.from == choice.to {
+        choice.from
+    } else {
+        None
+    }
+}
+
+/// The address of the first byte of the trace's line.
+pub fn line_address(trace: &Trace, line: u64) -> u64 {
+    pmt_names::line_address(trace.format(), line)
+}
