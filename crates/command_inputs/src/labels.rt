@@ -147,8 +147,8 @@ fn label_in(line: &[u8], before: u64) -> Result<(u64, &str), LabelError<'_>> {
     }
 }
 
-// Whether a control character stands in the text.
-pub(crate) fn has_control(bytes: &[u8]) -> bool {
+/// Whether a control character stands in the text.
+pub fn has_control(bytes: &[u8]) -> bool {
     bytes.iter().any(|byte| *byte < b' ' || *byte == 0x7f)
 }
 

@@ -2,6 +2,7 @@
 #![tactic(auto)]
 
 mod budget;
+mod budgets;
 mod changes;
 mod columns;
 mod comparing;

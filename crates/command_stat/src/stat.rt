@@ -2,11 +2,12 @@
 ghost use Rattle.std.specs.Prelude.{◌≤◌, IfOk};
 
 use crate::budget::budget_text;
+use crate::budgets::budget_of;
 use crate::judging::{Excess, excesses_of};
 use crate::measured::{Measured, measured_of};
 use crate::objects::json_text;
 use crate::text::people_text;
-use command_inputs::{Fault, Opener, budget_of, write_answer};
+use command_inputs::{Fault, Opener, write_answer};
 use command_requests::{StatForm, StatWords};
 use pmt_model::OutOfMemory;
 use pmt_stat::Budget;

@@ -1,10 +1,8 @@
 //! The budget file: what each place of a program may pay for flushes and fences.
 
-use crate::fault::Fault;
-use crate::inputs::read_file;
-use crate::labels::has_control;
-use crate::opener::Opener;
-use crate::refused::{Wrong, refused_line, shown, split_line};
+use command_inputs::{
+    Fault, Opener, Wrong, has_control, read_file, refused_line, shown, split_line,
+};
 use pmt_stat::{Budget, Limits};
 use pmt_text::fields::split_field;
 use pmt_text::number::read_number;
@@ -66,7 +64,7 @@ impl BudgetError<'_> {
 ///
 /// # Errors
 /// The fault of the file, or one that names the first faulty line and what is wrong there; `OutOfMemory`.
-pub fn budget_of<O: Opener>(alloc: Global, files: &O, name: &str) -> Result<Budget, Fault> {
+pub(crate) fn budget_of<O: Opener>(alloc: Global, files: &O, name: &str) -> Result<Budget, Fault> {
     let bytes = read_file(alloc, files, name)?;
     read_budget(alloc, name, bytes.as_slice())
 }
