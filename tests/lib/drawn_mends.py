@@ -60,7 +60,8 @@ def mends_are_shown(picture, trace, mend):
     if [(mark.get("data-missing"), int(mark.get("data-thread"))) for _, mark in marks] != wanted_marks(trace, mend):
         return False
     told = all(limits_are_told(trace, mark, mend) for _, mark in marks)
-    return told and all(is_between(picture, at, mark, mend, len(trace.events)) and is_in_row(picture.bands[at], mark) for at, mark in marks) and are_apart(picture)
+    placed = all(is_between(picture, at, mark, mend, len(trace.events)) and is_in_row(picture.bands[at], mark) for at, mark in marks)
+    return told and placed and all(flushes_are_over_lines(band) for band in picture.bands) and are_apart(picture)
 
 
 def is_between(picture, at, mark, mend, end):
@@ -85,7 +86,24 @@ def is_in_row(band, mark):
     else:
         left, top, right = map(int, re.match(r"M(\d+) (\d+)H(\d+)L", shape.get("d")).groups())
         middle = (left + right) // 2, top + 6
-    return middle == (int(mark.get("data-x")), int(name.get("y")) - 4) and word.text == WORDS[mark.get("data-missing")]
+    detail, = (part for part in mark.iter() if "mend-detail" in part.get("class", "").split())
+    told = f"{address} by T{mark.get('data-thread')}" if (address := missing_line(mark)) else f"by T{mark.get('data-thread')}"
+    is_named = word.text.strip() == WORDS[mark.get("data-missing")] and detail.text == told
+    return is_named and middle == (int(mark.get("data-x")), int(name.get("y")) - 4)
+
+
+def missing_line(mark):
+    """The address of the line that a missing flush is of."""
+    found = re.match(r"missing: clwb (0x[0-9a-f]+) ", title_of(mark))
+    return found and found[1]
+
+
+def flushes_are_over_lines(band):
+    """Each missing flush has a small mark in the row of its line, if that is drawn, and no row has another one."""
+    marks = of_class(band.root, "g", "missing")
+    wanted = sorted((int(line, 16), int(mark.get("data-x"))) for mark in marks if (line := missing_line(mark)) and int(line, 16) in band.lines)
+    shown = [(int(row.get("data-line"), 16), part.get("d")) for row in band.rows for part in of_class(row, "path", "mend")]
+    return wanted == sorted((line, int(re.match(r"M(\d+) ", path)[1]) + 5) for line, path in shown)
 
 
 def are_apart(picture):

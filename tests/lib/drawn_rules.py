@@ -113,8 +113,9 @@ def flushes_are_right(picture, trace):
     """In the row of its line a flush has the sign that it has in the row of its thread, and the name of its thread."""
     for band in picture.bands:
         for row in band.rows:
-            marks = [part for part in row if part.tag == SVG + "path"]
-            names = [part for part in row if part.tag == SVG + "text" and "small" in part.get("class").split() and part.text.startswith("T")]
+            marks = [part for part in row if part.tag == SVG + "path" and part.get("class") != "mend"]
+            small = [part for part in row if part.tag == SVG + "text" and "small" in part.get("class").split() and part.text.startswith("T")]
+            names = [part for part in small if "mend-detail" not in part.get("class").split()]
             flushes = [number for number in band.middle if trace.event(number)[0] in ("clflush", *FLUSHES) and trace.line(number) * trace.size == int(row.get("data-line"), 16)]
             wanted = [(band.middle[number], f"T{trace.event(number)[1]}" + "!" * (worth(trace, number) == "unfenced"), worth(trace, number)) for number in flushes]
             if [(int(name.get("x")), name.text, worth_shown([mark])) for name, mark in zip(names, marks)] != wanted or len(marks) != len(names):

@@ -2,7 +2,7 @@
 use crate::labels::{Label, label_of, push_cut, room_of};
 use crate::layout::Layout;
 use crate::marks::push_mark;
-use crate::missing::missing_words;
+use crate::missing::missing_letters;
 use crate::page::Page;
 use crate::words::{push_event_words, push_reason};
 use pmt_names::{line_address, word_of};
@@ -28,7 +28,7 @@ pub fn words_height(picture: &Picture, layout: &Layout, labels: &[Label]) -> u64
         letters = letters.max(letters_of(column, labels));
     }
     for missing in &picture.missing {
-        letters = letters.max(missing_words(missing.wanted).len() as u64);
+        letters = letters.max(missing_letters(missing, picture.format));
     }
     letters.saturating_mul(LETTER) / 10 + 20
 }

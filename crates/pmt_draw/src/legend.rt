@@ -18,7 +18,7 @@ struct Sign {
     words: &'static str,
 }
 
-const SIGNS: [Sign; 17] = [
+const SIGNS: [Sign; 18] = [
     Sign {
         needle: "class='pending'",
         shape: "<rect class='pending' x='-12' y='-6' width='24' height='12'/>",
@@ -77,7 +77,7 @@ const SIGNS: [Sign; 17] = [
     Sign {
         needle: "class='mark dropped",
         shape: "<path class='mark dropped' d='M-13 -6H1L-6 6Z'/><rect class='mark dropped' x='6' y='-8' width='6' height='16'/>",
-        words: "hollow: no effect here, may go",
+        words: "hollow: no effect, may be left out",
     },
     Sign {
         needle: "class='mend' ",
@@ -103,6 +103,11 @@ const SIGNS: [Sign; 17] = [
         needle: "class='lost-store'",
         shape: "<path class='lost-store' d='M-3 -3L3 3M3 -3L-3 3'/>",
         words: "store that the crash loses",
+    },
+    Sign {
+        needle: "class='gap'",
+        shape: "<line class='cut' x1='0' y1='-8' x2='0' y2='8'/>",
+        words: "events that are left out",
     },
 ];
 

@@ -128,11 +128,25 @@ pub fn push_small_flush(pen: &mut Pen, worth: Worth, thread: u8, x: u64, top: u6
         pen.put("!");
     }
     pen.put("</text>");
+    push_small_triangle(pen, class_of(worth), x, top);
+}
+
+/// Adds the mark of a missing flush over the bars of its line, under the name of its thread.
+pub fn push_small_missing(pen: &mut Pen, thread: u8, x: u64, top: u64) {
+    pen.fill(
+        "<text class='mid small mend-detail' x='#' y='#'>T#</text>",
+        &[x, top.saturating_add(11), thread as u64],
+    );
+    push_small_triangle(pen, "mend", x, top);
+}
+
+// Adds a small triangle that points down to the bars of a line.
+fn push_small_triangle(pen: &mut Pen, class: &str, x: u64, top: u64) {
     let (left, right) = (x.saturating_sub(5), x.saturating_add(5));
     push_shape(
         pen,
         "path",
-        class_of(worth),
+        class,
         "d='M# #H#L# #Z'/>\n",
         &[
             left,

@@ -1,6 +1,7 @@
 //! What is missing where the crash loses stores: each event with its mark and its words, where it is put in.
-use crate::marks::push_missing_mark;
+use crate::marks::{push_missing_mark, push_small_missing};
 use crate::page::Page;
+use pmt_model::Format;
 use pmt_names::line_address;
 use pmt_pen::Pen;
 use pmt_picture::{Missing, Wanted};
@@ -14,13 +15,34 @@ pub fn push_missing(pen: &mut Pen, page: Page<'_>) {
     }
 }
 
-/// What stands over a missing event.
-pub fn missing_words(wanted: Wanted) -> &'static str {
+/// The most letters that stand over a missing event, upright.
+pub fn missing_letters(missing: &Missing, format: Format) -> u64 {
+    let address = match missing.wanted {
+        Wanted::Store(_) | Wanted::Fence => 0,
+        Wanted::Flush(line) => {
+            let digits = line_address(format, line).checked_ilog2().unwrap_or(0) / 4;
+            (digits as u64).saturating_add(4)
+        }
+    };
+    let words = missing_word(missing.wanted).len() as u64;
+    words.saturating_add(address).saturating_add(8)
+}
+
+// What is missing.
+fn missing_word(wanted: Wanted) -> &'static str {
     match wanted {
         Wanted::Store(_) => "store here",
         Wanted::Flush(_) => "clwb here",
         Wanted::Fence => "sfence here",
     }
+}
+
+// Adds the line that a missing flush is of, and the thread.
+fn push_detail(pen: &mut Pen, page: Page<'_>, missing: &Missing) {
+    if let Wanted::Flush(line) = missing.wanted {
+        pen.fill("@ ", &[line_address(page.picture.format, line)]);
+    }
+    pen.fill("by T#", &[missing.thread as u64]);
 }
 
 // Adds a missing event.
@@ -42,7 +64,7 @@ fn push_group(pen: &mut Pen, page: Page<'_>, missing: &Missing, x: u64) {
     pen.put("><title>");
     push_title(pen, page, missing);
     pen.put("</title>");
-    push_words(pen, page, missing_words(missing.wanted), x);
+    push_words(pen, page, missing, x);
     let y = page.band.thread_middle(missing.thread, page.threads);
     push_missing_mark(pen, missing.wanted, x, y);
     pen.put("</g>\n");
@@ -70,18 +92,39 @@ fn push_title(pen: &mut Pen, page: Page<'_>, missing: &Missing) {
 }
 
 // Adds the words, which stand as those of the columns do.
-fn push_words(pen: &mut Pen, page: Page<'_>, words: &str, x: u64) {
+fn push_words(pen: &mut Pen, page: Page<'_>, missing: &Missing, x: u64) {
+    let word = missing_word(missing.wanted);
     if page.layout.is_flat() {
         pen.fill(
             "<text class='mid mend-word' x='#' y='#'>",
             &[x, page.threads.saturating_sub(24)],
         );
+        pen.put(word);
+        pen.fill(
+            "</text><text class='mid small mend-detail' x='#' y='#'>",
+            &[x, page.threads.saturating_sub(10)],
+        );
+        push_detail(pen, page, missing);
     } else {
         pen.fill(
             "<text class='mend-word' transform='translate(# #) rotate(-90)'>",
             &[x.saturating_add(4), page.threads.saturating_sub(8)],
         );
+        pen.put(word);
+        pen.put(" <tspan class='mend-detail'>");
+        push_detail(pen, page, missing);
+        pen.put("</tspan>");
     }
-    pen.put(words);
     pen.put("</text>");
+}
+
+/// Adds the marks of the missing flushes of the line, in its row that begins there.
+pub fn push_missing_flushes(pen: &mut Pen, page: Page<'_>, line: u64, top: u64) {
+    for place in &page.band.places {
+        if let Some(missing) = page.picture.missing.get(place.missing) {
+            if missing.wanted == Wanted::Flush(line) {
+                push_small_missing(pen, missing.thread, place.x, top);
+            }
+        }
+    }
 }

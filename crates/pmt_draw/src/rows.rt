@@ -2,6 +2,7 @@
 use crate::band::lane_top;
 use crate::layout::{EDGE, LEFT};
 use crate::marks::{push_small_flush, worth_of};
+use crate::missing::push_missing_flushes;
 use crate::page::Page;
 use crate::segments::push_bar;
 use pmt_names::line_address;
@@ -45,6 +46,7 @@ fn push_row(pen: &mut Pen, page: Page<'_>, row: &Row, top: u64, height: u64, sha
             }
         }
     }
+    push_missing_flushes(pen, page, row.line, top);
     for bar in &row.bars {
         if page.band.has_bar(bar) {
             push_bar(pen, page, bar, address, lane_top(top, bar.lane));

@@ -30,6 +30,7 @@ text { fill: var(--ink); }
 .dropped { fill: var(--paper); stroke-dasharray: none; }
 .mend { fill: var(--paper); stroke: var(--safe-ink); stroke-width: 1.6; stroke-dasharray: 3 2; }
 .mend-word { fill: var(--safe-ink); font-weight: bold; }
+.mend-detail { fill: var(--safe-ink); font-weight: normal; }
 .after { fill: var(--paper); fill-opacity: 0.6; }
 .wait { stroke: var(--ink); stroke-width: 1.2; fill: none; }
 .never { stroke-dasharray: 3 3; }
