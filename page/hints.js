@@ -40,8 +40,10 @@ function leftPlaces(explained, { asked, more }) {
   if (!tellsAll(asked, 'hint') || (more?.hint ?? 0) > 0) return [];
   const hinted = new Set(explained.filter((entry) => entry.kind === 'hint').map(placeKey));
   const isLeft = (entry) => entry.kind === 'place' && entry.never_persisted + entry.late === 0 && entry.left > 0 && entry.left === entry.in_time;
-  return explained.filter((entry) => isLeft(entry) && !hinted.has(placeKey(entry))).map(({ label, thread, left, first_left: first }) => (
-    { kind: 'hint', hint: 'one_fence_late', label, thread, count: left, first }
+  return explained.filter((entry) => isLeft(entry) && !hinted.has(placeKey(entry))).map((entry) => (
+    {
+      kind: 'hint', hint: 'one_fence_late', label: entry.label, thread: entry.thread, count: entry.left, first: entry.first_left, saved: entry.saved_before,
+    }
   ));
 }
 
@@ -68,7 +70,7 @@ function otherOf(trace, { hint, first }) {
 function hintEvents(trace, entry) {
   const [first, other] = [entry.first.event, otherOf(trace, entry)];
   const fence = trace.nextFence(trace.thread[first], first);
-  if (entry.hint === 'one_fence_late') return storeSlice(trace, first);
+  if (entry.hint === 'one_fence_late') return [...storeSlice(trace, first), ...(entry.saved ? [entry.saved.store.event] : [])];
   const flush = ['one_line_short', 'open_at_store'].includes(entry.hint) ? first : entry.hint === 'stored_after_flush' ? other : 0;
   const covered = flush === 0 ? 0 : lastStoreBefore(trace, flush);
   const stores = [first, other].filter((number) => number !== 0 && trace.kind(number) === 'store');
@@ -164,8 +166,14 @@ function hintTold(trace, entry) {
       ...item('place', ...ownerNodes(entry)),
       ...item(entry.count === 1 ? 'event' : 'first', ...eventNodes(trace, entry.first.event)),
       ...(other === 0 ? [] : item(hint.other, ...eventNodes(trace, other))),
+      ...(entry.saved ? item('before', ...savedNodes(trace, entry)) : []),
     ],
   };
+}
+
+// What a crash keeps without the first store of a place.
+function savedNodes(trace, { first, saved: { place, store } }) {
+  return [`a crash after event ${place} keeps this store and can lose event ${first.event}: `, ...eventNodes(trace, store.event)];
 }
 
 function hintRemedy(trace, entry) {

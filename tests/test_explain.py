@@ -9,6 +9,7 @@ import subprocess
 import sys
 import tempfile
 
+from broken import joined
 from checks import Checks, add_tests
 from crowded import random_trace
 from explained import KINDS, Explained, judged, with_events
@@ -178,8 +179,8 @@ GUESS = (
     " If a crash may lose that, as locks or statistics, leave it out by --ignore-label 'stats.c:12 bump'"
 )
 COUNTED_END = [
-    "Nothing that is claimed can be lost: no crash that the model allows violates the assertion,",
-    "and each of the 3 stores is safe by the end of the trace, but for 2 that are ignored.",
+    "Nothing that is claimed can be lost: no crash that the model allows violates the assertion, and each",
+    "of the 3 stores is safe by the end of the trace, but for 2 that are ignored.",
 ]
 
 
@@ -202,10 +203,13 @@ LOOP_OTHERS = "  also: events 3 4 5 6 7 8 9 10 11 12 and 2 more"
 TABLE = "pmtrace 1\nstore 0 0x1000 0102030405060708\nstore 0 0x1040 0010000000000000\nclwb 0 0x1040\nsfence 0\nclwb 0 0x1000\nsfence 0\n"
 TABLE_LABELS = "1 list.c:57 fill < main list.c:90\n2 list.c:60 link\n"
 TABLE_TOLD = """\
-hint: list.c:57 fill: 1 store is saved one fence late, and a crash can keep what the fence before saves without it; first: event 1
-  before: a crash after event 4 keeps this store and can lose event 1: event 2 (line 3, thread 0) at list.c:60 link: store 0 0x1040 0010000000000000
-  fix:    Flush cache line 0x1000 by thread 0 after event 1 (list.c:57 fill < main list.c:90), before its next fence, event 4.
-          Or see that recovery does not follow event 2 to what event 1 stores.
+hint: list.c:57 fill: 1 store is saved one fence late, and a crash can keep what the fence before
+       saves without it; first: event 1
+  before: a crash after event 4 keeps this store and can lose event 1: event 2 (line 3, thread 0) at
+          list.c:60 link: store 0 0x1040 0010000000000000
+  fix:    Flush cache line 0x1000 by thread 0 after event 1 (list.c:57 fill), before its next fence,
+          event 4.
+  or:     See that recovery does not follow event 2 to what event 1 stores.
 """
 # The same with the pointer stored first, and with the first fence saving nothing.
 POINTER_FIRST = "pmtrace 1\nstore 0 0x1040 0010000000000000\nstore 0 0x1000 01\nclwb 0 0x1040\nsfence 0\nclwb 0 0x1000\nsfence 0\n"
@@ -281,7 +285,7 @@ class Explain(Checks):
         folder = self.new_folder()
         (folder / "t").write_text(COUNTED)
         (folder / "l").write_text(COUNTED_LABELS)
-        lines = self.explain("--labels", "l", "t", folder=folder).stdout.decode().splitlines()
+        lines = joined(self.explain("--labels", "l", "t", folder=folder).stdout.decode().splitlines())
         self.expect("the guess", GUESS in lines, "\n".join(lines))
         done = self.explain("--labels", "l", *shlex.split(GUESS.partition(" leave it out by ")[2]), "t", folder=folder)
         lines = done.stdout.decode().splitlines()
@@ -293,7 +297,7 @@ class Explain(Checks):
         (folder / "l").write_text("1 a.c:3 seal < b.c:9 main\n2 b.c:7 put\n4 b.c:7 put < b.c:9 main\n6 b.c:7 put\n")
         for head, wanted in (("pmtrace 1", MARKED), ("pmtrace 2 256", None), ("pmtrace 2 32", MARKED_BY_SHORT_LINES)):
             (folder / "t").write_text(f"{head}\n{MARKS}")
-            told = [line for line in self.explain("--labels", "l", "t", folder=folder).stdout.decode().splitlines() if " cache lines, of which" in line]
+            told = [line for line in joined(self.explain("--labels", "l", "t", folder=folder).stdout.decode().splitlines()) if " cache lines, of which" in line]
             self.expect_equal(f"marks of {head}", told, [wanted] if wanted else [])
             self.expect(f"chosen, of {head}", b"the mark of" not in self.explain("--only", "failure", "t", folder=folder).stdout)
 
@@ -360,10 +364,10 @@ class Explain(Checks):
         self.expect("a table", TABLE_TOLD in told, told)
         names.write_text("2 list.c:57 fill\n")
         told = self.told(POINTER_FIRST, "--labels", names)
-        kept = "  before: a crash after event 4 keeps this store and can lose event 2: event 1 (line 2, thread 0): store 0 0x1040 0010000000000000\n"
+        kept = "  before: a crash after event 4 keeps this store and can lose event 2: event 1 (line 2, thread 0):\n          store 0 0x1040 0010000000000000\n"
         self.expect("the pointer first", kept in told, told)
         told = self.told(NOTHING_SAVED)
-        self.expect("nothing is saved", "hint: thread 0: 1 store is saved one fence late" in told and "before:" not in told and "Or see" not in told, told)
+        self.expect("nothing is saved", "hint: thread 0: 1 store is saved one fence late" in told and "before:" not in told and "  or: " not in told, told)
 
     def test_long_labels(self):
         """A label that is wider than a row, of letters that take two columns: no row of the story is wider than the screen."""

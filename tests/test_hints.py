@@ -27,6 +27,10 @@ def record(choose, size, thread, start, lines):
     place = f"log.c:{choose.choice((10, 10, 10, 11))} copy"
     places = [start, *((start // size + line) * size for line in range(1, lines))]
     stores = [(("store", thread, at, b"\1"), place) for at in places]
+    if lines > 1 and choose.random() < 0.3:
+        # the last field comes from a place of its own, mostly right behind the others
+        before = (("store", thread, places[-1] - 8, bytes(choose.choice((7, 8, 8)))), place)
+        stores[-2:] = [before, (("store", thread, places[-1], b"\1"), "log.c:15 seal")]
     if choose.random() < 0.2:
         stores.insert(choose.randrange(len(stores) + 1), (("store", choose.randrange(2), 0x4000, b"\1"), choose.choice((place, "stat.c:5 count"))))
     if choose.random() < 0.1:
@@ -89,12 +93,18 @@ class Hints(Checks):
         run = lambda *more: subprocess.run([self.program, "explain", *more, *words], capture_output=True, text=True, timeout=60).stdout
         return run("--json"), run("--limit", "9")
 
-    def expect_short(self, what, events, wanted, labels=(), *words):
-        """What is told as one line short: of each place the first event and how many they are."""
+    def expect_hints(self, kind, what, events, wanted, labels=(), *words):
+        """What is told as this kind: of each place the first event and how many they are."""
         told, text = self.told(events, labels, *words)
-        found = [(entry["label"] or entry["thread"], entry["first"]["event"], entry["count"]) for entry in hints_of(told) if entry["hint"] == "one_line_short"]
+        found = [(entry["label"] or entry["thread"], entry["first"]["event"], entry["count"]) for entry in hints_of(told) if entry["hint"] == kind]
         self.expect_equal(what, found, wanted)
         return text
+
+    def expect_short(self, what, events, wanted, labels=(), *words):
+        return self.expect_hints("one_line_short", what, events, wanted, labels, *words)
+
+    def expect_open(self, what, events, wanted):
+        self.expect_hints("open_at_store", what, events, wanted, [f"x.c:{number} f" for number in range(1, len(events) + 1)])
 
     def test_random_records(self):
         choose, folder, found = random.Random(23), self.new_folder(), []
@@ -105,8 +115,10 @@ class Hints(Checks):
 
     def test_one_line_short(self):
         text = self.expect_short("a lost rest", SHORT, [("log.c:40 flush", 3, 1)], LABELS)
-        wanted = """hint: log.c:40 flush: 1 time flushes end one cache line short of what is stored, and miss the rest; first: event 3, missed store event 2
-  fix:    Flush cache line 0x1040 by thread 0 after event 3 (log.c:40 flush < append log.c:13), before its next fence, event 4 (log.c:41 fence < append log.c:14).
+        wanted = """hint: log.c:40 flush: 1 time flushes end one cache line short of what is stored; first: event 3,
+       missed store event 2
+  fix:    Flush cache line 0x1040 by thread 0 after event 3 (log.c:40 flush), before its next fence,
+          event 4 (log.c:41 fence).
 """
         self.expect("in words", wanted in text, text)
         more = ("store 0 0x1048 03", "store 0 0x1050 03", "clwb 0 0x1048", "sfence 0")
@@ -115,6 +127,8 @@ class Hints(Checks):
         self.expect_short("one that waits for two fences", SHORT + mark + more, [(0, 3, 1)])
         self.expect_short("of a run of two lines its last", ("store 0 0x1000 01", *SHORT[:2], "clwb 0 0x1000", *SHORT[3:]), [(0, 4, 1)])
         lines = [f"store 0 {at:#x} 01" for at in range(0x1000, 0x10C8, 8)]
+        crc = ("store 0 0x1038 0102030405060708", *SHORT[1:])
+        self.expect_short("a last field from a place of its own", crc, [("log.c:40 flush", 3, 1)], ("log.c:29 head", *LABELS[1:]))
         self.expect_short("a run of three lines", (*lines, *(f"clwb 0 {at:#x}" for at in (0x1000, 0x1040, 0x1080)), "sfence 0"), [(0, 28, 1)])
         self.expect_short("two lines short", (*lines, *(f"clwb 0 {at:#x}" for at in (0x1000, 0x1040)), "sfence 0"), [])
 
@@ -123,7 +137,7 @@ class Hints(Checks):
         self.expect_short("the line is flushed", (*SHORT[:3], "clwb 0 0x1040", SHORT[3]), [])
         self.expect_short("no fence comes", SHORT[:3], [])
         self.expect_short("a fence before the flush", (*SHORT[:2], "sfence 0", *SHORT[2:]), [])
-        self.expect_short("from another place", SHORT, [], ("log.c:29 head", *LABELS[1:]))
+        self.expect_short("from another place, not right behind", SHORT, [], ("log.c:29 head", *LABELS[1:]))
         self.expect_short("a store between", (SHORT[0], "store 0 0x3000 01", *SHORT[1:]), [])
         self.expect_short("one of another thread between", (SHORT[0], "store 1 0x3000 01", *SHORT[1:]), [(0, 4, 1)])
         self.expect_short("by two threads", ("store 1 0x1038 01", *SHORT[1:]), [])
@@ -131,3 +145,18 @@ class Hints(Checks):
         self.expect_short("the line before", ("store 0 0x1040 01", "store 0 0x1038 02", "clwb 0 0x1040", "sfence 0"), [])
         self.expect_short("flushed before it is stored", (SHORT[0], SHORT[2], SHORT[1], SHORT[3]), [])
         self.expect_short("a clflush", (*SHORT[:2], "clflush 0 0x1038", *SHORT[3:]), [])
+
+    def test_claims(self):
+        """A flush that is open at a store, and assertions on its line."""
+        batch, told = ("store 0 0x1000 01", "clwb 0 0x1000", "store 0 0x2000 02", "clwb 0 0x2000", "sfence 0"), [("x.c:2 f", 2, 1)]
+        self.expect_open("no assertion", batch, told)
+        self.expect_open("one that passes", (*batch, "isPersist 0 0x1000 1"), [])
+        self.expect_open("one that fails", (*batch[:4], "isPersist 0 0x1000 1", batch[4]), told)
+        self.expect_open("one of the other line", (*batch, "isPersist 0 0x2000 1"), told)
+        self.expect_open("one on bytes that end before the line", (*batch, "isPersist 0 0xfc0 64"), told)
+        self.expect_open("one that reaches into it", (*batch, "isPersist 0 0xfc0 65"), [])
+        self.expect_open("one that begins behind it", (*batch, "isPersist 0 0x1040 64"), told)
+        mark = ("store 0 0x3000 01", "clwb 0 0x3000", "sfence 0")
+        self.expect_open("an order that holds", (*batch, *mark, "isOrderedBefore 0 0x1000 1 0x3000 1"), [])
+        self.expect_open("the mark of one that holds", (*batch, "isOrderedBefore 0 0x4000 1 0x1000 1"), [])
+        self.expect_open("an order that does not hold", (*batch, "isOrderedBefore 0 0x2000 1 0x1000 1"), told)

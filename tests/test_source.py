@@ -22,7 +22,7 @@ STORY = """error: a crash can lose what is claimed to be saved: isPersist at put
     3  put.c:6 check  isPersist 0x1000 1
        6 | void check(void) { persisted(slot); }
        -------------  crash
-  fix: sfence by thread 0 right after event 2, the flush of the lost store's line
+  fix: sfence by thread 0 right after event 2 (put.c:4 put), the flush of the lost store's line
 """
 # A line of source below a row.
 LINE = re.compile(r" {6,}\d+ \|.*\n")
@@ -103,6 +103,20 @@ class Source(Checks):
         text = self.text()
         self.expect("the late store", "store 0 0x1000 01\n          3 | slot->value = value;\n" in text, text)
 
+    def test_instead(self):
+        """So has the flush that comes instead of one of the store, but for a line that the story has already."""
+        start = "pmtrace 1\nstore 0 0x1000 01\nclwb 0 0x2000\nsfence 0\n"
+        told = "event 2 (line 3, thread 0) at put.c:{} put: clwb 0 0x2000\n"
+        self.write(f"{start}isPersist 0 0x1000 1\n", ["put.c:3 put", "put.c:4 put", "put.c:5 put", "put.c:6 check"])
+        text = self.text()
+        self.expect("below a story", told.format(4) + "       4 | flush( slot);\n  fix: " in text, text)
+        self.write(f"{start}isPersist 0 0x1000 1\n", ["put.c:3 put", "put.c:3 put", "put.c:5 put", "put.c:6 check"])
+        text = self.text()
+        self.expect("once in a story", told.format(3) + "  fix: " in text, text)
+        self.write(start, ["put.c:3 put", "put.c:4", "put.c:5 put"])
+        text = self.text()
+        self.expect("below a place", "at put.c:4: clwb 0 0x2000\n          4 | flush( slot);\n  fix: " in text, text)
+
     def test_nothing_else(self):
         """Without the lines of source, the text is that without --source."""
         plain = self.run_with("--labels", "l", "--limit", "all", "t").stdout.decode()
@@ -168,7 +182,7 @@ class Source(Checks):
         }
         for name, why in refused.items():
             self.write(TRACE, [f"{name}:1 put", f"{name}:2 put", "put.c:6 check", f"{name}:1 bump"])
-            text = self.text()
+            text = self.text("--limit", "all")
             notes = [line for line in text.splitlines() if line.startswith("note: no source line")]
             self.expect_equal(name, notes, [f"note: no source line: {name}: {why}"])
             self.expect(f"other lines beside {name}", " 6 | void check" in text and "secret" not in text and "root:" not in text, text)

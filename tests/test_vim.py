@@ -94,14 +94,14 @@ class Vim(Checks):
         self.expect_equal("its story", [entry[:3] for entry in found[1:4]], [["save.c", 12, "I"], ["save.c", 13, "I"], ["save.c", 19, "I"]])
 
     def test_lines_of_the_trace(self):
-        """Without labels they are those of the trace; event I stands on line I + 1."""
+        """Without labels they are those of the trace; event I stands on line I + 1. A place that an error above tells of has none."""
         folder = self.new_folder()
         shutil.copy(TOP / "examples/fence_of_another_thread.trace", folder)
         found = self.made(folder, "fence_of_another_thread.trace")
         errors = [entry for entry in found if entry[2] == "E"]
         wanted = [
             ["fence_of_another_thread.trace", 5, "E", "a crash can lose what is claimed to be saved: isPersist"],
-            ["fence_of_another_thread.trace", 2, "E", "thread 0: 1 store: 1 never persisted, 0 saved late, 0 in time"],
+            ["fence_of_another_thread.trace", 0, "E", "thread 0: 1 store: 1 never persisted, 0 saved late, 0 in time; why: --failure 4"],
         ]
         self.expect_equal("the errors", errors, wanted)
 

@@ -4,31 +4,33 @@ late stores, tables.
 The findings are those of explained.py, groups and tables those of grouped.py.
 """
 import re
+import textwrap
 
 import grouped
 import hinted
 import placed as by_place
+from broken import WIDTH, joined, wrong_breaks
 from explained import NOTHING
 from machine import FENCES, FLUSHES, spelled
-from stories import HEADING, WIDTH, cut, rows, wrong_story
+from stories import HEADING, asides, cut, early, instead, named, rows, wrong_story
 
 SCREEN = 40
 MOST = 8
 DROPPED = "note: flushes and fences that do nothing, most first:"
 OVERWRITTEN = "note: stores overwritten before any flush of their cache line, those with other bytes first:"
-OVERWRITTEN_PLACES = "note: stores overwritten before any flush of their cache line, by the place of the line's first one:"
+OVERWRITTEN_PLACES = "note: stores overwritten before any flush of their cache line, by the place of the first in a line:"
 SAVED_LATE = "  stores saved late, which a crash can lose though their thread went on: "
 LATE = "note: stores that two fences or more of their own thread left unsafe, most first:"
 THREADS = "table: what threads make whose flushes and fences do nothing, and how many do:"
-LABELS = "table: source places whose flushes and fences do nothing, those first where most does:"
+LABELS = "table: source places whose flushes and fences do nothing, most first:"
 MARKS = ("note: ", " the mark of isOrderedBefore lies in several cache lines, of which ")
 NOTHING_FOUND = "Nothing of what is asked for was found."
 COLUMNS = "   stores  flushes   fences  do nothing"
 REASONS = {
-    "safe": "its line has no store that is not safe already",
-    "unfenced": "its thread makes no fence after it; keep it, and add that fence",
-    "repeated": "its thread flushes the line again before its fence",
-    "overtaken": "another flush saves its stores before its fence",
+    "safe": "all stores to its line are safe already",
+    "unfenced": "no fence of its thread follows; add that one",
+    "repeated": "flushed again before its fence",
+    "overtaken": "another flush saves its stores first",
     "empty": "no flush of its thread waits for it",
     "useless": "all that it completes is safe already",
 }
@@ -194,13 +196,6 @@ def below(lines, heading):
     return rest[: rest.index("")] if "" in rest else rest
 
 
-def named(explained, number):
-    """An event as the text names it."""
-    event = explained.event(number)
-    label = f" at {event['label']}" if event["label"] else ""
-    return f"event {number} (line {event['line']}, thread {event['thread']}){label}: {event['words']}"
-
-
 def others_lines(members):
     """The events of the other members of a cause."""
     others = members[1:]
@@ -261,7 +256,7 @@ def wrong_failure(explained, why, members, entry):
     wrong = wrong_story(explained, members, entry)
     if wrong:
         return wrong
-    rest = entry[len(rows(explained, members[0])) + 2 : -1]
+    rest = entry[len(rows(explained, members[0])) + len(list(asides(explained, members[0]))) + 2 : -1]
     if not is_alone(explained):
         others = [*inside_lines(explained, why, members), *others_lines(members)]
         return None if rest == others else f"the others: wanted {others}, in {entry}"
@@ -297,11 +292,15 @@ def wrong_losses(explained, entries):
     """What is wrong with the entries of what is never persisted."""
     wanted = [list(lost_lines(explained, group)) for group in lost_groups(explained)]
     told = [entry[: entry.index(next(line for line in entry if line.startswith("  why: ")))] for entry in entries]
+    for group, entry in zip(lost_groups(explained), entries):
+        missing = [line for line in missing_lines(explained, "store", group[0]["first"]["event"]) if line.startswith("  early: ")]
+        if told_missing(entry) != missing:
+            return f"flushes that miss it: wanted {missing}, in {entry}"
     return None if told == wanted else f"never persisted: wanted {wanted}, in {told}"
 
 
 PLACE = re.compile(
-    r"(error|warning|note): .*: \d+ stores?: \d+ never persisted, \d+ saved late, \d+ in time(, \d+ ignored)?$"
+    r"(error|warning|note): .*: \d+ stores?: \d+ never persisted, \d+ saved late, \d+ in time(, \d+ ignored)?(; why: --failure \d+)?$"
     r"|error: cache line 0x[0-9a-f]+ is never flushed: \d+ places lose all that they store to it, \d+ stores: "
 )
 
@@ -315,18 +314,16 @@ def wrong_late(explained, lines):
     return None if told == wanted else f"saved late: wanted {wanted}, in {told}"
 
 
-def but_lines(explained, name, store):
-    """What a place says of the flush that the thread of its store makes instead: of another line, before its next fence, where it flushes the
-    store's line not at all before."""
-    trace, (_, thread, *_) = explained.trace, explained.trace.event(store)
-    own = [number for number in range(store + 1, explained.end + 1) if trace.event(number)[1] == thread]
-    fence = next((number for number in own if trace.event(number)[0] in FENCES), None)
-    if fence is None or name == "store" and explained.cause(store, explained.end)["cause"] != "unflushed":
+def missing_lines(explained, name, store):
+    """What an entry says of the flushes that miss a store which no flush follows, or that is saved late."""
+    if name == "store" and explained.cause(store, explained.end)["cause"] != "unflushed":
         return []
-    flushes = [number for number in own if number < fence and trace.event(number)[0] in grouped.ANY_FLUSH]
-    if not flushes or any(trace.line(number) == trace.line(store) for number in flushes):
-        return []
-    return [f"  but:    before its next fence its thread flushes another line: {named(explained, flushes[0])}"]
+    return [*(f"  early:  {told}" for told in early(explained, store)), *(f"  but:    {told}" for told in instead(explained, store))]
+
+
+def told_missing(entry):
+    """What an entry says of that."""
+    return [line for line in entry if line.startswith(("  early: ", "  but: "))]
 
 
 def wrong_places(explained, lines):
@@ -338,15 +335,20 @@ def wrong_places(explained, lines):
     entries = [told[start:end] for start, end in zip(starts, [*starts[1:], len(told)])]
     if [entry[0] for entry in entries] != [head for head, _ in wanted]:
         return f"places: wanted {wanted}, in {told}"
-    for entry, (_, (name, number)) in zip(entries, wanted):
+    for entry, (_, first) in zip(entries, wanted):
+        if first is None:
+            if len(entry) > 1 and not entry[1].startswith("... "):
+                return f"a place that an assertion tells of: {entry}"
+            continue
+        name, number = first
         draw = f"  draw:   pmtrim draw --line {explained.address(explained.trace.line(number))} "
         first = f"  {name + ':':7} {named(explained, number)}"
         if entry[1] != first or not entry[-1].startswith(draw) or not entry[-1].endswith(f" > event{number}.svg"):
             return f"a place: wanted {first} .. {draw}, in {entry}"
         if not any(line.startswith("  fix:    ") for line in entry):
             return f"a place without a fix: {entry}"
-        if [line for line in entry if line.startswith("  but:")] != but_lines(explained, name, number):
-            return f"what is flushed instead: wanted {but_lines(explained, name, number)}, in {entry}"
+        if told_missing(entry) != missing_lines(explained, name, number):
+            return f"flushes that miss it: wanted {missing_lines(explained, name, number)}, in {entry}"
         if name == "late" and entry[2] != f"  why:    {grouped.fences_waited(explained.trace, number)} fences of its thread left it unsafe":
             return f"why a store of a place is late: {entry}"
     return None
@@ -430,10 +432,10 @@ def clean_lines(explained):
     delayed = f", {late} of them late" if late else ""
     safe = f"{'the store' if stores == 1 else f'each of the {stores} stores'} is safe by the end of the trace{but}{delayed}"
     if claims == empty:
-        return ["", f"{safe[0].upper()}{safe[1:]}; what a crash before that may not lose, no assertion says."]
+        return ["", *textwrap.wrap(f"{safe[0].upper()}{safe[1:]}; no assertion says what a crash before that may not lose.", WIDTH)]
     vain = f", {empty} of which {'checks' if empty == 1 else 'check'} nothing" if empty else ""
     held = "the assertion" if claims == 1 else f"one of the {claims} assertions{vain}"
-    return ["", f"Nothing that is claimed can be lost: no crash that the model allows violates {held},", f"and {safe}."]
+    return ["", *textwrap.wrap(f"Nothing that is claimed can be lost: no crash that the model allows violates {held}, and {safe}.", WIDTH)]
 
 
 def wrong_end(explained, lines):
@@ -451,7 +453,9 @@ def found_nothing(explained):
 
 def wrong_text(explained, told):
     """What is wrong with the text that shows all."""
-    lines = told.decode().splitlines()
+    if wrong_breaks(told.decode().splitlines()):
+        return f"{wrong_breaks(told.decode().splitlines())} in\n{told.decode()}"
+    lines = joined(told.decode().splitlines())
     if [line for line in lines if line.startswith(("  ranges to ignore ", "  labels to ignore "))] != list(idle_lines(explained)):
         return f"what is to be ignored: wanted {list(idle_lines(explained))}, in\n{told.decode()}"
     if [line for line in lines if line.startswith(MARKS[0]) and MARKS[1] in line] != mark_lines(explained):
@@ -484,8 +488,9 @@ def wrong_text(explained, told):
 def wrong_screen(explained, told):
     """What is wrong with the text that has the lines of a screen."""
     lines = told.decode().splitlines()
-    if len(lines) > SCREEN:
-        return f"{len(lines)} lines:\n{told.decode()}"
+    if len(lines) > SCREEN or wrong_breaks(lines):
+        return f"{len(lines)} lines, {wrong_breaks(lines)}:\n{told.decode()}"
+    lines = joined(lines)
     found = {
         "assertion": explained.causes,
         "never persisted": [] if explained.is_whole() else explained.never_persisted(),

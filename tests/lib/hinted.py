@@ -5,15 +5,15 @@ What a run can reach, and so what is kept, is that of machine.py. Places are tho
 import functools
 
 from grouped import fences_waited, grouped, safe_place
-from machine import FENCES, FLUSHES, is_kept
-from placed import name_of, place, rows
+from machine import FENCES, FLUSHES, is_kept, verdict
+from placed import CALLER, name_of, place, rows, saved_before
 
-HEADING = "hints: no rule forbids these, and most are slips; the status does not count them:"
+HEADING = "hints: no rule forbids these, but most are slips; they do not change the exit status:"
 WORDS = {
-    "split_word": "a word is stored in two cache lines, of which a crash can keep one",
-    "stored_after_flush": "a store comes after the flush of its cache line, which misses it",
-    "one_line_short": "flushes end one cache line short of what is stored, and miss the rest",
-    "open_at_store": "a flush is unfenced at a store to another line, which a crash can keep alone",
+    "split_word": "a word lies in two cache lines; a crash can keep one part",
+    "stored_after_flush": "a store comes too late for the flush of its cache line",
+    "one_line_short": "flushes end one cache line short of what is stored",
+    "open_at_store": "a flush is unfenced at a store that a crash can keep alone",
 }
 OTHERS = {"split_word": "other part event", "stored_after_flush": "flush event", "one_line_short": "missed store event", "open_at_store": "store event"}
 FIXES = {
@@ -62,13 +62,16 @@ def flush_before(explained, number):
 
 
 def goes_on(explained, number, line):
-    """Whether the event goes on from the line: it is a store to the line right after it, and the store that its thread made before it, from
-    the same place, is one to the line."""
+    """Whether the event goes on from the line: it is a store to the line right after it, and the store that its thread made before it is one to
+    the line, and comes from the same place or ends where it begins."""
     trace = explained.trace
     if trace.event(number)[0] != "store" or trace.line(number) != line + 1:
         return False
     before = own(trace, trace.event(number)[1], ("store",), range(1, number))
-    return bool(before) and trace.line(before[-1]) == line and place(explained, before[-1]) == place(explained, number)
+    if not before or trace.line(before[-1]) != line:
+        return False
+    _, _, start, data = trace.event(before[-1])
+    return place(explained, before[-1]) == place(explained, number) or start + len(data) == trace.event(number)[2]
 
 
 def is_lost_or_late(trace, store):
@@ -106,12 +109,20 @@ def kept_flushes(explained):
     return found
 
 
+@functools.lru_cache(maxsize=1)
+def claimed_lines(explained):
+    """The lines of which an assertion that passes has a byte."""
+    trace = explained.trace
+    claims = [number for number in trace.numbers if trace.event(number)[0].startswith("is") and verdict(trace, number).endswith("pass")]
+    return {byte // trace.size for number in claims for byte in explained.bytes_of(number)}
+
+
 def store_elsewhere(explained, number):
     """Open at a store: a flush that is kept, and that its thread has not fenced when it stores to another line. It is told where that is so of
-    each kept flush of its place."""
-    flushes = kept_flushes(explained).get(place(explained, number), [])
-    is_told = number in flushes and all(store_past(explained.trace, flush) for flush in flushes)
-    return store_past(explained.trace, number) if is_told else None
+    each kept flush of its place, and none of these is of a line that an assertion which passes claims."""
+    flushes, trace = kept_flushes(explained).get(place(explained, number), []), explained.trace
+    is_told = number in flushes and all(store_past(trace, flush) and trace.line(flush) not in claimed_lines(explained) for flush in flushes)
+    return store_past(trace, number) if is_told else None
 
 
 SETS = {"split_word": half_before, "stored_after_flush": flush_before, "one_line_short": missed_before, "open_at_store": store_elsewhere}
@@ -137,8 +148,9 @@ def entries(explained):
 
 
 def named(explained, number):
+    """The event, with the innermost frame of its label."""
     label = explained.labels.get(number)
-    return f"event {number}" + (f" ({label})" if label else "")
+    return f"event {number}" + ("" if label is None else f" ({label.partition(CALLER)[0]})")
 
 
 def fix(explained, kind, number):
@@ -161,29 +173,22 @@ def left(explained):
     return [(key, row) for key, row in places if asks_all and 0 < row["left"] == row["in_time"]]
 
 
-def kept_without(explained, number):
-    """What a crash after the next fence of the store's thread keeps, though it can lose the store: of the stores that are safe by then and
-    were not when it was made the next one after it, or else the last one before it, if there is one."""
-    trace, fence = explained.trace, until_fence(explained.trace, number).stop
-    saved = [other for other in trace.numbers if trace.event(other)[0] == "store" and number < safe_place(trace, other) <= fence]
-    return next((other for other in saved if other > number), saved[-1] if saved else None)
-
-
 def left_lines(explained):
     """Two lines for each such place, and two more where a crash keeps a store without the first one."""
     for key, row in left(explained):
-        count, number, trace = row["left"], row["first_left"], explained.trace
+        count, number = row["left"], row["first_left"]
         stores, them = ("1 store is", "it") if count == 1 else (f"{count} stores are", "them")
         yield f"hint: {name_of(key)}: {stores} saved one fence late, and a crash can keep what the fence before saves without {them}; first: event {number}"
-        kept, fence = kept_without(explained, number), until_fence(trace, number).stop
-        if kept:
+        saved = saved_before(explained, number)
+        if saved:
+            fence, kept = saved
             event = explained.event(kept)
             at = f" at {event['label']}" if event["label"] else ""
             where = f"event {kept} (line {event['line']}, thread {event['thread']}){at}: {event['words']}"
             yield f"  before: a crash after event {fence} keeps this store and can lose event {number}: {where}"
         yield f"  fix:    {fix(explained, 'stored_after_flush', number)}"
-        if kept:
-            yield f"          Or see that recovery does not follow event {kept} to what event {number} stores."
+        if saved:
+            yield f"  or:     See that recovery does not follow event {kept} to what event {number} stores."
 
 
 def lines(explained):

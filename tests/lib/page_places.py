@@ -8,6 +8,7 @@ import pathlib
 import random
 import re
 
+from broken import joined
 from crowded import random_trace
 from machine import spelled, text_of
 from page_walk import examples
@@ -79,7 +80,10 @@ sfence 3|short.c:3 put
 PLACE = re.compile(r"^(?:error|warning|note): (.*): \d+ stores?: (\d+) never persisted, (\d+) saved late, (\d+) in time", re.M)
 # Places that lose all they store to one cache line, which nothing flushes, are one entry of the text: how many, their stores, their names.
 SHARED = re.compile(r"^error: cache line 0x[0-9a-f]+ is never flushed: (\d+) places lose all that they store to it, (\d+) stores?: (.*)$", re.M)
-HINT = re.compile(r"^hint: (.*): (\d+) (?:time|store)s? .*; first: event (\d+)(?:, [a-z ]+ event (\d+))?\n(?:  before: .*\n)?  fix:    (.*)", re.M)
+HINT = re.compile(r"^hint: (.*): (\d+) (?:time|store)s? .*; first: event (\d+)(?:, [a-z ]+ event (\d+))?\n(?:  before: (.*)\n)?  fix:    (.*)", re.M)
+# The page names an event by its whole label, the text by the innermost frame.
+CALLERS = re.compile(r" < [^()]*(?=\))")
+EVENT = re.compile(r"\bevent (\d+)")
 WAITED = re.compile(r"^  late:   event (\d+) .*\n  why:    (\d+) fence", re.M)
 ERROR = re.compile(r"^error: a crash .*?(?: \((\d+) times\))?$", re.M)
 INSIDE = re.compile(r"^  (next|range|stored|called): +(.*)$", re.M)
@@ -87,6 +91,9 @@ INSIDE = re.compile(r"^  (next|range|stored|called): +(.*)$", re.M)
 # The rows of what is counted inside a cause, by name and words.
 INSIDE_ROWS = """[...document.querySelectorAll('#details dt')].map((name) => [name.textContent, name.nextSibling.textContent])
   .filter(([name]) => ['next', 'range', 'stored', 'called'].includes(name))"""
+
+# What a crash keeps without a store, in the words of the chosen hint.
+BEFORE = "[...document.querySelectorAll('#details dt')].filter((name) => name.textContent === 'before').map((name) => name.nextSibling.textContent)"
 
 # The rows of a part of the list: how many, in words, and where.
 ROWS = """[...document.querySelectorAll('#groups ul.PART button.group')].map((row) => {
@@ -153,16 +160,23 @@ def wrong_late(pages, text, told):
 
 
 def wrong_hints(pages, text, _):
-    """Each hint as it is chosen by its row: count, place, first event, the one that it goes with, and what to do."""
-    wanted = [(int(count), name, f"event {first} (", other and f"event {other} (", fix) for name, count, first, other, fix in HINT.findall(text)]
+    """Each hint as it is chosen by its row: count, place, first event, the one that it goes with, what a crash keeps without it, and what
+    to do."""
+    wanted = [
+        (int(count), name, f"event {first} (", other and f"event {other} (", EVENT.findall(before), fix)
+        for name, count, first, other, before, fix in HINT.findall(text)
+    ]
     found = rows(pages, "hint")
     if [(count, where) for count, _, where in found] != [(count, name) for count, name, *_ in wanted]:
         return f"{found}, and not {wanted}"
-    for at, (count, name, *parts, fix) in enumerate(wanted):
+    for at, (count, name, *parts, before, fix) in enumerate(wanted):
         pages.browser.run(f"document.querySelectorAll('#groups ul.hint button.group')[{at}].click()")
         headline, mend, details = pages.browser.run(TOLD)
-        if f" {count} " not in headline or name not in details or any(part not in details for part in parts) or mend.strip() != fix:
+        if f" {count} " not in headline or name not in details or any(part not in details for part in parts) or CALLERS.sub("", mend.strip()) != fix:
             return f"{headline} {details} {mend}, and not {wanted[at]}"
+        told = pages.browser.run(BEFORE)
+        if [EVENT.findall(row) for row in told] != ([before] if before else []):
+            return f"{told}, and not the events {before}"
     return ""
 
 
@@ -210,7 +224,7 @@ def written(folder, name, trace, labels):
 def agree(pages):
     for name, trace, words in traces(pages.folder):
         page, _ = pages.make(trace, *words, name="rows")
-        text = pages.explain("--limit", "1000", *words, file=trace).decode()
+        text = "\n".join(joined(pages.explain("--limit", "1000", *words, file=trace).decode().split("\n")))
         told = [json.loads(line) for line in pages.explain("--json", "--limit", "1000", *words, file=trace).splitlines()]
         pages.open(page)
         for what, wrong in WRONG.items():

@@ -6,13 +6,13 @@ The findings are those of explained.py, and what a run can reach is that of mach
 import functools
 import shlex
 
-from grouped import ANY_FLUSH, fences_waited
+from grouped import ANY_FLUSH, FEW, fences_waited, following, inside, safe_place
 from machine import FENCES, is_kept
 
 CALLER = " < "
 COUNTS = ("stores", "never_persisted", "ignored", "late", "in_time", "left", "flushes", "flushes_dropped", "fences", "fences_dropped")
-LABELLED = "places: what becomes of what each one stores; those that lose or delay a part come first:"
-THREADS = "places: what becomes of what each thread stores; with labels (--labels FILE) a place is a line of source:"
+LABELLED = "places: what became of the stores of each line of source; those that lose or delay a part first:"
+THREADS = "places: what became of the stores of each thread; with --labels FILE a place is a line of source:"
 MOST = 8
 
 
@@ -65,11 +65,27 @@ def rows(explained):
     return sorted(found.items(), key=lambda item: (standing(item[1]), item[1]["first"]))
 
 
+def saved_before(explained, number):
+    """What a crash right after the next fence of the store's thread keeps, though it can lose the store: of the stores that are safe by then
+    the one that became so last, and of several at once the last one; None if that was safe already. The place of the crash, and the store."""
+    trace, thread = explained.trace, explained.trace.event(number)[1]
+    fence = following(trace, number, lambda other: trace.event(other)[0] in FENCES and trace.event(other)[1] == thread)
+    saved = [(safe_place(trace, other), other) for other in trace.numbers if trace.event(other)[0] == "store"]
+    place, store = max((pair for pair in saved if pair[0] <= fence), default=(0, None))
+    return (fence, store) if number < place else None
+
+
+def saved_entry(explained, number):
+    saved = number and saved_before(explained, number)
+    return saved and {"place": saved[0], "store": explained.event(saved[1])}
+
+
 def entries(explained):
     """What the JSON has of them."""
     for (kind, name), row in rows(explained):
         firsts = {member: row[member] and explained.event(row[member]) for member in ("first", "first_never_persisted", "first_late", "first_left")}
-        yield {**row, **firsts, "kind": "place", "label": None, "thread": None, kind: name}
+        saved = {"saved_before": saved_entry(explained, row["first_left"])}
+        yield {**row, **firsts, **saved, "kind": "place", "label": None, "thread": None, kind: name}
 
 
 def name_of(key):
@@ -99,9 +115,36 @@ def shared_head(explained, line, sharing):
     return f"error: cache line {explained.address(line)} is never flushed: {len(sharing)} places lose all that they store to it, {stores}: {names}"
 
 
+def told_labels(explained, members):
+    """The labels of the stores that are told of a cause: of the one that its first assertion loses, and of those that are counted."""
+    counted = inside(explained, members)["stores"][:FEW]
+    return {explained.labels.get(explained.violation(members[0])[3][0]), *(count["label"] for count in counted)} - {None}
+
+
+@functools.lru_cache(maxsize=1)
+def retold(explained):
+    """Of each place of whose lost and late stores failed assertions tell already the first one that does. Its cause is the same as that of the
+    first store that the place loses, or a missing flush where it delays all, and each of them is the store that it loses, or has the label of
+    a store that is told of the cause."""
+    found, lost = {}, [store for store in explained.lost_stores() if not explained.is_ignored(store)]
+    for (_, why, _), members in explained.causes:
+        if why != "later":
+            found.setdefault(place(explained, explained.violation(members[0])[3][0]), (why, members))
+    late = [number for number in explained.trace.numbers if explained.trace.event(number)[0] == "store" and fences_waited(explained.trace, number) >= 2]
+    told = {}
+    for key, (why, members) in found.items():
+        first = dict(rows(explained))[key]["first_never_persisted"]
+        needed = "unflushed" if first is None else explained.cause(first, explained.end)["cause"]
+        own, labels = explained.violation(members[0])[3][0], told_labels(explained, members)
+        of_place = [store for store in (*lost, *late) if place(explained, store) == key]
+        if needed == why and all(store == own or explained.labels.get(store) in labels for store in of_place):
+            told[key] = members[0]
+    return told
+
+
 def heads(explained):
-    """Of each place that loses or delays stores the line that tells it, and the event that stands below. Places that lose all to one line
-    which nothing flushes are told once."""
+    """Of each place that loses or delays stores the line that tells it, and the event that stands below; none where a failed assertion tells of
+    it. Places that lose all to one line which nothing flushes are told once."""
     if not explained.is_whole():
         return
     lines, told_lines = shared_lines(explained), set()
@@ -116,7 +159,11 @@ def heads(explained):
             ignored = f", {row['ignored']} ignored" if row["ignored"] else ""
             kind = "error" if lost else "warning" if late < row["stores"] - row["ignored"] else "note"
             told = f"{kind}: {name_of(key)}: {stores_in_words(row['stores'])}: {lost} never persisted, {late} saved late, {row['in_time']} in time{ignored}"
-            yield told, ("store", row["first_never_persisted"]) if lost else ("late", row["first_late"])
+            if key in retold(explained):
+                failure = retold(explained)[key]
+                yield f"{told}; why: --failure {failure}", None
+            else:
+                yield told, ("store", row["first_never_persisted"]) if lost else ("late", row["first_late"])
 
 
 def spoken_of(explained):

@@ -10,6 +10,7 @@ import re
 import sys
 import tempfile
 
+from broken import joined
 from recorder_cases import CaseTests
 from recorder_faults import FaultTests
 from recorder_parts import PartTests
@@ -172,7 +173,7 @@ class RecorderTests(CaseTests, FaultTests, PartTests, ThreadTests):
         last = before["label"].rsplit(":", 1)[1]
         between = (TOP / file).read_text().splitlines()[int(first) : int(last) - 1]
         self.expect(f"{what}: the line at fault", len(between) < 6 and fault in map(str.strip, between), between)
-        text = run([*words, "--failure", failure["event"]["event"]])[1]
+        text = "\n".join(joined(run([*words, "--failure", failure["event"]["event"]])[1].splitlines()))
         named = [event["label"] in text and event["words"] in text for event in (failure["event"], after, before)]
         self.expect(f"{what}: the text names these lines", all(named), text[:200])
 

@@ -3,12 +3,14 @@ that what stands behind `fix:` mends the loss where it is put into the trace.
 """
 import re
 
+import hinted
 from explained import failure_is_mended, with_events
 from machine import FENCES, FLUSHES
+from placed import name_of, place as place_at
 
 ANY_FLUSH = ("clflush", *FLUSHES)
 WIDTH, PLACE = 100, 24
-MOST_ROWS = 14
+MOST_ROWS = 16
 HEADING = "assertions that fail, by cause, most first; --failure N tells one in full:"
 VIOLATIONS = {"isPersist": "a crash can lose what is claimed to be saved", "isOrderedBefore": "a crash can keep the mark without its record"}
 UNFENCED, LATE = "its thread makes no fence by the crash", "flushed only after the crash"
@@ -138,7 +140,72 @@ def head(explained, members):
     return f"{what} {spot}{count}"
 
 
+# What stands between the story and what mends it
+
+TELLING = ("one_line_short", "stored_after_flush", "split_word")
+
+
+def hint_told(explained, number):
+    """The row of the hint that tells of the store which the assertion loses, if one does: one of its cache line, or else of its label's
+    innermost frame; a flush that is too short before one that comes too early, and that before a word in two lines."""
+    trace, (_, end, _, (store, _), _) = explained.trace, explained.violation(number)
+    if explained.cause(store, end)["cause"] == "later":
+        return
+    found = []
+    for order, (kind, key, numbers) in enumerate(hinted.hints(explained)):
+        told = hinted.missed_before(explained, numbers[0]) if kind == "one_line_short" else numbers[0]
+        if kind not in TELLING:
+            continue
+        is_near, is_there = trace.line(told) == trace.line(store), place_at(explained, told) == place_at(explained, store)
+        if is_near or is_there and told in explained.labels:
+            times = "1 time" if len(numbers) == 1 else f"{len(numbers)} times"
+            found.append((TELLING.index(kind), not is_near, order, f"  hint: {name_of(key)}: {times} {hinted.WORDS[kind]}"))
+    yield from [row for *_, row in sorted(found)[:1]]
+
+
+def early(explained, store):
+    """What is told of a flush and a fence right before the store: of the fences of its thread, and the thread's flushes of its line, the
+    last one before it is a fence, and the one before that a flush."""
+    trace, thread = explained.trace, explained.trace.event(store)[1]
+    own = [at for at in range(1, store) if trace.event(at)[1] == thread and (trace.event(at)[0] in FENCES or trace.is_flush_of(at, trace.line(store), ANY_FLUSH))]
+    if len(own) > 1 and [trace.event(at)[0] in FENCES for at in own[-2:]] == [False, True]:
+        yield f"flushed and fenced just before the store, by {hinted.named(explained, own[-2])} and {hinted.named(explained, own[-1])}"
+
+
+def named(explained, number):
+    """An event as the text names it."""
+    event = explained.event(number)
+    label = f" at {event['label']}" if event["label"] else ""
+    return f"event {number} (line {event['line']}, thread {event['thread']}){label}: {event['words']}"
+
+
+def instead(explained, store):
+    """What is told of the flush that the thread of a store makes instead: the last one of another line before its next fence, where it flushes
+    the store's line not at all before."""
+    trace, thread = explained.trace, explained.trace.event(store)[1]
+    own = [at for at in range(store + 1, explained.end + 1) if trace.event(at)[1] == thread]
+    fence = first(own, lambda at: trace.event(at)[0] in FENCES)
+    flushes = [at for at in own if fence is not None and at < fence and trace.event(at)[0] in ANY_FLUSH]
+    if flushes and not any(trace.line(at) == trace.line(store) for at in flushes):
+        yield f"the flush before its next fence is {named(explained, flushes[-1])}"
+
+
+def asides(explained, number):
+    """The rows between the story and what mends it."""
+    place, (store, _) = explained.violation(number)[1], explained.violation(number)[3]
+    yield from hint_told(explained, number)
+    if explained.cause(store, place)["cause"] == "unflushed":
+        yield from (f"  early: {told}" for told in early(explained, store))
+        yield from (f"  but: {told}" for told in instead(explained, store))
+
+
 # What mends it
+
+
+def without_labels(explained, line):
+    """The line without the labels of its events; a '?' stands for an event that has not the innermost frame of its label behind it."""
+    return re.sub(r"event (\d+)(?: \([^()]*\))?", lambda found: f"event {found[1]}" if found[0] == hinted.named(explained, int(found[1])) else "?", line)
+
 
 FENCE = re.compile(r"  fix: sfence by thread (\d+) right after event (\d+), the (last flush of the range|flush of the lost store's line)$")
 FLUSH = re.compile(r"  fix: clwb (0x[0-9a-f]+) and sfence by one thread, after event (\d+) and before event (\d+)$")
@@ -194,9 +261,9 @@ def mends(explained, entry, line):
 def wrong_story(explained, members, entry):
     """What is wrong with the story of a cause."""
     number = members[0]
-    wanted = [head(explained, members), *rows(explained, number)]
+    wanted = [head(explained, members), *rows(explained, number), *asides(explained, number)]
     if len(wanted) > MOST_ROWS + 1 or entry[: len(wanted)] != wanted:
         return f"the story of {number}: wanted {wanted}, in {entry}"
-    if not mends(explained, explained.failure(number), entry[len(wanted)]):
+    if not mends(explained, explained.failure(number), without_labels(explained, entry[len(wanted)])):
         return f"the fix of {number} does not mend it: {entry}"
     return None

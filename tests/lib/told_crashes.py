@@ -98,7 +98,7 @@ def wrong_story(case, entry, text):
     """What is wrong with the story of a failure: its events rise, and by the crash that is told the lost one is lost, and the kept one kept."""
     lines = text.splitlines()
     start = next(at for at, line in enumerate(lines) if line.startswith("error: a crash can "))
-    story = lines[start + 1 : next(at for at, line in enumerate(lines) if line.startswith("  fix: "))]
+    story = lines[start + 1 : next(at for at, line in enumerate(lines) if re.match("  (hint|early|but|fix): ", line))]
     rows = [(int(found["event"]), found) for found in map(ROW.match, story) if found]
     events, notes = [event for event, _ in rows], {found["note"].split(",")[0]: (event, found) for event, found in rows if found["note"]}
     crash = next(at for at, line in enumerate(story) if re.match(r" +-+  crash", line))

@@ -5,6 +5,7 @@ use Rattle.pmt_model.specs.Traces.{Recording}
 use Rattle.pmt_causes.specs.declared.failure_keys.Origin.{Origin}
 use Rattle.pmt_causes.specs.declared.failure_keys.Origin.TheVariants.{Label, Thread}
 use Rattle.pmt_fates.specs.declared.place_row.PlaceRow.{PlaceRow}
+use Rattle.pmt_fates.specs.declared.saved_before.SavedBefore.{SavedBefore}
 use Rattle.pmt_asked.specs.declared.labels.Labels.{Labels}
 use Rattle.pmt_asked.specs.Framing.{frame_of}
 use Rattle.pmt_explain_json.specs.Parts.{count_data, event_data, json_line, object_of, or_null}
@@ -18,6 +19,13 @@ place_label labels (Thread t) = None
 abbrev pub place_thread : Origin → Option ℕ
 place_thread (Label n) = None
 place_thread (Thread t) = Some t
+
+-- What a crash keeps without a store.
+abbrev pub saved_data : Recording → Labels → SavedBefore → Data
+saved_data T labels s = object_of
+    ((codes "place", count_data s.place)
+    ∷ (codes "store", event_data T labels s.store)
+    ∷ [])
 
 -- What a place has.
 abbrev pub place_data : Recording → Labels → PlaceRow → Data
@@ -37,6 +45,7 @@ place_data T labels r = object_of
     ∷ (codes "late", count_data r.late)
     ∷ (codes "left", count_data r.left)
     ∷ (codes "never_persisted", count_data r.lost)
+    ∷ (codes "saved_before", or_null (saved_data T labels) r.saved_before)
     ∷ (codes "stores", count_data r.stores)
     ∷ (codes "thread", or_null count_data (place_thread r.place))
     ∷ [])

@@ -4,14 +4,14 @@ ghost use Rattle.std.specs.List.{flat_map};
 ghost use Rattle.serde_json.specs.Data.{string};
 ghost use Rattle.serde_json.specs.View.{view};
 ghost use Rattle.pmt_explain_json.specs.Parts.{count_data, or_null};
-ghost use Rattle.pmt_explain_json.specs.Places.{place_data, place_label, place_line, place_thread};
+ghost use Rattle.pmt_explain_json.specs.Places.{place_data, place_label, place_line, place_thread, saved_data};
 
 use crate::lines::push_value;
-use crate::objects::object_made;
+use crate::objects::{object_made, object_value};
 use crate::parts::{event_or_null, event_value, frame_value};
 use pmt_asked::Labels;
 use pmt_causes::Origin;
-use pmt_fates::PlaceRow;
+use pmt_fates::{PlaceRow, SavedBefore};
 use pmt_model::{OutOfMemory, Trace};
 use serde_json::Value;
 use std::alloc::Global;
@@ -61,6 +61,7 @@ fn place_value(
     let first_lost = event_or_null(alloc, trace, labels, row.first_lost);
     let kind = Value::try_from_str(alloc, "place");
     let label = label_or_null(alloc, labels, row.place);
+    let saved = saved_or_null(alloc, trace, labels, row.saved_before);
     let fields = vec![in alloc;
         ("fences", Ok(Value::from(row.fences))),
         ("fences_dropped", Ok(Value::from(row.idle_fences))),
@@ -77,10 +78,40 @@ fn place_value(
         ("late", Ok(Value::from(row.late))),
         ("left", Ok(Value::from(row.left))),
         ("never_persisted", Ok(Value::from(row.lost))),
+        ("saved_before", saved),
         ("stores", Ok(Value::from(row.stores))),
         ("thread", Ok(thread_or_null(row.place))),
     ]?;
     object_made(alloc, fields)
+}
+
+// What a crash keeps without the place's first store that one fence leaves unsafe, if it keeps any.
+fn saved_or_null(
+    alloc: Global,
+    trace: &Trace,
+    labels: &Labels,
+    saved: Option<SavedBefore>,
+) -> Result<Value, OutOfMemory>
+    ensures { IfOk result (λ v. view v ≡ or_null (saved_data trace.now labels.now) saved) }
+{
+    match saved {
+        Some(saved) => saved_value(alloc, trace, labels, saved),
+        None => Ok(Value::Null),
+    }
+}
+
+// What a crash keeps without a store.
+fn saved_value(
+    alloc: Global,
+    trace: &Trace,
+    labels: &Labels,
+    saved: SavedBefore,
+) -> Result<Value, OutOfMemory>
+    ensures { IfOk result (λ v. view v ≡ saved_data trace.now labels.now saved) }
+{
+    let store = event_value(alloc, trace, labels, saved.store)?;
+    let fields = vec![in alloc; ("place", Value::from(saved.place)), ("store", store)]?;
+    object_value(alloc, fields)
 }
 
 // The place's innermost frame, if its events have a label.

@@ -3,28 +3,42 @@
 use crate::summary::late_stores;
 use pmt_explanation::Summary;
 use pmt_pen::Pen;
-use pmt_telling::{Telling, tells_all};
+use pmt_telling::{Telling, push_wrapped, tells_all};
 
 // What is known of a trace of which no assertion fails and no store is told as lost: that no crash violates its assertions, and that its
 // stores are safe by the end; or that nothing is claimed. Nothing where something is asked for, or nothing was stored.
 pub(crate) fn clean_words(told: &Telling<'_>, counts: &Summary) -> Pen {
     let mut pen = Pen::new(told.alloc);
+    let mut words = Pen::new(told.alloc);
     let is_clean = counts.failing == 0 && counts.never_persisted == 0;
     if !is_clean || counts.stores == 0 || !tells_all(told.screen.choice) {
         return pen;
     }
     let empty = told.explanation.unwritten.len() as u64;
     if counts.assertions > empty {
-        pen.put("\nNothing that is claimed can be lost: ");
-        push_claims(&mut pen, counts.assertions, empty);
-        pen.put(",\nand ");
-        push_stores(&mut pen, told, counts, "the store", "each of the # stores");
-        pen.put(".\n");
+        words.put("Nothing that is claimed can be lost: ");
+        push_claims(&mut words, counts.assertions, empty);
+        words.put(", and ");
+        push_stores(
+            &mut words,
+            told,
+            counts,
+            "the store",
+            "each of the # stores",
+        );
+        words.put(".");
     } else {
-        pen.put("\n");
-        push_stores(&mut pen, told, counts, "The store", "Each of the # stores");
-        pen.put("; what a crash before that may not lose, no assertion says.\n");
+        push_stores(
+            &mut words,
+            told,
+            counts,
+            "The store",
+            "Each of the # stores",
+        );
+        words.put("; no assertion says what a crash before that may not lose.");
     }
+    pen.put("\n");
+    push_wrapped(&mut pen, &words, 0);
     pen
 }
 

@@ -6,7 +6,7 @@ use pmt_model::Trace;
 use pmt_names::word_of;
 use pmt_pen::Pen;
 use pmt_reasons::Reason;
-use pmt_telling::{Section, Telling, line_address, push_count, push_label};
+use pmt_telling::{HEAD, Section, Telling, line_address, push_count, push_label, push_wrapped};
 
 // What does nothing.
 pub(crate) fn dropped_section(told: &Telling<'_>) -> Section {
@@ -28,18 +28,19 @@ pub(crate) fn dropped_section(told: &Telling<'_>) -> Section {
 
 // Adds the group.
 fn push_dropped(pen: &mut Pen, told: &Telling<'_>, group: &Group<DroppedKey>) {
-    pen.put("  ");
-    push_count(pen, group.members.len() as u64, "time");
-    pen.put(" ");
+    let mut line = Pen::new(pen.alloc());
+    line.put("  ");
+    push_count(&mut line, group.members.len() as u64, "time");
+    line.put(" ");
     let number = first_of(group);
-    push_word(pen, told.trace, number);
-    push_spot(pen, told, group.key.spot);
-    pen.fill(", first event #: ", &[number]);
-    pen.put(reason_words(group.key.reason));
+    push_word(&mut line, told.trace, number);
+    push_spot(&mut line, told, group.key.spot);
+    line.fill(", first event #: ", &[number]);
+    line.put(reason_words(group.key.reason));
     if let Some(by) = by_of(told, number) {
-        pen.fill(" (event #)", &[by]);
+        line.fill(" (event #)", &[by]);
     }
-    pen.put("\n");
+    push_wrapped(pen, &line, HEAD);
 }
 
 // Adds the word of the event, which all of its group have.
@@ -85,10 +86,10 @@ fn reason_at(told: &Telling<'_>, number: u64) -> Option<Reason> {
 // Why the events of a group are dropped.
 fn reason_words(reason: ReasonKind) -> &'static str {
     match reason {
-        ReasonKind::Safe => "its line has no store that is not safe already",
-        ReasonKind::Unfenced => "its thread makes no fence after it; keep it, and add that fence",
-        ReasonKind::Repeated => "its thread flushes the line again before its fence",
-        ReasonKind::Overtaken => "another flush saves its stores before its fence",
+        ReasonKind::Safe => "all stores to its line are safe already",
+        ReasonKind::Unfenced => "no fence of its thread follows; add that one",
+        ReasonKind::Repeated => "flushed again before its fence",
+        ReasonKind::Overtaken => "another flush saves its stores first",
         ReasonKind::Empty => "no flush of its thread waits for it",
         ReasonKind::Useless => "all that it completes is safe already",
     }

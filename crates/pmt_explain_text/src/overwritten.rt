@@ -5,7 +5,7 @@ use pmt_explain::OverwrittenGroup;
 use pmt_explanation::first;
 use pmt_model::OutOfMemory;
 use pmt_pen::Pen;
-use pmt_telling::{Section, Telling, line_address, push_count, push_label};
+use pmt_telling::{HEAD, Section, Telling, line_address, push_count, push_label, push_wrapped};
 use std::alloc::Global;
 
 // What is overwritten, those first that write other bytes: on a screen with other kinds of findings by place, if there are labels, else by
@@ -71,14 +71,15 @@ pub(crate) fn differing(group: &OverwrittenGroup) -> u64 {
 fn push_overwritten(pen: &mut Pen, told: &Telling<'_>, group: &OverwrittenGroup) {
     let line = line_address(told.trace, group.line);
     let earlier = group.first.earlier;
-    pen.put("  ");
-    push_count(pen, group.count, "time");
-    pen.fill(
+    let mut words = Pen::new(pen.alloc());
+    words.put("  ");
+    push_count(&mut words, group.count, "time");
+    words.fill(
         " in cache line @, # with other bytes, first event #",
         &[line, differing(group), earlier],
     );
-    push_label(pen, told, earlier);
-    pen.fill(" by event #", &[group.first.later]);
-    push_label(pen, told, group.first.later);
-    pen.put("\n");
+    push_label(&mut words, told, earlier);
+    words.fill(" by event #", &[group.first.later]);
+    push_label(&mut words, told, group.first.later);
+    push_wrapped(pen, &words, HEAD);
 }

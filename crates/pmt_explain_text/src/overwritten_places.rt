@@ -6,11 +6,13 @@ use pmt_explain::OverwrittenGroup;
 use pmt_explanation::first;
 use pmt_model::OutOfMemory;
 use pmt_pen::Pen;
-use pmt_telling::{Section, Telling, place_of, plural, push_count, push_place_name};
+use pmt_telling::{
+    HEAD, Section, Telling, place_of, plural, push_count, push_place_name, push_wrapped,
+};
 use std::collections::HashMap;
 
 const HEADING: &str =
-    "note: stores overwritten before any flush of their cache line, by the place of the line's first one:\n";
+    "note: stores overwritten before any flush of their cache line, by the place of the first in a line:\n";
 
 // What is overwritten in the lines whose first overwritten store is from one place.
 #[derive(Clone, Copy)]
@@ -103,14 +105,16 @@ fn rank_of(sum: &Sum) -> (u64, u64) {
 
 // Adds what is overwritten at the place.
 fn push_sum(pen: &mut Pen, told: &Telling<'_>, sum: &Sum) {
-    pen.put("  ");
-    push_place_name(pen, told, sum.place);
-    pen.put(": ");
-    push_count(pen, sum.count, "time");
-    pen.fill(" in # cache line", &[sum.lines]);
-    pen.put(plural(sum.lines));
-    pen.fill(
-        ", # with other bytes, first event # by event #\n",
+    let mut line = Pen::new(pen.alloc());
+    line.put("  ");
+    push_place_name(&mut line, told, sum.place);
+    line.put(": ");
+    push_count(&mut line, sum.count, "time");
+    line.fill(" in # cache line", &[sum.lines]);
+    line.put(plural(sum.lines));
+    line.fill(
+        ", # with other bytes, first event # by event #",
         &[sum.differing, sum.earlier, sum.later],
     );
+    push_wrapped(pen, &line, HEAD);
 }

@@ -15,7 +15,9 @@ use pmt_place_text::{
     claims_wanted, guesses_section, hints_section, late_section, lost_section, marks_section,
     places_section,
 };
-use pmt_telling::{Screen, Telling, lines_of, push_sections, sources_section, tells_all};
+use pmt_telling::{
+    Screen, Telling, hinting_of, lines_of, push_sections, sources_section, tells_all,
+};
 use std::alloc::Global;
 
 /// The explanation for people: the summary, and then what was found, what matters most first, and last what may be none of the
@@ -37,11 +39,12 @@ pub fn text(
         screen,
     };
     let claims = claims_wanted(&told)?;
+    let hinting = hinting_of(&told)?;
     let mut sections = vec![in alloc;
-        failures_section(&told),
+        failures_section(&told, &hinting),
         places_section(&told, &claims),
         lost_section(&told),
-        hints_section(&told),
+        hints_section(&told, &hinting),
         dropped_section(&told),
         overwritten_section(&told),
         late_section(&told),

@@ -3,6 +3,7 @@
 use crate::ignored::push_ignored;
 use crate::unknown::{push_cut, push_unknown};
 use pmt_asked::Choice;
+use pmt_causes::AssertionKind;
 use pmt_explanation::{Summary, per_cent};
 use pmt_pen::Pen;
 use pmt_telling::{Telling, failure_of, is_unflushed, push_count};
@@ -15,8 +16,11 @@ pub(crate) fn push_summary(pen: &mut Pen, told: &Telling<'_>, counts: &Summary) 
     push_unknown(pen, counts);
     push_choice(pen, told.screen.choice);
     pen.put(LEGEND);
-    if !told.explanation.asked_failing.is_empty() {
-        pen.put(CLAIMS);
+    if has_failed(told, AssertionKind::Persist) {
+        pen.put(PERSIST);
+    }
+    if has_failed(told, AssertionKind::Ordered) {
+        pen.put(ORDERED);
     }
     if has_unflushed(told) {
         pen.put(UNRECORDED);
@@ -74,6 +78,12 @@ fn push_share(pen: &mut Pen, what: &str, part: u64, whole: u64) {
     );
 }
 
+// Whether an assertion of this kind fails that is asked for.
+fn has_failed(told: &Telling<'_>, kind: AssertionKind) -> bool {
+    let causes = told.explanation.causes.as_slice();
+    causes.iter().any(|cause| cause.key.kind == kind)
+}
+
 // Whether a store is told as never persisted, since no flush follows.
 fn has_unflushed(told: &Telling<'_>) -> bool {
     let lost = told.explanation.lost.as_slice();
@@ -81,18 +91,19 @@ fn has_unflushed(told: &Telling<'_>) -> bool {
 }
 
 const UNRECORDED: &str =
-    "If no flush follows, the program may flush a wrong address: flushes outside the recorded pool, as of a variable on the stack, are
-not in a trace.
-";
+    "If no flush follows, the program may flush a wrong address; no flush outside the pool is recorded.\n";
 
 const LEGEND: &str = "
-A store is safe from a crash once its cache line was flushed after it and the thread that flushed has fenced since; a clflush
-needs no fence. Before that a crash may keep it or lose it. Event N stands on line N + 1 of the trace.
+A store is safe once its cache line is flushed after it and the thread that flushed it has fenced
+(clflush needs no fence); before that a crash may keep it or lose it. Event N is trace line N + 1.
 ";
 
-const CLAIMS: &str =
-    "isPersist THREAD A N claims that a crash now keeps the last stores to the N bytes at A; isOrderedBefore THREAD A N B M, that
-no crash up to now keeps one of those to the M bytes at B, the mark, without all of those to the N bytes at A, its record.
+const PERSIST: &str =
+    "isPersist THREAD A N claims that a crash now keeps the last stores to the N bytes at A.\n";
+
+const ORDERED: &str =
+    "isOrderedBefore THREAD A N B M claims that no crash up to now keeps one of the last stores to the M
+bytes at B, the mark, without all of those to the N bytes at A, its record.
 ";
 
 // Adds which findings are told, if not all are.

@@ -10,8 +10,7 @@ const THREADS: &str =
    stores  flushes   fences  do nothing
 ";
 
-const LABELS: &str =
-    "table: source places whose flushes and fences do nothing, those first where most does:
+const LABELS: &str = "table: source places whose flushes and fences do nothing, most first:
    stores  flushes   fences  do nothing
 ";
 

@@ -21,7 +21,8 @@ pub(crate) fn push_cut(pen: &mut Pen, told: &Telling<'_>) {
 }
 
 const CUT: &str = "
-What it lacks at its end may have come later: a store that is never persisted here is not known to be lost, and gives no status 1.
+What it lacks at its end may have come later: a store that is never persisted here may be saved, and
+gives no status 1.
 
 ";
 
@@ -40,14 +41,12 @@ pub(crate) fn push_unknown(pen: &mut Pen, counts: &Summary) {
 }
 
 const NO_EVENTS: &str =
-    "  not known: anything, since the trace has no events: see whether the recorder was on, and of which file
-";
+    "  not known: anything, since the trace has no events: was the recorder on, and of which file?\n";
 
 const NO_FLUSHES: &str =
-    "  not known: whether anything is flushed, since the trace has no flush: see whether the recorder takes the program's flushes
-";
+    "  not known: what is flushed, since the trace has no flush: does the recorder take the program's?\n";
 
 const NO_CLAIMS: &str =
-    "  not known: which store must be saved before which, since no assertion says so: claim it by isOrderedBefore or isPersist, or
-    run the program's recovery on each crash (pmtrim-replay)
+    "  not known: what must be saved before what, as no assertion says so: claim it with isOrderedBefore
+    or isPersist, or run the program's recovery on each crash (pmtrim-replay)
 ";

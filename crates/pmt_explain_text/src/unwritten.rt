@@ -3,7 +3,7 @@
 use pmt_explanation::first;
 use pmt_model::Range;
 use pmt_pen::Pen;
-use pmt_telling::{Section, Telling, push_count, push_event};
+use pmt_telling::{Section, Telling, push_count, push_named};
 
 // Assertions on bytes that no store has written.
 pub(crate) fn unwritten_section(told: &Telling<'_>) -> Section {
@@ -17,8 +17,7 @@ pub(crate) fn unwritten_section(told: &Telling<'_>) -> Section {
     );
     for assertion in first(found, told.explanation.limit) {
         let mut pen = Pen::new(told.alloc);
-        pen.put("  ");
-        push_event(&mut pen, told, assertion.event);
+        push_named(&mut pen, told, "  ", assertion.event);
         push_never_stored(&mut pen, assertion.first);
         push_never_stored(&mut pen, assertion.second);
         section.add(pen);

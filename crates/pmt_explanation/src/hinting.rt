@@ -1,6 +1,5 @@
 //! The hints that are asked for.
 ghost use Rattle.std.specs.Prelude.{◌≡◌, IfOk};
-ghost use Rattle.pmt_model.specs.Keeping.{IsKeep};
 ghost use Rattle.pmt_causes.specs.Late.{AreWaited};
 ghost use Rattle.pmt_hints.specs.Placing.{AreHintsOf};
 ghost use Rattle.pmt_explanation.specs.Asking.{asked_numbers as numbers_asked};
@@ -35,26 +34,25 @@ pub(crate) fn hints_asked(
     if !is_asked(choice, Kind::Hint) {
         return Ok(Vec::new(alloc));
     }
-    let kept = analysis.selection();
-    all_hints(alloc, safe, waited, kept, labels, frames, choice)
+    all_hints(alloc, analysis, safe, waited, labels, frames, choice)
 }
 
-// The hints of each kind, if this is kept of the trace: first those of stores, and then those of flushes.
+// The hints of each kind: first those of stores, and then those of flushes.
 fn all_hints(
     alloc: Global,
+    analysis: &Analysis,
     safe: &SafePlaces<'_>,
     waited: &[u64],
-    kept: &Selection,
     labels: &Labels,
     frames: &[Option<u64>],
     choice: &Choice,
 ) -> Result<Vec<Hint>, OutOfMemory>
+    requires same { safe.now.trace.now ≡ analysis.now.trace }
     requires waited { AreWaited safe.now.trace.now waited.now }
-    requires kept { IsKeep safe.now.trace.now kept.now }
     ensures { IfOk result (λ hints. AreAllHints safe.now.trace.now labels.now frames.now choice.now hints.items) }
 {
     let mut hints = store_hints(alloc, safe.trace(), labels, frames, choice)?;
-    let more = flush_hints(alloc, safe, waited, kept, labels, frames, choice)?;
+    let more = flush_hints(alloc, analysis, safe, waited, labels, frames, choice)?;
     hints.extend_from_slice(more.as_slice())?;
     Ok(hints)
 }
@@ -82,22 +80,23 @@ fn store_hints(
 // Those of flushes: first those that are one line short, and then those that are open at a store.
 fn flush_hints(
     alloc: Global,
+    analysis: &Analysis,
     safe: &SafePlaces<'_>,
     waited: &[u64],
-    kept: &Selection,
     labels: &Labels,
     frames: &[Option<u64>],
     choice: &Choice,
 ) -> Result<Vec<Hint>, OutOfMemory>
+    requires same { safe.now.trace.now ≡ analysis.now.trace }
     requires waited { AreWaited safe.now.trace.now waited.now }
-    requires kept { IsKeep safe.now.trace.now kept.now }
     ensures { IfOk result (λ hints. AreFlushHints safe.now.trace.now labels.now frames.now choice.now hints.items) }
 {
     let trace = safe.trace();
     let short = one_line_short(alloc, safe, waited, frames)?;
     let kind = HintKind::OneLineShort;
     let mut hints = hints_at(alloc, trace, labels, frames, choice, kind, &short)?;
-    let unfenced = told_open(alloc, trace, kept, frames)?;
+    let kept = analysis.selection();
+    let unfenced = told_open(alloc, trace, kept, analysis.verdicts(), frames)?;
     let kind = HintKind::OpenAtStore;
     let more = hints_at(alloc, trace, labels, frames, choice, kind, &unfenced)?;
     hints.extend_from_slice(more.as_slice())?;

@@ -8,9 +8,10 @@ use crate::story::push_story;
 use pmt_causes::{FailureKey, Group};
 use pmt_failures::ShownFailure;
 use pmt_pen::Pen;
+use pmt_reasons::ByteStore;
 use pmt_telling::{
-    Section, Telling, failure_of, line_address, plural, push_cause, push_draw, push_event,
-    push_mend, push_named,
+    Hinting, SOURCE, Section, Telling, failure_of, line_address, plural, push_cause, push_draw,
+    push_event, push_mend, push_named, push_wrapped,
 };
 
 // The most cache lines that are named.
@@ -20,7 +21,7 @@ const HEADING: &str =
     "assertions that fail, by cause, most first; --failure N tells one in full:\n";
 
 /// The failed assertions, each cause once.
-pub fn failures_section(told: &Telling<'_>) -> Section {
+pub fn failures_section(told: &Telling<'_>, hinting: &Hinting) -> Section {
     let failures = told.explanation.failures.as_slice();
     let causes = told.explanation.causes.as_slice();
     let mut section = Section::new(
@@ -45,7 +46,7 @@ pub fn failures_section(told: &Telling<'_>) -> Section {
         };
         let mut pen = Pen::new(told.alloc);
         push_head(&mut pen, told, group, shown.event);
-        push_story(&mut pen, told, shown);
+        push_story(&mut pen, told, shown, hinting);
         push_fix(&mut pen, told, shown);
         push_inside(&mut pen, told, group, inside);
         push_others(&mut pen, group);
@@ -70,8 +71,7 @@ fn push_failure(
     push_crash(pen, told, shown);
     let line = shown.failure.lost.byte / told.trace.format().line_size();
     push_cause(pen, told, shown.cause, line);
-    pen.put("  mend:   ");
-    push_mend(pen, told, shown.mend);
+    push_mend(pen, told, "  mend:   ", shown.mend);
     push_range(pen, told, shown);
     push_lines(pen, told, shown);
 }
@@ -80,27 +80,33 @@ fn push_failure(
 fn push_crash(pen: &mut Pen, told: &Telling<'_>, shown: &ShownFailure) {
     pen.fill("  crash:  right after event #\n", &[shown.failure.place]);
     if let Some(kept) = shown.failure.kept {
-        pen.fill("  keeps:  byte @ of ", &[kept.byte]);
-        push_event(pen, told, kept.store);
+        push_byte(pen, told, "  keeps:  byte @ of ", kept);
     }
-    let lost = shown.failure.lost;
-    pen.fill("  loses:  byte @ of ", &[lost.byte]);
-    push_event(pen, told, lost.store);
+    push_byte(pen, told, "  loses:  byte @ of ", shown.failure.lost);
+}
+
+// Adds, by this form, the byte and the store to it.
+fn push_byte(pen: &mut Pen, told: &Telling<'_>, form: &str, stored: ByteStore) {
+    let mut line = Pen::new(pen.alloc());
+    line.fill(form, &[stored.byte]);
+    push_event(&mut line, told, stored.store);
+    push_wrapped(pen, &line, SOURCE);
 }
 
 // Adds of which cache lines the crash keeps fewer stores than there are, and of how many it keeps all.
 fn push_lines(pen: &mut Pen, told: &Telling<'_>, shown: &ShownFailure) {
-    pen.put("  kept:  ");
+    let mut kept = Pen::new(pen.alloc());
+    kept.put("  kept:  ");
     for line in shown.lines.iter().take(FEW) {
         let addr = line_address(told.trace, line.line);
-        pen.fill(" # of # in @;", &[line.persisted, line.stores, addr]);
+        kept.fill(" # of # in @;", &[line.persisted, line.stores, addr]);
     }
     let more = shown.lines.len().saturating_sub(FEW);
     if more > 0 {
-        pen.fill(" not all in # more (--json has them);", &[more as u64]);
+        kept.fill(" not all in # more (--json has them);", &[more as u64]);
     }
     let whole = shown.whole_lines;
-    pen.fill(" all stores in # other cache line", &[whole]);
-    pen.put(plural(whole));
-    pen.put("\n");
+    kept.fill(" all stores in # other cache line", &[whole]);
+    kept.put(plural(whole));
+    push_wrapped(pen, &kept, SOURCE);
 }

@@ -1,11 +1,11 @@
-//! What mends a failed assertion, in a line.
+//! What mends a failed assertion, in a sentence.
 
 use pmt_failures::ShownFailure;
 use pmt_model::{Event, Op, Range, Trace, line_of};
 use pmt_names::word_of;
 use pmt_pen::Pen;
 use pmt_reasons::Mend;
-use pmt_telling::{Telling, line_address, next_fence, push_line};
+use pmt_telling::{HEAD, Telling, line_address, next_fence, push_place, push_wrapped};
 
 // Adds what mends it.
 pub(crate) fn push_fix(pen: &mut Pen, told: &Telling<'_>, shown: &ShownFailure) {
@@ -32,9 +32,9 @@ pub(crate) fn push_fix(pen: &mut Pen, told: &Telling<'_>, shown: &ShownFailure) 
             store,
             before,
             same_line,
-        } => push_order(&mut line, store, before, same_line),
+        } => push_order(&mut line, told, store, before, same_line),
     }
-    push_line(pen, &line);
+    push_wrapped(pen, &line, HEAD);
 }
 
 // Adds the fence that is missing: after the last flush of the range by its thread.
@@ -50,10 +50,8 @@ fn push_fence(
         Some(range) => last_flush(told.trace, range.range, thread, after, before),
         None => after,
     };
-    pen.fill(
-        "sfence by thread # right after event #",
-        &[thread as u64, last],
-    );
+    pen.fill("sfence by thread # right after ", &[thread as u64]);
+    push_place(pen, told, last);
     pen.put(if last > after {
         ", the last flush of the range"
     } else {
@@ -69,20 +67,19 @@ fn push_flush(pen: &mut Pen, told: &Telling<'_>, addr: u64, after: u64, before: 
     };
     match next_fence(told, thread, after, before) {
         Some(fence) => {
-            pen.fill(
-                "clwb @ by thread # after event #, before its ",
-                &[addr, thread as u64, after],
-            );
+            pen.fill("clwb @ by thread # after ", &[addr, thread as u64]);
+            push_place(pen, told, after);
+            pen.put(", before its ");
             push_fence_word(pen, told.trace, fence);
-            pen.fill(", event #", &[fence]);
+            pen.put(", ");
+            push_place(pen, told, fence);
         }
         None => {
-            pen.fill(
-                "clwb @ and sfence by one thread, after event #",
-                &[addr, after],
-            );
+            pen.fill("clwb @ and sfence by one thread, after ", &[addr]);
+            push_place(pen, told, after);
             if let Some(event) = before {
-                pen.fill(" and before event #", &[event]);
+                pen.put(" and before ");
+                push_place(pen, told, event);
             }
         }
     }
@@ -97,10 +94,12 @@ fn push_fence_word(pen: &mut Pen, trace: &Trace, fence: u64) {
 }
 
 // Adds which store has to come earlier.
-fn push_order(pen: &mut Pen, store: u64, before: Option<u64>, same_line: bool) {
-    pen.fill("make the store of event #", &[store]);
+fn push_order(pen: &mut Pen, told: &Telling<'_>, store: u64, before: Option<u64>, same_line: bool) {
+    pen.put("make the store of ");
+    push_place(pen, told, store);
     if let Some(event) = before {
-        pen.fill(" before event #", &[event]);
+        pen.put(" before ");
+        push_place(pen, told, event);
     }
     if !same_line {
         pen.put("; clwb and sfence between, by one thread");

@@ -1,6 +1,7 @@
 //! What `pmtrim explain` writes of assertions that fail, for people.
 #![tactic(auto)]
 
+mod asides;
 mod causes;
 mod failures;
 mod fixes;

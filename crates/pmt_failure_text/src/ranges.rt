@@ -4,7 +4,7 @@ use crate::memory::{Cell, cells_of, push_memory};
 use pmt_failures::{RangeAfter, ShownFailure};
 use pmt_model::{Event, Op, OutOfMemory, Range, Trace, line_of};
 use pmt_pen::Pen;
-use pmt_telling::{Telling, line_address, push_count, push_words};
+use pmt_telling::{SOURCE, Telling, line_address, push_count, push_words, push_wrapped};
 use std::alloc::Global;
 
 // The most cache lines that are shown of a range.
@@ -175,15 +175,17 @@ fn push_lines(pen: &mut Pen, told: &Telling<'_>, first: u64, lines: &[RangeLine]
 
 // Adds the line: which store is lost, if one is, and its last flush.
 fn push_line(pen: &mut Pen, told: &Telling<'_>, number: u64, line: RangeLine) {
-    pen.fill("    @: ", &[line_address(told.trace, number)]);
+    let mut row = Pen::new(pen.alloc());
+    row.fill("    @: ", &[line_address(told.trace, number)]);
     match line.lost {
-        Some(store) => pen.fill("loses event #; ", &[store]),
-        None => pen.put("kept; "),
+        Some(store) => row.fill("loses event #; ", &[store]),
+        None => row.put("kept; "),
     }
     match line.flush {
-        Some(flush) => push_flush(pen, told, flush),
-        None => pen.put("no flush by then\n"),
+        Some(flush) => push_flush(&mut row, told, flush),
+        None => row.put("no flush by then"),
     }
+    push_wrapped(pen, &row, SOURCE);
 }
 
 // Adds the last flush of the line, and the fence that completes it.
@@ -195,8 +197,8 @@ fn push_flush(pen: &mut Pen, told: &Telling<'_>, flush: LastFlush) {
         pen.put(")");
     }
     match flush.fence {
-        _ if flush.is_complete => pen.put(", complete at once\n"),
-        Some(fence) => pen.fill(", fence event #\n", &[fence]),
-        None => pen.fill(", no fence of thread # after it\n", &[flush.thread as u64]),
+        _ if flush.is_complete => pen.put(", complete at once"),
+        Some(fence) => pen.fill(", fence event #", &[fence]),
+        None => pen.fill(", no fence of thread # after it", &[flush.thread as u64]),
     }
 }

@@ -1,5 +1,6 @@
 //! The story of a failed assertion: the few events that tell of the lost store, in order, with the crash between them.
 
+use crate::asides::push_asides;
 use crate::memory::cells_of;
 use crate::spelling::{Spelling, push_spelled, spelling_of};
 use pmt_failures::ShownFailure;
@@ -9,8 +10,8 @@ use pmt_reasons::Cause;
 use pmt_slices::{Part, Story, story_of};
 use pmt_sources::SourceLine;
 use pmt_telling::{
-    Telling, line_under, place_of, plural, push_column, push_found, push_line, push_place_name,
-    push_spaces, width_of,
+    Hinting, Telling, line_under, place_of, plural, push_column, push_found, push_line,
+    push_place_name, push_spaces, width_of,
 };
 
 // The most columns of the place of an event.
@@ -37,20 +38,30 @@ struct Columns {
     words: u64,
 }
 
-// Adds the events of the story, a line each, and the crash.
-pub(crate) fn push_story(pen: &mut Pen, told: &Telling<'_>, shown: &ShownFailure) {
-    if add_story(pen, told, shown).is_err() {
+// Adds the events of the story, a line each, and the crash; and what else is known of why the store is lost.
+pub(crate) fn push_story(
+    pen: &mut Pen,
+    told: &Telling<'_>,
+    shown: &ShownFailure,
+    hinting: &Hinting,
+) {
+    if add_story(pen, told, shown, hinting).is_err() {
         pen.refuse();
     }
 }
 
-fn add_story(pen: &mut Pen, told: &Telling<'_>, shown: &ShownFailure) -> Result<(), OutOfMemory> {
+fn add_story(
+    pen: &mut Pen,
+    told: &Telling<'_>,
+    shown: &ShownFailure,
+    hinting: &Hinting,
+) -> Result<(), OutOfMemory> {
     let Some(story) = story_of(told.alloc, told.trace, shown.event, &shown.failure)? else {
         return Ok(());
     };
     let rows = rows_of(told, shown, &story)?;
     push_rows(pen, shown, rows.as_slice());
-    Ok(())
+    push_asides(pen, told, shown, hinting, story.numbers())
 }
 
 // The rows of the story.

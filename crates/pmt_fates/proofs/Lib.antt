@@ -4,3 +4,4 @@ pub mod ItemLemmas
 pub mod MarkLemmas
 pub mod OrderLemmas
 pub mod PlaceLemmas
+pub mod SaverLemmas

@@ -23,6 +23,7 @@ use Rattle.pmt_causes.proofs.CountedLemmas.{counted-same}
 use Rattle.pmt_fates.specs.declared.fate.Fate.{Fate}
 use Rattle.pmt_fates.specs.declared.fate.Fate.TheVariants as fate
 use Rattle.pmt_fates.specs.declared.place_row.PlaceRow.{PlaceRow}
+use Rattle.pmt_fates.specs.declared.saved_before.SavedBefore.{SavedBefore}
 use Rattle.pmt_fates.specs.Fates.{AreFates, fence_fate, flush_fate, op_fate}
 use Rattle.pmt_fates.specs.Places.{AddUp, ArePlaces, count_in, fate_at, is_fence_fate, is_flush_fate, is_in_time, is_same, is_store_fate, origin_in, place_items, row_in}
 
@@ -175,27 +176,27 @@ fates-one fates (i ∷ ms) =
 abbrev HasFates : PlaceRow → Type 0
 HasFates r = r.stores ≡ r.lost + r.ignored + r.late + r.in_time
 
-rows-fates : (fates : List Fate) (gs : List (Group Origin)) → AllByRecursion HasFates (map (row_in fates) gs)
-rows-fates fates [] = tt
-rows-fates fates (g ∷ gs) = (fates-one fates g.members.items, rows-fates fates gs)
+rows-fates : (fates : List Fate) (saved : ℕ → Option SavedBefore) (gs : List (Group Origin)) → AllByRecursion HasFates (map (row_in fates saved) gs)
+rows-fates fates saved [] = tt
+rows-fates fates saved (g ∷ gs) = (fates-one fates g.members.items, rows-fates fates saved gs)
 
 -- what all places have together
 pub added : (T : Recording) (labels : List (Option ℕ)) (told dropped : List ℕ) (rows : List PlaceRow) → ArePlaces T labels told dropped rows → AddUp T rows
 added T labels told dropped rows x = record {
-  fates = All-permutation HasFates (map (row_in x.fates) x.groups) rows x.in_order.same (All-from_recursion HasFates (map (row_in x.fates) x.groups) (rows-fates x.fates x.groups));
+  fates = All-permutation HasFates (map (row_in x.fates x.saved) x.groups) rows x.in_order.same (All-from_recursion HasFates (map (row_in x.fates x.saved) x.groups) (rows-fates x.fates x.saved x.groups));
   stores = total (λ (r : PlaceRow). r.stores) is_store_fate is_store (λ g. refl) (λ i. (alike T told dropped x.fates x.are_fates i).0);
   flushes = total (λ (r : PlaceRow). r.flushes) is_flush_fate is_flush (λ g. refl) (λ i. (alike T told dropped x.fates x.are_fates i).1);
   fences = total (λ (r : PlaceRow). r.fences) is_fence_fate is_fence (λ g. refl) (λ i. (alike T told dropped x.fates x.are_fates i).2);
 }
   where
-    total : (field : PlaceRow → ℕ) (is : Fate → Bool) (of : Op → Bool) → ((g : Group Origin) → field (row_in x.fates g) ≡ count_in x.fates is g.members.items) →
+    total : (field : PlaceRow → ℕ) (is : Fate → Bool) (of : Op → Bool) → ((g : Group Origin) → field (row_in x.fates x.saved g) ≡ count_in x.fates is g.members.items) →
         ((i : ℕ) → is (fate_at x.fates i) ≡ op_passes of (event T i)) → sum_by field rows ≡ counted (λ i. op_passes of (event T i)) (length T.events)
     total field is of own same =
         let P : ℕ → Bool = λ i. is (fate_at x.fates i) in
         let F : Group Origin → ℕ = λ g. count_by P g.members.items in
-        sum_by-IsPermutation field (map (row_in x.fates) x.groups) rows x.in_order.same
-        ∙ sum-map field (row_in x.fates) x.groups
-        ∙ sum-same (λ g. field (row_in x.fates g)) F own x.groups
+        sum_by-IsPermutation field (map (row_in x.fates x.saved) x.groups) rows x.in_order.same
+        ∙ sum-map field (row_in x.fates x.saved) x.groups
+        ∙ sum-same (λ g. field (row_in x.fates x.saved g)) F own x.groups
         ∙ sum_by-IsPermutation F x.grouped.by_first x.groups x.grouped.same
         ∙ groups-sum P (place_items T labels (length T.events)) x.grouped.by_first x.grouped.partition
         ∙ items-count T labels P (length T.events)

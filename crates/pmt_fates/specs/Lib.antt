@@ -1,4 +1,6 @@
 pub mod Fates
 pub mod Marks
 pub mod Places
+pub mod Saved
+pub mod Savers
 pub mod Standings

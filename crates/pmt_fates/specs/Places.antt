@@ -17,7 +17,9 @@ use Rattle.pmt_causes.specs.Tables.{is_flush, is_store, op_passes}
 use Rattle.pmt_fates.specs.declared.fate.Fate.{Fate}
 use Rattle.pmt_fates.specs.declared.fate.Fate.TheVariants as fate
 use Rattle.pmt_fates.specs.declared.place_row.PlaceRow.{PlaceRow}
+use Rattle.pmt_fates.specs.declared.saved_before.SavedBefore.{SavedBefore}
 use Rattle.pmt_fates.specs.Fates.{AreFates}
+use Rattle.pmt_fates.specs.Saved.{TellsSaved}
 use Rattle.pmt_fates.specs.Standings.{ComesBefore}
 
 abbrev pub origin_in : List (Option ℕ) → ℕ → Option Event → Origin
@@ -78,9 +80,14 @@ count_in fates is members = count_by (λ (i : ℕ). is (fate_at fates i)) member
 abbrev pub find_in : List Fate → (Fate → Bool) → List ℕ → Option ℕ
 find_in fates is members = find (λ (i : ℕ). is (fate_at fates i)) members
 
--- What the place has whose events these are.
-abbrev pub row_in : List Fate → Group Origin → PlaceRow
-row_in fates g = record {
+-- What a crash keeps without the event, if there is one.
+abbrev pub saved_at : (ℕ → Option SavedBefore) → Option ℕ → Option SavedBefore
+saved_at saved None = None
+saved_at saved (Some i) = saved i
+
+-- What the place has whose events these are, where a crash keeps this without an event.
+abbrev pub row_in : List Fate → (ℕ → Option SavedBefore) → Group Origin → PlaceRow
+row_in fates saved g = record {
   place = g.key;
   first = slice_index g.members.items 0;
   stores = count_in fates is_store_fate g.members.items;
@@ -96,6 +103,7 @@ row_in fates g = record {
   first_lost = find_in fates (is_same fate.Lost) g.members.items;
   first_late = find_in fates (is_same fate.Late) g.members.items;
   first_left = find_in fates (is_same fate.Left) g.members.items;
+  saved_before = saved_at saved (find_in fates (is_same fate.Left) g.members.items);
 }
 
 -- These are the rows, each as it was, in the order in which places are told.
@@ -104,13 +112,15 @@ pub record AreInOrder (given rows : List PlaceRow) : Type 0 where
   pub order : (k : ℕ) (r s : PlaceRow) → slice_get rows k ≡ Some r → slice_get rows (suc k) ≡ Some s → ComesBefore r s
 
 -- A row for each place of the trace, in their order: its events are those in its group, and each event is in one group. These stores are
--- told as never persisted, and these events are dropped.
+-- told as never persisted, and these events are dropped. What a crash keeps is told of the stores that one fence leaves unsafe.
 pub record ArePlaces (T : Recording) (labels : List (Option ℕ)) (told dropped : List ℕ) (rows : List PlaceRow) : Type 0 where
   pub fates : List Fate
   pub are_fates : AreFates T told dropped fates
+  pub saved : ℕ → Option SavedBefore
+  pub are_saved : (i : ℕ) → is_same fate.Left (fate_at fates i) ≡ true → TellsSaved T i (saved i)
   pub groups : List (Group Origin)
   pub grouped : AreGrouped (place_items T labels (length T.events)) groups
-  pub in_order : AreInOrder (map (row_in fates) groups) rows
+  pub in_order : AreInOrder (map (row_in fates saved) groups) rows
 
 -- How many events of the trace have such an op.
 abbrev pub ops_with : Recording → (Op → Bool) → ℕ

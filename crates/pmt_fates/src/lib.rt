@@ -6,10 +6,13 @@
 
 mod fate;
 mod marking;
+mod own_fences;
 pub mod place_row;
 pub mod places;
+pub mod saved_before;
 pub mod standing;
 
 pub use crate::place_row::PlaceRow;
 pub use crate::places::place_table;
+pub use crate::saved_before::SavedBefore;
 pub use crate::standing::{Standing, standing_of};

@@ -1,9 +1,11 @@
 //! What a place of the source has.
 
 ghost use Rattle.std.specs.Prelude.{◌≡◌, slice_index, length};
-ghost use Rattle.pmt_fates.specs.Places.{count_in, fate_at as fate_in, find_in, is_fence_fate as fences, is_flush_fate as flushes, is_in_time as timely, is_same as same, is_store_fate as stores, row_in};
+ghost use Rattle.pmt_fates.specs.Places.{count_in, fate_at as fate_in, find_in, is_fence_fate as fences, is_flush_fate as flushes, is_in_time as timely, is_same as same, is_store_fate as stores, row_in, saved_at};
+ghost use Rattle.pmt_fates.specs.Savers.{saved_by};
 
 use crate::fate::Fate;
+use crate::saved_before::{SavedBefore, Savings, saved_before};
 use pmt_causes::{Group, Origin};
 
 /// What becomes of what one place of the source stores, flushes and fences.
@@ -39,13 +41,21 @@ pub struct PlaceRow {
     pub first_late: Option<u64>,
     /// The first store in time that a fence of its own thread leaves unsafe before.
     pub first_left: Option<u64>,
+    /// What a crash right after that fence keeps, though it can lose that store.
+    pub saved_before: Option<SavedBefore>,
 }
 
-// What the place has whose events these are, where this becomes of each event.
-pub(crate) fn row_of(group: &Group<Origin>, fates: &[Fate]) -> PlaceRow
-    ensures { result ≡ row_in fates.now group.now }
+// What the place has whose events these are, where this becomes of each event, and where these are the safe places.
+pub(crate) fn row_of(
+    group: &Group<Origin>,
+    fates: &[Fate],
+    safe: &[u64],
+    savings: &Savings,
+) -> PlaceRow
+    ensures { result ≡ row_in fates.now (saved_by safe.now savings.now) group.now }
 {
     let members = group.members.as_slice();
+    let first_left = find(members, fates, Fate::Left);
     PlaceRow {
         place: group.key,
         first: first_of(members),
@@ -61,7 +71,18 @@ pub(crate) fn row_of(group: &Group<Origin>, fates: &[Fate]) -> PlaceRow
         idle_fences: count(members, fates, Fate::IdleFence),
         first_lost: find(members, fates, Fate::Lost),
         first_late: find(members, fates, Fate::Late),
-        first_left: find(members, fates, Fate::Left),
+        first_left,
+        saved_before: saved_without(safe, savings, first_left),
+    }
+}
+
+// What a crash keeps without the event, if there is one.
+fn saved_without(safe: &[u64], savings: &Savings, event: Option<u64>) -> Option<SavedBefore>
+    ensures { result ≡ saved_at (saved_by safe.now savings.now) event }
+{
+    match event {
+        None => None,
+        Some(number) => saved_before(safe, savings, number),
     }
 }
 

@@ -1,23 +1,25 @@
 -- Stores that go on from one line to the next.
 use Rattle.std.proofs.Common.{◌≡◌, ◌≢◌, ℕ, suc, ◌+◌, ◌-◌, ◌<◌, ◌≤◌, ◌⊎◌, inl, inr, Bool, true, false, List, [], length, Option, None, Some, refl, sym, ap, subst, ◌∙◌, arith}
-use Rattle.std.specs.Prelude.{◌↔◌, ◌==◌, ◌&&◌, if◌then◌else◌, is_some, slice_get}
-use Rattle.std.proofs.lemmas.Bool.{and_parts, cases_lt, cases_eq, eq-eqb, eqb-true, ne_eqb, le-leb, lt-leb, lt-ltb, le-ltb, false≢true}
+use Rattle.std.specs.Prelude.{◌↔◌, ◌==◌, ◌&&◌, ◌||◌, if◌then◌else◌, is_some, slice_get}
+use Rattle.std.proofs.lemmas.Bool.{and_parts, cases_lt, cases_eq, eq-eqb, eqb-true, ne_eqb, le-leb, lt-leb, lt-ltb, le-ltb, or_cases, or_left, or_right, false≢true}
 use Rattle.std.proofs.lemmas.Option.{none-some, same_Some}
 use Rattle.pmt_model.specs.declared.event.Event.{Event}
-use Rattle.pmt_model.specs.Values.{Written}
+use Rattle.pmt_model.specs.declared.event.Op.{Op}
+use Rattle.pmt_model.specs.declared.event.Op.TheVariants.{Store, Clwb, ClflushOpt, Clflush, Sfence, Mfence, IsPersist, IsOrderedBefore}
+use Rattle.pmt_model.specs.Values.{Layout, Written}
 use Rattle.pmt_model.specs.Machine.{Act, Stores, Flushes, Clflushes, Fences, Asserts}
-use Rattle.pmt_model.specs.Traces.{Recording, act, event}
+use Rattle.pmt_model.specs.Traces.{Recording, act, act_of, event}
 use Rattle.pmt_laws.proofs.Histories.{act-unique, act-within}
 use Rattle.pmt_explain.specs.Following.{IsFirst, past_of}
 use Rattle.pmt_explain.specs.Saving.{AreSafePlaces, IsSafePlace}
 use Rattle.pmt_causes.specs.FailureKeys.{origin_of}
 use Rattle.pmt_causes.specs.Late.{AreWaited, fences_between}
 use Rattle.pmt_hints.specs.declared.per_thread.PerThread.{PerThread}
-use Rattle.pmt_hints.specs.GoingOn.{IsRest, GoesFurther, event_line, is_lost_or_late, line_before, line_by, line_from, line_if, line_left}
+use Rattle.pmt_hints.specs.GoingOn.{IsRest, GoesFurther, event_line, is_behind, is_joined, is_lost_or_late, line_before, line_by, line_from, line_if, line_left}
 use Rattle.pmt_hints.specs.Hints.{GoesOn, IsLostOrLate, IsStoreBy}
 use Rattle.pmt_hints.specs.Near.{store_line}
 use Rattle.pmt_hints.specs.Numbers.{LastFlushes, flush_at, of_thread}
-use Rattle.pmt_hints.specs.Splitting.{is_same_place}
+use Rattle.pmt_hints.specs.Splitting.{event_part, is_same_place, op_part, part}
 use Rattle.pmt_hints.specs.Stepping.{any_store_by}
 use Rattle.pmt_hints.proofs.SplitLemmas.{place-told}
 use Rattle.pmt_hints.proofs.StepLemmas.{Decides, IsLast, last-none, last-step}
@@ -96,23 +98,55 @@ line-told T j l = (λ so. there (event T j) refl so, λ h. ap (event_line T.form
     there (Some d) at so = by_act d (act T.format d) at refl so
 
 -- the line that is left
-from-told : (labels : List (Option ℕ)) (j i t m l : ℕ) (before : Option ℕ) → (line_from labels j i t (Some m) before ≡ Some l) ↔ ((before ≡ Some l) × (suc l ≡ m) × (origin_of labels j t ≡ origin_of labels i t))
-from-told labels j i t m l None = (λ so. absurd (none-some l so), λ h. absurd (none-some l h.0))
-from-told labels j i t m l (Some k) = (λ so. there (suc k == m && is_same_place labels j i t) refl so, back)
+from-told : (joined : Bool) (m l : ℕ) (before : Option ℕ) → (line_from joined (Some m) before ≡ Some l) ↔ ((before ≡ Some l) × (suc l ≡ m) × (joined ≡ true))
+from-told joined m l None = (λ so. absurd (none-some l so), λ h. absurd (none-some l h.0))
+from-told joined m l (Some k) = (λ so. there (suc k == m && joined) refl so, back)
   where
-    there : (b : Bool) → (suc k == m && is_same_place labels j i t) ≡ b → (if b then Some k else None) ≡ Some l → (Some k ≡ Some l) × (suc l ≡ m) × (origin_of labels j t ≡ origin_of labels i t)
+    there : (b : Bool) → (suc k == m && joined) ≡ b → (if b then Some k else None) ≡ Some l → (Some k ≡ Some l) × (suc l ≡ m) × (joined ≡ true)
     there false e so = absurd (none-some l so)
     there true e so =
-        let both = and_parts (suc k == m) (is_same_place labels j i t) e in
-        (so, ap suc (sym (same_Some k l so)) ∙ eqb-true (suc k) m both.0, (place-told labels j i t).0 both.1)
+        let both = and_parts (suc k == m) joined e in
+        (so, ap suc (sym (same_Some k l so)) ∙ eqb-true (suc k) m both.0, both.1)
 
-    back : (Some k ≡ Some l) × (suc l ≡ m) × (origin_of labels j t ≡ origin_of labels i t) → line_from labels j i t (Some m) (Some k) ≡ Some l
-    back h = let next : suc k ≡ m = ap suc (same_Some k l h.0) ∙ h.1 in rw (eq-eqb (suc k) m next, (place-told labels j i t).1 h.2) h.0
+    back : (Some k ≡ Some l) × (suc l ≡ m) × (joined ≡ true) → line_from joined (Some m) (Some k) ≡ Some l
+    back h = let next : suc k ≡ m = ap suc (same_Some k l h.0) ∙ h.1 in rw (eq-eqb (suc k) m next, h.2) h.0
+
+-- the bytes of a store
+part-stored : (f : Layout) (u l : ℕ) (o : Op) (w : Written) → act_of f u o ≡ Stores l w → op_part o ≡ Some (part w)
+part-stored f u l (Store v) w e = let same : v ≡ w = cc in ap (λ x. Some (part x)) same
+part-stored f u l (Clwb a) w e = absurd (cc)
+part-stored f u l (ClflushOpt a) w e = absurd (cc)
+part-stored f u l (Clflush a) w e = absurd (cc)
+part-stored f u l Sfence w e = absurd (cc)
+part-stored f u l Mfence w e = absurd (cc)
+part-stored f u l (IsPersist r) w e = absurd (cc)
+part-stored f u l (IsOrderedBefore r q) w e = absurd (cc)
+
+-- whether two stores are joined
+abbrev AreJoined : List (Option ℕ) → ℕ → ℕ → ℕ → Written → Written → Type 0
+AreJoined labels j i t v w = (origin_of labels j t ≡ origin_of labels i t) ⊎ (v.addr + length v.bytes ≡ w.addr)
+
+joined-told : (T : Recording) (labels : List (Option ℕ)) (j i t k l : ℕ) (d e : Event) (v w : Written) → event T j ≡ Some d → act T.format d ≡ Stores k v → act T.format e ≡ Stores l w →
+    (is_joined T labels j t e.op i ≡ true) ↔ AreJoined labels j i t v w
+joined-told T labels j i t k l d e v w at first second = subst (λ b. ((is_same_place labels j i t || b) ≡ true) ↔ AreJoined labels j i t v w) (sym behind) (there, back)
+  where
+    behind : is_behind (event_part (event T j)) (op_part e.op) ≡ (v.addr + length v.bytes == w.addr)
+    behind = ap (λ o. is_behind (event_part o) (op_part e.op)) at ∙ ap (λ p. is_behind p (op_part e.op)) (part-stored T.format d.thread k d.op v first) ∙ ap (is_behind (Some (part v))) (part-stored T.format e.thread l e.op w second)
+
+    there : (is_same_place labels j i t || (v.addr + length v.bytes == w.addr)) ≡ true → AreJoined labels j i t v w
+    there so = elim (or_cases (is_same_place labels j i t) (v.addr + length v.bytes == w.addr) so) [
+      | inl same ↦ inl ((place-told labels j i t).0 same)
+      | inr follows ↦ inr (eqb-true (v.addr + length v.bytes) w.addr follows)
+    ]
+
+    back : AreJoined labels j i t v w → (is_same_place labels j i t || (v.addr + length v.bytes == w.addr)) ≡ true
+    back (inl same) = or_left (is_same_place labels j i t) (v.addr + length v.bytes == w.addr) ((place-told labels j i t).1 same)
+    back (inr follows) = or_right (is_same_place labels j i t) (v.addr + length v.bytes == w.addr) (eq-eqb (v.addr + length v.bytes) w.addr follows)
 
 -- by the last store of the thread
-pub left-tells : (T : Recording) (labels : List (Option ℕ)) (n j number : ℕ) (e : Event) (a : Act) (stores : PerThread) (line : Option ℕ) → number ≡ suc n → event T (suc n) ≡ Some e → act T.format e ≡ a → e.thread < 256 →
-    j ≡ of_thread stores e.thread → line ≡ line_left T labels j e.thread a number → AnyStoresUpTo T n stores → Tells (GoesOn T labels) e.thread (suc n) line
-left-tells T labels n j number e a stores line same here is small at tells x = record { told = λ l. rw (tells, same) (by_act a is l); own = λ t l h. (own-store T (suc n) t (suc l) e here h.is_store).0 }
+pub left-tells : (T : Recording) (labels : List (Option ℕ)) (n j number : ℕ) (e : Event) (stores : PerThread) (line : Option ℕ) → number ≡ suc n → event T (suc n) ≡ Some e → e.thread < 256 →
+    j ≡ of_thread stores e.thread → line ≡ line_left T labels j e.thread e.op number → AnyStoresUpTo T n stores → Tells (GoesOn T labels) e.thread (suc n) line
+left-tells T labels n j number e stores line same here small at tells x = record { told = λ l. rw (tells, same) (by_act (act T.format e) refl l); own = λ t l h. (own-store T (suc n) t (suc l) e here h.is_store).0 }
   where
     t : ℕ
     t = e.thread
@@ -131,16 +165,19 @@ left-tells T labels n j number e a stores line same here is small at tells x = r
         go (inr upto) (inr from) = omega arith
         go (inr upto) (inl above) = let s = last.has (omega arith) in absurd (h.none_between j s.0 above (omega (arith, last.within)) s.1)
 
-    by_act : (b : Act) → act T.format e ≡ b → (l : ℕ) → (line_left T labels j t b (suc n) ≡ Some l) ↔ GoesOn T labels t l (suc n)
+    joined : Bool
+    joined = is_joined T labels j t e.op (suc n)
+
+    by_act : (b : Act) → act T.format e ≡ b → (l : ℕ) → (line_from joined (store_line b) (event_line T.format (event T j)) ≡ Some l) ↔ GoesOn T labels t l (suc n)
     by_act (Flushes u k) own l = no_store (Flushes u k) l own (λ m w e. cc)
     by_act (Clflushes k) own l = no_store (Clflushes k) l own (λ m w e. cc)
     by_act (Fences u) own l = no_store (Fences u) l own (λ m w e. cc)
     by_act Asserts own l = no_store Asserts l own (λ m w e. cc)
     by_act (Stores m w) own l = (there, back)
       where
-        there : line_from labels j (suc n) t (Some m) (event_line T.format (event T j)) ≡ Some l → GoesOn T labels t l (suc n)
+        there : line_from joined (Some m) (event_line T.format (event T j)) ≡ Some l → GoesOn T labels t l (suc n)
         there so =
-            let from = (from-told labels j (suc n) t m l (event_line T.format (event T j))).0 so in
+            let from = (from-told joined m l (event_line T.format (event T j))).0 so in
             let first = (line-told T j l).0 from.0 in
             let s = last.has (act-within T j (Stores l first.1) (first.0, first.2, first.3)).0 in
             let thread : (first.0).thread ≡ t = (own-store T j t s.0 first.0 first.2 s.1).0 in
@@ -150,17 +187,21 @@ left-tells T labels n j number e a stores line same here is small at tells x = r
               is_store = (e, w, here, refl, own ∙ ap (λ y. Stores y w) (sym from.1));
               order = omega (arith, last.within);
               none_between = λ k y above below s. last.none_after k above (omega arith) (y, s);
-              same_place = from.2;
+              joined = (joined-told T labels j (suc n) t l m first.0 e first.1 w first.2 first.3 own).0 from.2;
             }
 
-        back : GoesOn T labels t l (suc n) → line_from labels j (suc n) t (Some m) (event_line T.format (event T j)) ≡ Some l
+        back : GoesOn T labels t l (suc n) → line_from joined (Some m) (event_line T.format (event T j)) ≡ Some l
         back h =
             let both : Stores m w ≡ Stores (suc l) h.is_store.1 = sym own ∙ (own-store T (suc n) t (suc l) e here h.is_store).1 in
             let next : suc l ≡ m = cc in
+            let second : h.is_store.1 ≡ w = cc in
             let at_j : h.earlier ≡ j = earlier l h in
-            let first : IsStoreBy T t l j = subst (IsStoreBy T t l) at_j h.is_earlier in
-            (from-told labels j (suc n) t m l (event_line T.format (event T j))).1
-            ((line-told T j l).1 (first.0, first.1, first.2, first.4), next, subst (λ k. origin_of labels k t ≡ origin_of labels (suc n) t) at_j h.same_place)
+            let first : (s : IsStoreBy T t l j) × AreJoined labels j (suc n) t s.1 w =
+            subst (λ k. (s : IsStoreBy T t l k) × AreJoined labels k (suc n) t s.1 w) at_j (h.is_earlier, subst (AreJoined labels h.earlier (suc n) t (h.is_earlier.1)) second h.joined)
+            in
+            let s = first.0 in
+            (from-told joined m l (event_line T.format (event T j))).1
+            ((line-told T j l).1 (s.0, s.1, s.2, s.4), next, (joined-told T labels j (suc n) t l m s.0 e s.1 w s.2 s.4 own).1 first.1)
 
 -- the line before the one that it left
 before-some : (line : Option ℕ) (l : ℕ) → (line_before line ≡ Some l) ↔ (line ≡ Some (suc l))

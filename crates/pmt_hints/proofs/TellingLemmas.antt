@@ -15,14 +15,14 @@ use Rattle.pmt_model.specs.Keeping.{IsKeep}
 use Rattle.pmt_causes.specs.declared.failure_keys.Origin.{Origin}
 use Rattle.pmt_causes.specs.FailureKeys.{origin_of}
 use Rattle.pmt_causes.proofs.ExactFailures.{origin-exact}
-use Rattle.pmt_hints.specs.Hints.{AreThose, IsOpenFlush, IsToldOpen}
+use Rattle.pmt_hints.specs.Hints.{AreThose, IsOpenFlush, IsOpenThroughout}
 use Rattle.pmt_hints.specs.Parting.{AreParted}
 use Rattle.pmt_hints.specs.Telling.{AreClosed, Closed, is_closed, is_place, op_place, place_of, told_so}
 use Rattle.pmt_hints.proofs.OpenAtLemmas.{filter-has, filter-rising}
 use Rattle.pmt_hints.proofs.SplitLemmas.{origin-same}
 
 -- a test that some number of a list passes
-any-has : (f : ℕ → Bool) (ks : List ℕ) (j : ℕ) → Has ks j → f j ≡ true → list_any f ks ≡ true
+pub any-has : (f : ℕ → Bool) (ks : List ℕ) (j : ℕ) → Has ks j → f j ≡ true → list_any f ks ≡ true
 any-has f [] j h so = absurd h
 any-has f (k ∷ ks) j (inl same) so = rw (ap f same ∙ so) refl
 any-has f (k ∷ ks) j (inr more) so = later (f k) (any-has f ks j more so)
@@ -31,7 +31,7 @@ any-has f (k ∷ ks) j (inr more) so = later (f k) (any-has f ks j more so)
     later true e = refl
     later false e = e
 
-any-none : (f : ℕ → Bool) (ks : List ℕ) → ((j : ℕ) → Has ks j → f j ≡ true → ⊥) → list_any f ks ≡ false
+pub any-none : (f : ℕ → Bool) (ks : List ℕ) → ((j : ℕ) → Has ks j → f j ≡ true → ⊥) → list_any f ks ≡ false
 any-none f [] none = refl
 any-none f (k ∷ ks) none = first (f k) refl (any-none f ks (λ j h. none j (inr h)))
   where
@@ -50,7 +50,7 @@ place-act f labels i u t l Mfence e = absurd (cc)
 place-act f labels i u t l (IsPersist r) e = absurd (cc)
 place-act f labels i u t l (IsOrderedBefore r q) e = absurd (cc)
 
-flush-place : (T : Recording) (labels : List (Option ℕ)) (i t l : ℕ) → IsAct T i (Flushes t l) → place_of labels i (event T i) ≡ Some (origin_of labels i t)
+pub flush-place : (T : Recording) (labels : List (Option ℕ)) (i t l : ℕ) → IsAct T i (Flushes t l) → place_of labels i (event T i) ≡ Some (origin_of labels i t)
 flush-place T labels i t l is = ap (place_of labels i) is.1 ∙ place-act T.format labels i (is.0).thread t l (is.0).op is.2
 
 -- and only of one
@@ -64,7 +64,7 @@ act-place f labels i u Mfence q e = absurd (none-some q e)
 act-place f labels i u (IsPersist r) q e = absurd (none-some q e)
 act-place f labels i u (IsOrderedBefore r s) q e = absurd (none-some q e)
 
-place-flush : (T : Recording) (labels : List (Option ℕ)) (i : ℕ) (q : Origin) → place_of labels i (event T i) ≡ Some q → (t : ℕ) × (l : ℕ) × IsAct T i (Flushes t l) × (q ≡ origin_of labels i t)
+pub place-flush : (T : Recording) (labels : List (Option ℕ)) (i : ℕ) (q : Origin) → place_of labels i (event T i) ≡ Some q → (t : ℕ) × (l : ℕ) × IsAct T i (Flushes t l) × (q ≡ origin_of labels i t)
 place-flush T labels i q e = go (event T i) refl e
   where
     go : (o : Option Event) → event T i ≡ o → place_of labels i o ≡ Some q → (t : ℕ) × (l : ℕ) × IsAct T i (Flushes t l) × (q ≡ origin_of labels i t)
@@ -75,7 +75,7 @@ place-flush T labels i q e = go (event T i) refl e
 pub closed-more : (a b c d : Bool) → a ≡ (b || c) → b ≡ d → a ≡ (d || c)
 closed-more a b c d is same = is ∙ ap (λ x. x || c) same
 
-not-true-false : (b : Bool) → not b ≡ true → b ≡ false
+pub not-true-false : (b : Bool) → not b ≡ true → b ≡ false
 not-true-false true e = sym e
 not-true-false false e = refl
 
@@ -86,18 +86,18 @@ no-more (k ∷ ks) e = absurd (omega (arith, e))
 -- an event that is told, and one that is to be told
 module _ (T : Recording) (labels : List (Option ℕ)) (kept passed others : List ℕ) (keep : IsKeep T kept) (x : AreParted T kept passed others) where
   -- nothing is told where nothing is open
-  open-there : (i : ℕ) → IsToldOpen T labels i → Has passed i
+  open-there : (i : ℕ) → IsOpenThroughout T labels i → Has passed i
   open-there i h =
       elim (x.each i (h.is_open.1).thread (h.is_open.1).line ((keep.just i).1 h.is_open.0) (h.is_open.1).is_flush) [ inl o ↦ o | inr p ↦ absurd ((x.are_others i p).1 h.is_open.1) ]
 
-  pub none-told : (numbers : List ℕ) → numbers ≡ passed → length passed ≡ 0 → AreThose (IsToldOpen T labels) numbers
+  pub none-told : (numbers : List ℕ) → numbers ≡ passed → length passed ≡ 0 → AreThose (IsOpenThroughout T labels) numbers
   none-told numbers is none = rw (is, no-more passed none) (record { rising = tt; just = λ i. (λ h. absurd h, λ h. subst (λ ks. Has ks i) (no-more passed none) (open-there i h)) })
 
   module _ (closed : Closed) (c : AreClosed T labels others closed) where
     abbrev closes : Origin → ℕ → Bool
     closes p j = is_place p (place_of labels j (event T j))
 
-    there : (i : ℕ) → Has passed i → told_so T labels closed i ≡ true → IsToldOpen T labels i
+    there : (i : ℕ) → Has passed i → told_so T labels closed i ≡ true → IsOpenThroughout T labels i
     there i has told = record { is_open = ((keep.just i).0 (x.are_open i has).0, o); all = λ j t l is_kept is_flush place. all j t l ((keep.just j).1 is_kept) is_flush place }
       where
         o : IsOpenFlush T i
@@ -117,7 +117,7 @@ module _ (T : Recording) (labels : List (Option ℕ)) (kept passed others : List
               absurd (false≢true (sym none ∙ any-has (closes p) others j other (ap (is_place p) found ∙ origin-same p)))
         ]
 
-    back : (i : ℕ) → IsToldOpen T labels i → Has passed i × (told_so T labels closed i ≡ true)
+    back : (i : ℕ) → IsOpenThroughout T labels i → Has passed i × (told_so T labels closed i ≡ true)
     back i h = (open-there i h, rw unclosed refl)
       where
         o : IsOpenFlush T i
@@ -139,7 +139,7 @@ module _ (T : Recording) (labels : List (Option ℕ)) (kept passed others : List
         unclosed : is_closed closed (place_of labels i (event T i)) ≡ false
         unclosed = ap (is_closed closed) (flush-place T labels i o.thread o.line o.is_flush) ∙ c p ∙ any-none (closes p) others never
 
-    pub told-those : (numbers : List ℕ) → numbers ≡ filter (told_so T labels closed) passed → AreThose (IsToldOpen T labels) numbers
+    pub told-those : (numbers : List ℕ) → numbers ≡ filter (told_so T labels closed) passed → AreThose (IsOpenThroughout T labels) numbers
     told-those numbers is = rw is (record {
       rising = filter-rising (told_so T labels closed) 0 passed x.rising;
       just = λ i. (λ h. let found = (filter-has (told_so T labels closed) passed i).0 h in there i found.0 found.1, λ h. (filter-has (told_so T labels closed) passed i).1 (back i h));

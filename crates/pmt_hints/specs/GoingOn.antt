@@ -1,29 +1,41 @@
 -- Whether a store goes on from a line, and whether a flush is one line short.
-use Rattle.std.specs.Prelude.{ℕ, suc, ◌-◌, ◌==◌, ◌&&◌, ◌||◌, Bool, true, false, if◌then◌else◌, nat_le, nat_lt, List, Option, None, Some}
+use Rattle.std.specs.Prelude.{ℕ, suc, ◌+◌, ◌-◌, ◌==◌, ◌&&◌, ◌||◌, Bool, true, false, if◌then◌else◌, nat_le, nat_lt, List, Option, None, Some}
 use Rattle.pmt_model.specs.declared.event.Event.{Event}
+use Rattle.pmt_model.specs.declared.event.Op.{Op}
 use Rattle.pmt_model.specs.Values.{Layout}
 use Rattle.pmt_model.specs.Machine.{Act, Stores, Flushes, Clflushes, Fences, Asserts}
-use Rattle.pmt_model.specs.Traces.{Recording, act, event}
+use Rattle.pmt_model.specs.Traces.{Recording, act, act_of, event}
 use Rattle.pmt_hints.specs.declared.per_thread.PerThread.{PerThread}
+use Rattle.pmt_hints.specs.declared.split_word.Part.{Part}
 use Rattle.pmt_hints.specs.Hints.{GoesOn, IsLostOrLate}
 use Rattle.pmt_hints.specs.Near.{store_line}
 use Rattle.pmt_hints.specs.Numbers.{LastFlushes, flush_at, of_thread}
-use Rattle.pmt_hints.specs.Splitting.{is_same_place}
+use Rattle.pmt_hints.specs.Splitting.{event_part, is_same_place, op_part}
 
 -- The line of an event that is a store.
 abbrev pub event_line : Layout → Option Event → Option ℕ
 event_line f None = None
 event_line f (Some e) = store_line (act f e)
 
--- The line from which event i of thread t goes on, where the store of its thread before it is event j. These are their lines.
-abbrev pub line_from : List (Option ℕ) → ℕ → ℕ → ℕ → Option ℕ → Option ℕ → Option ℕ
-line_from labels j i t None before = None
-line_from labels j i t (Some m) None = None
-line_from labels j i t (Some m) (Some l) = if suc l == m && is_same_place labels j i t then Some l else None
+-- The second part's bytes follow those of the first one.
+abbrev pub is_behind : Option Part → Option Part → Bool
+is_behind None b = false
+is_behind (Some a) None = false
+is_behind (Some a) (Some b) = a.addr + a.len == b.addr
 
--- The same of the act at i.
-abbrev pub line_left : Recording → List (Option ℕ) → ℕ → ℕ → Act → ℕ → Option ℕ
-line_left T labels j t a i = line_from labels j i t (store_line a) (event_line T.format (event T j))
+-- Event i of thread t, which is this op, comes from the place of event j, or its bytes follow those of that one.
+abbrev pub is_joined : Recording → List (Option ℕ) → ℕ → ℕ → Op → ℕ → Bool
+is_joined T labels j t o i = is_same_place labels j i t || is_behind (event_part (event T j)) (op_part o)
+
+-- The line from which a store goes on, if the two are joined. These are its line and that of the store before it.
+abbrev pub line_from : Bool → Option ℕ → Option ℕ → Option ℕ
+line_from joined None before = None
+line_from joined (Some m) None = None
+line_from joined (Some m) (Some l) = if suc l == m && joined then Some l else None
+
+-- The line from which event i of thread t, which is this op, goes on, where the store of its thread before it is event j.
+abbrev pub line_left : Recording → List (Option ℕ) → ℕ → ℕ → Op → ℕ → Option ℕ
+line_left T labels j t o i = line_from (is_joined T labels j t o i) (store_line (act_of T.format t o)) (event_line T.format (event T j))
 
 -- The line before.
 abbrev pub line_before : Option ℕ → Option ℕ

@@ -1,10 +1,11 @@
 -- What hints are told of: each kind is a set of events.
-use Rattle.std.specs.Prelude.{◌≡◌, ◌≢◌, ◌↔◌, ◌⊎◌, ℕ, suc, ◌+◌, ◌%◌, ◌<◌, ◌≤◌, List, length, Option, Some}
+use Rattle.std.specs.Prelude.{◌≡◌, ◌≢◌, ◌↔◌, ◌⊎◌, ℕ, suc, ◌+◌, ◌-◌, ◌%◌, ◌<◌, ◌≤◌, List, length, Option, Some}
 use Rattle.pmt_model.specs.declared.event.Event.{Event}
-use Rattle.pmt_model.specs.declared.event.Op.TheVariants.{Store}
-use Rattle.pmt_model.specs.Values.{Layout, Written}
+use Rattle.pmt_model.specs.declared.event.Op.TheVariants.{IsOrderedBefore, IsPersist, Store}
+use Rattle.pmt_model.specs.Values.{Layout, Span, Written, line_of}
 use Rattle.pmt_model.specs.Machine.{Stores, Flushes, Fences}
-use Rattle.pmt_model.specs.Traces.{Recording, IsAct, act, event}
+use Rattle.pmt_model.specs.Assertions.{OrderedPasses, PersistPasses}
+use Rattle.pmt_model.specs.Traces.{Recording, IsAct, act, event, history}
 use Rattle.pmt_model.specs.Findings.{IsFlushOf}
 use Rattle.pmt_model.specs.Keeping.{IsKept}
 use Rattle.pmt_model.specs.Selections.{IsRising, Has}
@@ -56,10 +57,28 @@ pub record IsOpenFlush (T : Recording) (i : ℕ) : Type 0 where
 abbrev pub IsOpenAtStore : Recording → ℕ → Type 0
 IsOpenAtStore T i = IsKept T i × IsOpenFlush T i
 
--- Open at a store, as it is told: of a place, a label or without one a thread, only where each kept flush of the place is one.
-pub record IsToldOpen (T : Recording) (labels : List (Option ℕ)) (i : ℕ) : Type 0 where
+-- Open at a store, as each kept flush of its place is; a place is a label, or without one a thread.
+pub record IsOpenThroughout (T : Recording) (labels : List (Option ℕ)) (i : ℕ) : Type 0 where
   pub is_open : IsOpenAtStore T i
   pub all : (j t l : ℕ) → IsKept T j → IsAct T j (Flushes t l) → origin_of labels j t ≡ origin_of labels i (is_open.1).thread → IsOpenFlush T j
+
+-- Range A has a byte of line l, between its first and its last one.
+abbrev pub HasLine : Layout → Span → ℕ → Type 0
+HasLine f A l = (line_of f A.addr ≤ l) × (l ≤ line_of f (A.addr + A.len - 1))
+
+-- Event i is an assertion that passes, and a range of it has a byte of line l.
+pub data ClaimsLine (T : Recording) (l i : ℕ) : Type 0 where
+  ByPersist : (e : Event) (A : Span) → event T i ≡ Some e → e.op ≡ IsPersist A → PersistPasses (history T i) A → HasLine T.format A l → ClaimsLine T l i
+  ByOrdered : (e : Event) (A B : Span) → event T i ≡ Some e → e.op ≡ IsOrderedBefore A B → OrderedPasses (history T i) A B → HasLine T.format A l ⊎ HasLine T.format B l → ClaimsLine T l i
+
+-- Some assertion of the trace claims something of the line, and passes.
+abbrev pub IsClaimed : Recording → ℕ → Type 0
+IsClaimed T l = (i : ℕ) × ClaimsLine T l i
+
+-- Open at a store, as it is told: only where no kept flush of the place is of a line that is claimed.
+pub record IsToldOpen (T : Recording) (labels : List (Option ℕ)) (i : ℕ) : Type 0 where
+  pub throughout : IsOpenThroughout T labels i
+  pub unclaimed : (j t l : ℕ) → IsKept T j → IsAct T j (Flushes t l) → origin_of labels j t ≡ origin_of labels i (throughout.is_open.1).thread → ¬ IsClaimed T l
 
 -- Event i is this store by thread t.
 abbrev pub IsStoreOf : Recording → ℕ → Written → ℕ → Type 0
@@ -89,15 +108,15 @@ pub record IsSplitWord (T : Recording) (labels : List (Option ℕ)) (i : ℕ) : 
 abbrev pub IsLostOrLate : Recording → ℕ → ℕ → ℕ → Type 0
 IsLostOrLate T t l i = (p : ℕ) × IsSafePlace T l i p × ((2 ≤ fences_between T t i p) ⊎ ((1 ≤ fences_between T t i p) × (length T.events < p)))
 
--- Event i goes on from line l: it is a store by thread t to the line right after l, and the store that the thread made before it, from
--- the same place, is one to line l.
+-- Event i goes on from line l: it is a store by thread t to the line right after l, and the store that the thread made before it is one
+-- to line l. Both come from the same place, or the bytes of the one are followed by those of the other.
 pub record GoesOn (T : Recording) (labels : List (Option ℕ)) (t l i : ℕ) : Type 0 where
   pub earlier : ℕ
   pub is_earlier : IsStoreBy T t l earlier
   pub is_store : IsStoreBy T t (suc l) i
   pub order : earlier < i
   pub none_between : (k m : ℕ) → earlier < k → k < i → ¬ IsStoreBy T t m k
-  pub same_place : origin_of labels earlier t ≡ origin_of labels i t
+  pub joined : (origin_of labels earlier t ≡ origin_of labels i t) ⊎ ((is_earlier.1).addr + length (is_earlier.1).bytes ≡ (is_store.1).addr)
 
 -- One line short: event i flushes a line from which a store before it goes on, and that store is lost or late. So the run of lines that the
 -- thread flushes by its next fence, of one line or more, ends with this line. The two come with no fence of the thread between them, and

@@ -1,3 +1,4 @@
+pub mod Claiming
 pub mod Flagging
 pub mod GoingOn
 pub mod Hints

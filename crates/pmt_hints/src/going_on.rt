@@ -2,12 +2,12 @@
 
 ghost use Rattle.std.specs.Prelude.{◌≡◌, ◌==◌, ◌<◌, ℕ, suc, OnOk};
 ghost use Rattle.pmt_model.specs.Traces.{act_of, event};
-ghost use Rattle.pmt_hints.specs.GoingOn.{event_line, is_lost_or_late as lost_or_late, line_before as before, line_by, line_if as if_so, line_left as left};
+ghost use Rattle.pmt_hints.specs.GoingOn.{event_line, is_behind as behind, is_joined as joined, is_lost_or_late as lost_or_late, line_before as before, line_by, line_if as if_so, line_left as left};
 ghost use Rattle.pmt_hints.specs.Near.{store_line};
 ghost use Rattle.pmt_hints.specs.Numbers.{flush_at};
 
 use crate::flushers::{Flusher, LastFlushes};
-use crate::split_word::is_one_place;
+use crate::split_word::{Part, is_one_place, part_at, part_of};
 use pmt_model::{Format, Op, OutOfMemory, Trace, line_of};
 
 // The line from which the op with this number by the thread goes on, if its store before it is the event `earlier`.
@@ -16,23 +16,50 @@ pub(crate) fn line_left(
     labels: &[Option<u64>],
     earlier: u64,
     thread: u8,
-    op: Op,
+    op: &Op,
     number: u64,
 ) -> Option<u64>
-    ensures value { result ≡ left trace.now labels.now earlier thread (act_of trace.now.format thread op) number }
+    ensures value { result ≡ left trace.now labels.now earlier thread op.now number }
     ensures small { thread < 256 }
 {
-    let Some(line) = stored_line(trace.format(), thread, op) else {
+    let Some(line) = stored_line(trace.format(), thread, *op) else {
         return None;
     };
     let Some(from) = line_at(trace, earlier) else {
         return None;
     };
-    if is_next(from, line) && is_one_place(labels, earlier, number, thread) {
+    if is_next(from, line) && is_joined(trace, labels, earlier, thread, *op, number) {
         Some(from)
     } else {
         None
     }
+}
+
+// Whether the op with this number by the thread comes from the place of its event `earlier`, or its bytes follow those of that one.
+fn is_joined(
+    trace: &Trace,
+    labels: &[Option<u64>],
+    earlier: u64,
+    thread: u8,
+    op: Op,
+    number: u64,
+) -> bool
+    ensures { result ≡ joined trace.now labels.now earlier thread op number }
+{
+    is_one_place(labels, earlier, number, thread) || is_behind(part_at(trace, earlier), part_of(op))
+}
+
+// Whether there are two parts, and the bytes of the second one follow those of the first.
+fn is_behind(first: Option<Part>, second: Option<Part>) -> bool
+    ensures { result ≡ behind first second }
+{
+    let Some(first) = first else {
+        return false;
+    };
+    let Some(second) = second else {
+        return false;
+    };
+    first.len <= second.addr && second.addr - first.len == first.addr
 }
 
 // The same, if the store is lost or late.
@@ -42,10 +69,10 @@ pub(crate) fn rest_left(
     earlier: u64,
     is_missed: bool,
     thread: u8,
-    op: Op,
+    op: &Op,
     number: u64,
 ) -> Option<u64>
-    ensures value { result ≡ if_so is_missed (left trace.now labels.now earlier thread (act_of trace.now.format thread op) number) }
+    ensures value { result ≡ if_so is_missed (left trace.now labels.now earlier thread op.now number) }
     ensures small { thread < 256 }
 {
     if !is_missed {

@@ -3,6 +3,7 @@
 //! The definitions stand in `specs/`.
 #![tactic(auto)]
 
+mod claims;
 mod flushers;
 mod going_on;
 pub mod hint;

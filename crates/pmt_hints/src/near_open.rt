@@ -88,7 +88,7 @@ fn state_of(trace: &Trace, number: u64, taken: &mut usize) -> Option<State>
 
 // The line of the op, if it is a flush that waits for a fence.
 #[inline(always)]
-fn flushed_line(format: Format, thread: u8, op: Op) -> Option<u64>
+pub(crate) fn flushed_line(format: Format, thread: u8, op: Op) -> Option<u64>
     ensures { result ≡ flush_line (act_of format thread op) }
 {
     match op {

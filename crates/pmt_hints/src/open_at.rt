@@ -2,22 +2,24 @@
 
 ghost use Rattle.std.specs.Prelude.{◌≡◌, ◌<◌, ◌||◌, ℕ, length, not, filter, IfOk, OnOk};
 ghost use Rattle.pmt_model.specs.Traces.{act_of, event};
+ghost use Rattle.pmt_model.specs.Analyses.{IsVerdicts};
 ghost use Rattle.pmt_model.specs.Keeping.{IsKeep};
 ghost use Rattle.pmt_model.specs.Selections.{IsRising};
 ghost use Rattle.pmt_flags.specs.Flags.{is_kept_at};
-ghost use Rattle.pmt_hints.specs.Hints.{AreThose, IsOpenAtStore, IsOpenFlush, IsToldOpen};
+ghost use Rattle.pmt_hints.specs.Hints.{AreThose, IsOpenAtStore, IsOpenFlush, IsOpenThroughout, IsToldOpen};
 ghost use Rattle.pmt_hints.specs.Flagging.{AreFlags};
 ghost use Rattle.pmt_hints.specs.Parting.{AreParted};
 ghost use Rattle.pmt_hints.specs.Stepping.{open_so};
 ghost use Rattle.pmt_hints.specs.Telling.{AreClosed, closed_at, is_closed as is_closed_in, is_place, place_of as place_in, told_so};
 ghost use Rattle.pmt_causes.specs.declared.failure_keys.Origin.{Origin};
 
+use crate::claims::{claimed_flushes, claims_on};
 use crate::near_open::{Parted, near_open};
 use crate::next_stores::NextStores;
 use crate::numbers::selection_of;
 use crate::per_thread::PerThread;
 use pmt_causes::{Origin, origin_of};
-use pmt_model::{Format, Op, OutOfMemory, Selection, Trace, line_of};
+use pmt_model::{Format, Op, OutOfMemory, Selection, Trace, Verdict, line_of};
 use std::alloc::Global;
 use std::collections::HashMap;
 
@@ -43,10 +45,12 @@ pub fn open_at_store(
     Ok(selection_of(passed))
 }
 
-/// Those of these flushes that are told: at whose place each flush that is kept is one. `labels` are the numbers of the labels of the
-/// events, in order; an event past their end has none. A place is a label, or without one a thread.
+/// Those of these flushes that are told: at whose place each flush that is kept is one, and none is of a line of which an assertion that
+/// passes has a byte. `labels` are the numbers of the labels of the events, in order; an event past their end has none. A place is a label,
+/// or without one a thread. `verdicts` are those of the trace.
 ///
-/// It takes what `open_at_store` does and, if a flush is open, a look-up at each one that is kept.
+/// It takes what `open_at_store` does and, if a flush is open, a look-up at each one that is kept. If there is such a place, it takes one
+/// at each line of an assertion that passes.
 ///
 /// # Errors
 /// Where memory was refused.
@@ -54,10 +58,27 @@ pub fn told_open(
     alloc: Global,
     trace: &Trace,
     kept: &Selection,
+    verdicts: &[Verdict],
+    labels: &[Option<u64>],
+) -> Result<Selection, OutOfMemory>
+    requires kept { IsKeep trace.now kept.now }
+    requires verdicts { IsVerdicts trace.now verdicts.now }
+    ensures { IfOk result (AreThose (IsToldOpen trace.now labels.now)) }
+{
+    let open = open_throughout(alloc, trace, kept, labels)?;
+    let told = unclaimed(alloc, trace, open.numbers(), verdicts, labels)?;
+    Ok(selection_of(told))
+}
+
+// The flushes at whose place each flush that is kept is open at a store.
+fn open_throughout(
+    alloc: Global,
+    trace: &Trace,
+    kept: &Selection,
     labels: &[Option<u64>],
 ) -> Result<Selection, OutOfMemory>
     requires { IsKeep trace.now kept.now }
-    ensures { IfOk result (AreThose (IsToldOpen trace.now labels.now)) }
+    ensures { IfOk result (AreThose (IsOpenThroughout trace.now labels.now)) }
 {
     let Parted { passed, others } = parted_flushes(alloc, trace, kept.numbers())?;
     let flushes = passed.as_slice();
@@ -67,6 +88,27 @@ pub fn told_open(
     let closed = closed_places(alloc, trace, labels, others.as_slice())?;
     let told = told_numbers(alloc, trace, labels, flushes, &closed)?;
     Ok(selection_of(told))
+}
+
+// Those of these flushes, all of their places, at whose place none is of a line that an assertion of these verdicts claims and passes.
+fn unclaimed(
+    alloc: Global,
+    trace: &Trace,
+    flushes: &[u64],
+    verdicts: &[Verdict],
+    labels: &[Option<u64>],
+) -> Result<Vec<u64>, OutOfMemory>
+    requires verdicts { IsVerdicts trace.now verdicts.now }
+    requires open { AreThose (IsOpenThroughout trace.now labels.now) flushes.now }
+    ensures { IfOk result (λ told. AreThose (IsToldOpen trace.now labels.now) told.items) }
+{
+    if flushes.is_empty() {
+        return Ok(Vec::new(alloc));
+    }
+    let claims = claims_on(alloc, trace, flushes, verdicts)?;
+    let claimed = claimed_flushes(alloc, trace, flushes, &claims)?;
+    let closed = closed_places(alloc, trace, labels, claimed.as_slice())?;
+    told_numbers(alloc, trace, labels, flushes, &closed)
 }
 
 // The flushes among the events with these numbers.

@@ -16,9 +16,9 @@ use pmt_model::{Format, Op, OutOfMemory, Selection, Trace, line_of};
 use std::alloc::Global;
 use std::collections::HashMap;
 
-/// The flushes of a line from which a store of their thread before them, from one place with the one before, goes on to the next line,
-/// and that store is lost or late, and nothing goes on from there: the flushes end one line before what was stored does. `waited` is
-/// for how many fences each event of the trace of these places waits, and `labels` are the numbers of the labels of the events, in order;
+/// The flushes of a line from which a store of their thread before them, from one place with the one before or right behind its bytes,
+/// goes on to the next line, and that store is lost or late, and nothing goes on from there: the flushes end one line before what was
+/// stored does. `waited` is for how many fences each event of the trace of these places waits, and `labels` are the numbers of the labels of the events, in order;
 /// an event past their end has none. A place is a label, or without one a thread.
 ///
 /// It takes one look at each event, and one more if a store is lost or late. If such a store goes on from a line it takes another one, with
@@ -79,7 +79,7 @@ fn has_rest(trace: &Trace, places: &[u64], waited: &[u64], labels: &[Option<u64>
             earlier,
             is_missed,
             event.thread,
-            event.op,
+            &event.op,
             number,
         );
         if line.is_some() {
@@ -116,7 +116,7 @@ fn short_numbers(
         let is_told = is_short(&fences, &rests, &further, format, event.thread, event.op);
         push_if(&mut numbers, is_told, number)?;
         let earlier = stores.get(event.thread);
-        let line = line_left(trace, labels, earlier, event.thread, event.op, number);
+        let line = line_left(trace, labels, earlier, event.thread, &event.op, number);
         let is_missed = is_lost_or_late(waited[index], places[index], count);
         note_line(&mut rests, event.thread, line_if(is_missed, line), number)?;
         note_line(&mut further, event.thread, line_before(line), number)?;

@@ -82,7 +82,7 @@ fn is_split(
 }
 
 // The bytes of the event with this number, if it is a store.
-fn part_at(trace: &Trace, number: u64) -> Option<Part>
+pub(crate) fn part_at(trace: &Trace, number: u64) -> Option<Part>
     ensures { result ≡ event_part (event trace.now number) }
 {
     let Some(event) = trace.get(number) else {
@@ -92,7 +92,7 @@ fn part_at(trace: &Trace, number: u64) -> Option<Part>
 }
 
 // The bytes of the op, if it is a store.
-fn part_of(op: Op) -> Option<Part>
+pub(crate) fn part_of(op: Op) -> Option<Part>
     ensures { result ≡ op_part op }
 {
     match op {

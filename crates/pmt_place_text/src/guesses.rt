@@ -1,14 +1,16 @@
 //! A guess at what is noise: the places that could be left out.
 
 use crate::claims::Claims;
-use crate::members::line_of_store;
 use crate::merging::merged;
 use pmt_asked::{ByteRange, frame_of};
 use pmt_causes::Origin;
 use pmt_fates::{PlaceRow, Standing, standing_of};
 use pmt_model::{Op, OutOfMemory, Trace};
 use pmt_pen::Pen;
-use pmt_telling::{Section, Telling, place_of, push_count, push_place_name, push_word, tells_all};
+use pmt_telling::{
+    HEAD, Section, Telling, WIDTH, line_of_store, place_of, push_broken, push_count,
+    push_place_name, push_spaces, push_word, tells_all, width_of,
+};
 use std::collections::HashMap;
 
 // The most places that are named, and the most options.
@@ -155,17 +157,26 @@ fn name_of<'a>(told: &Telling<'a>, place: Origin) -> Option<&'a str> {
 
 // The guess at these places, which store these bytes where no label names them.
 fn guess_of(told: &Telling<'_>, places: &Places, ranges: &[ByteRange]) -> Pen {
+    let mut words = Pen::new(told.alloc);
+    push_places(&mut words, told, places);
+    words.put(". If a crash may lose that, as locks or statistics, leave it out by");
     let mut pen = Pen::new(told.alloc);
-    push_places(&mut pen, told, places);
-    pen.put(". If a crash may lose that, as locks or statistics, leave it out by");
-    push_options(&mut pen, told, places, ranges);
+    let used = push_broken(&mut pen, &words, HEAD);
+    push_options(&mut pen, told, places, ranges, used);
     pen.put("\n");
     pen
 }
 
-// Adds the options that leave out the stores of the places, those by label first.
-fn push_options(pen: &mut Pen, told: &Telling<'_>, places: &Places, ranges: &[ByteRange]) {
+// Adds the options that leave out the stores of the places, those by label first, behind a line that takes so many columns.
+fn push_options(
+    pen: &mut Pen,
+    told: &Telling<'_>,
+    places: &Places,
+    ranges: &[ByteRange],
+    used: u64,
+) {
     let mut count = 0usize;
+    let mut used = used;
     for row in told.explanation.places.as_slice() {
         if !is_quiet(places, row.place) {
             continue;
@@ -173,18 +184,41 @@ fn push_options(pen: &mut Pen, told: &Telling<'_>, places: &Places, ranges: &[By
         if let Some(name) = name_of(told, row.place) {
             count = count.saturating_add(1);
             if count <= NAMED {
-                pen.put(" --ignore-label ");
-                push_word(pen, name);
+                let mut option = Pen::new(told.alloc);
+                option.put("--ignore-label ");
+                push_word(&mut option, name);
+                used = push_unbroken(pen, &option, used);
             }
         }
     }
     for range in ranges.iter().take(NAMED.saturating_sub(count)) {
-        pen.fill(" --ignore @:#", &[range.addr, range.len]);
+        let mut option = Pen::new(told.alloc);
+        option.fill("--ignore @:#", &[range.addr, range.len]);
+        used = push_unbroken(pen, &option, used);
     }
     let more = count.saturating_add(ranges.len()).saturating_sub(NAMED);
     if more > 0 {
-        pen.fill(" and # more", &[more as u64]);
+        let mut rest = Pen::new(told.alloc);
+        rest.fill("and # more", &[more as u64]);
+        let _used = push_unbroken(pen, &rest, used);
     }
+}
+
+// Adds the words, which are copied and so not broken, to the line that takes so many columns, or to the next one where that has no room;
+// and tells how many columns the line then takes.
+fn push_unbroken(pen: &mut Pen, words: &Pen, used: u64) -> u64 {
+    pen.share(words);
+    let width = width_of(words.as_str());
+    let with_words = used.saturating_add(width).saturating_add(1);
+    if with_words <= WIDTH {
+        pen.put(" ");
+        pen.put(words.as_str());
+        return with_words;
+    }
+    pen.put("\n");
+    push_spaces(pen, HEAD);
+    pen.put(words.as_str());
+    HEAD.saturating_add(width)
 }
 
 // Adds the places, and how much they store.

@@ -1,18 +1,20 @@
 //! What no rule forbids and mostly is a slip, in words.
 
 use crate::left::{add_left, count_left};
-use crate::members::line_of_store;
 use pmt_explanation::first;
 use pmt_hints::{Hint, HintKind};
-use pmt_model::{Event, Op, Trace, line_of};
 use pmt_pen::Pen;
-use pmt_telling::{NEAR, Section, Telling, push_count, push_own_flush, push_place_name};
+use pmt_telling::{
+    HEAD, Hinting, Section, Telling, hint_line, hint_partner, line_of_store, push_hint_words,
+    push_own_flush, push_wrapped,
+};
 
 const HEADING: &str =
-    "hints: no rule forbids these, and most are slips; the status does not count them:\n";
+    "hints: no rule forbids these, but most are slips; they do not change the exit status:\n";
 
-/// Hints, two lines each. On a screen with other kinds of findings they are the first one of each kind.
-pub fn hints_section(told: &Telling<'_>) -> Section {
+/// Hints. On a screen with other kinds of findings they are the first one of each kind, but for the one that the first failed assertion
+/// tells.
+pub fn hints_section(told: &Telling<'_>, hinting: &Hinting) -> Section {
     let hints = told.explanation.hints.as_slice();
     let mut section = Section::new(
         told.alloc,
@@ -23,9 +25,15 @@ pub fn hints_section(told: &Telling<'_>) -> Section {
     );
     let is_brief = told.screen.rows.is_some() && told.screen.choice.only.is_none();
     let limit = told.explanation.limit;
+    let told_before = if is_brief {
+        first_told(told, hinting)
+    } else {
+        None
+    };
     let mut before: Option<HintKind> = None;
-    for hint in first(hints, if is_brief { hints.len() } else { limit }) {
-        if !is_brief || before != Some(hint.kind) {
+    let shown = first(hints, if is_brief { hints.len() } else { limit });
+    for (index, hint) in shown.iter().enumerate() {
+        if (!is_brief || before != Some(hint.kind)) && told_before != Some(index) {
             let mut pen = Pen::new(told.alloc);
             push_hint(&mut pen, told, hint);
             section.add(pen);
@@ -36,33 +44,22 @@ pub fn hints_section(told: &Telling<'_>) -> Section {
     section
 }
 
-// Adds the hint: where, how often, what, the first event and the one that it goes with, and what to do.
-fn push_hint(pen: &mut Pen, told: &Telling<'_>, hint: &Hint) {
-    pen.put("hint: ");
-    push_place_name(pen, told, hint.place);
-    pen.put(": ");
-    push_count(pen, hint.count, "time");
-    pen.put(words_of(hint.kind));
-    pen.fill("; first: event #", &[hint.first]);
-    if let Some(other) = other_of(told.trace, hint) {
-        pen.fill(other_words(hint.kind), &[other]);
-    }
-    pen.put("\n");
-    push_fix(pen, told, hint);
+// The hint that the first failed assertion tells, if it does.
+fn first_told(told: &Telling<'_>, hinting: &Hinting) -> Option<usize> {
+    let shown = told.explanation.failures.first()?;
+    hinting.hint_of(told, shown.failure.lost.store, shown.cause)
 }
 
-// What happens, and why it matters.
-fn words_of(kind: HintKind) -> &'static str {
-    match kind {
-        HintKind::SplitWord =>
-            " a word is stored in two cache lines, of which a crash can keep one",
-        HintKind::StoredAfterFlush =>
-            " a store comes after the flush of its cache line, which misses it",
-        HintKind::OpenAtStore =>
-            " a flush is unfenced at a store to another line, which a crash can keep alone",
-        HintKind::OneLineShort =>
-            " flushes end one cache line short of what is stored, and miss the rest",
+// Adds the hint, the first event and the one that it goes with, and what to do.
+fn push_hint(pen: &mut Pen, told: &Telling<'_>, hint: &Hint) {
+    let mut head = Pen::new(pen.alloc());
+    push_hint_words(&mut head, told, hint);
+    head.fill("; first: event #", &[hint.first]);
+    if let Some(other) = hint_partner(told.trace, hint) {
+        head.fill(other_words(hint.kind), &[other]);
     }
+    push_wrapped(pen, &head, HEAD);
+    push_fix(pen, told, hint);
 }
 
 // How the event that the first one goes with is told.
@@ -100,64 +97,8 @@ fn push_next_flush(pen: &mut Pen, told: &Telling<'_>, flush: u64) {
         return;
     };
     let thread = event.thread;
-    let line = line_in(told.trace, event.op).unwrap_or(0).saturating_add(1);
+    let line = hint_line(told.trace, event.op)
+        .unwrap_or(0)
+        .saturating_add(1);
     push_own_flush(pen, told, line, thread, flush);
-}
-
-// The event that the first one goes with, if it stands near: the other part of the word, the flush, or the store.
-fn other_of(trace: &Trace, hint: &Hint) -> Option<u64> {
-    let number = hint.first;
-    let event = trace.get(number)?;
-    let thread = event.thread;
-    let line = line_in(trace, event.op);
-    match hint.kind {
-        HintKind::SplitWord | HintKind::StoredAfterFlush | HintKind::OneLineShort => {
-            for other in (number.saturating_sub(NEAR)..number).rev() {
-                if goes_with(trace, hint.kind, thread, line, other) {
-                    return Some(other);
-                }
-            }
-        }
-        HintKind::OpenAtStore => {
-            for other in number..number.saturating_add(NEAR) {
-                if goes_with(trace, hint.kind, thread, line, other) {
-                    return Some(other);
-                }
-            }
-        }
-    }
-    None
-}
-
-// Whether an event of the thread, of this line, can go with the other one.
-fn goes_with(trace: &Trace, kind: HintKind, thread: u8, line: Option<u64>, other: u64) -> bool {
-    let Some(event) = trace.get(other) else {
-        return false;
-    };
-    let Event { thread: own, op } = event;
-    let own_line = line_in(trace, op);
-    let is_same_line = own_line == line;
-    own == thread
-        && match kind {
-            HintKind::SplitWord => is_store(&op),
-            HintKind::StoredAfterFlush => !is_store(&op) && is_same_line,
-            HintKind::OpenAtStore => is_store(&op) && !is_same_line,
-            HintKind::OneLineShort => is_store(&op)
-                && own_line == Some(line.unwrap_or(0).saturating_add(1)),
-        }
-}
-
-// Whether the op is a store.
-fn is_store(op: &Op) -> bool {
-    matches!(op, Op::Store(_))
-}
-
-// The line of the op, if it is a store or a flush that waits for a fence.
-fn line_in(trace: &Trace, op: Op) -> Option<u64> {
-    match op {
-        Op::Store(store) => Some(line_of(trace.format(), store.addr())),
-        Op::Clwb(addr) | Op::ClflushOpt(addr) => Some(line_of(trace.format(), addr)),
-        Op::Clflush(_) | Op::Sfence | Op::Mfence | Op::IsPersist(_) | Op::IsOrderedBefore(_, _) =>
-            None,
-    }
 }

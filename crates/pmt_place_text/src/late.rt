@@ -3,7 +3,9 @@
 use pmt_causes::{Group, LateSpot};
 use pmt_explanation::{first, first_of};
 use pmt_pen::Pen;
-use pmt_telling::{Section, Telling, line_address, push_count, push_frame, tells_all};
+use pmt_telling::{
+    HEAD, Section, Telling, line_address, push_count, push_frame, push_wrapped, tells_all,
+};
 
 /// What is saved late, where something is asked for: else it is told by place.
 pub fn late_section(told: &Telling<'_>) -> Section {
@@ -34,25 +36,26 @@ pub fn late_section(told: &Telling<'_>) -> Section {
 // Adds the group, by how many fences each event waited.
 fn push_late(pen: &mut Pen, told: &Telling<'_>, group: &Group<LateSpot>) {
     let waited = told.explanation.waited.as_slice();
-    pen.put("  ");
-    push_count(pen, group.members.len() as u64, "store");
+    let mut row = Pen::new(pen.alloc());
+    row.put("  ");
+    push_count(&mut row, group.members.len() as u64, "store");
     match group.key {
-        LateSpot::Label(label) => push_frame(pen, told, label),
+        LateSpot::Label(label) => push_frame(&mut row, told, label),
         LateSpot::Line(line) => {
-            pen.fill(" to cache line @", &[line_address(told.trace, line)]);
+            row.fill(" to cache line @", &[line_address(told.trace, line)]);
         }
     }
     let number = first_of(group);
     let fences = fences_of(waited, number);
-    pen.fill(
+    row.fill(
         ", first event #: # fences of its thread left it unsafe",
         &[number, fences],
     );
     let most = most_fences(waited, group);
     if most > fences {
-        pen.fill(", and # another one", &[most]);
+        row.fill(", and # another one", &[most]);
     }
-    pen.put("\n");
+    push_wrapped(pen, &row, HEAD);
 }
 
 // For how many fences the event waited.

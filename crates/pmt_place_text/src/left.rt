@@ -1,14 +1,12 @@
 //! Places each of whose stores is saved one fence late, in words.
 
-use crate::members::line_of_store;
 use pmt_asked::{Choice, Kind};
 use pmt_causes::Origin;
-use pmt_explain::SafePlaces;
-use pmt_fates::PlaceRow;
-use pmt_model::{Op, Trace};
+use pmt_fates::{PlaceRow, SavedBefore};
 use pmt_pen::Pen;
 use pmt_telling::{
-    NEAR, Section, Telling, next_fence, push_count, push_event, push_own_flush, push_place_name,
+    HEAD, SOURCE, Section, Telling, line_of_store, push_count, push_event, push_own_flush,
+    push_place_name, push_wrapped,
 };
 
 const ONE_LATE: &str =
@@ -26,26 +24,21 @@ pub(crate) fn count_left(told: &Telling<'_>) -> usize {
     rows.iter().filter(|row| is_left(told, row)).count()
 }
 
-// Adds a hint for each such place, as many as the limit says; or one alone, of the place with most such stores. From where on each
-// store is safe is asked only if there is one.
+// Adds a hint for each such place, as many as the limit says; or one alone, of the place with most such stores.
 pub(crate) fn add_left(section: &mut Section, told: &Telling<'_>, is_brief: bool) {
     if count_left(told) == 0 {
         return;
     }
-    let Ok(safe) = SafePlaces::of(told.alloc, told.trace) else {
-        section.refuse();
-        return;
-    };
     if is_brief {
         if let Some(row) = most_left(told) {
-            add_row(section, told, &row, safe.places());
+            add_row(section, told, &row);
         }
         return;
     }
     let mut added = 0usize;
     for row in told.explanation.places.as_slice() {
         if is_left(told, row) && added < told.explanation.limit {
-            add_row(section, told, row, safe.places());
+            add_row(section, told, row);
             added = added.saturating_add(1);
         }
     }
@@ -89,67 +82,47 @@ fn most_left(told: &Telling<'_>) -> Option<PlaceRow> {
 }
 
 // Adds the hint at the place: how many stores, why it matters, the first one, what a crash keeps without it, and what to do.
-fn add_row(section: &mut Section, told: &Telling<'_>, row: &PlaceRow, safe: &[u64]) {
+fn add_row(section: &mut Section, told: &Telling<'_>, row: &PlaceRow) {
     let Some(store) = row.first_left else {
         return;
     };
+    let mut head = Pen::new(told.alloc);
+    head.put("hint: ");
+    push_place_name(&mut head, told, row.place);
+    head.put(": ");
+    push_count(&mut head, row.left, "store");
+    head.put(if row.left == 1 { ONE_LATE } else { LATE });
+    head.fill("; first: event #", &[store]);
     let mut pen = Pen::new(told.alloc);
-    pen.put("hint: ");
-    push_place_name(&mut pen, told, row.place);
-    pen.put(": ");
-    push_count(&mut pen, row.left, "store");
-    pen.put(if row.left == 1 { ONE_LATE } else { LATE });
-    pen.fill("; first: event #\n", &[store]);
+    push_wrapped(&mut pen, &head, HEAD);
     if let Some(event) = told.trace.get(store) {
-        push_remedy(&mut pen, told, safe, event.thread, store);
+        push_remedy(&mut pen, told, event.thread, store, row.saved_before);
     }
     section.add(pen);
 }
 
-// Adds what a crash keeps without this store by the thread, once that has fenced, and what to do.
-fn push_remedy(pen: &mut Pen, told: &Telling<'_>, safe: &[u64], thread: u8, store: u64) {
-    let fence = next_fence(told, thread, store, None).unwrap_or(0);
-    let kept = kept_without(told.trace, safe, store, fence);
-    if let Some(kept) = kept {
-        pen.fill(
+// Adds what a crash keeps without this store by the thread, if it is known, and what to do.
+fn push_remedy(
+    pen: &mut Pen,
+    told: &Telling<'_>,
+    thread: u8,
+    store: u64,
+    saved: Option<SavedBefore>,
+) {
+    if let Some(saved) = saved {
+        let mut before = Pen::new(pen.alloc());
+        before.fill(
             "  before: a crash after event # keeps this store and can lose event #: ",
-            &[fence, store],
+            &[saved.place, store],
         );
-        push_event(pen, told, kept);
+        push_event(&mut before, told, saved.store);
+        push_wrapped(pen, &before, SOURCE);
     }
     push_own_flush(pen, told, line_of_store(told.trace, store), thread, store);
-    if let Some(kept) = kept {
+    if let Some(saved) = saved {
         pen.fill(
-            "          Or see that recovery does not follow event # to what event # stores.\n",
-            &[kept, store],
+            "  or:     See that recovery does not follow event # to what event # stores.\n",
+            &[saved.store, store],
         );
     }
-}
-
-// A store that becomes safe after this one, and by this fence: the next one after it, or else the last one before it.
-fn kept_without(trace: &Trace, safe: &[u64], store: u64, fence: u64) -> Option<u64> {
-    for number in store..fence {
-        if is_saved(trace, safe, number, store, fence) {
-            return Some(number);
-        }
-    }
-    for number in (store.saturating_sub(NEAR)..store).rev() {
-        if is_saved(trace, safe, number, store, fence) {
-            return Some(number);
-        }
-    }
-    None
-}
-
-// Whether the event is a store that is safe after this fence, and not yet after the other store.
-fn is_saved(trace: &Trace, safe: &[u64], number: u64, store: u64, fence: u64) -> bool {
-    let Some(event) = trace.get(number) else {
-        return false;
-    };
-    let op = event.op;
-    let place = match safe.get(number.saturating_sub(1) as usize) {
-        Some(place) => *place,
-        None => 0,
-    };
-    matches!(op, Op::Store(_)) && store < place && place <= fence
 }

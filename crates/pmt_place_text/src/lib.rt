@@ -4,7 +4,6 @@
 mod claims;
 mod guesses;
 mod hints;
-mod instead;
 mod late;
 mod left;
 mod lost;
@@ -12,6 +11,7 @@ mod marks;
 mod members;
 mod merging;
 mod places;
+mod retold;
 mod sharing;
 mod wanted;
 

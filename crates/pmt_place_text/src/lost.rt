@@ -7,8 +7,8 @@ use pmt_explanation::{Explanation, first};
 use pmt_failures::mend_for;
 use pmt_pen::Pen;
 use pmt_telling::{
-    SOURCE, Section, Telling, line_address, plural, push_count, push_draw, push_named, push_remedy,
-    push_source, tells_all,
+    HEAD, SOURCE, Section, Telling, is_unflushed, line_address, plural, push_cause, push_count,
+    push_draw, push_early, push_mend, push_named, push_source, push_wrapped, tells_all,
 };
 
 // The most cache lines that are named beside the one in full.
@@ -53,8 +53,12 @@ fn push_lost(pen: &mut Pen, told: &Telling<'_>, members: &[u64]) {
     push_head(pen, told, members, &group);
     push_stores(pen, told, &group);
     push_others(pen, told, members);
+    push_cause(pen, told, group.cause, group.line);
+    if is_unflushed(group.cause) {
+        push_early(pen, told, "  early:  ", group.first, SOURCE);
+    }
     let mend = mend_for(group.cause, group.line, group.last, None, false);
-    push_remedy(pen, told, group.cause, group.line, mend);
+    push_mend(pen, told, "  fix:    ", mend);
     let line = line_address(told.trace, group.line);
     pen.put("  draw:   ");
     push_draw(pen, told, "--line @", line, group.last);
@@ -71,10 +75,11 @@ fn group_of(told: &Telling<'_>, number: u64) -> Option<LostGroup> {
 
 // Adds how many stores are never persisted, and to which line; and how many there are for this cause.
 fn push_head(pen: &mut Pen, told: &Telling<'_>, members: &[u64], group: &LostGroup) {
-    pen.put("error: ");
-    push_count(pen, group.count, "store");
-    pen.fill(" to cache line @", &[line_address(told.trace, group.line)]);
-    pen.put(if group.count == 1 {
+    let mut head = Pen::new(pen.alloc());
+    head.put("error: ");
+    push_count(&mut head, group.count, "store");
+    head.fill(" to cache line @", &[line_address(told.trace, group.line)]);
+    head.put(if group.count == 1 {
         " is never persisted: a crash at the end can lose it"
     } else {
         " are never persisted: a crash at the end can lose them"
@@ -86,12 +91,12 @@ fn push_head(pen: &mut Pen, told: &Telling<'_>, members: &[u64], group: &LostGro
                 all = all.saturating_add(other.count);
             }
         }
-        pen.fill(
+        head.fill(
             "; # stores to # cache lines for this cause",
             &[all, members.len() as u64],
         );
     }
-    pen.put("\n");
+    push_wrapped(pen, &head, HEAD);
 }
 
 // Adds the first and the last of the stores.
@@ -112,18 +117,19 @@ fn push_others(pen: &mut Pen, told: &Telling<'_>, members: &[u64]) {
     if count == 0 {
         return;
     }
-    pen.put("  also:   cache line");
-    pen.put(plural(count as u64));
+    let mut line = Pen::new(pen.alloc());
+    line.put("  also:   cache line");
+    line.put(plural(count as u64));
     for number in members.iter().skip(1).take(NAMED) {
         if let Some(group) = group_of(told, *number) {
-            pen.fill(" @", &[line_address(told.trace, group.line)]);
+            line.fill(" @", &[line_address(told.trace, group.line)]);
         }
     }
     if count > NAMED {
-        pen.fill(
+        line.fill(
             " and # more (--json has them)",
             &[count.saturating_sub(NAMED) as u64],
         );
     }
-    pen.put("\n");
+    push_wrapped(pen, &line, SOURCE);
 }

@@ -3,7 +3,9 @@
 use pmt_causes::Origin;
 use pmt_model::{Op, OutOfMemory, Trace};
 use pmt_pen::Pen;
-use pmt_telling::{Section, Telling, place_of, push_count, push_place_name, tells_all};
+use pmt_telling::{
+    HEAD, Section, Telling, place_of, push_count, push_place_name, push_wrapped, tells_all,
+};
 use std::collections::HashMap;
 
 // The most places that are named.
@@ -122,6 +124,7 @@ fn note_of(told: &Telling<'_>, spots: &[Spot]) -> Pen {
     if spots.len() > NAMED {
         pen.fill(" and # more", &[spots.len().saturating_sub(NAMED) as u64]);
     }
-    pen.put("\n");
-    pen
+    let mut note = Pen::new(told.alloc);
+    push_wrapped(&mut note, &pen, HEAD);
+    note
 }

@@ -2,8 +2,8 @@
 
 use pmt_explain::LostGroup;
 use pmt_fates::PlaceRow;
-use pmt_model::{Op, OutOfMemory, Trace, line_of};
-use pmt_telling::Telling;
+use pmt_model::OutOfMemory;
+use pmt_telling::{Telling, line_of_store};
 use std::collections::HashMap;
 
 // Of some stores that are never persisted, by their numbers, where their groups of line and cause stand.
@@ -60,23 +60,5 @@ fn starts(lost: &[LostGroup], place: usize, store: u64) -> bool {
     match lost.get(place) {
         Some(group) => group.first == store,
         None => false,
-    }
-}
-
-// The line of the store.
-pub(crate) fn line_of_store(trace: &Trace, number: u64) -> u64 {
-    let Some(event) = trace.get(number) else {
-        return 0;
-    };
-    let op = event.op;
-    match op {
-        Op::Store(store) => line_of(trace.format(), store.addr()),
-        Op::Clwb(_)
-        | Op::ClflushOpt(_)
-        | Op::Clflush(_)
-        | Op::Sfence
-        | Op::Mfence
-        | Op::IsPersist(_)
-        | Op::IsOrderedBefore(_, _) => 0,
     }
 }

@@ -1,8 +1,8 @@
 //! What becomes of the stores of each place, in words: of the places that lose or delay some.
 
 use crate::claims::Claims;
-use crate::instead::push_instead;
-use crate::members::{Members, line_of_store, members_of};
+use crate::members::{Members, members_of};
+use crate::retold::{Retold, retold_of};
 use crate::sharing::{Sharing, push_shared, sharing_of};
 use pmt_asked::Choice;
 use pmt_explanation::{Explanation, first};
@@ -11,15 +11,16 @@ use pmt_fates::{PlaceRow, Standing, standing_of};
 use pmt_model::{Op, OutOfMemory, line_of};
 use pmt_pen::Pen;
 use pmt_telling::{
-    SOURCE, Section, Telling, is_unflushed, line_address, push_cause, push_count, push_draw,
-    push_mend, push_named, push_own_flush, push_place_name, push_source, tells_all,
+    HEAD, SOURCE, Section, Telling, flushed_instead, is_unflushed, line_address, line_of_store,
+    line_under, push_cause, push_count, push_draw, push_early, push_found, push_instead, push_mend,
+    push_named, push_own_flush, push_place_name, push_source, push_wrapped, tells_all,
 };
 
 const LABELLED: &str =
-    "places: what becomes of what each one stores; those that lose or delay a part come first:\n";
+    "places: what became of the stores of each line of source; those that lose or delay a part first:\n";
 
 const THREADS: &str =
-    "places: what becomes of what each thread stores; with labels (--labels FILE) a place is a line of source:\n";
+    "places: what became of the stores of each thread; with --labels FILE a place is a line of source:\n";
 
 /// The places that lose or delay stores, unless something is asked for.
 pub fn places_section(told: &Telling<'_>, claims: &Claims) -> Section {
@@ -54,7 +55,13 @@ fn add_rows(
     section.total = (0..rows.len())
         .filter(|number| !is_told(&sharing, rows, *number))
         .count();
-    add_places(section, told, rows, &sharing, &members);
+    let retold = retold_of(told, rows, &members)?;
+    let beside = Beside {
+        sharing,
+        members,
+        retold,
+    };
+    add_places(section, told, rows, &beside);
     Ok(())
 }
 
@@ -85,64 +92,79 @@ fn is_troubled(row: &PlaceRow) -> bool {
     }
 }
 
+// What is known of places besides their rows: which share a line, why the first lost store of each is lost, and of which failed assertions
+// tell.
+#[derive(Drop)]
+struct Beside {
+    sharing: Sharing,
+    members: Members,
+    retold: Retold,
+}
+
 // Adds an entry for each of these places that is not told with another one, as many as the limit says.
-fn add_places(
-    section: &mut Section,
-    told: &Telling<'_>,
-    rows: &[PlaceRow],
-    sharing: &Sharing,
-    members: &Members,
-) {
+fn add_places(section: &mut Section, told: &Telling<'_>, rows: &[PlaceRow], beside: &Beside) {
     let mut added = 0usize;
     for (number, row) in rows.iter().enumerate() {
         if added >= told.explanation.limit {
             break;
         }
-        if sharing.is_told(row.place, number) {
+        if beside.sharing.is_told(row.place, number) {
             continue;
         }
         added = added.saturating_add(1);
         let mut pen = Pen::new(told.alloc);
-        match sharing.shared(row.place) {
-            Some(numbers) => {
-                let line = line_of_store(told.trace, row.first_lost.unwrap_or(0));
-                push_shared(
-                    &mut pen,
-                    told,
-                    rows,
-                    numbers,
-                    line_address(told.trace, line),
-                );
-            }
-            None => push_head(&mut pen, told, row),
-        }
-        if let Some(store) = row.first_lost {
-            push_lost(&mut pen, told, members, store);
-        } else if let Some(store) = row.first_late {
-            push_late(&mut pen, told, store);
-        }
+        push_place_entry(&mut pen, told, rows, row, beside);
         section.add(pen);
     }
 }
 
-// Adds how many stores the place has, and what becomes of them.
-fn push_head(pen: &mut Pen, told: &Telling<'_>, row: &PlaceRow) {
-    pen.put(match standing_of(row) {
+// Adds the place, or those that share its line, and its first store that is lost or late; or which failed assertion tells of that.
+fn push_place_entry(
+    pen: &mut Pen,
+    told: &Telling<'_>,
+    rows: &[PlaceRow],
+    row: &PlaceRow,
+    beside: &Beside,
+) {
+    if let Some(numbers) = beside.sharing.shared(row.place) {
+        let line = line_of_store(told.trace, row.first_lost.unwrap_or(0));
+        push_shared(pen, told, rows, numbers, line_address(told.trace, line));
+    } else {
+        let failure = beside.retold.event_of(told, row.place);
+        push_head(pen, told, row, failure);
+        if failure.is_some() {
+            return;
+        }
+    }
+    if let Some(store) = row.first_lost {
+        push_lost(pen, told, &beside.members, store);
+    } else if let Some(store) = row.first_late {
+        push_late(pen, told, store);
+    }
+}
+
+// Adds how many stores the place has, and what becomes of them; and which failed assertion tells why, if one does.
+fn push_head(pen: &mut Pen, told: &Telling<'_>, row: &PlaceRow, failure: Option<u64>) {
+    let mut head = Pen::new(pen.alloc());
+    head.put(match standing_of(row) {
         Standing::LosesSome | Standing::LosesAll => "error: ",
         Standing::DelaysSome => "warning: ",
         Standing::DelaysAll | Standing::Keeps => "note: ",
     });
-    push_place_name(pen, told, row.place);
-    pen.put(": ");
-    push_count(pen, row.stores, "store");
-    pen.fill(
+    push_place_name(&mut head, told, row.place);
+    head.put(": ");
+    push_count(&mut head, row.stores, "store");
+    head.fill(
         ": # never persisted, # saved late, # in time",
         &[row.lost, row.late, row.in_time],
     );
     if row.ignored > 0 {
-        pen.fill(", # ignored", &[row.ignored]);
+        head.fill(", # ignored", &[row.ignored]);
     }
-    pen.put("\n");
+    if let Some(event) = failure {
+        head.fill("; why: --failure #", &[event]);
+    }
+    push_wrapped(pen, &head, HEAD);
 }
 
 // Adds the first store of a place that is never persisted: why, and what mends it.
@@ -152,12 +174,13 @@ fn push_lost(pen: &mut Pen, told: &Telling<'_>, members: &Members, store: u64) {
     if let Some(group) = members.group_of(told, store) {
         push_cause(pen, told, group.cause, group.line);
         if is_unflushed(group.cause) {
-            push_instead(pen, told, store);
+            push_early(pen, told, "  early:  ", store, SOURCE);
+            push_other(pen, told, store);
         }
-        pen.put("  fix:    ");
         push_mend(
             pen,
             told,
+            "  fix:    ",
             mend_for(group.cause, group.line, store, None, false),
         );
         let line = line_address(told.trace, group.line);
@@ -174,7 +197,8 @@ fn push_late(pen: &mut Pen, told: &Telling<'_>, store: u64) {
         "  why:    # fences of its thread left it unsafe\n",
         &[waited_by(told, store)],
     );
-    push_instead(pen, told, store);
+    push_early(pen, told, "  early:  ", store, SOURCE);
+    push_other(pen, told, store);
     let Some(event) = told.trace.get(store) else {
         return;
     };
@@ -185,6 +209,16 @@ fn push_late(pen: &mut Pen, told: &Telling<'_>, store: u64) {
         push_own_flush(pen, told, line, thread, store);
         pen.put("  draw:   ");
         push_draw(pen, told, "--line @", line_address(told.trace, line), store);
+    }
+}
+
+// Adds the flush that comes instead of one of the store, if one does, with its line of source.
+fn push_other(pen: &mut Pen, told: &Telling<'_>, store: u64) {
+    if let Some(flush) = flushed_instead(told.trace, store) {
+        push_instead(pen, told, "  but:    ", flush, SOURCE);
+        if let Some(found) = line_under(told, &[store, flush], 1) {
+            push_found(pen, SOURCE, found);
+        }
     }
 }
 

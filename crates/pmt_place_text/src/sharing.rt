@@ -1,12 +1,13 @@
 //! Places that lose all they store to one cache line which nothing flushes: those of one line are told once.
 
 use crate::claims::Claims;
-use crate::members::line_of_store;
 use pmt_causes::Origin;
 use pmt_fates::{PlaceRow, Standing, standing_of};
 use pmt_model::OutOfMemory;
 use pmt_pen::Pen;
-use pmt_telling::{Telling, place_of, push_count, push_place_name};
+use pmt_telling::{
+    HEAD, Telling, line_of_store, place_of, push_count, push_place_name, push_wrapped,
+};
 use std::collections::HashMap;
 
 // The most places that are named.
@@ -126,19 +127,20 @@ pub(crate) fn push_shared(
             stores = stores.saturating_add(row.lost);
         }
     }
-    pen.fill("error: cache line @ is never flushed: ", &[line]);
-    push_count(pen, numbers.len() as u64, "place");
-    pen.put(" lose all that they store to it, ");
-    push_count(pen, stores, "store");
-    pen.put(": ");
+    let mut head = Pen::new(pen.alloc());
+    head.fill("error: cache line @ is never flushed: ", &[line]);
+    push_count(&mut head, numbers.len() as u64, "place");
+    head.put(" lose all that they store to it, ");
+    push_count(&mut head, stores, "store");
+    head.put(": ");
     for (place, number) in numbers.iter().take(NAMED).enumerate() {
-        pen.put(if place > 0 { ", " } else { "" });
+        head.put(if place > 0 { ", " } else { "" });
         if let Some(row) = rows.get(*number) {
-            push_place_name(pen, told, row.place);
+            push_place_name(&mut head, told, row.place);
         }
     }
     if numbers.len() > NAMED {
-        pen.fill(" and # more", &[numbers.len().saturating_sub(NAMED) as u64]);
+        head.fill(" and # more", &[numbers.len().saturating_sub(NAMED) as u64]);
     }
-    pen.put("\n");
+    push_wrapped(pen, &head, HEAD);
 }

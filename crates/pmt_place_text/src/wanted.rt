@@ -4,13 +4,14 @@ use crate::lost::shown_causes;
 use crate::places::troubled;
 use pmt_asked::{Choice, Labels};
 use pmt_explanation::Explanation;
-use pmt_model::OutOfMemory;
+use pmt_model::{OutOfMemory, Trace};
 use pmt_slices::story_of;
 use pmt_sources::{SourcePlace, place_at};
+use pmt_telling::flushed_instead;
 use std::alloc::{AllocError, Global};
 
 /// The places of source files that the text may have rows of, some of them more than once: of the stories of the failed assertions, and of
-/// the first stores that are lost or late.
+/// the first stores that are lost or late, and of the flushes that come instead of theirs.
 ///
 /// # Errors
 /// Where memory was refused.
@@ -29,10 +30,12 @@ pub fn source_places<'a>(
         if let Some(story) = story_of(alloc, trace, shown.event, &shown.failure)? {
             add_places(&mut found, labels, story.numbers())?;
         }
+        add_instead(&mut found, labels, trace, shown.failure.lost.store)?;
     }
     for row in troubled(explanation, choice) {
         if let Some(store) = row.first_lost.or(row.first_late) {
             add_places(&mut found, labels, &[store])?;
+            add_instead(&mut found, labels, trace, store)?;
         }
     }
     for cause in shown_causes(explanation, choice) {
@@ -41,6 +44,19 @@ pub fn source_places<'a>(
         }
     }
     Ok(found)
+}
+
+// Adds the place of the flush that comes instead of one of the store, if one does.
+fn add_instead<'a>(
+    found: &mut Vec<SourcePlace<'a>>,
+    labels: &'a Labels,
+    trace: &Trace,
+    store: u64,
+) -> Result<(), OutOfMemory> {
+    match flushed_instead(trace, store) {
+        Some(flush) => add_places(found, labels, &[flush]),
+        None => Ok(()),
+    }
 }
 
 // Adds the places of these events.

@@ -2,6 +2,8 @@
 #![tactic(auto)]
 
 mod commands;
+mod hinting;
+mod missing;
 mod parts;
 mod rows;
 mod screen;
@@ -9,12 +11,16 @@ mod sources;
 mod telling;
 
 pub use crate::commands::{push_draw, push_word};
+pub use crate::hinting::{Hinting, hint_line, hint_partner, hinting_of, push_hint_words};
+pub use crate::missing::{flushed_instead, push_early, push_instead};
 pub use crate::parts::{
     NEAR, is_unflushed, next_fence, place_of, plural, push_cause, push_count, push_event,
-    push_frame, push_label, push_mend, push_named, push_own_flush, push_place_name, push_remedy,
+    push_frame, push_label, push_mend, push_named, push_own_flush, push_place, push_place_name,
     push_words,
 };
-pub use crate::rows::{WIDTH, push_column, push_cut, push_line, push_spaces, width_of};
+pub use crate::rows::{
+    HEAD, WIDTH, push_broken, push_column, push_cut, push_line, push_spaces, push_wrapped, width_of,
+};
 pub use crate::screen::{Section, lines_of, push_sections};
 pub use crate::sources::{SOURCE, line_under, push_found, push_source, sources_section};
-pub use crate::telling::{Screen, Telling, failure_of, line_address, tells_all};
+pub use crate::telling::{Screen, Telling, failure_of, line_address, line_of_store, tells_all};

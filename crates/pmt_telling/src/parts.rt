@@ -1,5 +1,7 @@
 //! Events, causes and mends in words.
 
+use crate::rows::push_wrapped;
+use crate::sources::SOURCE;
 use crate::telling::{Telling, line_address};
 use pmt_asked::frame_of;
 use pmt_causes::{Origin, origin_of};
@@ -37,7 +39,7 @@ pub fn is_unflushed(cause: Cause) -> bool {
 /// Adds the event as a person finds it again: its number, line, thread, label and words.
 pub fn push_event(pen: &mut Pen, told: &Telling<'_>, number: u64) {
     let Some(event) = told.trace.get(number) else {
-        pen.fill("event #\n", &[number]);
+        pen.fill("event #", &[number]);
         return;
     };
     let Event { thread, op } = event;
@@ -48,7 +50,6 @@ pub fn push_event(pen: &mut Pen, told: &Telling<'_>, number: u64) {
     push_label(pen, told, number);
     pen.put(": ");
     push_words(pen, Event { thread, op });
-    pen.put("\n");
 }
 
 /// Adds the event's line in the text of its trace, which is ASCII, without its LF.
@@ -65,10 +66,12 @@ pub fn push_words(pen: &mut Pen, event: Event) {
     }
 }
 
-/// Adds the event after the name that it has in its entry.
+/// Adds a line with the event after the name that it has in its entry.
 pub fn push_named(pen: &mut Pen, told: &Telling<'_>, name: &str, number: u64) {
-    pen.put(name);
-    push_event(pen, told, number);
+    let mut line = Pen::new(pen.alloc());
+    line.put(name);
+    push_event(&mut line, told, number);
+    push_wrapped(pen, &line, SOURCE);
 }
 
 /// Adds where the event is made, if it has a label.
@@ -108,84 +111,88 @@ pub fn push_place_name(pen: &mut Pen, told: &Telling<'_>, place: Origin) {
     }
 }
 
-/// Adds why the store is not safe by then, and what mends it.
-pub fn push_remedy(pen: &mut Pen, told: &Telling<'_>, cause: Cause, line: u64, mend: Mend) {
-    push_cause(pen, told, cause, line);
-    pen.put("  fix:    ");
-    push_mend(pen, told, mend);
-}
-
 /// Adds why the store is not safe by then, with the fence of another thread that came in the place of the one that is wanted.
 pub fn push_cause(pen: &mut Pen, told: &Telling<'_>, cause: Cause, line: u64) {
-    pen.put("  why:    ");
-    let line = line_address(told.trace, line);
-    match cause {
-        Cause::Later => pen.put("the store comes later than the crash\n"),
-        Cause::Unflushed => pen.fill(
-            "no flush of cache line @ follows the store by then\n",
-            &[line],
-        ),
-        Cause::Unfenced {
-            flush,
-            thread,
-            other,
-        } => {
-            pen.fill(
-                "cache line @ is flushed after the store, but thread # makes no fence after its flush by then\n",
-                &[line, thread as u64],
-            );
-            push_named(pen, told, "  flush:  ", flush);
-            if let Some(other) = other {
-                push_named(pen, told, OTHER, other);
-            }
+    let mut why = Pen::new(pen.alloc());
+    why.put("  why:    ");
+    push_why(&mut why, cause, line_address(told.trace, line));
+    push_wrapped(pen, &why, SOURCE);
+    if let Cause::Unfenced {
+        flush,
+        thread: _,
+        other,
+    } = cause
+    {
+        push_named(pen, told, "  flush:  ", flush);
+        if let Some(other) = other {
+            push_named(pen, told, OTHER, other);
         }
     }
 }
 
-const OTHER: &str =
-    "  note:   a fence completes the flushes of its own thread alone, so this one does not help: ";
+// Adds why the store to the line of this address is not safe by then.
+fn push_why(pen: &mut Pen, cause: Cause, line: u64) {
+    match cause {
+        Cause::Later => pen.put("the store comes later than the crash"),
+        Cause::Unflushed => pen.fill(
+            "no flush of cache line @ follows the store by then",
+            &[line],
+        ),
+        Cause::Unfenced {
+            flush: _,
+            thread,
+            other: _,
+        } => pen.fill(
+            "cache line @ is flushed, but thread # makes no fence after its flush by then",
+            &[line, thread as u64],
+        ),
+    }
+}
 
-/// Adds what mends the store.
-pub fn push_mend(pen: &mut Pen, told: &Telling<'_>, mend: Mend) {
+const OTHER: &str = "  note:   a fence of another thread does not help: ";
+
+/// Adds what mends the store, after the name that it has in its entry.
+pub fn push_mend(pen: &mut Pen, told: &Telling<'_>, name: &str, mend: Mend) {
+    let mut line = Pen::new(pen.alloc());
+    line.put(name);
     match mend {
         Mend::Fence {
             thread,
             after,
             before,
         } => {
-            pen.fill("Fence by thread # after ", &[thread as u64]);
-            push_when(pen, told, after, "", before);
+            line.fill("Fence by thread # after ", &[thread as u64]);
+            push_when(&mut line, told, after, "", before);
         }
         Mend::FlushAndFence {
-            line,
+            line: flushed,
             after,
             before,
         } => {
-            let line = line_address(told.trace, line);
-            pen.fill("Flush cache line @ after ", &[line]);
-            push_when(pen, told, after, FENCED, before);
-            push_standing_fence(pen, told, after, before);
+            let address = line_address(told.trace, flushed);
+            line.fill("Flush cache line @ after ", &[address]);
+            push_when(&mut line, told, after, FENCED, before);
+            push_standing_fence(&mut line, told, after, before);
         }
         Mend::StoreFirst {
             store,
             before,
             same_line,
         } => {
-            pen.put("Make the store of ");
-            push_when(pen, told, store, " earlier", before);
-            pen.put(if same_line { ENOUGH } else { BETWEEN });
+            line.put("Make the store of ");
+            push_when(&mut line, told, store, " earlier", before);
+            line.put(if same_line { ENOUGH } else { BETWEEN });
         }
     }
+    push_wrapped(pen, &line, SOURCE);
 }
 
 const FENCED: &str = ", and fence by the thread that flushes it";
 
 // What an earlier store wants besides.
-const ENOUGH: &str =
-    "          That is enough: stores to one cache line are persisted in their order.\n";
+const ENOUGH: &str = " That is enough: stores to one cache line are persisted in their order.";
 
-const BETWEEN: &str =
-    "          Flush its cache line in between, and fence by the thread that flushes it.\n";
+const BETWEEN: &str = " Flush its cache line in between, and fence by the thread that flushes it.";
 
 /// The most events that are searched for the next fence of a thread.
 pub const NEAR: u64 = 10_000;
@@ -225,26 +232,27 @@ fn push_standing_fence(pen: &mut Pen, told: &Telling<'_>, after: u64, before: Op
     };
     let thread = event.thread;
     if let Some(fence) = next_fence(told, thread, after, before) {
-        pen.fill("          Thread # fences at ", &[thread as u64]);
+        pen.fill(" Thread # fences at ", &[thread as u64]);
         push_place(pen, told, fence);
-        pen.put(": a flush by it before that needs no other fence.\n");
+        pen.put(": a flush by it before that needs no other fence.");
     }
 }
 
 /// Adds the flush that saves the store of the thread to the line by the thread's next fence.
 pub fn push_own_flush(pen: &mut Pen, told: &Telling<'_>, line: u64, thread: u8, store: u64) {
-    let line = line_address(told.trace, line);
-    pen.fill(
+    let mut fix = Pen::new(pen.alloc());
+    fix.fill(
         "  fix:    Flush cache line @ by thread # after ",
-        &[line, thread as u64],
+        &[line_address(told.trace, line), thread as u64],
     );
-    push_place(pen, told, store);
-    pen.put(", before its next fence");
+    push_place(&mut fix, told, store);
+    fix.put(", before its next fence");
     if let Some(fence) = next_fence(told, thread, store, None) {
-        pen.put(", ");
-        push_place(pen, told, fence);
+        fix.put(", ");
+        push_place(&mut fix, told, fence);
     }
-    pen.put(".\n");
+    fix.put(".");
+    push_wrapped(pen, &fix, SOURCE);
 }
 
 // Adds the event, what is to be done besides, and by when.
@@ -255,15 +263,15 @@ fn push_when(pen: &mut Pen, told: &Telling<'_>, number: u64, besides: &str, befo
         pen.put(", before ");
         push_place(pen, told, event);
     }
-    pen.put(".\n");
+    pen.put(".");
 }
 
-// Adds the event's number, with its label if it has one.
-fn push_place(pen: &mut Pen, told: &Telling<'_>, number: u64) {
+/// Adds the event's number, with the innermost frame of its label if it has one.
+pub fn push_place(pen: &mut Pen, told: &Telling<'_>, number: u64) {
     pen.fill("event #", &[number]);
     if let Some(label) = told.labels.get(number) {
         pen.put(" (");
-        pen.put(label.as_str());
+        pen.put(frame_of(label.as_str()));
         pen.put(")");
     }
 }

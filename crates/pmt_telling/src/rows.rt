@@ -6,11 +6,43 @@ use unicode_width::UnicodeWidthChar;
 /// The most columns of a line.
 pub const WIDTH: u64 = 100;
 
+/// The columns before the further lines of what begins an entry, as `error: `.
+pub const HEAD: u64 = 7;
+
 /// Adds the text as a line, cut where it has too many columns.
 pub fn push_line(pen: &mut Pen, text: &Pen) {
     pen.share(text);
     let _used = push_cut(pen, text.as_str(), WIDTH);
     pen.put("\n");
+}
+
+/// Adds the text as lines of whole words, of which all but the first begin with so many spaces. A word that no line has room for is cut.
+pub fn push_wrapped(pen: &mut Pen, text: &Pen, columns: u64) {
+    let _used = push_broken(pen, text, columns);
+    pen.put("\n");
+}
+
+/// Adds these lines, and leaves the last one open; and tells how many columns that takes.
+pub fn push_broken(pen: &mut Pen, text: &Pen, columns: u64) -> u64 {
+    pen.share(text);
+    let room = WIDTH.saturating_sub(columns);
+    let mut used = 0u64;
+    let mut is_first = true;
+    for word in text.as_str().split(' ') {
+        let with_word = used.saturating_add(width_of(word).min(room));
+        if is_first {
+            is_first = false;
+        } else if with_word >= WIDTH {
+            pen.put("\n");
+            push_spaces(pen, columns);
+            used = columns;
+        } else {
+            pen.put(" ");
+            used = used.saturating_add(1);
+        }
+        used = used.saturating_add(push_cut(pen, word, room));
+    }
+    used
 }
 
 /// Adds the text, or as much of it as has room in so many columns, with a mark that some is missing; and tells how many it took.

@@ -2,7 +2,7 @@
 
 use pmt_asked::{Choice, Cut, Ignored, Kind, Labels};
 use pmt_explanation::Explanation;
-use pmt_model::Trace;
+use pmt_model::{Op, Trace, line_of};
 use pmt_sources::Sources;
 use std::alloc::Global;
 
@@ -59,4 +59,22 @@ pub fn failure_of(choice: &Choice) -> Option<u64> {
 /// The address of the first byte of the trace's line.
 pub fn line_address(trace: &Trace, line: u64) -> u64 {
     pmt_names::line_address(trace.format(), line)
+}
+
+/// The line of the store; 0 of another event.
+pub fn line_of_store(trace: &Trace, number: u64) -> u64 {
+    let Some(event) = trace.get(number) else {
+        return 0;
+    };
+    let op = event.op;
+    match op {
+        Op::Store(store) => line_of(trace.format(), store.addr()),
+        Op::Clwb(_)
+        | Op::ClflushOpt(_)
+        | Op::Clflush(_)
+        | Op::Sfence
+        | Op::Mfence
+        | Op::IsPersist(_)
+        | Op::IsOrderedBefore(_, _) => 0,
+    }
 }

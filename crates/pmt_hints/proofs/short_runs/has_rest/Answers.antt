@@ -25,9 +25,9 @@ loop-index-preserved c =
     let own : act T.format e ≡ a = ap (λ g. act_of g e.thread e.op) (sym c.format-format.ensures.value) in
     let waits : slice_get c.args.waited.now i ≡ Some (get_or c.args.waited.now i 0) = slice_get-get_or c.args.waited.now i 0 (omega (arith, c.requires.waited.size, long)) in
     let safe : slice_get c.args.places.now i ≡ Some (get_or c.args.places.now i 0) = slice_get-get_or c.args.places.now i 0 (omega (arith, c.requires.places.size, long)) in
-    let line = line_left T labels c.get-earlier.result e.thread (act T.format e) (i + 1) in
+    let line = line_left T labels c.get-earlier.result e.thread e.op (i + 1) in
     let left : Tells (GoesOn T labels) e.thread (suc i) line =
-    left-tells T labels i c.get-earlier.result _ e (act T.format e) c.loop-index.stores line (omega arith) at refl c.rest_left-line.ensures.small c.get-earlier.ensures refl c.loop-index.invariant.stores
+    left-tells T labels i c.get-earlier.result _ e c.loop-index.stores line (omega arith) at c.rest_left-line.ensures.small c.get-earlier.ensures refl c.loop-index.invariant.stores
     in
     record {
       stores = any-stores-up T i _ e a c.loop-index.stores c.note_store.new.self (omega arith) at own c.note_store.ensures c.loop-index.invariant.stores;

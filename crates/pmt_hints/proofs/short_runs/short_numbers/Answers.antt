@@ -1,4 +1,4 @@
-use Rattle.std.proofs.Common.{◌≡◌, suc, length, get_or, Some, ap, refl, sym, subst, ◌∙◌, arith}
+use Rattle.std.proofs.Common.{◌≡◌, suc, length, get_or, Some, ap, sym, subst, ◌∙◌, arith}
 use Rattle.std.specs.Prelude.{slice_get}
 use Rattle.std.proofs.lemmas.Option.{slice_get-get_or}
 use Rattle.pmt_model.specs.Traces.{act, act_of, event}
@@ -39,7 +39,7 @@ loop-index-preserved c =
     let waits : slice_get c.args.waited.now i ≡ Some (get_or c.args.waited.now i 0) = slice_get-get_or c.args.waited.now i 0 (omega (arith, c.requires.waited.size, long)) in
     let safe : slice_get c.args.places.now i ≡ Some (get_or c.args.places.now i 0) = slice_get-get_or c.args.places.now i 0 (omega (arith, c.requires.places.size, long)) in
     let left : Tells (GoesOn T labels) e.thread (suc i) c.line_left-line.result =
-    left-tells T labels i c.get-earlier.result _ e (act T.format e) c.loop-index.stores c.line_left-line.result (omega arith) at refl c.line_left-line.ensures.small c.get-earlier.ensures c.line_left-line.ensures.value c.loop-index.invariant.stores
+    left-tells T labels i c.get-earlier.result _ e c.loop-index.stores c.line_left-line.result (omega arith) at c.line_left-line.ensures.small c.get-earlier.ensures c.line_left-line.ensures.value c.loop-index.invariant.stores
     in
     record {
       fences = fences-up T i _ a c.loop-index.fences c.note_fence.new.self (omega arith) (e, at, own) c.note_fence.ensures c.loop-index.invariant.fences;
