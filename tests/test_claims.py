@@ -226,7 +226,7 @@ def unnamed_members(schema):
     parts = section.split("What will not change")[0].split("Parts that are spelled alike")
     lists = [re.split(r"^(?:- |\| (?=`))", part, flags=re.M)[1:] for part in parts]  # rows of a table, and items of a list
     for item in lists[0]:
-        kinds = named_in(item.partition("|")[0])
+        kinds = named_in(re.split("[:|]", item)[0])
         for kind in kinds:
             for name in sorted(set(schema["$defs"][f"{kind}_line"]["properties"]) - named_in(item) - {"kind"}):
                 yield f"docs/EXPLAIN.md: {kind} has {name}, which is not named"
