@@ -91,8 +91,11 @@ def random_choice(choose, trace, labels):
         asked["to"] = choose.randrange(asked.get("from", 1), len(trace.events) + 3)
     if labels and choose.random() < 0.2:
         asked["label"] = choose.choice(("1", "c:2", "call", "file.c:3"))
+    if choose.random() < 0.1:
+        # the one event that --failure asks for, with what else is asked for
+        asked |= {"only": "failure", "from": (event := choose.choice(trace.numbers)), "to": event}
     spelled_range = {"range": "{address:#x}:{length}".format(**asked["range"])} if "range" in asked else {}
-    words = [word for name, value in {**asked, **spelled_range}.items() for word in (f"--{name}", str(value))]
+    words = [word for name, value in {**asked, **spelled_range}.items() for word in (f"--{name.replace('_', '-')}", str(value))]
     return asked, words
 
 

@@ -391,7 +391,7 @@ def asked_lines(explained):
         "to": f"up to event {asked['to']} alone",
         "label": f"of labels with '{asked['label']}' in them alone",
     }
-    return [f"  told below: {told} (--{word})" for word, told in words.items() if asked[word] is not None]
+    return [f"  told below: {told} (--{word.replace('_', '-')})" for word, told in words.items() if asked[word] is not None]
 
 
 def idle_lines(explained):
