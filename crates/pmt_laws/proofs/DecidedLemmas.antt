@@ -8,7 +8,8 @@ use Rattle.pmt_model.specs.Traces.{Recording, act, event, IsAct, history}
 use Rattle.pmt_model.specs.Selections.{always_stays}
 use Rattle.pmt_model.specs.Keeping.{IsUsefulFlush, IsKept, Stays, ByFence, ByFlush, ByClflush}
 use Rattle.pmt_laws.proofs.Histories.{act-within, act-unique, history-step}
-use Rattle.pmt_laws.specs.Passing.{with_events, IsOpenFlush, IsDecided, DecidedStays, DecidedOrOpen, OpenIsDropped}
+use Rattle.pmt_model.specs.Pushing.{with_events}
+use Rattle.pmt_laws.specs.Passing.{IsOpenFlush, IsDecided, DecidedStays, DecidedOrOpen, OpenIsDropped}
 
 -- the events of a list stay where more follow
 slice_get-left : (xs ys : List Event) (i : ℕ) → i < length xs → slice_get (xs ++ ys) i ≡ slice_get xs i

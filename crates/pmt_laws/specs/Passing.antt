@@ -3,13 +3,10 @@
 use Rattle.std.specs.Prelude.{◌≡◌, ℕ, suc, ◌<◌, ◌≤◌, ◌↔◌, ◌==◌, max, if◌then◌else◌, List, [], ◌∷◌, ◌++◌, length}
 use Rattle.pmt_model.specs.declared.event.Event.{Event}
 use Rattle.pmt_model.specs.Machine.{Act, Stores, Flushes, Clflushes, Fences, Asserts, count}
+use Rattle.pmt_model.specs.Pushing.{with_events}
 use Rattle.pmt_model.specs.Traces.{Recording, IsAct, history, count_at}
 use Rattle.pmt_model.specs.Fronts.{front, front_at}
 use Rattle.pmt_model.specs.Keeping.{IsKept}
-
--- The trace with more events at its end.
-abbrev pub with_events : Recording → List Event → Recording
-with_events T more = record { format = T.format; events = T.events ++ more }
 
 -- Event k is a flush (no clflush) whose thread has not fenced since.
 pub record IsOpenFlush (T : Recording) (k : ℕ) : Type 0 where

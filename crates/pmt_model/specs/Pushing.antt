@@ -1,5 +1,5 @@
 -- What adding an event to a trace gives.
-use Rattle.std.specs.Prelude.{◌≡◌, ◌<◌, true, false, [], ◌∷◌, ◌++◌, length, Result, Ok, Err}
+use Rattle.std.specs.Prelude.{◌≡◌, ◌<◌, true, false, List, [], ◌∷◌, ◌++◌, length, Result, Ok, Err}
 use Rattle.pmt_model.specs.declared.event.Event.{Event}
 use Rattle.pmt_model.specs.declared.fault.PushError.{PushError}
 use Rattle.pmt_model.specs.declared.fault.PushError.TheVariants.{NotInFormat, Full, OutOfMemory}
@@ -12,6 +12,10 @@ empty format = record { format = format; events = [] }
 -- The trace with the event at its end.
 abbrev pub with_event : Recording → Event → Recording
 with_event T e = record { format = T.format; events = T.events ++ e ∷ [] }
+
+-- The trace with more events at its end.
+abbrev pub with_events : Recording → List Event → Recording
+with_events T more = record { format = T.format; events = T.events ++ more }
 
 -- The event is added, or the trace stays and the first check that failed is told.
 abbrev pub PushGives : Recording → Event → Result (Unit {0}) PushError → Recording → Type 0

@@ -52,6 +52,18 @@ impl Trace {
         }
     }
 
+    /// A trace of this format without events, and with room for so many.
+    ///
+    /// # Errors
+    /// Where memory was refused.
+    pub fn with_room(alloc: Global, format: Format, room: usize) -> Result<Self, OutOfMemory>
+        ensures { IfOk result (λ trace. trace ≡ empty format) }
+    {
+        let _version = format.version();
+        let events = Vec::with_capacity(alloc, room)?;
+        Ok(Trace { format, events })
+    }
+
     /// Its format.
     pub fn format(&self) -> Format
         ensures value { result ≡ self.now.format }

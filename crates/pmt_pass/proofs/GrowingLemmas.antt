@@ -10,14 +10,14 @@ use Rattle.pmt_model.specs.declared.finding.Finding.TheVariants.{Overwritten, Ne
 use Rattle.pmt_model.specs.declared.finding.Verdict.{Verdict}
 use Rattle.pmt_model.specs.Values.{Layout, Written}
 use Rattle.pmt_model.specs.Machine.{Act, Stores, Flushes, Clflushes, Fences, Ends, count}
-use Rattle.pmt_model.specs.Pushing.{empty}
+use Rattle.pmt_model.specs.Pushing.{empty, with_events}
 use Rattle.pmt_model.specs.Traces.{Recording, IsTrace, IsAct, history, lines_of}
 use Rattle.pmt_model.specs.Assertions.{PersistPasses, OrderedPasses}
 use Rattle.pmt_model.specs.Findings.{IsFlushOf, ByFlush, ByClflush, IsSafe, IsCovered, last_store_number}
 use Rattle.pmt_model.specs.Analyses.{IsFinding, reported_at, IsVerdictOf, OfPersist, OfOrdered}
 use Rattle.pmt_model.specs.Keeping.{IsKept}
 use Rattle.pmt_model.specs.Selections.{Has}
-use Rattle.pmt_laws.specs.Passing.{with_events, open_flushes, IsOpenFlush}
+use Rattle.pmt_laws.specs.Passing.{open_flushes, IsOpenFlush}
 use Rattle.pmt_laws.proofs.DecidedLemmas.{IsSameTo, act-more, act-less, event-more, history-more, decided_stays, open-or_decided, open_is_dropped}
 use Rattle.pmt_laws.proofs.PassLemmas.{are_open}
 use Rattle.pmt_safety.specs.Safety.{last_line_store, safe_store, safe_store_at, IsSafeFrom}

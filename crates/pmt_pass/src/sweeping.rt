@@ -3,9 +3,8 @@ ghost use Rattle.std.specs.Prelude.{◌≡◌, ℕ, suc, length, slice_get, Some
 ghost use Rattle.pmt_model.specs.Analyses.{IsFindings, IsVerdicts};
 ghost use Rattle.pmt_model.specs.Keeping.{IsKeep};
 ghost use Rattle.pmt_model.specs.Machine.{Flushes, Clflushes, Fences, Asserts};
-ghost use Rattle.pmt_model.specs.Pushing.{empty};
+ghost use Rattle.pmt_model.specs.Pushing.{empty, with_events};
 ghost use Rattle.pmt_model.specs.Traces.{Recording, IsAct, IsTrace, event, history, lines_of};
-ghost use Rattle.pmt_laws.specs.Passing.{with_events};
 ghost use Rattle.pmt_flags.specs.Flags.{marked_from};
 ghost use Rattle.pmt_known.specs.Known.{IsStoreNext};
 ghost use Rattle.pmt_ending.specs.SafePlaces.{AreSafePlaces};

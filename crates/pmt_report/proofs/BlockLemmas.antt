@@ -7,7 +7,7 @@ use Rattle.std.proofs.lemmas.List.{length-append}
 use Rattle.pmt_model.specs.declared.event.Event.{Event}
 use Rattle.pmt_model.specs.Values.{Layout}
 use Rattle.pmt_model.specs.Traces.{Recording, IsTrace, IsEventIn, event_limit}
-use Rattle.pmt_laws.specs.Passing.{with_events}
+use Rattle.pmt_model.specs.Pushing.{with_events}
 use Rattle.pmt_text.specs.declared.kind.SourceError.{SourceError}
 use Rattle.pmt_text.specs.declared.kind.SourceError.TheVariants.{Text, TooMany, Read, OutOfMemory, Failed}
 use Rattle.pmt_text.specs.declared.source.SourceState.{SourceState}

@@ -1,7 +1,6 @@
 //! What a check finds in the events of a source. They are taken block by block, and no block is kept.
 ghost use Rattle.std.specs.Prelude.{◌≡◌, ◌==◌, ◌+◌, ◌-◌, ◌^◌, ◌<◌, ◌≤◌, true, not, length, IfOk, IfErr, IfSome, OnOk};
-ghost use Rattle.pmt_laws.specs.Passing.{with_events};
-ghost use Rattle.pmt_model.specs.Pushing.{empty};
+ghost use Rattle.pmt_model.specs.Pushing.{empty, with_events};
 ghost use Rattle.pmt_model.specs.Traces.{Recording, IsTrace};
 ghost use Rattle.pmt_text.specs.Coming.{ComesWhole};
 ghost use Rattle.pmt_text.specs.Counting.{failure_count, inner_device};

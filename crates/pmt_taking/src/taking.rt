@@ -56,6 +56,14 @@ pub fn take_trace<S: EventSource>(alloc: Global, source: &mut S) -> Result<Trace
     Ok(trace)
 }
 
+// A block of at most so many events gets its room at once; one that may have more grows with them.
+const MOST_ROOM: u64 = 16_384;
+
+// For how many events there is room before the first of at most so many comes.
+fn room_for(most: u64) -> usize {
+    if most <= MOST_ROOM { most as usize } else { 0 }
+}
+
 /// The next events of the source, at most so many, as a trace of their own. Where they are fewer, the source has told its end.
 ///
 /// # Errors
@@ -71,7 +79,7 @@ pub fn take_block<S: EventSource>(
     ensures failures { CountsReads (S.failures source.old) (told_by result) (S.failures source.new) }
 {
     let format = source.format()?;
-    let mut block = Trace::new_with(alloc, format);
+    let mut block = Trace::with_room(alloc, format, room_for(most))?;
     source.take_ready(&mut block, most as usize)?;
     'block: while (block.len() as u64) < most {
         match source.next()? {

@@ -8,7 +8,8 @@ use Rattle.pmt_model.specs.Traces.{Recording, IsEventIn, event_limit}
 use Rattle.pmt_text.specs.declared.line_reader.LineReader.{LineReader}
 use Rattle.pmt_text.specs.Counting.{inner_device}
 use Rattle.pmt_text.specs.Lines.{known_ahead, known_of, held, last_line}
-use Rattle.pmt_text.specs.Plain.{AreFirstEvents, with_all}
+use Rattle.pmt_model.specs.Pushing.{with_events}
+use Rattle.pmt_text.specs.Plain.{AreFirstEvents}
 use Rattle.pmt_text.specs.Sources.{Gives, LendsAll, TakesReady}
 use Rattle.pmt_text.specs.declared.source.SourceState.{SourceState}
 use Rattle.pmt_text.specs.declared.source.SourceState.TheVariants.{Open}
@@ -49,7 +50,7 @@ plain-taken remaining old new T now given h input room few =
     rw (known, room) taken
 
 -- how many events they are
-length-taken : (T now : Recording) (events : List Event) → now ≡ with_all T events → length now.events ≡ length T.events + length events
+length-taken : (T now : Recording) (events : List Event) → now ≡ with_events T events → length now.events ≡ length T.events + length events
 length-taken T now events is = ap (λ U. length U.events) is ∙ length-append T.events events
 
 pub given-few : (given old new bound : ℕ) → (new ≤ old) ⊎ (new ≤ bound) → bound ≤ old + (event_limit - given) → given ≤ event_limit → given + (new - old) ≤ event_limit

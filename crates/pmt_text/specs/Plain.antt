@@ -3,14 +3,10 @@ use Rattle.std.specs.Prelude.{◌≡◌, ℕ, List, ◌++◌, Option, Some, None
 use Rattle.std.specs.List.{AllByRecursion, flat_map}
 use Rattle.pmt_model.specs.declared.event.Event.{Event}
 use Rattle.std.specs.Borrow.{Bor}
-use Rattle.pmt_model.specs.Pushing.{with_event}
+use Rattle.pmt_model.specs.Pushing.{with_event, with_events}
 use Rattle.pmt_model.specs.Traces.{Recording, IsEventIn}
 use Rattle.pmt_text.specs.Spelled.{IsFirstEvent}
 use Rattle.pmt_text.specs.Spelling.{event_text}
-
--- the trace with these events at its end
-abbrev pub with_all : Recording → List Event → Recording
-with_all T events = record { format = T.format; events = T.events ++ events }
 
 -- The event of the line that stands first is put at the trace's end, and this stands after the line; else the trace stays.
 abbrev pub AddsFirst : List ℕ → Option (Bor (List ℕ)) → Recording → Recording → Type 0
@@ -22,4 +18,4 @@ pub record AreFirstEvents (text rest : List ℕ) (before after : Recording) : Ty
   pub events : List Event
   pub in_format : AllByRecursion (IsEventIn before.format) events
   pub spelled : text ≡ flat_map event_text events ++ rest
-  pub added : after ≡ with_all before events
+  pub added : after ≡ with_events before events

@@ -9,7 +9,7 @@ use Rattle.pmt_text.specs.declared.kind.SourceError.TheVariants.{Text, TooMany, 
 use Rattle.pmt_text.specs.declared.source.SourceState.{SourceState}
 use Rattle.pmt_text.specs.declared.source.SourceState.TheVariants as states
 use Rattle.pmt_text.specs.Coming.{Coming}
-use Rattle.pmt_text.specs.Plain.{with_all}
+use Rattle.pmt_model.specs.Pushing.{with_events}
 use Rattle.pmt_text.specs.Spelling.{event_text}
 
 -- ---- What was coming, where that is known
@@ -83,7 +83,7 @@ LendsAll (e ∷ es) (Some text) = text ≡ flat_map event_text (e ∷ es)
 -- Events that come next were put at the end of the trace, as next would give them one by one.
 pub record TakesReady (old new : Option Coming) (lent : Option (List ℕ)) (before after : Recording) : Type 0 where
   pub events : List Event
-  pub added : after ≡ with_all before events
+  pub added : after ≡ with_events before events
   pub taken : Gives old events new
   pub lends : LendsAll events lent
 

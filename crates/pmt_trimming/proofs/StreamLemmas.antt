@@ -10,12 +10,12 @@ use Rattle.pmt_model.specs.declared.event.Event.{Event}
 use Rattle.pmt_model.specs.Values.{Layout}
 use Rattle.pmt_model.specs.Machine.{Flushes, Clflushes, Fences}
 use Rattle.pmt_model.specs.Traces.{Recording, event}
-use Rattle.pmt_model.specs.Pushing.{empty, with_event}
+use Rattle.pmt_model.specs.Pushing.{empty, with_event, with_events}
 use Rattle.pmt_model.specs.Selections.{IsRising, Has, cut}
 use Rattle.pmt_model.specs.Keeping.{IsKept, Stays, ByFence, ByFlush, ByClflush, IsKeep}
 use Rattle.pmt_text.specs.Spelling.{event_text, header, ended, spelling}
 use Rattle.pmt_text.specs.Sources.{Lends}
-use Rattle.pmt_laws.specs.Passing.{with_events, IsOpenFlush, IsDecided}
+use Rattle.pmt_laws.specs.Passing.{IsOpenFlush, IsDecided}
 use Rattle.pmt_laws.proofs.DecidedLemmas.{event-more, decided_stays, decided_or_open, open-or_decided}
 use Rattle.pmt_laws.proofs.Histories.{act-within}
 use Rattle.pmt_laws.proofs.CutLemmas.{has-above}

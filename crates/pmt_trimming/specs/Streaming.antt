@@ -6,7 +6,8 @@ use Rattle.pmt_model.specs.Values.{Layout}
 use Rattle.pmt_model.specs.Traces.{Recording}
 use Rattle.pmt_model.specs.Selections.{IsRising, Has, cut}
 use Rattle.pmt_model.specs.Keeping.{IsKept, IsKeep}
-use Rattle.pmt_laws.specs.Passing.{IsOpenFlush, with_events}
+use Rattle.pmt_model.specs.Pushing.{with_events}
+use Rattle.pmt_laws.specs.Passing.{IsOpenFlush}
 use Rattle.pmt_text.specs.declared.kind.SourceError.{SourceError}
 use Rattle.pmt_text.specs.declared.kind.SourceError.TheVariants as sources
 use Rattle.pmt_text.specs.declared.source.SourceState.{SourceState}

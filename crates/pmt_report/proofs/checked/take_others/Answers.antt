@@ -1,8 +1,7 @@
 use Rattle.std.proofs.Common.{rules, ◌≡◌, Ok, Err, sym, subst, arith}
 use Rattle.std.proofs.lemmas.List.{length-append}
-use Rattle.pmt_model.specs.Pushing.{empty}
+use Rattle.pmt_model.specs.Pushing.{empty, with_events}
 use Rattle.pmt_model.specs.Traces.{Recording}
-use Rattle.pmt_laws.specs.Passing.{with_events}
 use Rattle.pmt_taking.specs.declared.taking.TakeError.TheVariants.{OutOfMemory}
 use Rattle.pmt_taking.specs.Blocks.{TakesBlock, shown_by}
 use Rattle.pmt_pass.specs.Passing.{HasSwept}

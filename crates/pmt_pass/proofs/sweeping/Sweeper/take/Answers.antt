@@ -1,5 +1,5 @@
 use Rattle.std.proofs.Common.{◌≡◌, suc, ◌+◌, length, subst, arith}
-use Rattle.pmt_laws.specs.Passing.{with_events}
+use Rattle.pmt_model.specs.Pushing.{with_events}
 use Rattle.pmt_pass.specs.Passing.{IsPassOf}
 use Rattle.pmt_pass.proofs.GrowingLemmas.{event-next, pass-more, pass-whole}
 use Rattle.pmt_pass.proofs.sweeping.Sweeper.take.Goals as goal

@@ -1,6 +1,6 @@
 use Rattle.std.proofs.Common.{◌+◌, length}
 use Rattle.pmt_model.specs.Traces.{Recording, IsTrace}
-use Rattle.pmt_laws.specs.Passing.{with_events}
+use Rattle.pmt_model.specs.Pushing.{with_events}
 use Rattle.pmt_pass.specs.Passing.{HasSwept, IsPassOf}
 use Rattle.pmt_pass.proofs.sweeping.Sweeper.take.Given as goal
 
