@@ -1,5 +1,5 @@
 -- Which store is safe last by a place, and the next fence of a thread, event by event.
-use Rattle.std.proofs.Common.{◌≡◌, ◌≢◌, ℕ, zero, suc, ◌+◌, ◌<◌, ◌≤◌, ◌⊎◌, inl, inr, Bool, true, false, List, [], ◌∷◌, ◌++◌, length, length-append, get_or, set, get_or-set_same, get_or-set_other, None, Some, refl, sym, ap, subst, ◌∙◌, arith}
+use Rattle.std.proofs.Common.{◌≡◌, ◌≢◌, ℕ, zero, suc, ◌+◌, ◌<◌, ◌≤◌, ◌⊎◌, inl, inr, true, false, List, [], ◌∷◌, ◌++◌, length, length-append, get_or, set, get_or-set_same, get_or-set_other, Some, refl, sym, ap, subst, ◌∙◌, arith}
 use Rattle.std.specs.Prelude.{◌==◌, if◌then◌else◌, nat_lt, replicate, slice_get, unwrap_or}
 use Rattle.std.proofs.lemmas.Bool.{cases_lt, cases_eq, eq-eqb, ne_eqb, lt-ltb, le-ltb, false≢true}
 use Rattle.std.proofs.lemmas.List.{length-set, length-replicate}
@@ -17,10 +17,9 @@ use Rattle.pmt_explain.proofs.FirstLemmas.{first-here, first-over}
 use Rattle.pmt_explain.proofs.GroupingLemmas.{get-before, get-last}
 use Rattle.pmt_fates.specs.declared.fate.Fate.{Fate}
 use Rattle.pmt_fates.specs.declared.fate.Fate.TheVariants.{Claim, Left}
-use Rattle.pmt_fates.specs.declared.saved_before.SavedBefore.{SavedBefore}
 use Rattle.pmt_fates.specs.declared.saved_before.Savings.{Savings}
 use Rattle.pmt_fates.specs.Places.{fate_at, is_same}
-use Rattle.pmt_fates.specs.Saved.{IsLastSaved, IsOwnFence, IsSavedAt, TellsSaved}
+use Rattle.pmt_fates.specs.Saved.{IsOwnFence, IsSavedAt, TellsSaved}
 use Rattle.pmt_fates.specs.Savers.{AreLast, AreOwnFences, AreSavers, IsLastBefore, IsSaver, fence_by, saved_by, saved_if, with_saver}
 
 -- there is one first number

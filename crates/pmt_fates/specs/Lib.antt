@@ -4,3 +4,4 @@ pub mod Places
 pub mod Saved
 pub mod Savers
 pub mod Standings
+pub mod Tallies

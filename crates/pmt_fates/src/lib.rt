@@ -11,6 +11,7 @@ pub mod place_row;
 pub mod places;
 pub mod saved_before;
 pub mod standing;
+mod tally;
 
 pub use crate::place_row::PlaceRow;
 pub use crate::places::place_table;

@@ -1,11 +1,12 @@
 //! What a place of the source has.
 
-ghost use Rattle.std.specs.Prelude.{◌≡◌, slice_index, length};
-ghost use Rattle.pmt_fates.specs.Places.{count_in, fate_at as fate_in, find_in, is_fence_fate as fences, is_flush_fate as flushes, is_in_time as timely, is_same as same, is_store_fate as stores, row_in, saved_at};
+ghost use Rattle.std.specs.Prelude.{◌≡◌, slice_index};
+ghost use Rattle.pmt_fates.specs.Places.{row_in, saved_at};
 ghost use Rattle.pmt_fates.specs.Savers.{saved_by};
 
 use crate::fate::Fate;
 use crate::saved_before::{SavedBefore, Savings, saved_before};
+use crate::tally::tally_of;
 use pmt_causes::{Group, Origin};
 
 /// What becomes of what one place of the source stores, flushes and fences.
@@ -55,24 +56,24 @@ pub(crate) fn row_of(
     ensures { result ≡ row_in fates.now (saved_by safe.now savings.now) group.now }
 {
     let members = group.members.as_slice();
-    let first_left = find(members, fates, Fate::Left);
+    let tally = tally_of(members, fates);
     PlaceRow {
         place: group.key,
         first: first_of(members),
-        stores: count_stores(members, fates),
-        lost: count(members, fates, Fate::Lost),
-        ignored: count(members, fates, Fate::Ignored),
-        late: count(members, fates, Fate::Late),
-        in_time: count_in_time(members, fates),
-        left: count(members, fates, Fate::Left),
-        flushes: count_flushes(members, fates),
-        idle_flushes: count(members, fates, Fate::IdleFlush),
-        fences: count_fences(members, fates),
-        idle_fences: count(members, fates, Fate::IdleFence),
-        first_lost: find(members, fates, Fate::Lost),
-        first_late: find(members, fates, Fate::Late),
-        first_left,
-        saved_before: saved_without(safe, savings, first_left),
+        stores: tally.stores,
+        lost: tally.lost,
+        ignored: tally.ignored,
+        late: tally.late,
+        in_time: tally.in_time,
+        left: tally.left,
+        flushes: tally.flushes,
+        idle_flushes: tally.idle_flushes,
+        fences: tally.fences,
+        idle_fences: tally.idle_fences,
+        first_lost: tally.first_lost,
+        first_late: tally.first_late,
+        first_left: tally.first_left,
+        saved_before: saved_without(safe, savings, tally.first_left),
     }
 }
 
@@ -94,125 +95,4 @@ fn first_of(members: &[u64]) -> u64
         Some(number) => *number,
         None => 0,
     }
-}
-
-// How many of these events have the fate.
-fn count(members: &[u64], fates: &[Fate], wanted: Fate) -> u64
-    ensures { result ≡ count_in fates.now (same wanted) members.now }
-{
-    members
-        .iter()
-        .filter(|number| is_same(wanted, fate_at(fates, **number)))
-        .count() as u64
-}
-
-// How many of these events are stores.
-fn count_stores(members: &[u64], fates: &[Fate]) -> u64
-    ensures { result ≡ count_in fates.now stores members.now }
-{
-    members
-        .iter()
-        .filter(|number| is_store(fate_at(fates, **number)))
-        .count() as u64
-}
-
-// How many of these events are stores that are persisted in time.
-fn count_in_time(members: &[u64], fates: &[Fate]) -> u64
-    ensures { result ≡ count_in fates.now timely members.now }
-{
-    members
-        .iter()
-        .filter(|number| is_in_time(fate_at(fates, **number)))
-        .count() as u64
-}
-
-// How many of these events are flushes.
-fn count_flushes(members: &[u64], fates: &[Fate]) -> u64
-    ensures { result ≡ count_in fates.now flushes members.now }
-{
-    members
-        .iter()
-        .filter(|number| is_flush(fate_at(fates, **number)))
-        .count() as u64
-}
-
-// How many of these events are fences.
-fn count_fences(members: &[u64], fates: &[Fate]) -> u64
-    ensures { result ≡ count_in fates.now fences members.now }
-{
-    members
-        .iter()
-        .filter(|number| is_fence(fate_at(fates, **number)))
-        .count() as u64
-}
-
-// The first of these events that has the fate.
-fn find(members: &[u64], fates: &[Fate], wanted: Fate) -> Option<u64>
-    ensures { result ≡ find_in fates.now (same wanted) members.now }
-{
-    for number in members {
-        if is_same(wanted, fate_at(fates, *number)) {
-            return Some(*number);
-        }
-    }
-    None
-}
-
-// What becomes of the event with this number.
-fn fate_at(fates: &[Fate], number: u64) -> Fate
-    ensures { result ≡ fate_in fates.now number }
-{
-    let Some(index) = number.checked_sub(1) else {
-        return Fate::Claim;
-    };
-    match fates.get(index as usize) {
-        Some(fate) => *fate,
-        None => Fate::Claim,
-    }
-}
-
-// Whether the two are one.
-fn is_same(wanted: Fate, fate: Fate) -> bool
-    ensures { result ≡ same wanted fate }
-{
-    match wanted {
-        Fate::Lost => matches!(fate, Fate::Lost),
-        Fate::Ignored => matches!(fate, Fate::Ignored),
-        Fate::Late => matches!(fate, Fate::Late),
-        Fate::Left => matches!(fate, Fate::Left),
-        Fate::InTime => matches!(fate, Fate::InTime),
-        Fate::Flush => matches!(fate, Fate::Flush),
-        Fate::IdleFlush => matches!(fate, Fate::IdleFlush),
-        Fate::Fence => matches!(fate, Fate::Fence),
-        Fate::IdleFence => matches!(fate, Fate::IdleFence),
-        Fate::Claim => matches!(fate, Fate::Claim),
-    }
-}
-
-// Whether it becomes of a store.
-fn is_store(fate: Fate) -> bool
-    ensures { result ≡ stores fate }
-{
-    matches!(fate, Fate::Lost | Fate::Ignored | Fate::Late) || is_in_time(fate)
-}
-
-// Whether it becomes of a store that is persisted in time.
-fn is_in_time(fate: Fate) -> bool
-    ensures { result ≡ timely fate }
-{
-    matches!(fate, Fate::Left | Fate::InTime)
-}
-
-// Whether it becomes of a flush.
-fn is_flush(fate: Fate) -> bool
-    ensures { result ≡ flushes fate }
-{
-    matches!(fate, Fate::Flush | Fate::IdleFlush)
-}
-
-// Whether it becomes of a fence.
-fn is_fence(fate: Fate) -> bool
-    ensures { result ≡ fences fate }
-{
-    matches!(fate, Fate::Fence | Fate::IdleFence)
 }

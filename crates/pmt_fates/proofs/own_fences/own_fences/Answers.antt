@@ -9,7 +9,7 @@ use Rattle.pmt_laws.proofs.Histories.{act-within}
 use Rattle.pmt_explain.specs.Following.{IsFenceAfter, IsFirst, past_of}
 use Rattle.pmt_explain.proofs.FirstLemmas.{first-none}
 use Rattle.pmt_explain.proofs.FollowingLemmas.{told-set}
-use Rattle.pmt_fates.specs.Savers.{fence_by, fence_of}
+use Rattle.pmt_fates.specs.Savers.{fence_of}
 use Rattle.pmt_fates.proofs.SaverLemmas.{fence-back}
 use Rattle.pmt_fates.proofs.own_fences.own_fences.Goals as goal
 

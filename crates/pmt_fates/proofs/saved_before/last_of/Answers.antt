@@ -1,9 +1,7 @@
-use Rattle.std.proofs.Common.{◌≡◌, ◌+◌, ℕ, suc, ◌==◌, length, get_or, [], refl, subst, sym, ap, ◌∙◌, arith}
-use Rattle.std.specs.Prelude.{if◌then◌else◌}
+use Rattle.std.proofs.Common.{◌≡◌, ◌+◌, suc, get_or, refl, subst, sym, arith}
 use Rattle.std.proofs.lemmas.Option.{none-some, slice_get-get_or}
-use Rattle.pmt_model.specs.Traces.{Recording}
-use Rattle.pmt_fates.specs.Savers.{AreLast, AreSavers, IsLastBefore}
-use Rattle.pmt_fates.proofs.SaverLemmas.{AreLastSoFar, last-next, last-pushed, last-start}
+use Rattle.pmt_fates.specs.Savers.{IsLastBefore}
+use Rattle.pmt_fates.proofs.SaverLemmas.{last-next, last-pushed, last-start}
 use Rattle.pmt_fates.proofs.saved_before.last_of.Goals as goal
 
 pub loop-saver-init : goal.loop-saver-init

@@ -1,4 +1,4 @@
-use Rattle.std.proofs.Common.{◌≡◌, length}
+use Rattle.std.proofs.Common.{length}
 use Rattle.pmt_model.specs.Traces.{Recording}
 use Rattle.pmt_fates.specs.Savers.{AreSavers, IsLastBefore}
 use Rattle.pmt_fates.proofs.SaverLemmas.{AreLastSoFar}

@@ -1,5 +1,4 @@
-use Rattle.std.proofs.Common.{◌≡◌, ℕ, zero, suc, ◌<◌, true, false, length, Some, sym, ap, subst, ◌∙◌, arith}
-use Rattle.std.proofs.lemmas.Bool.{false≢true}
+use Rattle.std.proofs.Common.{length, sym, subst}
 use Rattle.pmt_fates.specs.Savers.{AreSavers}
 use Rattle.pmt_fates.proofs.SaverLemmas.{left-told, no-left}
 use Rattle.pmt_fates.proofs.saved_before.savings_of.Goals as goal
