@@ -2,6 +2,10 @@
 
 use memchr::memchr_iter;
 use std::io::{self, Cursor, Read};
+use std::simd::prelude::*;
+
+// So many bytes are looked at together.
+const LANES: usize = 16;
 
 /// What a run is doing.
 #[derive(Clone, Copy, PartialEq, Eq)]
@@ -63,7 +67,7 @@ impl<W: Watch> Read for WatchedText<'_, W> {
     fn read(&mut self, buf: &mut [u8]) -> io::Result<usize> {
         match self.text.read(buf) {
             Ok(count) => {
-                let ended = memchr_iter(b'\n', &buf[..count]).count() as u64;
+                let ended = line_ends(&buf[..count]);
                 self.lines = self.lines.saturating_add(ended);
                 let events = self.lines.saturating_sub(1);
                 self.watch.tell(if count == 0 {
@@ -76,4 +80,17 @@ impl<W: Watch> Read for WatchedText<'_, W> {
             Err(error) => Err(error),
         }
     }
+}
+
+// How many lines end in these bytes.
+fn line_ends(bytes: &[u8]) -> u64 {
+    let parts = bytes.len() / LANES;
+    let mut ends = 0u64;
+    for part in 0..parts {
+        let ended = u8x16::from_slice(&bytes[part * LANES..]).simd_eq(u8x16::splat(b'\n'));
+        let count = ended.select(u8x16::splat(1), u8x16::splat(0)).reduce_sum();
+        ends = ends.saturating_add(count as u64);
+    }
+    let rest = memchr_iter(b'\n', &bytes[parts * LANES..]).count();
+    ends.saturating_add(rest as u64)
 }
