@@ -18,6 +18,7 @@ from machine import spelled, text_of
 from program import TOP, find
 from schemas import complaints, names_of, wrongs
 from traces import all_traces
+from worked_stories import STORIES
 
 TEXTS = TOP / "examples/explain"
 SCHEMA = TOP / "docs/explain.schema.json"
@@ -282,6 +283,16 @@ class Explain(Checks):
         (folder / "r").write_text("0x1000:8\nlabel a.c:1*\n")
         done = self.explain("--ignore-file", "r", "t", folder=folder)
         self.expect("places of a trace without labels", done.returncode == 1 and b"\n  labels to ignore that leave out nothing: 1 of 1\n" in done.stdout, done.stdout)
+
+    def test_store_story(self):
+        """The story of a place's first store that is late or lost; the answers are written by hand."""
+        folder = self.new_folder()
+        for events, wanted in STORIES:
+            lines = [line.split("|") for line in events.splitlines()]
+            (folder / "t").write_text("".join(f"{line}\n" for line in ["pmtrace 1", *(event for event, _ in lines)]))
+            (folder / "l").write_text("".join(f"{number} {label}\n" for number, (_, label) in enumerate(lines, 1)))
+            text = self.explain("--labels", "l", "t", folder=folder).stdout.decode()
+            self.expect(f"the story\n{wanted}", f"\n{wanted}  draw: " in text, text)
 
     def test_guess(self):
         """The guess is of options that leave out what it guesses at, and then nothing is lost."""

@@ -92,19 +92,22 @@ class Source(Checks):
     def test_place(self):
         """The first store that a place loses has its line of source below it, and so has one that is asked for."""
         (self.folder / "s/stats.c").write_text("int n;\nvoid bump(void) { n++; }\n")
-        wanted = "  store:  event 4 (line 5, thread 0) at stats.c:2 bump: store 0 0x2000 02\n          2 | void bump(void) { n++; }\n"
-        for words in (["--limit", "all"], ["--only", "never_persisted"]):
+        wanted = {
+            ("--limit", "all"): "    4  stats.c:2 bump  store 0x2000 02  never persisted\n       2 | void bump(void) { n++; }\n       ------------",
+            ("--only", "never_persisted"): "  store:  event 4 (line 5, thread 0) at stats.c:2 bump: store 0 0x2000 02\n          2 | void bump(void) { n++; }\n",
+        }
+        for words, told in wanted.items():
             text = self.text(*words)
-            self.expect(f"the place with {words}", wanted in text, text)
+            self.expect(f"the place with {words}", told in text, text)
 
     def test_late(self):
         """So has the first store of a place that is saved late."""
         self.write("pmtrace 1\nstore 0 0x1000 01\nsfence 0\nsfence 0\nclwb 0 0x1000\nsfence 0\nstore 0 0x2000 02\n", ["put.c:3 put"] + ["gone.c:1 x"] * 5)
         text = self.text()
-        self.expect("the late store", "store 0 0x1000 01\n          3 | slot->value = value;\n" in text, text)
+        self.expect("the late store", "store 0x1000 01  late: left unsafe by 2 fences\n       3 | slot->value = value;\n    2  gone.c:1 x " in text, text)
 
     def test_instead(self):
-        """So has the flush that comes instead of one of the store, but for a line that the story has already."""
+        """So has the flush that comes instead of one of the store, but for a line that the story has already; in that of a store it is a row."""
         start = "pmtrace 1\nstore 0 0x1000 01\nclwb 0 0x2000\nsfence 0\n"
         told = "event 2 (line 3, thread 0) at put.c:{} put: clwb 0 0x2000\n"
         self.write(f"{start}isPersist 0 0x1000 1\n", ["put.c:3 put", "put.c:4 put", "put.c:5 put", "put.c:6 check"])
@@ -115,7 +118,7 @@ class Source(Checks):
         self.expect("once in a story", told.format(3) + "  fix: " in text, text)
         self.write(start, ["put.c:3 put", "put.c:4", "put.c:5 put"])
         text = self.text()
-        self.expect("below a place", "at put.c:4: clwb 0 0x2000\n          4 | flush( slot);\n  fix: " in text, text)
+        self.expect("below a place", "  put.c:4      clwb 0x2000      another cache line\n       4 | flush( slot);\n    3  put.c:5 put " in text, text)
 
     def test_nothing_else(self):
         """Without the lines of source, the text is that without --source."""

@@ -5,7 +5,7 @@ import textwrap
 WIDTH = 100
 # What begins a line whose further ones stand below what it tells: a name in an entry, an event, and a cache line of a range.
 NAMED = re.compile(r"  [a-z]+: +|  event \d+ \(|    0x[0-9a-f]+: ")
-GOES_ON = re.compile(r"( {7}| {10})(?! )(?!\d+  |\d+ \||-+  crash)")
+GOES_ON = re.compile(r"( {7}| {10})(?! )(?!\d+  |\d+ \||-+  |\.\.\. )")
 # Commands and options are copied, and so not broken.
 WHOLE = ("  draw:", "guess: ")
 

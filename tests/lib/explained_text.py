@@ -12,10 +12,12 @@ import placed as by_place
 from broken import WIDTH, joined, wrong_breaks
 from explained import NOTHING
 from machine import FENCES, FLUSHES, spelled
-from stories import HEADING, asides, cut, early, instead, named, rows, wrong_story
+from stories import HEADING, asides, cut, early, named, rows, store_rows, wrong_story
 
 SCREEN = 40
 MOST = 8
+# Those of a story, with what was flushed before and the callers.
+MOST_ROWS = 12
 DROPPED = "note: flushes and fences that do nothing, most first:"
 OVERWRITTEN = "note: stores overwritten before any flush of their cache line, those with other bytes first:"
 OVERWRITTEN_PLACES = "note: stores overwritten before any flush of their cache line, by the place of the first in a line:"
@@ -293,14 +295,13 @@ def wrong_losses(explained, entries):
     wanted = [list(lost_lines(explained, group)) for group in lost_groups(explained)]
     told = [entry[: entry.index(next(line for line in entry if line.startswith("  why: ")))] for entry in entries]
     for group, entry in zip(lost_groups(explained), entries):
-        missing = [line for line in missing_lines(explained, "store", group[0]["first"]["event"]) if line.startswith("  early: ")]
-        if told_missing(entry) != missing:
-            return f"flushes that miss it: wanted {missing}, in {entry}"
+        if told_early(entry) != early_lines(explained, group[0]["first"]["event"]):
+            return f"flushes right before it: wanted {early_lines(explained, group[0]['first']['event'])}, in {entry}"
     return None if told == wanted else f"never persisted: wanted {wanted}, in {told}"
 
 
 PLACE = re.compile(
-    r"(error|warning|note): .*: \d+ stores?: \d+ never persisted, \d+ saved late, \d+ in time(, \d+ ignored)?(; why: --failure \d+)?$"
+    r"(error|warning|note): .*: \d+ stores?: \d+ never persisted, \d+ saved late, \d+ in time(, \d+ ignored)?(; why: --failure \d+|; one of them:)?$"
     r"|error: cache line 0x[0-9a-f]+ is never flushed: \d+ places lose all that they store to it, \d+ stores: "
 )
 
@@ -309,21 +310,20 @@ def wrong_late(explained, lines):
     """What is wrong with how many stores are saved late."""
     rows = [row for _, row in by_place.rows(explained)]
     late, stores = (sum(row[name] for row in rows) for name in ("late", "stores"))
-    wanted = [f"{SAVED_LATE}{late} of {stores}"] if late else []
+    wanted = [f"{SAVED_LATE}{late} of {stores}"] if stores else []
     told = [line for line in lines if line.startswith(SAVED_LATE)]
     return None if told == wanted else f"saved late: wanted {wanted}, in {told}"
 
 
-def missing_lines(explained, name, store):
-    """What an entry says of the flushes that miss a store which no flush follows, or that is saved late."""
-    if name == "store" and explained.cause(store, explained.end)["cause"] != "unflushed":
-        return []
-    return [*(f"  early:  {told}" for told in early(explained, store)), *(f"  but:    {told}" for told in instead(explained, store))]
+def early_lines(explained, store):
+    """What an entry says of a flush right before a store that no flush follows, or that is saved late."""
+    is_told = explained.trace.is_safe(store, explained.end) or explained.cause(store, explained.end)["cause"] == "unflushed"
+    return [f"  early:  {told}" for told in early(explained, store)] if is_told else []
 
 
-def told_missing(entry):
+def told_early(entry):
     """What an entry says of that."""
-    return [line for line in entry if line.startswith(("  early: ", "  but: "))]
+    return [line for line in entry if line.startswith("  early: ")]
 
 
 def wrong_places(explained, lines):
@@ -335,22 +335,18 @@ def wrong_places(explained, lines):
     entries = [told[start:end] for start, end in zip(starts, [*starts[1:], len(told)])]
     if [entry[0] for entry in entries] != [head for head, _ in wanted]:
         return f"places: wanted {wanted}, in {told}"
-    for entry, (_, first) in zip(entries, wanted):
-        if first is None:
+    for entry, (_, store) in zip(entries, wanted):
+        if store is None:
             if len(entry) > 1 and not entry[1].startswith("... "):
                 return f"a place that an assertion tells of: {entry}"
             continue
-        name, number = first
-        draw = f"  draw:   pmtrim draw --line {explained.address(explained.trace.line(number))} "
-        first = f"  {name + ':':7} {named(explained, number)}"
-        if entry[1] != first or not entry[-1].startswith(draw) or not entry[-1].endswith(f" > event{number}.svg"):
-            return f"a place: wanted {first} .. {draw}, in {entry}"
-        if not any(line.startswith("  fix:    ") for line in entry):
-            return f"a place without a fix: {entry}"
-        if told_missing(entry) != missing_lines(explained, name, number):
-            return f"flushes that miss it: wanted {missing_lines(explained, name, number)}, in {entry}"
-        if name == "late" and entry[2] != f"  why:    {grouped.fences_waited(explained.trace, number)} fences of its thread left it unsafe":
-            return f"why a store of a place is late: {entry}"
+        story = [*store_rows(explained, store), *early_lines(explained, store)]
+        if len(story) > MOST_ROWS or entry[1 : len(story) + 1] != story:
+            return f"the story of a place: wanted {story}, in {entry}"
+        draw = f"  draw:   pmtrim draw --line {explained.address(explained.trace.line(store))} "
+        names = [line[:10] for line in entry[len(story) + 1 :]]
+        if names != ["  fix:    ", "  draw:   "] or not entry[-1].startswith(draw) or not entry[-1].endswith(f" > event{store}.svg"):
+            return f"a place: wanted what mends it, and {draw}, in {entry}"
     return None
 
 

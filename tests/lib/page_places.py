@@ -84,7 +84,7 @@ HINT = re.compile(r"^hint: (.*): (\d+) (?:time|store)s? .*; first: event (\d+)(?
 # The page names an event by its whole label, the text by the innermost frame.
 CALLERS = re.compile(r" < [^()]*(?=\))")
 EVENT = re.compile(r"\bevent (\d+)")
-WAITED = re.compile(r"^  late:   event (\d+) .*\n  why:    (\d+) fence", re.M)
+WAITED = re.compile(r"^ {4,}(\d+)  .*  late: left unsafe by (\d+) fences$", re.M)
 ERROR = re.compile(r"^error: a crash .*?(?: \((\d+) times\))?$", re.M)
 INSIDE = re.compile(r"^  (next|range|stored|called): +(.*)$", re.M)
 

@@ -143,7 +143,7 @@ def retold(explained):
 
 
 def heads(explained):
-    """Of each place that loses or delays stores the line that tells it, and the event that stands below; none where a failed assertion tells of
+    """Of each place that loses or delays stores the line that tells it, and the store whose story stands below; none where a failed assertion tells of
     it. Places that lose all to one line which nothing flushes are told once."""
     if not explained.is_whole():
         return
@@ -153,7 +153,7 @@ def heads(explained):
             if lines[key] not in told_lines:
                 told_lines.add(lines[key])
                 sharing = [(other, found) for other, found in rows(explained) if lines.get(other) == lines[key]]
-                yield shared_head(explained, lines[key], sharing), ("store", row["first_never_persisted"])
+                yield shared_head(explained, lines[key], sharing), row["first_never_persisted"]
         elif standing(row)[0] < 4:
             lost, late = row["never_persisted"], row["late"]
             ignored = f", {row['ignored']} ignored" if row["ignored"] else ""
@@ -163,7 +163,7 @@ def heads(explained):
                 failure = retold(explained)[key]
                 yield f"{told}; why: --failure {failure}", None
             else:
-                yield told, ("store", row["first_never_persisted"]) if lost else ("late", row["first_late"])
+                yield told + ("; one of them:" if (lost or late) > 1 else ""), row["first_never_persisted"] or row["first_late"]
 
 
 def spoken_of(explained):

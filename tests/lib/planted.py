@@ -25,7 +25,8 @@ def place_at(lines, kind="", rows=0):
 def below_place(lines, part):
     """Where the first line with this part stands below the first place."""
     at = place_at(lines)
-    return None if at is None else at + first_at(lines[at:], part)
+    below = None if at is None else first_at(lines[at:], part)
+    return None if below is None else at + below
 
 
 def range_at(lines):
@@ -59,7 +60,7 @@ TEXT = {
     "the size of a group": (lambda lines: first_at(lines, " times)"), raised(r"\d+(?= times)")),
     "how many have a next flush or fence": (lambda lines: first_at(lines, "  next: "), raised(r"(?<=in )\d+")),
     "how many lose a part of the range": (lambda lines: first_at(lines, "  range: "), raised(r"(?<=in )\d+")),
-    "how many lose a store of one place": (lambda lines: first_at(lines, "  stored: "), raised(r"(?<=in )\d+")),
+    "how many lose a store of one place": (lambda lines: first_at(lines, "  stored: in "), raised(r"(?<=in )\d+")),
     "how many are claimed at one place": (lambda lines: first_at(lines, "  called: "), raised(r"(?<=in )\d+")),
     "an event of a story": (story_at, raised(r"\d+")),
     "an event of a story left out": (story_at, None),
@@ -79,8 +80,14 @@ TEXT = {
     "how many of them are late": (place_at, raised(r"\d+(?= saved late)")),
     "how many of them are in time": (place_at, raised(r"\d+(?= in time)")),
     "which failure tells of a place": (lambda lines: first_at(lines, "; why: --failure "), raised(r"(?<=--failure )\d+")),
-    "the first store of a place": (lambda lines: place_at(lines, rows=1), raised(r"(?<=event )\d+")),
-    "for how many fences it is late": (lambda lines: first_at(lines, " left it unsafe"), raised(r"\d+(?= fences of its thread)")),
+    "the first store of a place": (lambda lines: place_at(lines, rows=1), raised(r"\d+")),
+    "for how many fences it is late": (lambda lines: first_at(lines, "  late: left unsafe by "), raised(r"(?<=unsafe by )\d+")),
+    "a flush of another line": (lambda lines: first_at(lines, "  another cache line"), None),
+    "the fence that leaves a store unsafe": (lambda lines: first_at(lines, "  does not save event "), None),
+    "the first flush of a store's line": (lambda lines: first_at(lines, "the first flush of its line"), None),
+    "what makes a late store safe": (lambda lines: below_place(lines, "safe only from here on"), None),
+    "the flush that is missing": (lambda lines: first_at(lines, "--  no flush of cache line "), None),
+    "the fence that is missing": (lambda lines: first_at(lines, "--  flushed by event "), raised(r"(?<=event )\d+")),
     "what mends a place": (lambda lines: below_place(lines, "  fix:    "), None),
     "the picture of a place": (lambda lines: below_place(lines, "  draw:   "), raised(r"(?<=event)\d+(?=\.svg)")),
     "a thread's row": (lambda lines: below_at(lines, THREADS, 2), raised(r"\d+(?=  thread)")),

@@ -1,10 +1,11 @@
-"""What the story of a failed assertion must say: which events it has and what each is, by the states of all runs; how a row is spelled; and
-that what stands behind `fix:` mends the loss where it is put into the trace.
+"""What the story of a failed assertion, and of a store that is lost or late, must say: which events it has and what each is, by the states of
+all runs; how a row is spelled; and that what stands behind `fix:` mends the loss where it is put into the trace.
 """
 import re
 
 import hinted
 from explained import failure_is_mended, with_events
+from grouped import fences_waited
 from machine import FENCES, FLUSHES
 from placed import name_of, place as place_at
 
@@ -110,24 +111,94 @@ def place_name(explained, event):
     return f"thread {explained.trace.event(event)[1]}" if label is None else label.split(" < ")[0]
 
 
-def rows(explained, number):
-    """The rows of the story, with the crash between them."""
-    trace, place = explained.trace, explained.violation(number)[1]
-    found = events_of(explained, number)
-    events = [trace.event(event) for event, _ in found]
+def row_lines(explained, found):
+    """A row for each of these events with their notes, and how many columns stand before places, and how many a place has."""
+    events = [explained.trace.event(event) for event, _ in found]
     digits, with_thread = digits_of(events), len({event[1] for event in events}) > 1
     words = [words_of(event, digits, with_thread) for event in events]
     named = [place_name(explained, event) for event, _ in found]
     at, wide = len(str(found[-1][0])), min(PLACE, max(map(len, named)))
     noted = max(len(spelled) for spelled, (_, told) in zip(words, found) if told)
-    crash = f"{'':{at + 6}}{'-' * wide}  {CRASHES[explained.cause(explained.violation(number)[3][0], place)['cause']]}"
     told = []
     for (event, what), name, spelled in zip(found, named, words):
-        if event > place and crash not in told:
-            told.append(crash)
         ending = f"{spelled:{noted}}  {what}" if what else spelled
         told.append(cut(f"{event:{at + 4}}  {cut(name, wide):{wide}}  {ending}", WIDTH))
-    return told if crash in told else [*told, crash]
+    return told, at + 6, wide
+
+
+def rows(explained, number):
+    """The rows of the story, with the crash between them."""
+    place, found = explained.violation(number)[1], events_of(explained, number)
+    told, at, wide = row_lines(explained, found)
+    crash = f"{'':{at}}{'-' * wide}  {CRASHES[explained.cause(explained.violation(number)[3][0], place)['cause']]}"
+    before = sum(event <= place for event, _ in found)
+    return [*told[:before], crash, *told[before:]]
+
+
+# The story of a store that is lost or late
+
+FIRST_FLUSH, SAVING_FLUSH, ELSEWHERE = "the first flush of its line", "the flush that saves it", "another cache line"
+NO_HELP = "does not complete that flush"
+FEW = 3
+
+
+def flushes_elsewhere(trace, store):
+    """The flushes of other lines that the store's thread makes after it, before its next fence and before it flushes the store's line."""
+    thread, line = trace.event(store)[1], trace.line(store)
+    own = [at for at in trace.numbers if at > store and trace.event(at)[1] == thread]
+    stop = first(own, lambda at: trace.event(at)[0] in FENCES or trace.is_flush_of(at, line, ANY_FLUSH))
+    return [at for at in own if trace.event(at)[0] in ANY_FLUSH and (stop is None or at < stop)]
+
+
+def store_note(explained, store, event):
+    """What an event of the story is to the store."""
+    trace, end = explained.trace, explained.end
+    if event == store:
+        return f"late: left unsafe by {fences_waited(trace, store)} fences" if trace.is_safe(store, end) else "never persisted"
+    if trace.is_safe(store, event):
+        if trace.is_safe(store, event - 1):
+            raise ValueError(f"event {event} does not make store {store} safe")
+        return SAVES
+    after = range(store + 1, end + 1)
+    if event == first(after, lambda at: trace.event(at)[0] in FENCES and trace.event(at)[1] == trace.event(store)[1]):
+        return f"does not save event {store}"
+    if trace.event(event)[0] in FENCES:
+        return NO_HELP
+    line = trace.line(store)
+    if trace.line(event) != line:
+        return ELSEWHERE
+    return FIRST_FLUSH if event == first(after, lambda at: trace.is_flush_of(at, line, ANY_FLUSH)) else SAVING_FLUSH
+
+
+def store_rows(explained, store):
+    """The rows of the story of a store that is lost or late: the first three flushes of other lines and the last one, with how many are left
+    out between them; and what is missing of a store that is never persisted."""
+    trace, thread, others = explained.trace, explained.trace.event(store)[1], flushes_elsewhere(explained.trace, store)
+    fence = first(range(store + 1, explained.end + 1), lambda at: trace.event(at)[0] in FENCES and trace.event(at)[1] == thread)
+    own = {fence} if fence is not None and not trace.is_safe(store, fence) else set()
+    events = sorted(told_by(trace, store, explained.end) | own | {*others[:FEW], *others[-1:]})
+    threads = {event: trace.event(event)[1] for event in events}
+    found = [(event, f"{'' if threads[event] == thread else f'by thread {threads[event]}: '}{store_note(explained, store, event)}") for event in events]
+    told, at, wide = row_lines(explained, found)
+    left = len(others) - FEW - 1
+    if left > 0:
+        more = "flush of another cache line" if left == 1 else "flushes of other cache lines"
+        told.insert(events.index(others[FEW - 1]) + 1, f"{'':{at + wide}}  ... {left} more {more}")
+    if not trace.is_safe(store, explained.end):
+        told.append(cut(f"{'':{at}}{'-' * wide}  {missing(explained, store)}", WIDTH))
+    label = explained.labels.get(store, "")
+    return [*told, *([f"  stored: at {label}"] if " < " in label else [])]
+
+
+def missing(explained, store):
+    """What is missing of a store that is never persisted."""
+    cause = explained.cause(store, explained.end)
+    if cause["cause"] == "unflushed":
+        return f"no flush of cache line {explained.address(explained.trace.line(store))} follows"
+    return f"flushed by event {cause['flush']['event']}, but no fence of thread {cause['thread']} follows"
+
+
+# What stands above a story
 
 
 def head(explained, members):

@@ -48,13 +48,12 @@ fn push_counts(pen: &mut Pen, told: &Telling<'_>, counts: &Summary) {
     push_share(pen, "fences", counts.fences_dropped, counts.fences);
 }
 
-// Adds how many stores are saved late, if some are.
+// Adds how many stores are saved late, if there are stores.
 fn push_late(pen: &mut Pen, told: &Telling<'_>, stores: u64) {
-    let late = late_stores(told);
-    if late > 0 {
+    if stores > 0 {
         pen.fill(
             "  stores saved late, which a crash can lose though their thread went on: # of #\n",
-            &[late, stores],
+            &[late_stores(told), stores],
         );
     }
 }

@@ -8,7 +8,6 @@ mod fixes;
 mod inside;
 mod memory;
 mod ranges;
-mod spelling;
 mod story;
 
 pub use crate::failures::failures_section;

@@ -8,6 +8,7 @@ mod late;
 mod left;
 mod lost;
 mod marks;
+mod member_story;
 mod members;
 mod merging;
 mod places;

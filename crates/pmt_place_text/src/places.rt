@@ -1,6 +1,7 @@
 //! What becomes of the stores of each place, in words: of the places that lose or delay some.
 
 use crate::claims::Claims;
+use crate::member_story::{MOST_STORIES, push_store_story, waited_by};
 use crate::members::{Members, members_of};
 use crate::retold::{Retold, retold_of};
 use crate::sharing::{Sharing, push_shared, sharing_of};
@@ -8,12 +9,12 @@ use pmt_asked::Choice;
 use pmt_explanation::{Explanation, first};
 use pmt_failures::mend_for;
 use pmt_fates::{PlaceRow, Standing, standing_of};
-use pmt_model::{Op, OutOfMemory, line_of};
+use pmt_model::OutOfMemory;
 use pmt_pen::Pen;
 use pmt_telling::{
-    HEAD, SOURCE, Section, Telling, flushed_instead, is_unflushed, line_address, line_of_store,
-    line_under, push_cause, push_count, push_draw, push_early, push_found, push_instead, push_mend,
-    push_named, push_own_flush, push_place_name, push_source, push_wrapped, tells_all,
+    HEAD, SOURCE, Section, Telling, is_unflushed, line_address, line_of_store, push_cause,
+    push_count, push_draw, push_early, push_mend, push_named, push_own_flush, push_place_name,
+    push_wrapped, tells_all,
 };
 
 const LABELLED: &str =
@@ -113,18 +114,21 @@ fn add_places(section: &mut Section, told: &Telling<'_>, rows: &[PlaceRow], besi
         }
         added = added.saturating_add(1);
         let mut pen = Pen::new(told.alloc);
-        push_place_entry(&mut pen, told, rows, row, beside);
+        let is_story = number < MOST_STORIES;
+        push_place_entry(&mut pen, told, rows, row, beside, is_story);
         section.add(pen);
     }
 }
 
-// Adds the place, or those that share its line, and its first store that is lost or late; or which failed assertion tells of that.
+// Adds the place, or those that share its line, and its first store that is lost or late, with or without its story; or which failed
+// assertion tells of that.
 fn push_place_entry(
     pen: &mut Pen,
     told: &Telling<'_>,
     rows: &[PlaceRow],
     row: &PlaceRow,
     beside: &Beside,
+    is_story: bool,
 ) {
     if let Some(numbers) = beside.sharing.shared(row.place) {
         let line = line_of_store(told.trace, row.first_lost.unwrap_or(0));
@@ -137,9 +141,9 @@ fn push_place_entry(
         }
     }
     if let Some(store) = row.first_lost {
-        push_lost(pen, told, &beside.members, store);
+        push_lost(pen, told, &beside.members, store, is_story);
     } else if let Some(store) = row.first_late {
-        push_late(pen, told, store);
+        push_late(pen, told, store, is_story);
     }
 }
 
@@ -161,21 +165,39 @@ fn push_head(pen: &mut Pen, told: &Telling<'_>, row: &PlaceRow, failure: Option<
     if row.ignored > 0 {
         head.fill(", # ignored", &[row.ignored]);
     }
-    if let Some(event) = failure {
-        head.fill("; why: --failure #", &[event]);
+    match failure {
+        Some(event) => head.fill("; why: --failure #", &[event]),
+        None => head.put(if is_one_of_many(row) {
+            "; one of them:"
+        } else {
+            ""
+        }),
     }
     push_wrapped(pen, &head, HEAD);
 }
 
+// Whether the place has further stores that become what its first lost or late one does.
+fn is_one_of_many(row: &PlaceRow) -> bool {
+    if row.lost > 0 {
+        row.lost > 1
+    } else {
+        row.late > 1
+    }
+}
+
 // Adds the first store of a place that is never persisted: why, and what mends it.
-fn push_lost(pen: &mut Pen, told: &Telling<'_>, members: &Members, store: u64) {
-    push_named(pen, told, "  store:  ", store);
-    push_source(pen, told, store, SOURCE);
+fn push_lost(pen: &mut Pen, told: &Telling<'_>, members: &Members, store: u64, is_story: bool) {
+    if is_story {
+        push_store_story(pen, told, store);
+    } else {
+        push_named(pen, told, "  store:  ", store);
+    }
     if let Some(group) = members.group_of(told, store) {
-        push_cause(pen, told, group.cause, group.line);
+        if !is_story {
+            push_cause(pen, told, group.cause, group.line);
+        }
         if is_unflushed(group.cause) {
             push_early(pen, told, "  early:  ", store, SOURCE);
-            push_other(pen, told, store);
         }
         push_mend(
             pen,
@@ -189,44 +211,23 @@ fn push_lost(pen: &mut Pen, told: &Telling<'_>, members: &Members, store: u64) {
     }
 }
 
-// Adds the first store of a place that is saved late: for how long it is not safe, and what mends that.
-fn push_late(pen: &mut Pen, told: &Telling<'_>, store: u64) {
-    push_named(pen, told, "  late:   ", store);
-    push_source(pen, told, store, SOURCE);
-    pen.fill(
-        "  why:    # fences of its thread left it unsafe\n",
-        &[waited_by(told, store)],
-    );
+// Adds the first store of a place that is saved late: why, and what mends that.
+fn push_late(pen: &mut Pen, told: &Telling<'_>, store: u64, is_story: bool) {
+    if is_story {
+        push_store_story(pen, told, store);
+    } else {
+        push_named(pen, told, "  late:   ", store);
+        pen.fill(
+            "  why:    # fences of its thread left it unsafe\n",
+            &[waited_by(told, store)],
+        );
+    }
     push_early(pen, told, "  early:  ", store, SOURCE);
-    push_other(pen, told, store);
     let Some(event) = told.trace.get(store) else {
         return;
     };
-    let thread = event.thread;
-    let op = event.op;
-    if let Op::Store(written) = op {
-        let line = line_of(told.trace.format(), written.addr());
-        push_own_flush(pen, told, line, thread, store);
-        pen.put("  draw:   ");
-        push_draw(pen, told, "--line @", line_address(told.trace, line), store);
-    }
-}
-
-// Adds the flush that comes instead of one of the store, if one does, with its line of source.
-fn push_other(pen: &mut Pen, told: &Telling<'_>, store: u64) {
-    if let Some(flush) = flushed_instead(told.trace, store) {
-        push_instead(pen, told, "  but:    ", flush, SOURCE);
-        if let Some(found) = line_under(told, &[store, flush], 1) {
-            push_found(pen, SOURCE, found);
-        }
-    }
-}
-
-// For how many fences the event waited.
-fn waited_by(told: &Telling<'_>, number: u64) -> u64 {
-    let waited = told.explanation.waited.as_slice();
-    match waited.get(number.saturating_sub(1) as usize) {
-        Some(fences) => *fences,
-        None => 0,
-    }
+    let line = line_of_store(told.trace, store);
+    push_own_flush(pen, told, line, event.thread, store);
+    pen.put("  draw:   ");
+    push_draw(pen, told, "--line @", line_address(told.trace, line), store);
 }

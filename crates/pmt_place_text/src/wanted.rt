@@ -1,17 +1,18 @@
 //! Which lines of source files the text may have rows of.
 
 use crate::lost::shown_causes;
+use crate::member_story::MOST_STORIES;
 use crate::places::troubled;
 use pmt_asked::{Choice, Labels};
-use pmt_explanation::Explanation;
+use pmt_explanation::{Explanation, first};
 use pmt_model::{OutOfMemory, Trace};
-use pmt_slices::story_of;
+use pmt_slices::{store_story_of, story_of};
 use pmt_sources::{SourcePlace, place_at};
 use pmt_telling::flushed_instead;
 use std::alloc::{AllocError, Global};
 
-/// The places of source files that the text may have rows of, some of them more than once: of the stories of the failed assertions, and of
-/// the first stores that are lost or late, and of the flushes that come instead of theirs.
+/// The places of source files that the text may have rows of, some of them more than once: of the stories of the failed assertions, of the
+/// flushes that come instead of those of their lost stores, and of the stories of the first stores that are lost or late.
 ///
 /// # Errors
 /// Where memory was refused.
@@ -32,10 +33,11 @@ pub fn source_places<'a>(
         }
         add_instead(&mut found, labels, trace, shown.failure.lost.store)?;
     }
-    for row in troubled(explanation, choice) {
+    for row in first(troubled(explanation, choice), MOST_STORIES) {
         if let Some(store) = row.first_lost.or(row.first_late) {
-            add_places(&mut found, labels, &[store])?;
-            add_instead(&mut found, labels, trace, store)?;
+            if let Some(story) = store_story_of(alloc, trace, store)? {
+                add_places(&mut found, labels, story.numbers())?;
+            }
         }
     }
     for cause in shown_causes(explanation, choice) {

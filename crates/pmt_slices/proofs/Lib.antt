@@ -12,3 +12,4 @@ pub mod ChosenLemmas
 pub mod GoingLemmas
 pub mod StoryLemmas
 pub mod StoreSliceLemmas
+pub mod StoreStoryLemmas

@@ -5,3 +5,4 @@ pub mod Choosing
 pub mod Stories
 pub mod StoreSlices
 pub mod Fates
+pub mod StoreStories

@@ -11,10 +11,12 @@ pub mod laws;
 mod scan;
 pub mod slicing;
 pub mod store_slicing;
+pub mod store_story;
 pub mod story;
 mod unwritten;
 
 pub use crate::cutting::{Slice, sliced};
 pub use crate::slicing::slice_of;
 pub use crate::store_slicing::store_sliced;
+pub use crate::store_story::{StorePart, StoreStory, store_story_of};
 pub use crate::story::{Part, Story, story_of};

@@ -75,7 +75,7 @@ fn slice_if_lost(
 }
 
 // What comes after the store by the thread.
-fn fate_of(
+pub(crate) fn fate_of(
     alloc: Global,
     trace: &Trace,
     number: u64,

@@ -8,6 +8,8 @@ mod parts;
 mod rows;
 mod screen;
 mod sources;
+mod spelling;
+mod story_rows;
 mod telling;
 
 pub use crate::commands::{push_draw, push_word};
@@ -23,4 +25,9 @@ pub use crate::rows::{
 };
 pub use crate::screen::{Section, lines_of, push_sections};
 pub use crate::sources::{SOURCE, line_under, push_found, push_source, sources_section};
+pub use crate::spelling::{Spelling, spelling_of};
+pub use crate::story_rows::{
+    StoryColumns, StoryRow, push_story_break, push_story_gap, push_story_row, story_columns,
+    story_row,
+};
 pub use crate::telling::{Screen, Telling, failure_of, line_address, line_of_store, tells_all};

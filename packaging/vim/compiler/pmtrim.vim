@@ -16,10 +16,9 @@ endif
 let s:labelled = 'event %*\d (line %*\d\, thread %*\d) at %f:%l%.%#'
 let s:plain = 'event %*\d (line %l\, thread %*\d):%.%#'
 let s:formats = ['%-Ptrace %f', '%Eerror: %m at %f:%l%.%#', '%Eerror: %m of event %*\d\, line %l%.%#', '%Eerror: %m']
-for s:word in ['store', 'first']
-  let s:formats += ['%Z  ' . s:word . ':  ' . s:labelled, '%Z  ' . s:word . ':  ' . s:plain]
-endfor
-" The rows of a story.
+" In a story the store that a place loses, where its error stands.
+let s:formats += ['%Z    %#%*\d  %f:%l %.%#  never persisted']
+" Its other rows.
 let s:formats += ['%I    %#%*\d  %f:%l %m']
 let s:formats += ['%I  %m' . s:labelled, '%I  %m' . s:plain, '%-G  %.%#', '%f:%l: %m', '%-G%.%#']
 

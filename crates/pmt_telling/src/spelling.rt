@@ -4,9 +4,9 @@ use pmt_model::{Addr, Event, Op, Range, Trace};
 use pmt_names::word_of;
 use pmt_pen::Pen;
 
-// How events are spelled.
+/// How events are spelled.
 #[derive(Clone, Copy)]
-pub(crate) struct Spelling {
+pub struct Spelling {
     // How many of the last digits of an address are told; 0 where all are.
     digits: u32,
     // Whether threads are told.
@@ -22,8 +22,8 @@ struct Common {
     is_one_thread: bool,
 }
 
-// The shortest spelling that tells these events apart.
-pub(crate) fn spelling_of(trace: &Trace, numbers: &[u64]) -> Spelling {
+/// The shortest spelling that tells these events apart.
+pub fn spelling_of(trace: &Trace, numbers: &[u64]) -> Spelling {
     let mut common = Common {
         low: u64::MAX,
         high: 0,

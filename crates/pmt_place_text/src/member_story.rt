@@ -1,0 +1,173 @@
+//! The story of a store that is never persisted, or late: the few events that tell why, a row each.
+
+use pmt_asked::frame_of;
+use pmt_model::OutOfMemory;
+use pmt_pen::Pen;
+use pmt_slices::{StorePart, StoreStory, store_story_of};
+use pmt_telling::{
+    SOURCE, StoryColumns, StoryRow, Telling, line_address, line_of_store, push_story_break,
+    push_story_gap, push_story_row, push_wrapped, spelling_of, story_columns, story_row,
+};
+
+// So many places are told with a story: each looks at all events after its store.
+pub(crate) const MOST_STORIES: usize = 32;
+
+// Adds the events of the store's story, a row each, with what is missing if it is never persisted.
+pub(crate) fn push_store_story(pen: &mut Pen, told: &Telling<'_>, store: u64) {
+    if add_story(pen, told, store).is_err() {
+        pen.refuse();
+    }
+}
+
+fn add_story(pen: &mut Pen, told: &Telling<'_>, store: u64) -> Result<(), OutOfMemory> {
+    let Some(story) = store_story_of(told.alloc, told.trace, store)? else {
+        return Ok(());
+    };
+    let rows = rows_of(told, store, &story)?;
+    let columns = story_columns(rows.as_slice());
+    push_rows(pen, told, &story, columns, rows.as_slice());
+    if !story.is_safe() {
+        push_missing(pen, told, store, &story, columns);
+    }
+    push_callers(pen, told, store);
+    Ok(())
+}
+
+// The rows of the story.
+fn rows_of<'a>(
+    told: &Telling<'a>,
+    store: u64,
+    story: &StoreStory,
+) -> Result<Vec<StoryRow<'a>>, OutOfMemory> {
+    let numbers = story.numbers();
+    let spelling = spelling_of(told.trace, numbers);
+    let mut rows = Vec::with_capacity(told.alloc, numbers.len())?;
+    for (index, number) in numbers.iter().enumerate() {
+        let mut note = Pen::new(told.alloc);
+        push_thread(&mut note, told, store, *number);
+        push_note(&mut note, told, story, store, *number);
+        rows.push(story_row(told, numbers, index, spelling, note)?)?;
+    }
+    Ok(rows)
+}
+
+// Adds the thread of the event, if it is not that of the store.
+fn push_thread(note: &mut Pen, told: &Telling<'_>, store: u64, number: u64) {
+    let thread = thread_of(told, number);
+    if thread != thread_of(told, store) {
+        note.fill("by thread #: ", &[thread]);
+    }
+}
+
+// The thread of the event.
+fn thread_of(told: &Telling<'_>, number: u64) -> u64 {
+    match told.trace.get(number) {
+        Some(event) => event.thread as u64,
+        None => 0,
+    }
+}
+
+// Adds what the event is to the store.
+fn push_note(note: &mut Pen, told: &Telling<'_>, story: &StoreStory, store: u64, number: u64) {
+    match story.part(number) {
+        StorePart::Store => {
+            if story.is_safe() {
+                note.fill("late: left unsafe by # fences", &[waited_by(told, store)]);
+            } else {
+                note.put("never persisted");
+            }
+        }
+        StorePart::Other => note.put("another cache line"),
+        StorePart::OwnFence => note.fill("does not save event #", &[store]),
+        StorePart::Flush => note.put("the first flush of its line"),
+        StorePart::Cover => note.put("the flush that saves it"),
+        StorePart::Fence => note.put("does not complete that flush"),
+        StorePart::Saves => note.put("safe only from here on"),
+    }
+}
+
+// For how many fences the event waited.
+pub(crate) fn waited_by(told: &Telling<'_>, number: u64) -> u64 {
+    let waited = told.explanation.waited.as_slice();
+    match waited.get(number.saturating_sub(1) as usize) {
+        Some(fences) => *fences,
+        None => 0,
+    }
+}
+
+// Adds the rows, with how many flushes of other lines are left out before the last of them.
+fn push_rows(
+    pen: &mut Pen,
+    told: &Telling<'_>,
+    story: &StoreStory,
+    columns: StoryColumns,
+    rows: &[StoryRow<'_>],
+) {
+    let shown = rows.iter().filter(|row| is_other(story, row)).count();
+    let mut others = 0usize;
+    for row in rows {
+        push_story_row(pen, columns, row);
+        if is_other(story, row) {
+            others = others.saturating_add(1);
+            if others.saturating_add(1) == shown {
+                push_left_out(pen, told, story, columns);
+            }
+        }
+    }
+}
+
+// Whether the row is of a flush of another line.
+fn is_other(story: &StoreStory, row: &StoryRow<'_>) -> bool {
+    matches!(story.part(row.number), StorePart::Other)
+}
+
+// Adds how many flushes of other lines are left out, if some are.
+fn push_left_out(pen: &mut Pen, told: &Telling<'_>, story: &StoreStory, columns: StoryColumns) {
+    let left = story.left_out() as u64;
+    if left == 0 {
+        return;
+    }
+    let mut words = Pen::new(told.alloc);
+    words.fill("... # more flush", &[left]);
+    words.put(if left == 1 {
+        " of another cache line"
+    } else {
+        "es of other cache lines"
+    });
+    push_story_gap(pen, columns, &words);
+}
+
+// Adds what is missing of a store that is never persisted: a flush of its line, or a fence after it.
+fn push_missing(
+    pen: &mut Pen,
+    told: &Telling<'_>,
+    store: u64,
+    story: &StoreStory,
+    columns: StoryColumns,
+) {
+    let mut words = Pen::new(told.alloc);
+    match story.flush() {
+        Some(flush) => words.fill(
+            "flushed by event #, but no fence of thread # follows",
+            &[flush, thread_of(told, flush)],
+        ),
+        None => words.fill(
+            "no flush of cache line @ follows",
+            &[line_address(told.trace, line_of_store(told.trace, store))],
+        ),
+    }
+    push_story_break(pen, columns, &words);
+}
+
+// Adds the whole label of the store, if it has callers.
+fn push_callers(pen: &mut Pen, told: &Telling<'_>, store: u64) {
+    let Some(label) = told.labels.get(store) else {
+        return;
+    };
+    if frame_of(label.as_str()) != label.as_str() {
+        let mut line = Pen::new(told.alloc);
+        line.put("  stored: at ");
+        line.put(label.as_str());
+        push_wrapped(pen, &line, SOURCE);
+    }
+}

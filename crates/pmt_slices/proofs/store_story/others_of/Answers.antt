@@ -1,0 +1,19 @@
+use Rattle.std.proofs.Common.{◌≡◌, length, sym, ap, subst, ◌∙◌, arith}
+use Rattle.pmt_slices.specs.Scanning.{IsChosen}
+use Rattle.pmt_slices.specs.Choosing.{Chooses}
+use Rattle.pmt_slices.specs.StoreStories.{IsOther}
+use Rattle.pmt_slices.proofs.TakenLemmas.{refill-all}
+use Rattle.pmt_slices.proofs.StoreStoryLemmas.{others-made}
+use Rattle.pmt_slices.proofs.store_story.others_of.Goals as goal
+
+pub returns : goal.returns
+returns c =
+    let T = c.args.trace.now in
+    let flags = c.in_ok-chosen.chosen in
+    let ws = c.choose_all.new.chosen in
+    let chooses = subst (λ xs. Chooses (IsOther T c.args.thread c.args.line c.args.number) xs ws) c.as_mut_slice.ensures.value c.choose_all.ensures in
+    let same = refill-all flags.len flags.items ws (omega (arith, c.as_mut_slice.ensures.len, ap (λ xs. length xs) c.as_mut_slice.ensures.value)) chooses.size in
+    let seen : c.as_slice.result.now ≡ ws = c.as_slice.ensures.value ∙ same in
+    others-made T c.args.thread c.args.line c.args.number c.in_ok-numbers.numbers flags.items ws c.in_ok-numbers.ensures.rising
+    (λ k. let just = c.in_ok-numbers.ensures.just k in (λ has. subst (λ xs. IsChosen xs k) seen (just.0 has), λ own. just.1 (subst (λ xs. IsChosen xs k) (sym seen) own)))
+    c.in_ok-chosen.ensures.none (c.in_ok-chosen.ensures.size ∙ c.len.ensures.value) chooses

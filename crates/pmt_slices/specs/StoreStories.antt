@@ -1,0 +1,98 @@
+-- The story of a store: why it is not safe, and what makes it so.
+use Rattle.std.specs.Prelude.{◌≡◌, ℕ, suc, ◌<◌, ◌⊎◌, ◌↔◌, ◌==◌, if◌then◌else◌, List, length, slice_get, Some}
+use Rattle.pmt_model.specs.Values.{Layout, Written, line_of}
+use Rattle.pmt_model.specs.declared.event.Event.{Event}
+use Rattle.pmt_model.specs.declared.event.Op.{Op}
+use Rattle.pmt_model.specs.declared.event.Op.TheVariants.{Store, Clwb, ClflushOpt, Clflush, Sfence, Mfence, IsPersist, IsOrderedBefore}
+use Rattle.pmt_model.specs.Machine.{Fences}
+use Rattle.pmt_model.specs.Traces.{Recording, IsAct, event}
+use Rattle.pmt_model.specs.Selections.{IsRising, Has}
+use Rattle.pmt_model.specs.Findings.{IsSafe}
+use Rattle.pmt_reasons.specs.Causes.{IsFirstFenceAt}
+use Rattle.pmt_safety.specs.Safety.{IsSafeFrom}
+use Rattle.pmt_slices.specs.declared.store_slicing.Fate.{Fate}
+use Rattle.pmt_slices.specs.declared.store_story.StorePart.{StorePart}
+use Rattle.pmt_slices.specs.declared.store_story.StorePart.TheVariants as part
+use Rattle.pmt_slices.specs.declared.store_story.StoreStory.{StoreStory}
+use Rattle.pmt_slices.specs.declared.store_story.Turn.{Turn}
+use Rattle.pmt_slices.specs.declared.store_story.Turn.TheVariants as turn
+use Rattle.pmt_slices.specs.Slices.{IsFirstFlush, IsFirstFlushBy, Tells}
+use Rattle.pmt_slices.specs.Choosing.{IsOfStore}
+use Rattle.pmt_slices.specs.StoreSlices.{IsStoreBy, line_in}
+use Rattle.pmt_slices.specs.Fates.{IsFate}
+
+-- What an op of a store's thread is to the store's line: a flush of it and a fence are one, a flush of another line, or nothing.
+abbrev pub flush_turn : ℕ → ℕ → Turn
+flush_turn own l = if own == l then turn.Stop else turn.Other
+
+abbrev pub turn_of : Layout → ℕ → Op → Turn
+turn_of f l (Store w) = turn.Nothing
+turn_of f l (Clwb a) = flush_turn (line_of f a) l
+turn_of f l (ClflushOpt a) = flush_turn (line_of f a) l
+turn_of f l (Clflush a) = flush_turn (line_of f a) l
+turn_of f l Sfence = turn.Stop
+turn_of f l Mfence = turn.Stop
+turn_of f l (IsPersist r) = turn.Nothing
+turn_of f l (IsOrderedBefore r q) = turn.Nothing
+
+-- Event k is by thread t, and this to line l.
+abbrev pub IsTurn : Recording → ℕ → ℕ → Turn → ℕ → Type 0
+IsTurn T t l x k = (e : Event) × (event T k ≡ Some e) × (e.thread ≡ t) × (turn_of T.format l e.op ≡ x)
+
+-- Event k is a flush by thread t of another line than l after event j; between them the thread does not fence, nor flush line l.
+pub record IsOther (T : Recording) (t l j k : ℕ) : Type 0 where
+  pub is_flush : IsTurn T t l turn.Other k
+  pub after : j < k
+  pub sooner : (m : ℕ) → j < m → m < k → ¬ IsTurn T t l turn.Stop m
+
+-- These are all of them, in their order.
+pub record AreOthers (T : Recording) (t l j : ℕ) (others : List ℕ) : Type 0 where
+  pub rising : IsRising 0 others
+  pub just : (k : ℕ) → Has others k ↔ IsOther T t l j k
+
+-- Event k is one of the first three of these, or the last one.
+abbrev pub IsOfOthers : List ℕ → ℕ → Type 0
+IsOfOthers others k = (i : ℕ) × (slice_get others i ≡ Some k) × ((i < 3) ⊎ (suc i ≡ length others))
+
+-- Number k is that of the store, of what tells of it, of the next fence of its thread, if that leaves it unsafe, or of a few other flushes.
+abbrev pub IsOfStory : ℕ → Fate → List ℕ → ℕ → ℕ → Type 0
+IsOfStory number f others n k = IsOfStore number f.coming n k ⊎ (((f.first < f.coming.safe) × (k ≡ f.first)) ⊎ IsOfOthers others k)
+
+-- Event n is a store.
+abbrev pub IsStoreAt : Recording → ℕ → Type 0
+IsStoreAt T n = (t : ℕ) × (w : Written) × IsStoreBy T t w n
+
+-- Event k is the first fence of thread t after event j.
+pub record IsNextFence (T : Recording) (t j k : ℕ) : Type 0 where
+  pub is_fence : IsAct T k (Fences t)
+  pub after : j < k
+  pub first : (m : ℕ) → j < m → m < k → ¬ IsAct T m (Fences t)
+
+-- Event k is this part of the story of store j to line l by thread t.
+abbrev pub IsStorePart : Recording → ℕ → ℕ → ℕ → StorePart → ℕ → Type 0
+IsStorePart T t l j part.Store k = k ≡ j
+IsStorePart T t l j part.OwnFence k = IsNextFence T t j k × (¬ IsSafe T l k j)
+IsStorePart T t l j part.Saves k = IsSafeFrom T l j k
+IsStorePart T t l j part.Flush k = IsFirstFlush T l j k
+IsStorePart T t l j part.Cover k = (u : ℕ) × (p : ℕ) × IsSafeFrom T l j p × IsAct T p (Fences u) × IsFirstFlushBy T u l j k
+IsStorePart T t l j part.Fence k = (g : ℕ) × IsFirstFlush T l j g × IsFirstFenceAt T g (length T.events) k × (¬ IsSafe T l k j)
+IsStorePart T t l j part.Other k = IsOther T t l j k
+
+-- Event k tells of store j to line l by thread t up to the end, is the thread's next fence, which leaves the store unsafe, or is one of the
+-- first three of the thread's flushes of other lines, or the last.
+pub data IsInStoreStory (T : Recording) (t l j : ℕ) (others : List ℕ) (k : ℕ) : Type 0 where
+  OfStore : Tells T (length T.events) l j k → IsInStoreStory T t l j others k
+  OwnFence : IsNextFence T t j k → ¬ IsSafe T l k j → IsInStoreStory T t l j others k
+  OfOthers : IsOfOthers others k → IsInStoreStory T t l j others k
+
+-- The story has these events.
+pub record IsStoreStory (T : Recording) (j : ℕ) (s : StoreStory) : Type 0 where
+  pub thread : ℕ
+  pub what : Written
+  pub is_store : IsStoreBy T thread what j
+  pub store : s.store ≡ j
+  pub end : s.end ≡ length T.events
+  pub fate : IsFate T thread what j s.fate
+  pub others : AreOthers T thread (line_in T what) j s.others
+  pub rising : IsRising 0 s.numbers
+  pub just : (k : ℕ) → Has s.numbers k ↔ IsInStoreStory T thread (line_in T what) j s.others k

@@ -1,0 +1,60 @@
+"""Stories of stores that are late or lost. The texts are written by hand."""
+
+# Traces of a store that is late or lost, with their labels, and the rows of the story of its place.
+STORIES = (
+    (
+        """store 0 0x1000 01|a.c:1 f < main a.c:9
+clwb 0 0x2000|flush.c:5
+clwb 0 0x2040|flush.c:5
+clwb 0 0x2080|flush.c:5
+clwb 0 0x20c0|flush.c:5
+clflushopt 0 0x2100|flush.c:5
+clwb 0 0x2140|flush.c:5
+sfence 0|flush.c:6
+clwb 1 0x1000|b.c:2
+sfence 0|flush.c:6
+clwb 0 0x1000|flush.c:5
+sfence 1|b.c:3
+""",
+        """note: a.c:1 f: 1 store: 0 never persisted, 1 saved late, 0 in time
+     1  a.c:1 f    store 0 0x1000 01  late: left unsafe by 2 fences
+     2  flush.c:5  clwb 0 0x2000      another cache line
+     3  flush.c:5  clwb 0 0x2040      another cache line
+     4  flush.c:5  clwb 0 0x2080      another cache line
+                   ... 2 more flushes of other cache lines
+     7  flush.c:5  clwb 0 0x2140      another cache line
+     8  flush.c:6  sfence 0           does not save event 1
+     9  b.c:2      clwb 1 0x1000      by thread 1: the first flush of its line
+    10  flush.c:6  sfence 0           does not complete that flush
+    12  b.c:3      sfence 1           by thread 1: safe only from here on
+  stored: at a.c:1 f < main a.c:9
+  fix:    Flush cache line 0x1000 by thread 0 after event 1 (a.c:1 f), before its next fence, event
+          8 (flush.c:6).
+""",
+    ),
+    (
+        """store 0 0x7f0000001000 01|a.c:1
+store 0 0x7f0000001001 01|a.c:1
+clwb 0 0x7f0000001040|a.c:2
+clwb 1 0x7f0000001000|b.c:1
+sfence 0|a.c:3
+""",
+        """error: a.c:1: 2 stores: 2 never persisted, 0 saved late, 0 in time; one of them:
+    1  a.c:1  store 0 0x...000 01  never persisted
+    3  a.c:2  clwb 0 0x...040      another cache line
+    4  b.c:1  clwb 1 0x...000      by thread 1: the first flush of its line
+    5  a.c:3  sfence 0             does not save event 1
+       -----  flushed by event 4, but no fence of thread 1 follows
+  fix:    Fence by thread 1 after event 4 (b.c:1).
+""",
+    ),
+    (
+        "store 0 0x1000 01|a.c:1\nclwb 1 0x1040|b.c:1\nsfence 1|b.c:2\nclwb 0 0x2000|a.c:2\n",
+        """error: a.c:1: 1 store: 1 never persisted, 0 saved late, 0 in time
+    1  a.c:1  store 0x1000 01  never persisted
+    4  a.c:2  clwb 0x2000      another cache line
+       -----  no flush of cache line 0x1000 follows
+  fix:    Flush cache line 0x1000 after event 1 (a.c:1), and fence by the thread that flushes it.
+""",
+    ),
+)
