@@ -4,11 +4,11 @@ late stores, tables.
 The findings are those of explained.py, groups and tables those of grouped.py.
 """
 import re
-import textwrap
 
 import grouped
 import hinted
 import placed as by_place
+from answers import wrong_answer
 from broken import WIDTH, joined, wrong_breaks
 from explained import NOTHING
 from machine import FENCES, FLUSHES, spelled
@@ -19,6 +19,7 @@ MOST = 8
 # Those of a story, with what was flushed before and the callers.
 MOST_ROWS = 12
 DROPPED = "note: flushes and fences that do nothing, most first:"
+OTHER_THREADS = "note: fences that complete nothing while flushes of another thread wait, most first:"
 OVERWRITTEN = "note: stores overwritten before any flush of their cache line, those with other bytes first:"
 OVERWRITTEN_PLACES = "note: stores overwritten before any flush of their cache line, by the place of the first in a line:"
 SAVED_LATE = "  stores saved late, which a crash can lose though their thread went on: "
@@ -27,6 +28,7 @@ THREADS = "table: what threads make whose flushes and fences do nothing, and how
 LABELS = "table: source places whose flushes and fences do nothing, most first:"
 MARKS = ("note: ", " the mark of isOrderedBefore lies in several cache lines, of which ")
 NOTHING_FOUND = "Nothing of what is asked for was found."
+LEGEND = "A store is safe once its cache line is flushed after it and the thread that flushed it has fenced"
 COLUMNS = "   stores  flushes   fences  do nothing"
 REASONS = {
     "safe": "all stores to its line are safe already",
@@ -67,6 +69,28 @@ def dropped_lines(explained):
         behind = f" (event {by['event']})" if by else ""
         lines.append(f"  {times(len(numbers))} {what}, first event {numbers[0]}: {REASONS[reason]}{behind}")
     return lines
+
+
+def other_threads_lines(explained):
+    """Two lines for each place of fences that complete nothing if at each of them a flush of another thread waits: the count, and the flush."""
+    lines = []
+    for (what, reason), numbers in dropped_groups(explained):
+        waiting = [waiting_flush(explained.trace, number) for number in numbers] if reason == "empty" else [None]
+        if all(waiting):
+            lines.append(f"  {times(len(numbers))} {what}, first event {numbers[0]}: a fence completes flushes of its own thread alone")
+            lines.append(f"  waits:  {named(explained, waiting[0])}")
+    return lines
+
+
+def waiting_flush(trace, fence):
+    """The last flush before the fence that waits for a fence of another thread than the fence's; none if none does."""
+    has_fenced = {trace.event(fence)[1]}
+    for number in range(fence - 1, 0, -1):
+        word, thread = trace.event(number)[:2]
+        if word in FLUSHES and thread not in has_fenced:
+            return number
+        has_fenced |= {thread} if word in FENCES else set()
+    return None
 
 
 def late_lines(explained):
@@ -416,31 +440,6 @@ def mark_lines(explained):
     return [line] if found and explained.is_whole() else []
 
 
-def clean_lines(explained):
-    """What the text ends with if no assertion fails and each store is ignored or safe by the end: what is claimed, and what is safe."""
-    words = [event[0] for event in explained.trace.events]
-    stores, claims, empty = words.count("store"), sum(word.startswith("is") for word in words), len(explained.unwritten())
-    ignored = [store for store in explained.lost_stores() if explained.is_ignored(store)]
-    if explained.failing() or len(ignored) < len(explained.lost_stores()) or not stores or not explained.is_whole():
-        return []
-    but = f", but for {len(ignored)} that {'is' if len(ignored) == 1 else 'are'} ignored" if ignored else ""
-    late = sum(row["late"] for _, row in by_place.rows(explained))
-    delayed = f", {late} of them late" if late else ""
-    safe = f"{'the store' if stores == 1 else f'each of the {stores} stores'} is safe by the end of the trace{but}{delayed}"
-    if claims == empty:
-        return ["", *textwrap.wrap(f"{safe[0].upper()}{safe[1:]}; no assertion says what a crash before that may not lose.", WIDTH)]
-    vain = f", {empty} of which {'checks' if empty == 1 else 'check'} nothing" if empty else ""
-    held = "the assertion" if claims == 1 else f"one of the {claims} assertions{vain}"
-    return ["", *textwrap.wrap(f"Nothing that is claimed can be lost: no crash that the model allows violates {held}, and {safe}.", WIDTH)]
-
-
-def wrong_end(explained, lines):
-    """What is wrong with the last lines."""
-    wanted = clean_lines(explained)
-    others = [line for line in lines[: len(lines) - len(wanted)] if " of the trace" in line and " safe by the end" in line or line.startswith("Nothing that is claimed")]
-    return None if lines[len(lines) - len(wanted) :] == wanted and not others else f"the end: wanted {wanted}, in {lines}"
-
-
 def found_nothing(explained):
     """Whether something is asked for that no finding meets."""
     found = (explained.causes, explained.never_persisted(), explained.dropped(), explained.overwritten(), explained.unwritten(), grouped.late(explained), hinted.hints(explained), hinted.left(explained))
@@ -460,7 +459,7 @@ def wrong_text(explained, told):
         return f"found nothing: {found_nothing(explained)}, in\n{told.decode()}"
     if [line for line in lines if line.startswith("  told below: ")] != asked_lines(explained):
         return f"what is asked for: wanted {asked_lines(explained)}, in\n{told.decode()}"
-    sections = [(DROPPED, dropped_lines), (OVERWRITTEN, overwritten_lines), (LATE, late_lines)]
+    sections = [(OTHER_THREADS, other_threads_lines), (DROPPED, dropped_lines), (OVERWRITTEN, overwritten_lines), (LATE, late_lines)]
     for heading, wanted in (*((heading, of(explained)) for heading, of in sections), *tables(explained)):
         if below(lines, heading) != wanted:
             return f"{heading} wanted {wanted}, in\n{told.decode()}"
@@ -468,7 +467,7 @@ def wrong_text(explained, told):
         return f"hints: wanted {list(hinted.lines(explained))}, in\n{told.decode()}"
     if [line for line in lines if line.startswith("guess: ")] != by_place.guess_lines(explained):
         return f"the guess: wanted {by_place.guess_lines(explained)}, in\n{told.decode()}"
-    wrong = wrong_late(explained, lines) or wrong_places(explained, lines) or wrong_end(explained, lines)
+    wrong = wrong_late(explained, lines) or wrong_places(explained, lines) or wrong_answer(explained, lines)
     if wrong:
         return wrong
     causes, entries = explained.causes, errors_of(lines)
@@ -496,10 +495,10 @@ def wrong_screen(explained, told):
         "places": list(by_place.heads(explained)),
         "hint": [*hinted.hints(explained), *hinted.left(explained)],
     }
-    told = [line for line in below(lines, OVERWRITTEN_PLACES) if not line.startswith("... ")]
-    if told != overwritten_places(explained)[: len(told)] or told and not explained.labels:
-        return f"overwritten by place: wanted {overwritten_places(explained)}, in\n{told}"
+    by_places = [line for line in below(lines, OVERWRITTEN_PLACES) if not line.startswith("... ")]
+    if by_places != overwritten_places(explained)[: len(by_places)] or by_places and not explained.labels:
+        return f"overwritten by place: wanted {overwritten_places(explained)}, in\n{told.decode()}"
     for name, entries in found.items():
-        if entries and not any(name in line for line in lines[5:]):
+        if entries and not any(name in line or name == "assertion" and line.startswith("error: a crash can ") for line in lines[lines.index(LEGEND) :]):
             return f"nothing of what {name}:\n{told.decode()}"
-    return wrong_end(explained, lines)
+    return wrong_answer(explained, lines)

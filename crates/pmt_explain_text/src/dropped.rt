@@ -29,18 +29,24 @@ pub(crate) fn dropped_section(told: &Telling<'_>) -> Section {
 // Adds the group.
 fn push_dropped(pen: &mut Pen, told: &Telling<'_>, group: &Group<DroppedKey>) {
     let mut line = Pen::new(pen.alloc());
-    line.put("  ");
-    push_count(&mut line, group.members.len() as u64, "time");
-    line.put(" ");
     let number = first_of(group);
-    push_word(&mut line, told.trace, number);
-    push_spot(&mut line, told, group.key.spot);
-    line.fill(", first event #: ", &[number]);
+    push_members(&mut line, told, group);
     line.put(reason_words(group.key.reason));
     if let Some(by) = by_of(told, number) {
         line.fill(" (event #)", &[by]);
     }
     push_wrapped(pen, &line, HEAD);
+}
+
+// Adds how many events are in the group, what they are, where they stand, and the first of them.
+pub(crate) fn push_members(pen: &mut Pen, told: &Telling<'_>, group: &Group<DroppedKey>) {
+    let number = first_of(group);
+    pen.put("  ");
+    push_count(pen, group.members.len() as u64, "time");
+    pen.put(" ");
+    push_word(pen, told.trace, number);
+    push_spot(pen, told, group.key.spot);
+    pen.fill(", first event #: ", &[number]);
 }
 
 // Adds the word of the event, which all of its group have.

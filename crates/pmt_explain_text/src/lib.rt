@@ -1,9 +1,10 @@
 //! What `pmtrim explain` writes of an explanation as a text for people.
 #![tactic(auto)]
 
-mod clean;
+mod answer;
 mod dropped;
 mod ignored;
+mod other_threads;
 mod overwritten;
 mod overwritten_places;
 mod people;

@@ -1,7 +1,7 @@
 //! An explanation as a text for people.
 
-use crate::clean::clean_words;
 use crate::dropped::dropped_section;
+use crate::other_threads::other_threads_section;
 use crate::overwritten::overwritten_section;
 use crate::summary::push_summary;
 use crate::tables::{labels_section, threads_section};
@@ -15,13 +15,11 @@ use pmt_place_text::{
     claims_wanted, guesses_section, hints_section, late_section, lost_section, marks_section,
     places_section,
 };
-use pmt_telling::{
-    Screen, Telling, hinting_of, lines_of, push_sections, sources_section, tells_all,
-};
+use pmt_telling::{Screen, Telling, hinting_of, push_sections, sources_section, tells_all};
 use std::alloc::Global;
 
-/// The explanation for people: the summary, and then what was found, what matters most first, and last what may be none of the
-/// program's faults, or in words that there are none. What is left out is counted, with the words that show it.
+/// The explanation for people: the answer in a sentence, the summary, and then what was found, what matters most first, and last what may be
+/// none of the program's faults. What is left out is counted, with the words that show it.
 ///
 /// # Errors
 /// Where memory was refused.
@@ -43,39 +41,26 @@ pub fn text(
     let mut sections = vec![in alloc;
         failures_section(&told, &hinting),
         places_section(&told, &claims),
+        guesses_section(&told, &claims),
         lost_section(&told),
+        other_threads_section(&told),
         hints_section(&told, &hinting),
         dropped_section(&told),
         overwritten_section(&told),
         late_section(&told),
         unwritten_section(&told),
         marks_section(&told),
-        guesses_section(&told, &claims),
         threads_section(&told),
         labels_section(&told),
         sources_section(&told),
     ]?;
-    let counts = summary_of(explanation);
-    let last = clean_words(&told, &counts);
     let mut pen = Pen::new(alloc);
-    push_summary(&mut pen, &told, &counts);
-    push_sections(
-        &mut pen,
-        sections.as_mut_slice(),
-        rows_before(screen, &last),
-    );
-    pen.share(&last);
-    pen.put(last.as_str());
+    push_summary(&mut pen, &told, &summary_of(explanation));
+    push_sections(&mut pen, sections.as_mut_slice(), screen.rows);
     let is_quiet = sections.iter().all(|section| section.total == 0);
     if is_quiet && !tells_all(screen.choice) {
         pen.put("\nNothing of what is asked for was found.\n");
     }
     let written = pen.finish()?;
     Ok(written.into_bytes())
-}
-
-// The lines of the screen that stand before these words.
-fn rows_before(screen: &Screen<'_>, last: &Pen) -> Option<usize> {
-    let rows = screen.rows?;
-    Some(rows.saturating_sub(lines_of(last.as_str().as_bytes())))
 }

@@ -1,5 +1,6 @@
-//! The head of the text for people: counts, what is asked for, and what the words mean.
+//! The head of the text for people: the answer, counts, what is asked for, and what the words mean.
 
+use crate::answer::push_answer;
 use crate::ignored::push_ignored;
 use crate::unknown::{push_cut, push_unknown};
 use pmt_asked::Choice;
@@ -8,9 +9,10 @@ use pmt_explanation::{Summary, per_cent};
 use pmt_pen::Pen;
 use pmt_telling::{Telling, failure_of, is_unflushed, push_count};
 
-// Adds the counts, and what the words mean.
+// Adds the answer, the counts, and what the words mean.
 pub(crate) fn push_summary(pen: &mut Pen, told: &Telling<'_>, counts: &Summary) {
     push_cut(pen, told);
+    push_answer(pen, told, counts);
     push_counts(pen, told, counts);
     push_ignored(pen, told, counts);
     push_unknown(pen, counts);

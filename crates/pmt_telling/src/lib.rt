@@ -23,7 +23,7 @@ pub use crate::parts::{
 pub use crate::rows::{
     HEAD, WIDTH, push_broken, push_column, push_cut, push_line, push_spaces, push_wrapped, width_of,
 };
-pub use crate::screen::{Section, lines_of, push_sections};
+pub use crate::screen::{Section, push_sections};
 pub use crate::sources::{SOURCE, line_under, push_found, push_source, sources_section};
 pub use crate::spelling::{Spelling, spelling_of};
 pub use crate::story_rows::{

@@ -130,7 +130,7 @@ fn cost(section: &Section, count: usize) -> usize {
 }
 
 /// How many lines the text has.
-pub fn lines_of(text: &[u8]) -> usize {
+fn lines_of(text: &[u8]) -> usize {
     text.iter().filter(|byte| **byte == b'\n').count()
 }
 

@@ -28,10 +28,15 @@ pub struct Screen<'a> {
 /// What is told, and how.
 #[derive(Drop)]
 pub struct Telling<'a> {
+    /// What gives memory.
     pub alloc: Global,
+    /// The trace that was analysed.
     pub trace: &'a Trace,
+    /// What is told of it.
     pub explanation: &'a Explanation,
+    /// The labels of its events.
     pub labels: &'a Labels,
+    /// What is asked for, and how much room there is.
     pub screen: &'a Screen<'a>,
 }
 
