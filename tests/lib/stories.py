@@ -101,6 +101,10 @@ def words_of(event, digits, with_thread):
     return " ".join([word, *([str(thread)] if with_thread else []), *spelled])
 
 
+def plural(count, noun):
+    return f"{count} {noun}" if count == 1 else f"{count} {noun}s"
+
+
 def cut(text, most):
     return text if len(text) <= most else text[: most - 1] + "…"
 
