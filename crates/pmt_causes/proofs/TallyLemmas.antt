@@ -16,7 +16,7 @@ use Rattle.pmt_causes.specs.declared.tables.Counts.{Counts}
 use Rattle.pmt_causes.specs.Labels.{label_of}
 use Rattle.pmt_causes.specs.Late.{is_fence}
 use Rattle.pmt_causes.specs.Tables.{events_with, has_key, is_flush, is_store, op_passes, label_at, label_in}
-use Rattle.pmt_causes.specs.Tallies.{AreCounts, AreDrops, IsFew, counts_in, counts_of, listed_at, with_op}
+use Rattle.pmt_causes.specs.Tallies.{AreCounts, AreDrops, IsFew, counts_in, counts_of, dropped_at, listed_at, with_op}
 use Rattle.pmt_causes.proofs.CountedLemmas.{counted-le}
 
 -- the order of numbers tells which are the same
@@ -180,3 +180,9 @@ drops-next key all i d k old new within before added = go (has_key k (key (get_o
     go : (b : Bool) → has_key k (key (get_or all i d).event) ≡ b → new ≡ count_by (λ (x : Dropped). has_key k (key x.event)) (take (i + 1) all)
     go true is = omega (arith, added, before, ap one is, count_by_more_yes (λ (x : Dropped). has_key k (key x.event)) all i d within is)
     go false is = omega (arith, added, before, ap one is, count_by_more_no (λ (x : Dropped). has_key k (key x.event)) all i d within is)
+
+-- no thread has one yet
+pub dropped-none : (n k : ℕ) → dropped_at (replicate n 0) k ≡ 0
+dropped-none zero k = refl
+dropped-none (suc n) zero = refl
+dropped-none (suc n) (suc k) = dropped-none n k

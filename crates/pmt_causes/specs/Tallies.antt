@@ -40,6 +40,10 @@ pub record AreCounts (T : Recording) (key : ℕ → Option ℕ) (n : ℕ) (find 
 abbrev pub AreDrops : (ℕ → Option ℕ) → List Dropped → Numbers → Type 0
 AreDrops key dropped drops = (k : ℕ) → number_at 0 drops k ≡ count_by (λ (d : Dropped). has_key k (key d.event)) dropped
 
+-- How many dropped events a list has at the key.
+abbrev pub dropped_at : List ℕ → ℕ → ℕ
+dropped_at counts k = slice_index_or counts k 0
+
 -- The row of the key by these counts.
 abbrev pub row_in : BTreeMap ℕ Counts → Numbers → ℕ → Row ℕ
 row_in table drops k = record {

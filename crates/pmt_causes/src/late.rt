@@ -5,6 +5,7 @@ ghost use Rattle.std.specs.List.{count_by};
 ghost use Rattle.std.specs.List.Sorted.{IsNonDecreasingBy};
 ghost use Rattle.pmt_explain.specs.Saving.{AreSafePlaces};
 ghost use Rattle.pmt_causes.specs.Fences.{AreFences, list_by, wait_of, with_fence};
+ghost use Rattle.pmt_causes.specs.Labels.{label_of as label_in};
 ghost use Rattle.pmt_causes.specs.Late.{AreLateItems, AreWaited, late_items as late_items_in, late_spot as late_spot_in, spot_of_op as spot_of_op_in, with_spot};
 
 use crate::grouping::Keyed;
@@ -14,7 +15,7 @@ use pmt_model::{Format, Op, OutOfMemory, Trace, line_of};
 use std::alloc::Global;
 
 // How many fences are looked at before all of them are searched.
-const NEAR: usize = 16;
+const NEAR: usize = 4;
 
 /// Where late stores stand.
 #[derive(Clone, Copy, Debug, PartialEq, Eq, Hash)]
@@ -209,24 +210,29 @@ fn late_items(
     for index in 0..events.len() {
         let number = index as u64 + 1;
         let event = events[index];
-        let label = label_of(labels, number);
-        let spot = spot_of(trace.format(), label, waited[index], event.op);
+        let spot = spot_of(trace.format(), labels, number, waited[index], event.op);
         push_spot(&mut items, number, spot)?;
     }
     Ok(items)
 }
 
-// The spot of an op that waited for so many fences, if it is a late store.
-fn spot_of(format: Format, label: Option<u64>, waited: u64, op: Op) -> Option<LateSpot>
-    ensures { result ≡ spot_of_op_in format label waited op }
+// The spot of the op with this number, which waited for so many fences, if it is a late store.
+fn spot_of(
+    format: Format,
+    labels: &[Option<u64>],
+    number: u64,
+    waited: u64,
+    op: Op,
+) -> Option<LateSpot>
+    ensures { result ≡ spot_of_op_in format (label_in labels.now number) waited op }
 {
+    if waited < 2 {
+        return None;
+    }
     match op {
         Op::Store(store) => {
-            if waited >= 2 {
-                Some(late_spot(label, line_of(format, store.addr())))
-            } else {
-                None
-            }
+            let label = label_of(labels, number);
+            Some(late_spot(label, line_of(format, store.addr())))
         }
         Op::Clwb(_)
         | Op::ClflushOpt(_)

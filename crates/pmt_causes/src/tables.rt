@@ -1,13 +1,14 @@
 //! Tables of what threads and labels have in a trace.
 
 ghost use Rattle.std.specs.Prelude.{◌≡◌, ◌==◌, ◌+◌, ◌-◌, ◌^◌, ◌<◌, ◌&&◌, ◌||◌, ℕ, if◌then◌else◌, length, map, Some, is_some, IfOk, OnOk};
-ghost use Rattle.std.specs.List.{All};
+ghost use Rattle.std.specs.List.{All, count_by};
 ghost use Rattle.std.specs.Ordering.{nat_cmp};
 ghost use Rattle.std.specs.BTreeMap.{IsOrdered, get, keys};
 ghost use Rattle.pmt_model.specs.Traces.{IsTrace};
+ghost use Rattle.pmt_explain.specs.declared.dropped_event.Dropped.{Dropped};
 ghost use Rattle.pmt_causes.specs.Numbers.{number_at};
 ghost use Rattle.pmt_causes.specs.Tables.{AreThreadRows, AreLabelRows, AreRows, HasLowerKey, label_at, has_key, thread_of};
-ghost use Rattle.pmt_causes.specs.Tallies.{AreCounts, AreDrops, IsFew, counts_in, counts_of, listed_at, row_in, with_op};
+ghost use Rattle.pmt_causes.specs.Tallies.{AreCounts, AreDrops, IsFew, counts_in, counts_of, dropped_at, listed_at, row_in, with_op};
 
 use crate::labels::label_of;
 use pmt_explain::Dropped;
@@ -81,6 +82,9 @@ pub fn label_table(
 ) -> Result<Vec<Row<u64>>, OutOfMemory>
     ensures { IfOk result (λ rows. AreLabelRows trace.now labels.now dropped.now rows.items) }
 {
+    if labels.is_empty() {
+        return Ok(Vec::new(alloc));
+    }
     let mut rows = rows_of(alloc, trace, labels, dropped)?;
     rows.sort_by_key(|row| rank_of(row))?;
     Ok(rows)
@@ -159,21 +163,44 @@ fn put_counts(table: &mut Table, key: u64, counts: Option<Counts>) -> Result<(),
 fn thread_drops(alloc: Global, trace: &Trace, dropped: &[Dropped]) -> Result<Drops, OutOfMemory>
     ensures { IfOk result (AreDrops (thread_of trace.now) dropped.now) }
 {
-    let mut drops = HashMap::new(alloc);
-    for entry in dropped {
-        count_drop(&mut drops, thread_at(trace, entry.event))?;
-    }
-    Ok(drops)
+    let counts = drop_counts(trace, dropped);
+    drops_table(alloc, &counts)
 }
 
-// The thread of the event with this number, where the trace has one.
-fn thread_at(trace: &Trace, number: u64) -> Option<u64>
-    ensures { result ≡ thread_of trace.now number }
+// The same by the thread's number.
+fn drop_counts(trace: &Trace, dropped: &[Dropped]) -> [u64; 256]
+    ensures counts { (k : ℕ) → dropped_at result k ≡ count_by (λ (d : Dropped). has_key k (thread_of trace.now d.event)) dropped.now }
+    ensures size { length result ≡ 256 }
+{
+    let mut counts = [0; 256];
+    for entry in dropped {
+        count_thread_drop(&mut counts, trace, entry.event);
+    }
+    counts
+}
+
+// Counts the dropped event with this number, where the trace has one.
+fn count_thread_drop(counts: &mut [u64; 256], trace: &Trace, number: u64)
+    requires { (k : ℕ) → dropped_at counts.old k < 2 ^ 63 }
+    ensures counts { (k : ℕ) → dropped_at counts.new k ≡ dropped_at counts.old k + (if has_key k (thread_of trace.now number) then 1 else 0) }
+    ensures size { length counts.new ≡ length counts.old }
 {
     let Some(event) = trace.get(number) else {
-        return None;
+        return;
     };
-    Some(event.thread as u64)
+    counts[event.thread as usize] += 1;
+}
+
+// These counts as a table.
+fn drops_table(alloc: Global, counts: &[u64; 256]) -> Result<Drops, OutOfMemory>
+    requires { length counts.now ≡ 256 }
+    ensures { IfOk result (λ drops. (k : ℕ) → number_at 0 drops k ≡ dropped_at counts.now k) }
+{
+    let mut drops = HashMap::new(alloc);
+    for key in 0..256u64 {
+        drops.insert(key, counts[key as usize])?;
+    }
+    Ok(drops)
 }
 
 // These rows as rows of threads.
