@@ -1,7 +1,7 @@
 pub mod FateLemmas
-pub mod ItemLemmas
 pub mod MarkLemmas
 pub mod OrderLemmas
 pub mod PlaceLemmas
+pub mod RowGroupLemmas
+pub mod RowLemmas
 pub mod SaverLemmas
-pub mod TallyLemmas

@@ -1,10 +1,12 @@
 -- Numbers of a list, marked one after another.
-use Rattle.std.proofs.Common.{◌≡◌, ◌≢◌, ℕ, zero, suc, ◌+◌, ◌<◌, ◌≤◌, ◌⊎◌, inl, inr, Bool, true, false, List, [], length, take, get_or, set, get_or-set_same, get_or-set_other, Some, refl, sym, ap, subst, ◌∙◌, arith}
+use Rattle.std.proofs.Common.{◌≡◌, ◌≢◌, ℕ, zero, suc, ◌+◌, ◌<◌, ◌≤◌, ◌⊎◌, inl, inr, Bool, true, false, List, [], ◌∷◌, length, map, take, get_or, set, get_or-set_same, get_or-set_other, Some, refl, sym, ap, subst, ◌∙◌, arith}
 use Rattle.std.specs.Prelude.{◌==◌, ◌||◌, replicate, slice_get}
 use Rattle.std.proofs.lemmas.Bool.{cases_lt, cases_eq, eq-eqb, ne_eqb, lt-ltb, le-ltb}
 use Rattle.std.proofs.lemmas.List.{length-set}
 use Rattle.std.proofs.lemmas.List.Folds.{list_any_more}
 use Rattle.std.proofs.lemmas.Option.{none-some, same_Some, slice_get-get_or, get_or_from_slice_get, slice_get_within}
+use Rattle.pmt_explain.specs.declared.dropped_event.Dropped.{Dropped}
+use Rattle.pmt_explain.specs.Dropping.{event_of}
 use Rattle.pmt_fates.specs.Fates.{is_listed}
 use Rattle.pmt_fates.specs.Marks.{AreMarks, with_mark}
 
@@ -70,3 +72,9 @@ marks-more n numbers i number old new within is made x = subst (AreMarks n (take
                     let below : k < length old = omega (arith, slice_get_within (set old j true) k b at, length-set old j true) in
                     let was : slice_get old k ≡ Some b = slice_get-get_or old k false below ∙ ap Some (sym (get_or-set_other old j k true false (λ e. apart (sym e))) ∙ value) in
                     same (suc j) (suc k) b own (λ e. apart (omega (arith, e))) (x.each k b was)
+
+-- the number of a dropped event in the list of them
+pub number-at : (list : List Dropped) (i : ℕ) (d : Dropped) → i < length list → event_of (get_or list i d) ≡ get_or (map event_of list) i 0
+number-at [] i d within = absurd (omega arith)
+number-at (x ∷ list) zero d within = refl
+number-at (x ∷ list) (suc i) d within = number-at list i d (omega arith)

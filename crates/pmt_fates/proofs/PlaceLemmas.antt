@@ -34,10 +34,10 @@ one b = cond b 1 0
 count-cons : (P : ℕ → Bool) (x : ℕ) (xs : List ℕ) → count_by P (x ∷ xs) ≡ one (P x) + count_by P xs
 count-cons P x xs = sum_by-cons (λ y. cond (P y) 1 0) x xs
 
-abbrev numbers : List (Keyed Origin) → List ℕ
+abbrev pub numbers : List (Keyed Origin) → List ℕ
 numbers xs = map (λ (x : Keyed Origin). x.number) xs
 
-numbers-more : (xs : List (Keyed Origin)) (x : Keyed Origin) → numbers (xs ++ x ∷ []) ≡ numbers xs ++ x.number ∷ []
+pub numbers-more : (xs : List (Keyed Origin)) (x : Keyed Origin) → numbers (xs ++ x ∷ []) ≡ numbers xs ++ x.number ∷ []
 numbers-more [] x = refl
 numbers-more (y ∷ xs) x = ap (λ ns. y.number ∷ ns) (numbers-more xs x)
 

@@ -1,11 +1,13 @@
 //! What becomes of each event.
 
-ghost use Rattle.std.specs.Prelude.{◌≡◌, length, IfOk};
+ghost use Rattle.std.specs.Prelude.{◌≡◌, length, map, IfOk};
+ghost use Rattle.pmt_explain.specs.Dropping.{event_of};
 ghost use Rattle.pmt_explain.specs.Saving.{AreSafePlaces};
 ghost use Rattle.pmt_causes.specs.Late.{AreWaited};
 ghost use Rattle.pmt_fates.specs.Fates.{AreFates, fence_fate as fence_fate_in, flush_fate as flush_fate_in, op_fate, store_fate as store_fate_in};
 
-use crate::marking::marks;
+use crate::marking::{dropped_marks, marks};
+use pmt_explain::Dropped;
 use pmt_model::{Op, OutOfMemory, Trace};
 use std::alloc::Global;
 
@@ -42,15 +44,15 @@ pub(crate) fn fates_of(
     safe: &[u64],
     waited: &[u64],
     told: &[u64],
-    dropped: &[u64],
+    dropped: &[Dropped],
 ) -> Result<Vec<Fate>, OutOfMemory>
     requires safe { AreSafePlaces trace.now safe.now }
     requires waited { AreWaited trace.now waited.now }
-    ensures { IfOk result (λ fates. AreFates trace.now told.now dropped.now fates.items) }
+    ensures { IfOk result (λ fates. AreFates trace.now told.now (map event_of dropped.now) fates.items) }
 {
     let events = trace.events();
     let is_told = marks(alloc, events.len(), told)?;
-    let is_dropped = marks(alloc, events.len(), dropped)?;
+    let is_dropped = dropped_marks(alloc, events.len(), dropped)?;
     let mut fates = Vec::with_capacity(alloc, events.len())?;
     for index in 0..events.len() {
         let event = events[index];

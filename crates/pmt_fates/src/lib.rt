@@ -9,6 +9,7 @@ mod marking;
 mod own_fences;
 pub mod place_row;
 pub mod places;
+mod rows;
 pub mod saved_before;
 pub mod standing;
 mod tally;

@@ -1,9 +1,11 @@
 //! Which numbers stand in a list.
 
-ghost use Rattle.std.specs.Prelude.{◌≡◌, ◌<◌, ℕ, suc, length, IfOk, slice_index_or, false};
+ghost use Rattle.std.specs.Prelude.{◌≡◌, ◌<◌, ℕ, suc, length, map, IfOk, slice_index_or, false};
+ghost use Rattle.pmt_explain.specs.Dropping.{event_of};
 ghost use Rattle.pmt_fates.specs.Fates.{is_listed};
 ghost use Rattle.pmt_fates.specs.Marks.{AreMarks, with_mark};
 
+use pmt_explain::Dropped;
 use pmt_model::OutOfMemory;
 use std::alloc::Global;
 
@@ -14,6 +16,21 @@ pub(crate) fn marks(alloc: Global, count: usize, list: &[u64]) -> Result<Vec<boo
     let mut marks = vec![in alloc; false; count]?;
     for number in list {
         mark(&mut marks, *number);
+    }
+    Ok(marks)
+}
+
+// Of each number from 1 to `count` whether the event with it is dropped.
+pub(crate) fn dropped_marks(
+    alloc: Global,
+    count: usize,
+    dropped: &[Dropped],
+) -> Result<Vec<bool>, OutOfMemory>
+    ensures { IfOk result (λ marks. AreMarks count (map event_of dropped.now) marks.items) }
+{
+    let mut marks = vec![in alloc; false; count]?;
+    for entry in dropped {
+        mark(&mut marks, entry.event);
     }
     Ok(marks)
 }

@@ -1,13 +1,10 @@
 //! What a place of the source has.
 
-ghost use Rattle.std.specs.Prelude.{◌≡◌, slice_index};
-ghost use Rattle.pmt_fates.specs.Places.{row_in, saved_at};
-ghost use Rattle.pmt_fates.specs.Savers.{saved_by};
+ghost use Rattle.std.specs.Prelude.{◌≡◌};
+ghost use Rattle.pmt_fates.specs.Tallies.{row_at as row_with};
 
-use crate::fate::Fate;
-use crate::saved_before::{SavedBefore, Savings, saved_before};
-use crate::tally::tally_of;
-use pmt_causes::{Group, Origin};
+use crate::saved_before::SavedBefore;
+use pmt_causes::Origin;
 
 /// What becomes of what one place of the source stores, flushes and fences.
 #[derive(Clone, Copy, Debug, PartialEq, Eq)]
@@ -46,53 +43,26 @@ pub struct PlaceRow {
     pub saved_before: Option<SavedBefore>,
 }
 
-// What the place has whose events these are, where this becomes of each event, and where these are the safe places.
-pub(crate) fn row_of(
-    group: &Group<Origin>,
-    fates: &[Fate],
-    safe: &[u64],
-    savings: &Savings,
-) -> PlaceRow
-    ensures { result ≡ row_in fates.now (saved_by safe.now savings.now) group.now }
+// The row of the place with this first event, before any is counted.
+pub(crate) fn row_at(place: Origin, first: u64) -> PlaceRow
+    ensures { result ≡ row_with place first }
 {
-    let members = group.members.as_slice();
-    let tally = tally_of(members, fates);
     PlaceRow {
-        place: group.key,
-        first: first_of(members),
-        stores: tally.stores,
-        lost: tally.lost,
-        ignored: tally.ignored,
-        late: tally.late,
-        in_time: tally.in_time,
-        left: tally.left,
-        flushes: tally.flushes,
-        idle_flushes: tally.idle_flushes,
-        fences: tally.fences,
-        idle_fences: tally.idle_fences,
-        first_lost: tally.first_lost,
-        first_late: tally.first_late,
-        first_left: tally.first_left,
-        saved_before: saved_without(safe, savings, tally.first_left),
-    }
-}
-
-// What a crash keeps without the event, if there is one.
-fn saved_without(safe: &[u64], savings: &Savings, event: Option<u64>) -> Option<SavedBefore>
-    ensures { result ≡ saved_at (saved_by safe.now savings.now) event }
-{
-    match event {
-        None => None,
-        Some(number) => saved_before(safe, savings, number),
-    }
-}
-
-// The first of these numbers, or 0 of none.
-fn first_of(members: &[u64]) -> u64
-    ensures { result ≡ slice_index members.now 0 }
-{
-    match members.first() {
-        Some(number) => *number,
-        None => 0,
+        place,
+        first,
+        stores: 0,
+        lost: 0,
+        ignored: 0,
+        late: 0,
+        in_time: 0,
+        left: 0,
+        flushes: 0,
+        idle_flushes: 0,
+        fences: 0,
+        idle_fences: 0,
+        first_lost: None,
+        first_late: None,
+        first_left: None,
+        saved_before: None,
     }
 }

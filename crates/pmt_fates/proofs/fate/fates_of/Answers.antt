@@ -1,7 +1,8 @@
-use Rattle.std.proofs.Common.{◌≡◌, ◌<◌, suc, length, Some, ap, sym, ◌∙◌, arith}
+use Rattle.std.proofs.Common.{◌≡◌, ◌<◌, suc, length, map, Some, ap, sym, ◌∙◌, arith}
 use Rattle.std.specs.Prelude.{slice_get, slice_index}
 use Rattle.std.proofs.lemmas.Option.{slice_get-get_or, slice_get_within}
 use Rattle.pmt_model.specs.Traces.{event}
+use Rattle.pmt_explain.specs.Dropping.{event_of}
 use Rattle.pmt_fates.specs.Fates.{is_listed, op_fate}
 use Rattle.pmt_fates.proofs.FateLemmas.{fates-next}
 use Rattle.pmt_fates.proofs.fate.fates_of.Goals as goal
@@ -21,11 +22,11 @@ loop-index-preserved c =
     let is_told : a ≡ is_listed c.args.told.now (suc i) =
     c.in_ok-is_told.ensures.each i a (slice_get-get_or told i a (omega (arith, c.in_ok-is_told.ensures.size)) ∙ ap Some (sym c.index-lost.ensures))
     in
-    let is_dropped : b ≡ is_listed c.args.dropped.now (suc i) =
+    let is_dropped : b ≡ is_listed (map event_of c.args.dropped.now) (suc i) =
     c.in_ok-is_dropped.ensures.each i b (slice_get-get_or dropped i b (omega (arith, c.in_ok-is_dropped.ensures.size)) ∙ ap Some (sym c.index-idle.ensures))
     in
     let fate : c.fate_of-fate.result ≡ op_fate e.op a b (length es) (slice_index c.args.safe.now i) (slice_index c.args.waited.now i) = c.fate_of-fate.ensures in
-    fates-next T c.args.told.now c.args.dropped.now c.args.safe.now c.args.waited.now i e a b c.fate_of-fate.result c.loop-index.fates.items c.push.new.self.items at is_told is_dropped
+    fates-next T c.args.told.now (map event_of c.args.dropped.now) c.args.safe.now c.args.waited.now i e a b c.fate_of-fate.result c.loop-index.fates.items c.push.new.self.items at is_told is_dropped
     (fate ∙ ap (λ xs. op_fate e.op a b (length xs) (slice_index c.args.safe.now i) (slice_index c.args.waited.now i)) c.events-events.ensures.value)
     c.in_ok-push.ensures.items c.loop-index.invariant
 
