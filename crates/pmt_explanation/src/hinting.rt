@@ -51,7 +51,7 @@ fn all_hints(
     requires waited { AreWaited safe.now.trace.now waited.now }
     ensures { IfOk result (λ hints. AreAllHints safe.now.trace.now labels.now frames.now choice.now hints.items) }
 {
-    let mut hints = store_hints(alloc, safe.trace(), labels, frames, choice)?;
+    let mut hints = store_hints(alloc, safe, waited, labels, frames, choice)?;
     let more = flush_hints(alloc, analysis, safe, waited, labels, frames, choice)?;
     hints.extend_from_slice(more.as_slice())?;
     Ok(hints)
@@ -60,17 +60,20 @@ fn all_hints(
 // Those of stores: first the words in two lines, and then the stores after their flush.
 fn store_hints(
     alloc: Global,
-    trace: &Trace,
+    safe: &SafePlaces<'_>,
+    waited: &[u64],
     labels: &Labels,
     frames: &[Option<u64>],
     choice: &Choice,
 ) -> Result<Vec<Hint>, OutOfMemory>
-    ensures { IfOk result (λ hints. AreStoreHints trace.now labels.now frames.now choice.now hints.items) }
+    requires { AreWaited safe.now.trace.now waited.now }
+    ensures { IfOk result (λ hints. AreStoreHints safe.now.trace.now labels.now frames.now choice.now hints.items) }
 {
+    let trace = safe.trace();
     let split = split_words(alloc, trace, frames)?;
     let kind = HintKind::SplitWord;
     let mut hints = hints_at(alloc, trace, labels, frames, choice, kind, &split)?;
-    let after = stored_after_flush(alloc, trace)?;
+    let after = stored_after_flush(alloc, safe, waited)?;
     let kind = HintKind::StoredAfterFlush;
     let more = hints_at(alloc, trace, labels, frames, choice, kind, &after)?;
     hints.extend_from_slice(more.as_slice())?;

@@ -18,8 +18,9 @@ use Rattle.pmt_causes.specs.FailureKeys.{origin_of}
 use Rattle.pmt_causes.proofs.ExactFailures.{origin-exact}
 use Rattle.pmt_hints.specs.Hints.{AreThose, ByOrdered, ByPersist, ClaimsLine, HasLine, IsClaimed, IsOpenFlush, IsOpenThroughout, IsToldOpen}
 use Rattle.pmt_hints.specs.Claiming.{AreAsked, Claims, asked_at, claim_at, claimed_so, event_claims, event_flush, has_line, is_claimed_line, op_claims, or_so, verdict_claims}
+use Rattle.pmt_hints.specs.declared.places.Places.{Places}
 use Rattle.pmt_hints.specs.Near.{flush_line}
-use Rattle.pmt_hints.specs.Telling.{AreClosed, Closed, is_closed, is_place, place_of, told_so}
+use Rattle.pmt_hints.specs.Telling.{AreClosed, is_closed, is_place, place_of, told_so}
 use Rattle.pmt_hints.proofs.NumberLemmas.{has-push}
 use Rattle.pmt_hints.proofs.OpenAtLemmas.{filter-has, filter-rising}
 use Rattle.pmt_hints.proofs.SplitLemmas.{origin-same}
@@ -151,7 +152,7 @@ pub none-unclaimed : (T : Recording) (labels : List (Option ℕ)) (flushes told 
 none-unclaimed T labels [] told those is none = rw is (record { rising = tt; just = λ i. (λ h. absurd h, λ h. (those.just i).1 h.throughout) })
 none-unclaimed T labels (k ∷ ks) told those is none = absurd (omega (arith, none))
 
-module _ (T : Recording) (labels : List (Option ℕ)) (flushes : List ℕ) (vs : List Verdict) (claims : Claims) (closed : Closed) (those : AreThose (IsOpenThroughout T labels) flushes) (judged : IsVerdicts T vs) (made : AreClaims T flushes vs claims)
+module _ (T : Recording) (labels : List (Option ℕ)) (flushes : List ℕ) (vs : List Verdict) (claims : Claims) (closed : Places) (those : AreThose (IsOpenThroughout T labels) flushes) (judged : IsVerdicts T vs) (made : AreClaims T flushes vs claims)
     (c : AreClosed T labels (filter (claimed_so T claims) flushes) closed) where
   -- a flush among them tells whether its line is claimed
   claim-tells : (j t l : ℕ) → Has flushes j → IsAct T j (Flushes t l) → (claimed_so T claims j ≡ true) ↔ IsClaimed T l

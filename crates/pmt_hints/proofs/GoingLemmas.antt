@@ -241,6 +241,13 @@ late-so w s n = go (cases_lt w 2) (cases_lt w 1) (cases_lt n s)
       λ h. elim h [ inl two ↦ absurd (omega (arith, two, below)) | inr more ↦ absurd (omega (arith, more.0, none)) ],
     )
 
+-- for so many fences a store waits till its safe place
+pub waits-told : (T : Recording) (safe waited : List ℕ) (t l n s w : ℕ) → AreSafePlaces T safe → AreWaited T waited → slice_get safe n ≡ Some s → slice_get waited n ≡ Some w → IsStoreBy T t l (suc n) → w ≡ fences_between T t (suc n) s
+waits-told T safe waited t l n s w are_safe are_waited at_s at_w h =
+    let place : IsSafePlace T l (suc n) s = are_safe.each n s at_s l h.1 (store-act T t l (suc n) h) in
+    let waits : (p : ℕ) × IsSafePlace T l (suc n) p × (w ≡ fences_between T (h.0).thread (suc n) p) = (are_waited.each n w at_w).store h.0 l h.1 h.2 h.4 in
+    waits.2 ∙ ap (λ p. fences_between T (h.0).thread (suc n) p) (first-one _ (past_of T) waits.0 s waits.1 place) ∙ ap (λ u. fences_between T u (suc n) s) h.3
+
 pub late-told : (T : Recording) (safe waited : List ℕ) (t l n s w : ℕ) → AreSafePlaces T safe → AreWaited T waited → slice_get safe n ≡ Some s → slice_get waited n ≡ Some w → IsStoreBy T t l (suc n) →
     (is_lost_or_late w s (length T.events) ≡ true) ↔ IsLostOrLate T t l (suc n)
 late-told T safe waited t l n s w are_safe are_waited at_s at_w h = (λ so. (s, place, subst (λ x. (2 ≤ x) ⊎ ((1 ≤ x) × (length T.events < s))) fences ((late-so w s (length T.events)).0 so)), back)
@@ -248,11 +255,8 @@ late-told T safe waited t l n s w are_safe are_waited at_s at_w h = (λ so. (s, 
     place : IsSafePlace T l (suc n) s
     place = are_safe.each n s at_s l h.1 (store-act T t l (suc n) h)
 
-    waits : (p : ℕ) × IsSafePlace T l (suc n) p × (w ≡ fences_between T (h.0).thread (suc n) p)
-    waits = (are_waited.each n w at_w).store h.0 l h.1 h.2 h.4
-
     fences : w ≡ fences_between T t (suc n) s
-    fences = waits.2 ∙ ap (λ p. fences_between T (h.0).thread (suc n) p) (first-one _ (past_of T) waits.0 s waits.1 place) ∙ ap (λ u. fences_between T u (suc n) s) h.3
+    fences = waits-told T safe waited t l n s w are_safe are_waited at_s at_w h
 
     back : IsLostOrLate T t l (suc n) → is_lost_or_late w s (length T.events) ≡ true
     back x =

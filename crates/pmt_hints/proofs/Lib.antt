@@ -1,11 +1,15 @@
+pub mod ChainLemmas
 pub mod ClaimLemmas
 pub mod FlagLemmas
 pub mod GoingLemmas
+pub mod LeftLemmas
 pub mod NearLemmas
 pub mod NumberLemmas
 pub mod OpenAtLemmas
 pub mod PartingLemmas
+pub mod PlaceLemmas
 pub mod ShortLemmas
+pub mod SiftingLemmas
 pub mod SplitLemmas
 pub mod StepLemmas
 pub mod StoredAfterLemmas

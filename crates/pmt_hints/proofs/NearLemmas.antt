@@ -1,20 +1,17 @@
 -- What events near another one tell of it.
-use Rattle.std.proofs.Common.{◌≡◌, ◌≢◌, ℕ, suc, ◌+◌, ◌<◌, ◌≤◌, ◌⊎◌, inl, inr, Bool, true, false, length, Option, None, Some, refl, sym, subst, ◌∙◌, arith}
-use Rattle.std.specs.Prelude.{◌↔◌, nat_lt, if◌then◌else◌, IfSome}
-use Rattle.std.proofs.lemmas.Bool.{cases_lt, cases_eq, eq-eqb, ne_eqb, lt-ltb, false≢true}
+use Rattle.std.proofs.Common.{◌≡◌, ◌≢◌, ℕ, suc, ◌<◌, ◌≤◌, ◌⊎◌, inl, inr, Bool, true, false, length, Option, None, Some, refl, sym, subst, ◌∙◌, arith}
+use Rattle.std.specs.Prelude.{◌↔◌, ◌&&◌, if◌then◌else◌, IfSome}
+use Rattle.std.proofs.lemmas.Bool.{cases_lt, cases_eq, eq-eqb, ne_eqb, false≢true}
 use Rattle.std.proofs.lemmas.Option.{none-some, same_Some}
 use Rattle.pmt_model.specs.declared.event.Event.{Event}
 use Rattle.pmt_model.specs.Machine.{Act, Stores, Flushes, Clflushes, Fences, Asserts}
 use Rattle.pmt_model.specs.Traces.{Recording, IsAct, act, event}
 use Rattle.pmt_model.specs.Findings.{IsFlushOf, ByFlush, ByClflush}
 use Rattle.pmt_laws.proofs.Histories.{act-unique, act-within}
-use Rattle.pmt_hints.specs.declared.per_thread.PerThread.{PerThread}
 use Rattle.pmt_hints.specs.Hints.{FencesBetween, IsOpenFlush, IsStoreBy, IsStoredAfterFlush}
-use Rattle.pmt_hints.specs.Near.{HasOpenFlush, IsLeft, IsLeftOpen, IsPassed, StoresPast, after_by, before_by, flush_line, past_by, store_line}
-use Rattle.pmt_hints.specs.Numbers.{of_thread}
-use Rattle.pmt_hints.specs.Stepping.{any_flush_by}
-use Rattle.pmt_hints.proofs.StepLemmas.{Decides, IsLast, last-none, last-step, no-flush}
-use Rattle.pmt_hints.proofs.StoredAfterLemmas.{FencesUpTo, fence-no_flush, flush-within, own-store, store-act}
+use Rattle.pmt_hints.specs.Near.{IsLeft, IsLeftOpen, IsPassed, StoresPast, after_by, flush_line, past_by, store_line}
+use Rattle.pmt_hints.proofs.StepLemmas.{no-flush}
+use Rattle.pmt_hints.proofs.StoredAfterLemmas.{fence-no_flush, flush-within, own-store, store-act}
 
 pub if-some : {A : Type 0} → (o : Option A) (P : A → Type 0) → ((x : A) → o ≡ Some x → P x) → IfSome o P
 if-some None P all = tt
@@ -23,73 +20,6 @@ if-some (Some x) P all = all x refl
 pub some-told : {A : Type 0} → (o : Option A) (P : A → Type 0) (x : A) → IfSome o P → o ≡ Some x → P x
 some-told None P x p e = absurd (none-some x e)
 some-told (Some y) P x p e = subst P (same_Some y x e) p
-
--- ---- Before the event
-
--- event k tells nothing of an open flush of line l by thread t
-abbrev pub NoneBefore : Recording → ℕ → ℕ → ℕ → Type 0
-NoneBefore T t l k = (¬ IsAct T k (Flushes t l)) × (¬ IsAct T k (Fences t))
-
-pub before-none : (T : Recording) (t l k : ℕ) (a : Act) → IsAct T k a → before_by a t l ≡ None → NoneBefore T t l k
-before-none T t l k (Stores m w) is none = (λ f. let e = act-unique T k (Stores m w) (Flushes t l) is f in cc, λ f. let e = act-unique T k (Stores m w) (Fences t) is f in cc)
-before-none T t l k (Clflushes m) is none = (λ f. let e = act-unique T k (Clflushes m) (Flushes t l) is f in cc, λ f. let e = act-unique T k (Clflushes m) (Fences t) is f in cc)
-before-none T t l k Asserts is none = (λ f. let e = act-unique T k Asserts (Flushes t l) is f in cc, λ f. let e = act-unique T k Asserts (Fences t) is f in cc)
-before-none T t l k (Flushes u m) is none = (
-  λ f.
-      let e = act-unique T k (Flushes u m) (Flushes t l) is f in
-      let thread : u ≡ t = cc in
-      let line : m ≡ l = cc in
-      let told : before_by (Flushes u m) t l ≡ Some true = rw (eq-eqb u t thread, eq-eqb m l line) refl in
-      none-some true (sym none ∙ told),
-  λ f. let e = act-unique T k (Flushes u m) (Fences t) is f in cc,
-)
-before-none T t l k (Fences u) is none = (
-  λ f. let e = act-unique T k (Fences u) (Flushes t l) is f in cc,
-  λ f.
-      let e = act-unique T k (Fences u) (Fences t) is f in
-      let thread : u ≡ t = cc in
-      let told : before_by (Fences u) t l ≡ Some false = rw (eq-eqb u t thread) refl in
-      none-some false (sym none ∙ told),
-)
-
-pub before-found : (T : Recording) (t l i k : ℕ) (a : Act) (b : Bool) → k < i → IsAct T k a → before_by a t l ≡ Some b → ((j : ℕ) → k < j → j < i → NoneBefore T t l j) → (b ≡ true) ↔ HasOpenFlush T t l i
-before-found T t l i k (Stores m w) b below is e none = absurd (none-some b e)
-before-found T t l i k (Clflushes m) b below is e none = absurd (none-some b e)
-before-found T t l i k Asserts b below is e none = absurd (none-some b e)
-before-found T t l i k (Flushes u m) b below is e none = go (cases_eq u t) (cases_eq m l)
-  where
-    go : (u ≡ t) ⊎ (u ≢ t) → (m ≡ l) ⊎ (m ≢ l) → (b ≡ true) ↔ HasOpenFlush T t l i
-    go (inl thread) (inl line) =
-        let told : before_by (Flushes u m) t l ≡ Some true = rw (eq-eqb u t thread, eq-eqb m l line) refl in
-        let value : true ≡ b = same_Some true b (sym told ∙ e) in
-        let flush : IsAct T k (Flushes t l) = subst (λ n. IsAct T k (Flushes t n)) line (subst (λ v. IsAct T k (Flushes v m)) thread is) in
-        (λ _. (k, flush, below, λ f. (none f.0 f.1 f.2).1 f.3), λ _. sym value)
-    go (inl thread) (inr apart) = let told : before_by (Flushes u m) t l ≡ None = rw (eq-eqb u t thread, ne_eqb m l apart) refl in absurd (none-some b (sym told ∙ e))
-    go (inr apart) either = let told : before_by (Flushes u m) t l ≡ None = rw (ne_eqb u t apart) refl in absurd (none-some b (sym told ∙ e))
-before-found T t l i k (Fences u) b below is e none = go (cases_eq u t)
-  where
-    go : (u ≡ t) ⊎ (u ≢ t) → (b ≡ true) ↔ HasOpenFlush T t l i
-    go (inr apart) = let told : before_by (Fences u) t l ≡ None = rw (ne_eqb u t apart) refl in absurd (none-some b (sym told ∙ e))
-    go (inl thread) = (λ so. absurd (false≢true (value ∙ so)), λ h. absurd (clash h.0 h.1 h.2 h.3))
-      where
-        value : false ≡ b
-        value = let told : before_by (Fences u) t l ≡ Some false = rw (eq-eqb u t thread) refl in same_Some false b (sym told ∙ e)
-
-        fence : IsAct T k (Fences t)
-        fence = subst (λ v. IsAct T k (Fences v)) thread is
-
-        clash : (j : ℕ) → IsAct T j (Flushes t l) → j < i → ((f : ℕ) × (j < f) × (f < i) × IsAct T f (Fences t) → ⊥) → ⊥
-        clash j flush earlier still_open = elim (cases_lt j k) [
-          | inl before ↦ still_open (k, before, below, fence)
-          | inr from ↦
-              elim (cases_eq j k) [
-                | inl same ↦ let x = act-unique T k (Fences t) (Flushes t l) fence (subst (λ n. IsAct T n (Flushes t l)) same flush) in cc
-                | inr apart ↦ (none j (omega (arith, from, apart)) earlier).0 flush
-              ]
-        ]
-
-pub before-end : (T : Recording) (t l i : ℕ) → ((j : ℕ) → 0 < j → j < i → NoneBefore T t l j) → (false ≡ true) ↔ HasOpenFlush T t l i
-before-end T t l i none = (λ e. absurd (false≢true e), λ h. absurd ((none h.0 (omega (arith, (act-within T h.0 (Flushes t l) h.1).0)) h.2).0 h.1))
 
 -- ---- After the event
 
@@ -298,76 +228,21 @@ left-so T i e (Stores l w) here is = (
       ),
 )
 
--- ---- A thread without an open flush
+-- ---- By whether it may be told
 
-abbrev pub IsAnyFlush : Recording → ℕ → ℕ → Type 0
-IsAnyFlush T t k = (l : ℕ) × IsAct T k (Flushes t l)
+-- of an event that may be none of both
+pub none-both : (P : Type 0) (a b may : Bool) → (a ≡ false → ¬ P) → (b ≡ false → ¬ P) → may ≡ (a && b) → may ≡ false → ¬ P
+none-both P false b may first second is off = first refl
+none-both P true false may first second is off = second refl
+none-both P true true may first second is off = absurd (false≢true (sym off ∙ is))
 
--- the last flush of each thread up to place n
-abbrev pub AnyFlushesUpTo : Recording → ℕ → PerThread → Type 0
-AnyFlushesUpTo T n flushes = (t : ℕ) → t < 256 → IsLast (IsAnyFlush T t) n (of_thread flushes t)
-
-any-decides : (T : Recording) (n number t x : ℕ) (a : Act) → number ≡ suc n → IsAct T (suc n) a → Decides (IsAnyFlush T t) (suc n) x (any_flush_by a number t x)
-any-decides T n number t x (Stores l w) same is = inr (λ f. let e = act-unique T (suc n) (Stores l w) (Flushes t f.0) is f.1 in cc, refl)
-any-decides T n number t x (Clflushes l) same is = inr (λ f. let e = act-unique T (suc n) (Clflushes l) (Flushes t f.0) is f.1 in cc, refl)
-any-decides T n number t x (Fences u) same is = inr (λ f. let e = act-unique T (suc n) (Fences u) (Flushes t f.0) is f.1 in cc, refl)
-any-decides T n number t x Asserts same is = inr (λ f. let e = act-unique T (suc n) Asserts (Flushes t f.0) is f.1 in cc, refl)
-any-decides T n number t x (Flushes u l) same is = elim (cases_eq u t) [
-  | inl e ↦ inl ((l, subst (λ v. IsAct T (suc n) (Flushes v l)) e is), rw (eq-eqb u t e) same)
-  | inr apart ↦ inr (λ f. let e = act-unique T (suc n) (Flushes u l) (Flushes t f.0) is f.1 in apart (cc), rw (ne_eqb u t apart) refl)
-]
-
-pub any-up : (T : Recording) (n number : ℕ) (a : Act) (old new : PerThread) → number ≡ suc n → IsAct T (suc n) a → ((t : ℕ) → t < 256 → of_thread new t ≡ any_flush_by a number t (of_thread old t)) → AnyFlushesUpTo T n old →
-    AnyFlushesUpTo T (n + 1) new
-any-up T n number a old new same is noted x =
-    let next : suc n ≡ n + 1 = omega arith in
-    subst (λ m. AnyFlushesUpTo T m new) next (λ t small. subst (IsLast (IsAnyFlush T t) (suc n)) (sym (noted t small)) (last-step (IsAnyFlush T t) n _ _ (any-decides T n number t (of_thread old t) a same is) (x t small)))
-
-pub any-none : (T : Recording) (flushes : PerThread) → ((t : ℕ) → t < 256 → of_thread flushes t ≡ 0) → AnyFlushesUpTo T 0 flushes
-any-none T flushes all = λ t small. subst (IsLast (IsAnyFlush T t) 0) (sym (all t small)) (last-none (IsAnyFlush T t))
-
--- then none of its stores comes after one
-pub none-open : (T : Recording) (n : ℕ) (e : Event) (fences flushes : PerThread) → event T (suc n) ≡ Some e → e.thread < 256 → FencesUpTo T n fences → AnyFlushesUpTo T n flushes →
-    nat_lt (of_thread fences e.thread) (of_thread flushes e.thread) ≡ false → ¬ IsStoredAfterFlush T (suc n)
-none-open T n e fences flushes here small f g off h = clash (cases_lt x j) (cases_lt y x)
-  where
-    t : ℕ
-    t = e.thread
-
-    y : ℕ
-    y = of_thread fences t
-
-    x : ℕ
-    x = of_thread flushes t
-
-    j : ℕ
-    j = h.after.flush
-
-    thread : h.after.thread ≡ t
-    thread = sym (own-store T (suc n) h.after.thread h.after.line e here h.after.is_store).0
-
-    flush : IsAct T j (Flushes t h.after.line)
-    flush = subst (λ u. IsAct T j (Flushes u h.after.line)) thread h.after.is_flush
-
-    earlier : j < suc n
-    earlier = h.after.earlier
-
-    clash : (x < j) ⊎ (j ≤ x) → (y < x) ⊎ (x ≤ y) → ⊥
-    clash (inl past) either = (g t small).none_after j past (omega (arith, earlier)) (h.after.line, flush)
-    clash (inr upto) (inl above) = false≢true (sym off ∙ lt-ltb y x above)
-    clash (inr upto) (inr from) =
-        let fence : IsAct T y (Fences t) = (f t small).has (omega (arith, upto, from, (act-within T j (Flushes t h.after.line) flush).0)) in
-        let apart : j ≢ y = λ same. (let z = act-unique T y (Fences t) (Flushes t h.after.line) fence (subst (λ i. IsAct T i (Flushes t h.after.line)) same flush) in cc) in
-        h.after.still_open (y, omega (arith, upto, from, apart), omega (arith, (f t small).within), subst (λ u. IsAct T y (Fences u)) (sym thread) fence)
-
--- by what its thread has open, and by what is near
-pub told-store : (T : Recording) (n : ℕ) (e : Event) (a : Act) (fences flushes : PerThread) (is_open b : Bool) (line : Option ℕ) → event T (suc n) ≡ Some e → e.thread < 256 → act T.format e ≡ a → FencesUpTo T n fences →
-    AnyFlushesUpTo T n flushes → is_open ≡ nat_lt (of_thread fences e.thread) (of_thread flushes e.thread) → line ≡ (if is_open then store_line a else None) → (b ≡ true) ↔ IsLeftOpen T e.thread (suc n) line →
-    (b ≡ true) ↔ IsStoredAfterFlush T (suc n)
-told-store T n e a fences flushes true b line here small own f g test is told =
+-- by whether it may be told, and by what is near
+pub told-store : (T : Recording) (n : ℕ) (e : Event) (a : Act) (may b : Bool) (line : Option ℕ) → event T (suc n) ≡ Some e → act T.format e ≡ a → (may ≡ false → ¬ IsStoredAfterFlush T (suc n)) → line ≡ (if may then store_line a else None) →
+    (b ≡ true) ↔ IsLeftOpen T e.thread (suc n) line → (b ≡ true) ↔ IsStoredAfterFlush T (suc n)
+told-store T n e a true b line here own none is told =
     let both = left-so T (suc n) e a here own in
     let so : (b ≡ true) ↔ IsLeftOpen T e.thread (suc n) (store_line a) = subst (λ m. (b ≡ true) ↔ IsLeftOpen T e.thread (suc n) m) is told in
     (λ x. both.0 (so.0 x), λ h. so.1 (both.1 h))
-told-store T n e a fences flushes false b line here small own f g test is told =
+told-store T n e a false b line here own none is told =
     let so : (b ≡ true) ↔ IsLeftOpen T e.thread (suc n) None = subst (λ m. (b ≡ true) ↔ IsLeftOpen T e.thread (suc n) m) is told in
-    (λ x. absurd (so.0 x), λ h. absurd (none-open T n e fences flushes here small f g (sym test) h))
+    (λ x. absurd (so.0 x), λ h. absurd (none refl h))

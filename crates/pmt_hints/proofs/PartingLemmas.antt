@@ -13,7 +13,7 @@ use Rattle.pmt_model.specs.Keeping.{IsKeep}
 use Rattle.pmt_laws.proofs.Histories.{act-unique, act-within}
 use Rattle.pmt_flags.specs.Flags.{is_kept_at}
 use Rattle.pmt_hints.specs.declared.near_open.State.{State}
-use Rattle.pmt_hints.specs.declared.near_open.State.TheVariants.{NoFlush, Open, Other}
+use Rattle.pmt_hints.specs.declared.near_open.State.TheVariants.{Neither, Open, Other}
 use Rattle.pmt_hints.specs.Hints.{AreThose, IsOpenAtStore, IsOpenFlush}
 use Rattle.pmt_hints.specs.Near.{IsPassed, StoresPast, flush_line, if_told}
 use Rattle.pmt_hints.specs.Flagging.{AreFlags}
@@ -24,19 +24,19 @@ use Rattle.pmt_hints.proofs.NumberLemmas.{has-push, rising-push}
 use Rattle.pmt_hints.proofs.OpenAtLemmas.{filter-has, filter-rising, open-bound}
 
 -- the next of rising numbers lies above those before it
-above-low : (low k : ℕ) (xs : List ℕ) → IsRising low xs → k < length xs → low < get_or xs k 0
+pub above-low : (low k : ℕ) (xs : List ℕ) → IsRising low xs → k < length xs → low < get_or xs k 0
 above-low low k [] r within = absurd (omega (arith, within))
 above-low low zero (x ∷ xs) r within = r.0
 above-low low (suc k) (x ∷ xs) r within = omega (arith, r.0, above-low x k xs r.1 (omega (arith, within)))
 
-above-before : (low k j : ℕ) (xs : List ℕ) → IsRising low xs → k < length xs → Has (take k xs) j → j < get_or xs k 0
+pub above-before : (low k j : ℕ) (xs : List ℕ) → IsRising low xs → k < length xs → Has (take k xs) j → j < get_or xs k 0
 above-before low k j [] r within h = absurd (omega (arith, within))
 above-before low zero j (x ∷ xs) r within h = absurd h
 above-before low (suc k) j (x ∷ xs) r within (inl same) = omega (arith, same, above-low x k xs r.1 (omega (arith, within)))
 above-before low (suc k) j (x ∷ xs) r within (inr more) = above-before x k j xs r.1 (omega (arith, within)) more
 
 -- a number that may be told
-has-if : (xs : List ℕ) (b : Bool) (n i : ℕ) → Has (xs ++ if_told b n) i ↔ (Has xs i ⊎ ((b ≡ true) × (n ≡ i)))
+pub has-if : (xs : List ℕ) (b : Bool) (n i : ℕ) → Has (xs ++ if_told b n) i ↔ (Has xs i ⊎ ((b ≡ true) × (n ≡ i)))
 has-if xs true n i = (
   λ h. elim ((has-push xs n i).0 h) [ inl x ↦ inl x | inr e ↦ inr (refl, e) ],
   λ h. elim h [ inl x ↦ (has-push xs n i).1 (inl x) | inr y ↦ (has-push xs n i).1 (inr y.1) ],
@@ -46,31 +46,31 @@ has-if xs false n i = (
   λ h. elim h [ inl x ↦ subst (λ ys. Has ys i) (sym (append-nil xs)) x | inr y ↦ absurd (false≢true y.0) ],
 )
 
-rising-if : (xs : List ℕ) (b : Bool) (n : ℕ) → IsRising 0 xs → ((k : ℕ) → Has xs k → k < n) → 0 < n → IsRising 0 (xs ++ if_told b n)
+pub rising-if : (xs : List ℕ) (b : Bool) (n : ℕ) → IsRising 0 xs → ((k : ℕ) → Has xs k → k < n) → 0 < n → IsRising 0 (xs ++ if_told b n)
 rising-if xs true n rising below some = rising-push 0 n xs rising below some
 rising-if xs false n rising below some = subst (IsRising 0) (sym (append-nil xs)) rising
 
 -- what a state tells
 open-so : (T : Recording) (n : ℕ) (s : State) → IsState T n s → is_open_state s ≡ true → IsOpenFlush T n
-open-so T n NoFlush x e = absurd (false≢true e)
+open-so T n Neither x e = absurd (false≢true e)
 open-so T n Open x e = x
 open-so T n Other x e = absurd (false≢true e)
 
 other-so : (T : Recording) (n : ℕ) (s : State) → IsState T n s → is_other_state s ≡ true → ¬ IsOpenFlush T n
-other-so T n NoFlush x e = absurd (false≢true e)
+other-so T n Neither x e = absurd (false≢true e)
 other-so T n Open x e = absurd (false≢true e)
 other-so T n Other x e = x
 
 either-so : (T : Recording) (n t l : ℕ) (s : State) → IsState T n s → IsAct T n (Flushes t l) → (is_open_state s ≡ true) ⊎ (is_other_state s ≡ true)
-either-so T n t l NoFlush x is = absurd (x t l is)
+either-so T n t l Neither x is = absurd (x t l is)
 either-so T n t l Open x is = inl refl
 either-so T n t l Other x is = inr refl
 
 -- the state of an event
-pub state-out : (T : Recording) (i : ℕ) → (i ≡ 0) ⊎ (length T.events < i) → IsState T i NoFlush
+pub state-out : (T : Recording) (i : ℕ) → (i ≡ 0) ⊎ (length T.events < i) → IsState T i Neither
 state-out T i out = λ t l is. let within = act-within T i (Flushes t l) is in elim out [ inl e ↦ absurd (omega (arith, e, within.0)) | inr past ↦ absurd (omega (arith, past, within.1)) ]
 
-pub state-none : (T : Recording) (i : ℕ) (e : Event) (a : Act) → event T i ≡ Some e → act T.format e ≡ a → flush_line a ≡ None → IsState T i NoFlush
+pub state-none : (T : Recording) (i : ℕ) (e : Event) (a : Act) → event T i ≡ Some e → act T.format e ≡ a → flush_line a ≡ None → IsState T i Neither
 state-none T i e a here own none = λ t l is. none-some l (sym none ∙ ap flush_line (act-unique T i a (Flushes t l) (e, here, own) is))
 
 pub state-line : (T : Recording) (i l : ℕ) (e : Event) (a : Act) (s : State) → event T i ≡ Some e → act T.format e ≡ a → ((t k : ℕ) → a ≡ Flushes t k → t ≡ e.thread) → flush_line a ≡ Some l → IsPassedSo T e.thread l i s → IsState T i s
@@ -80,7 +80,7 @@ state-line T i l e a s here own mine line x = go s x
     so = subst (λ m. IsPassed T e.thread i m ↔ IsOpenFlush T i) line (passed-so T i e a here own mine)
 
     go : (s : State) → IsPassedSo T e.thread l i s → IsState T i s
-    go NoFlush x = absurd x
+    go Neither x = absurd x
     go Open x = so.0 x
     go Other x = λ o. x (so.1 o)
 

@@ -1,5 +1,5 @@
 -- Of which places flushes are told as open at a store.
-use Rattle.std.proofs.Common.{◌≡◌, ℕ, inl, inr, Bool, true, false, List, [], ◌∷◌, length, Option, None, Some, refl, sym, ap, subst, ◌∙◌, arith}
+use Rattle.std.proofs.Common.{◌≡◌, ℕ, inl, inr, Bool, true, false, List, [], ◌∷◌, Option, None, Some, refl, sym, ap, ◌∙◌}
 use Rattle.std.specs.Prelude.{◌||◌, not}
 use Rattle.std.specs.List.{filter, list_any}
 use Rattle.std.proofs.lemmas.Bool.{false≢true}
@@ -14,12 +14,11 @@ use Rattle.pmt_model.specs.Selections.{Has}
 use Rattle.pmt_model.specs.Keeping.{IsKeep}
 use Rattle.pmt_causes.specs.declared.failure_keys.Origin.{Origin}
 use Rattle.pmt_causes.specs.FailureKeys.{origin_of}
-use Rattle.pmt_causes.proofs.ExactFailures.{origin-exact}
 use Rattle.pmt_hints.specs.Hints.{AreThose, IsOpenFlush, IsOpenThroughout}
-use Rattle.pmt_hints.specs.Parting.{AreParted}
-use Rattle.pmt_hints.specs.Telling.{AreClosed, Closed, is_closed, is_place, op_place, place_of, told_so}
+use Rattle.pmt_hints.specs.declared.places.Places.{Places}
+use Rattle.pmt_hints.specs.Sifting.{AreSifted}
+use Rattle.pmt_hints.specs.Telling.{has_place, is_closed, op_place, place_of, told_so}
 use Rattle.pmt_hints.proofs.OpenAtLemmas.{filter-has, filter-rising}
-use Rattle.pmt_hints.proofs.SplitLemmas.{origin-same}
 
 -- a test that some number of a list passes
 pub any-has : (f : ℕ → Bool) (ks : List ℕ) (j : ℕ) → Has ks j → f j ≡ true → list_any f ks ≡ true
@@ -79,68 +78,44 @@ pub not-true-false : (b : Bool) → not b ≡ true → b ≡ false
 not-true-false true e = sym e
 not-true-false false e = refl
 
-no-more : (ks : List ℕ) → length ks ≡ 0 → ks ≡ []
-no-more [] e = refl
-no-more (k ∷ ks) e = absurd (omega (arith, e))
+not-true : (b : Bool) → (b ≡ true → ⊥) → b ≡ false
+not-true true off = absurd (off refl)
+not-true false off = refl
 
 -- an event that is told, and one that is to be told
-module _ (T : Recording) (labels : List (Option ℕ)) (kept passed others : List ℕ) (keep : IsKeep T kept) (x : AreParted T kept passed others) where
-  -- nothing is told where nothing is open
-  open-there : (i : ℕ) → IsOpenThroughout T labels i → Has passed i
-  open-there i h =
-      elim (x.each i (h.is_open.1).thread (h.is_open.1).line ((keep.just i).1 h.is_open.0) (h.is_open.1).is_flush) [ inl o ↦ o | inr p ↦ absurd ((x.are_others i p).1 h.is_open.1) ]
+module _ (T : Recording) (labels : List (Option ℕ)) (kept passed : List ℕ) (closed : Places) (keep : IsKeep T kept) (x : AreSifted T labels kept passed closed) where
+  there : (i : ℕ) → Has passed i → told_so T labels closed i ≡ true → IsOpenThroughout T labels i
+  there i has told = record { is_open = ((keep.just i).0 (x.are_open i has).0, o); all = λ j t l is_kept is_flush place. all j t l ((keep.just j).1 is_kept) is_flush place }
+    where
+      o : IsOpenFlush T i
+      o = (x.are_open i has).1
 
-  pub none-told : (numbers : List ℕ) → numbers ≡ passed → length passed ≡ 0 → AreThose (IsOpenThroughout T labels) numbers
-  none-told numbers is none = rw (is, no-more passed none) (record { rising = tt; just = λ i. (λ h. absurd h, λ h. subst (λ ks. Has ks i) (no-more passed none) (open-there i h)) })
+      p : Origin
+      p = origin_of labels i o.thread
 
-  module _ (closed : Closed) (c : AreClosed T labels others closed) where
-    abbrev closes : Origin → ℕ → Bool
-    closes p j = is_place p (place_of labels j (event T j))
+      off : has_place closed p ≡ false
+      off = ap (is_closed closed) (sym (flush-place T labels i o.thread o.line o.is_flush)) ∙ not-true-false (is_closed closed (place_of labels i (event T i))) told
 
-    there : (i : ℕ) → Has passed i → told_so T labels closed i ≡ true → IsOpenThroughout T labels i
-    there i has told = record { is_open = ((keep.just i).0 (x.are_open i has).0, o); all = λ j t l is_kept is_flush place. all j t l ((keep.just j).1 is_kept) is_flush place }
-      where
-        o : IsOpenFlush T i
-        o = (x.are_open i has).1
+      all : (j t l : ℕ) → Has kept j → IsAct T j (Flushes t l) → origin_of labels j t ≡ p → IsOpenFlush T j
+      all j t l within is_flush place = elim (x.each j t l within is_flush) [ inl o ↦ (x.are_open j o).1 | inr shut ↦ absurd (false≢true (sym off ∙ ap (has_place closed) (sym place) ∙ shut)) ]
 
-        p : Origin
-        p = origin_of labels i o.thread
+  back : (i : ℕ) → IsOpenThroughout T labels i → Has passed i × (told_so T labels closed i ≡ true)
+  back i h = (
+    elim (x.each i o.thread o.line ((keep.just i).1 h.is_open.0) o.is_flush) [ inl passes ↦ passes | inr shut ↦ absurd (never shut) ],
+    ap (λ b. not b) (ap (is_closed closed) (flush-place T labels i o.thread o.line o.is_flush) ∙ not-true (has_place closed p) never),
+  )
+    where
+      o : IsOpenFlush T i
+      o = h.is_open.1
 
-        none : list_any (closes p) others ≡ false
-        none = sym (c p) ∙ ap (is_closed closed) (sym (flush-place T labels i o.thread o.line o.is_flush)) ∙ not-true-false (is_closed closed (place_of labels i (event T i))) told
+      p : Origin
+      p = origin_of labels i o.thread
 
-        all : (j t l : ℕ) → Has kept j → IsAct T j (Flushes t l) → origin_of labels j t ≡ p → IsOpenFlush T j
-        all j t l within is_flush place = elim (x.each j t l within is_flush) [
-          | inl o ↦ (x.are_open j o).1
-          | inr other ↦
-              let found : place_of labels j (event T j) ≡ Some p = flush-place T labels j t l is_flush ∙ ap Some place in
-              absurd (false≢true (sym none ∙ any-has (closes p) others j other (ap (is_place p) found ∙ origin-same p)))
-        ]
+      never : has_place closed p ≡ true → ⊥
+      never e = let f = x.shut p e in f.6 (h.all f.0 f.1 f.2 ((keep.just f.0).0 f.3) f.4 (sym f.5))
 
-    back : (i : ℕ) → IsOpenThroughout T labels i → Has passed i × (told_so T labels closed i ≡ true)
-    back i h = (open-there i h, rw unclosed refl)
-      where
-        o : IsOpenFlush T i
-        o = h.is_open.1
-
-        p : Origin
-        p = origin_of labels i o.thread
-
-        never : (j : ℕ) → Has others j → closes p j ≡ true → ⊥
-        never j other e = by_place (place_of labels j (event T j)) refl e
-          where
-            by_place : (q : Option Origin) → place_of labels j (event T j) ≡ q → is_place p q ≡ true → ⊥
-            by_place None at e = false≢true e
-            by_place (Some q) at e =
-                let f = place-flush T labels j q at in
-                let same : origin_of labels j f.0 ≡ p = sym f.3 ∙ origin-exact q p e in
-                (x.are_others j other).1 (h.all j f.0 f.1 ((keep.just j).0 (x.are_others j other).0) f.2 same)
-
-        unclosed : is_closed closed (place_of labels i (event T i)) ≡ false
-        unclosed = ap (is_closed closed) (flush-place T labels i o.thread o.line o.is_flush) ∙ c p ∙ any-none (closes p) others never
-
-    pub told-those : (numbers : List ℕ) → numbers ≡ filter (told_so T labels closed) passed → AreThose (IsOpenThroughout T labels) numbers
-    told-those numbers is = rw is (record {
-      rising = filter-rising (told_so T labels closed) 0 passed x.rising;
-      just = λ i. (λ h. let found = (filter-has (told_so T labels closed) passed i).0 h in there i found.0 found.1, λ h. (filter-has (told_so T labels closed) passed i).1 (back i h));
-    })
+  pub told-those : (numbers : List ℕ) → numbers ≡ filter (told_so T labels closed) passed → AreThose (IsOpenThroughout T labels) numbers
+  told-those numbers is = rw is (record {
+    rising = filter-rising (told_so T labels closed) 0 passed x.rising;
+    just = λ i. (λ h. let found = (filter-has (told_so T labels closed) passed i).0 h in there i found.0 found.1, λ h. (filter-has (told_so T labels closed) passed i).1 (back i h));
+  })

@@ -6,6 +6,7 @@ pub mod Near
 pub mod Numbers
 pub mod Parting
 pub mod Placing
+pub mod Sifting
 pub mod Splitting
 pub mod Stepping
 pub mod Telling

@@ -1,5 +1,5 @@
 -- What events near another one tell of it.
-use Rattle.std.specs.Prelude.{◌≢◌, ◌==◌, ◌&&◌, ◌<◌, ◌≤◌, ◌↔◌, ℕ, Bool, true, false, not, if◌then◌else◌, List, [], ◌∷◌, Option, None, Some}
+use Rattle.std.specs.Prelude.{◌≡◌, ◌≢◌, ◌==◌, ◌&&◌, ◌||◌, ◌<◌, ◌≤◌, ◌↔◌, ℕ, suc, Bool, true, false, not, nat_le, nat_lt, if◌then◌else◌, List, [], ◌∷◌, Option, None, Some, slice_get}
 use Rattle.pmt_model.specs.Machine.{Act, Stores, Flushes, Clflushes, Fences, Asserts}
 use Rattle.pmt_model.specs.Traces.{Recording, IsAct}
 use Rattle.pmt_model.specs.Findings.{IsFlushOf}
@@ -9,6 +9,17 @@ use Rattle.pmt_hints.specs.Hints.{FencesBetween, IsStoreBy}
 -- Thread t has flushed line l before event i, and not fenced since.
 abbrev pub HasOpenFlush : Recording → ℕ → ℕ → ℕ → Type 0
 HasOpenFlush T t l i = (j : ℕ) × IsAct T j (Flushes t l) × (j < i) × (¬ FencesBetween T t j i)
+
+-- Flush k is the last one by thread t before event i, and the thread has not fenced since; or k is 0, and each flush by the thread before
+-- event i is followed by such a fence.
+pub record IsLastOpen (T : Recording) (t i k : ℕ) : Type 0 where
+  pub before : k < i
+  pub is_open : 0 < k → (l : ℕ) × IsAct T k (Flushes t l) × (¬ FencesBetween T t k i)
+  pub none_after : (j l : ℕ) → k < j → j < i → IsAct T j (Flushes t l) → FencesBetween T t j i
+
+-- Of each event that is a flush this is the last open flush by its thread before it, the first one being event 1.
+abbrev pub AreEarlier : Recording → List ℕ → Type 0
+AreEarlier T earlier = (k x t l : ℕ) → slice_get earlier k ≡ Some x → IsAct T (suc k) (Flushes t l) → IsLastOpen T t (suc k) x
 
 -- Each flush of line l after event i comes after a fence by thread t.
 abbrev pub IsLeft : Recording → ℕ → ℕ → ℕ → Type 0
@@ -43,15 +54,15 @@ abbrev pub IsPassed : Recording → ℕ → ℕ → Option ℕ → Type 0
 IsPassed T t i None = ⊥
 IsPassed T t i (Some l) = StoresPast T t l i
 
--- What an act tells of the first of these, if no later one before the event tells.
-abbrev pub before_by : Act → ℕ → ℕ → Option Bool
-before_by (Stores k w) t l = None
-before_by (Flushes u k) t l = if u == t && k == l then Some true else None
-before_by (Clflushes k) t l = None
-before_by (Fences u) t l = if u == t then Some false else None
-before_by Asserts t l = None
+-- An act flushes line l, for a fence to come.
+abbrev pub flushes_so : Act → ℕ → Bool
+flushes_so (Stores k w) l = false
+flushes_so (Flushes t k) l = k == l
+flushes_so (Clflushes k) l = false
+flushes_so (Fences t) l = false
+flushes_so Asserts l = false
 
--- Of the second, if no earlier one after the event tells.
+-- What an act tells of the flushes after an event, if no earlier one after the event tells.
 abbrev pub after_by : Act → ℕ → ℕ → Option Bool
 after_by (Stores k w) t l = None
 after_by (Flushes u k) t l = if k == l then Some false else None
@@ -59,7 +70,7 @@ after_by (Clflushes k) t l = if k == l then Some false else None
 after_by (Fences u) t l = if u == t then Some true else None
 after_by Asserts t l = None
 
--- Of the third, if the act is thread u's.
+-- Of the stores after it, alike, if the act is thread u's.
 abbrev pub past_by : Act → ℕ → ℕ → ℕ → Option Bool
 past_by (Stores k w) u t l = if u == t && not (k == l) then Some true else None
 past_by (Flushes v k) u t l = None
@@ -70,6 +81,11 @@ past_by Asserts u t l = None
 -- These are those of the first n events that have the property, in their order.
 abbrev pub AreUpTo : (ℕ → Type 0) → ℕ → List ℕ → Type 0
 AreUpTo P n numbers = IsRising 0 numbers × ((i : ℕ) → Has numbers i ↔ ((i ≤ n) × P i))
+
+-- A fence of its thread leaves a store of a trace with so many events unsafe, or it is never safe: it waits for so many fences, and this is
+-- its safe place.
+abbrev pub left_unsafe : ℕ → ℕ → ℕ → Bool
+left_unsafe waited safe events = nat_le 1 waited || nat_lt events safe
 
 -- The number, if it is told.
 abbrev pub if_told : Bool → ℕ → List ℕ

@@ -4,29 +4,29 @@ use Rattle.pmt_model.specs.Machine.{Flushes}
 use Rattle.pmt_model.specs.Traces.{Recording, IsAct}
 use Rattle.pmt_model.specs.Selections.{IsRising, Has}
 use Rattle.pmt_hints.specs.declared.near_open.State.{State}
-use Rattle.pmt_hints.specs.declared.near_open.State.TheVariants.{NoFlush, Open, Other}
+use Rattle.pmt_hints.specs.declared.near_open.State.TheVariants.{Neither, Open, Other}
 use Rattle.pmt_hints.specs.Hints.{IsOpenFlush}
 use Rattle.pmt_hints.specs.Near.{StoresPast}
 
 -- Event i is in this state.
 abbrev pub IsState : Recording → ℕ → State → Type 0
-IsState T i NoFlush = (t l : ℕ) → ¬ IsAct T i (Flushes t l)
+IsState T i Neither = (t l : ℕ) → ¬ IsAct T i (Flushes t l)
 IsState T i Open = IsOpenFlush T i
 IsState T i Other = ¬ IsOpenFlush T i
 
 -- Event i of thread t, a flush of line l, is in this state.
 abbrev pub IsPassedSo : Recording → ℕ → ℕ → ℕ → State → Type 0
-IsPassedSo T t l i NoFlush = ⊥
+IsPassedSo T t l i Neither = ⊥
 IsPassedSo T t l i Open = StoresPast T t l i
 IsPassedSo T t l i Other = ¬ StoresPast T t l i
 
 abbrev pub is_open_state : State → Bool
-is_open_state NoFlush = false
+is_open_state Neither = false
 is_open_state Open = true
 is_open_state Other = false
 
 abbrev pub is_other_state : State → Bool
-is_other_state NoFlush = false
+is_other_state Neither = false
 is_other_state Open = false
 is_other_state Other = true
 

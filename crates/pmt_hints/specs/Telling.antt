@@ -1,22 +1,25 @@
 -- Of which places flushes are told as open at a store.
-use Rattle.std.specs.Prelude.{◌≡◌, ℕ, Bool, false, not, List, Option, None, Some, unwrap_or}
+use Rattle.std.specs.Prelude.{◌≡◌, ℕ, Bool, false, not, nat_eq, List, Option, None, Some, unwrap_or, slice_index_or}
 use Rattle.std.specs.List.{list_any}
-use Rattle.std.specs.declared.hash.FoldHasher.{FoldHasher}
-use Rattle.std.specs.declared.hash.BuildHasherDefault.{BuildHasherDefault}
-use Rattle.std.specs.HashMap.{HashMap, get}
+use Rattle.std.specs.HashMap.{get}
 use Rattle.pmt_model.specs.declared.event.Event.{Event}
 use Rattle.pmt_model.specs.declared.event.Op.{Op}
 use Rattle.pmt_model.specs.declared.event.Op.TheVariants.{Store, Clwb, ClflushOpt, Clflush, Sfence, Mfence, IsPersist, IsOrderedBefore}
 use Rattle.pmt_model.specs.Traces.{Recording, event}
 use Rattle.pmt_causes.specs.declared.failure_keys.Origin.{Origin}
+use Rattle.pmt_causes.specs.declared.failure_keys.Origin.TheVariants.{Label, Thread}
 use Rattle.pmt_causes.specs.contracts.failure_keys.OriginPartialEq.TheImpl as origin_eq
 use Rattle.pmt_causes.specs.FailureKeys.{origin_of}
+use Rattle.pmt_hints.specs.declared.places.Places.{Places}
 
-abbrev pub Closed : Type 0
-Closed = HashMap Origin Bool (BuildHasherDefault FoldHasher)
+-- The label is one of these places.
+abbrev pub has_label : Places → ℕ → Bool
+has_label places l = slice_index_or places.labels.items l (unwrap_or (get nat_eq places.rest l) false)
 
-abbrev pub closed_at : Closed → Origin → Bool
-closed_at closed p = unwrap_or (get (origin_eq.ghosts).eq closed p) false
+-- The place is one of these.
+abbrev pub has_place : Places → Origin → Bool
+has_place places (Label l) = has_label places l
+has_place places (Thread t) = slice_index_or places.threads t false
 
 -- The place of the event at i, if it is a flush that waits for a fence.
 abbrev pub op_place : List (Option ℕ) → ℕ → ℕ → Op → Option Origin
@@ -38,13 +41,13 @@ is_place p None = false
 is_place p (Some q) = (origin_eq.ghosts).eq q p
 
 -- These are the places of the flushes with these numbers.
-abbrev pub AreClosed : Recording → List (Option ℕ) → List ℕ → Closed → Type 0
-AreClosed T labels numbers closed = (p : Origin) → closed_at closed p ≡ list_any (λ (i : ℕ). is_place p (place_of labels i (event T i))) numbers
+abbrev pub AreClosed : Recording → List (Option ℕ) → List ℕ → Places → Type 0
+AreClosed T labels numbers closed = (p : Origin) → has_place closed p ≡ list_any (λ (i : ℕ). is_place p (place_of labels i (event T i))) numbers
 
-abbrev pub is_closed : Closed → Option Origin → Bool
+abbrev pub is_closed : Places → Option Origin → Bool
 is_closed closed None = false
-is_closed closed (Some p) = closed_at closed p
+is_closed closed (Some p) = has_place closed p
 
 -- The place of the event at i is not closed.
-abbrev pub told_so : Recording → List (Option ℕ) → Closed → ℕ → Bool
+abbrev pub told_so : Recording → List (Option ℕ) → Places → ℕ → Bool
 told_so T labels closed i = not (is_closed closed (place_of labels i (event T i)))

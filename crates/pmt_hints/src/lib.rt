@@ -14,7 +14,9 @@ mod next_stores;
 mod numbers;
 pub mod open_at;
 mod per_thread;
+mod places;
 pub mod short_runs;
+mod sifted;
 pub mod split_word;
 pub mod stored_after;
 

@@ -2,8 +2,10 @@
 
 ghost use Rattle.std.specs.Prelude.{◌≡◌, ◌≤◌, ◌<◌, ◌↔◌, suc, true, length, IfSome};
 ghost use Rattle.pmt_model.specs.Traces.{act_of};
-ghost use Rattle.pmt_hints.specs.Near.{before_by, after_by, past_by, HasOpenFlush, IsLeft, StoresPast};
+ghost use Rattle.pmt_hints.specs.Near.{after_by, flushes_so, past_by, AreEarlier, HasOpenFlush, IsLastOpen, IsLeft, StoresPast};
+ghost use Rattle.pmt_hints.specs.Numbers.{of_thread};
 
+use crate::per_thread::PerThread;
 use pmt_model::{Format, Op, Trace, line_of};
 
 // How many looks there are for each event, and how many for all of them besides.
@@ -19,48 +21,55 @@ fn looks_left(index: usize, taken: usize) -> usize {
 }
 
 // Whether the thread has flushed the line before the event at this index and not fenced since; none where the looks that are
-// left do not tell. `taken` is how many were taken.
+// left do not tell. `taken` is how many were taken. It looks at the thread's open flushes alone: `flushes` has the last one before the
+// event, and `earlier` of each of them the one before it.
 #[inline(never)]
-pub(crate) fn is_flushed_before(
+pub(crate) fn is_flushed_since(
     trace: &Trace,
     thread: u8,
     line: u64,
     index: usize,
+    flushes: &PerThread,
+    earlier: &[u64],
     taken: &mut usize,
 ) -> Option<bool>
-    requires { index ≤ length trace.now.events }
+    requires within { index ≤ length trace.now.events }
+    requires size { length earlier.now ≡ index }
+    requires flushes { IsLastOpen trace.now thread (suc index) (of_thread flushes.now thread) }
+    requires earlier { AreEarlier trace.now earlier.now }
     ensures { IfSome result (λ b. (b ≡ true) ↔ HasOpenFlush trace.now thread line (suc index)) }
 {
     let format = trace.format();
     let events = trace.events();
-    let low = index.saturating_sub(looks_left(index, *taken));
-    for step in (low..index).rev() {
-        let event = events[step];
-        let told = told_before(format, thread, line, event.thread, event.op);
-        if told.is_some() {
-            *taken = taken.saturating_add(index - step);
-            return told;
+    let mut flush = flushes.get(thread);
+    for _ in 0..looks_left(index, *taken) {
+        if flush == 0 {
+            return Some(false);
         }
+        *taken = taken.saturating_add(1);
+        let last = flush as usize - 1;
+        let event = events[last];
+        if is_flush_of(format, line, event.thread, event.op) {
+            return Some(true);
+        }
+        flush = earlier[last];
     }
-    *taken = taken.saturating_add(index - low);
-    if low == 0 { Some(false) } else { None }
+    None
 }
 
-// What the op of the thread `own` tells, if it comes before the event and no later one tells.
+// Whether the op flushes the line, for a fence to come.
 #[inline(always)]
-fn told_before(format: Format, thread: u8, line: u64, own: u8, op: Op) -> Option<bool>
-    ensures { result ≡ before_by (act_of format own op) thread line }
+fn is_flush_of(format: Format, line: u64, own: u8, op: Op) -> bool
+    ensures { result ≡ flushes_so (act_of format own op) line }
 {
     match op {
-        Op::Clwb(addr) | Op::ClflushOpt(addr) => {
-            if own == thread && line_of(format, addr) == line {
-                Some(true)
-            } else {
-                None
-            }
-        }
-        Op::Sfence | Op::Mfence => { if own == thread { Some(false) } else { None } }
-        Op::Store(_) | Op::Clflush(_) | Op::IsPersist(_) | Op::IsOrderedBefore(_, _) => None,
+        Op::Clwb(addr) | Op::ClflushOpt(addr) => line_of(format, addr) == line,
+        Op::Store(_)
+        | Op::Clflush(_)
+        | Op::Sfence
+        | Op::Mfence
+        | Op::IsPersist(_)
+        | Op::IsOrderedBefore(_, _) => false,
     }
 }
 

@@ -23,8 +23,8 @@ pub(crate) struct Parted {
 // What an event is.
 #[derive(Clone, Copy)]
 pub(crate) enum State {
-    // It is no flush that waits for a fence.
-    NoFlush,
+    // It is no flush that waits for a fence, or it need not be looked at.
+    Neither,
     // A flush that its thread has not fenced when it stores to another line.
     Open,
     // Another flush.
@@ -54,14 +54,14 @@ pub(crate) fn near_open(
 }
 
 // Whether it is an open flush.
-fn is_open(state: State) -> bool
+pub(crate) fn is_open(state: State) -> bool
     ensures { result ≡ is_open_state state }
 {
     matches!(state, State::Open)
 }
 
 // Whether it is another flush.
-fn is_other(state: State) -> bool
+pub(crate) fn is_other(state: State) -> bool
     ensures { result ≡ is_other_state state }
 {
     matches!(state, State::Other)
@@ -69,19 +69,19 @@ fn is_other(state: State) -> bool
 
 // What the event with this number is; none where the looks that are left do not tell.
 #[inline(always)]
-fn state_of(trace: &Trace, number: u64, taken: &mut usize) -> Option<State>
+pub(crate) fn state_of(trace: &Trace, number: u64, taken: &mut usize) -> Option<State>
     ensures { IfSome result (IsState trace.now number) }
 {
     let events = trace.events();
     let Some(index) = number.checked_sub(1) else {
-        return Some(State::NoFlush);
+        return Some(State::Neither);
     };
     if events.len() as u64 <= index {
-        return Some(State::NoFlush);
+        return Some(State::Neither);
     }
     let event = events[index as usize];
     match flushed_line(trace.format(), event.thread, event.op) {
-        None => Some(State::NoFlush),
+        None => Some(State::Neither),
         Some(line) => flush_state(trace, event.thread, line, index as usize, taken),
     }
 }

@@ -9,22 +9,20 @@ ghost use Rattle.pmt_flags.specs.Flags.{is_kept_at};
 ghost use Rattle.pmt_hints.specs.Hints.{AreThose, IsOpenAtStore, IsOpenFlush, IsOpenThroughout, IsToldOpen};
 ghost use Rattle.pmt_hints.specs.Flagging.{AreFlags};
 ghost use Rattle.pmt_hints.specs.Parting.{AreParted};
+ghost use Rattle.pmt_hints.specs.Sifting.{AreSifted};
 ghost use Rattle.pmt_hints.specs.Stepping.{open_so};
-ghost use Rattle.pmt_hints.specs.Telling.{AreClosed, closed_at, is_closed as is_closed_in, is_place, place_of as place_in, told_so};
-ghost use Rattle.pmt_causes.specs.declared.failure_keys.Origin.{Origin};
+ghost use Rattle.pmt_hints.specs.Telling.{AreClosed, is_closed as is_closed_in, told_so};
 
 use crate::claims::{claimed_flushes, claims_on};
 use crate::near_open::{Parted, near_open};
 use crate::next_stores::NextStores;
 use crate::numbers::selection_of;
 use crate::per_thread::PerThread;
-use pmt_causes::{Origin, origin_of};
+use crate::places::{Places, flush_place};
+use crate::sifted::{Sifted, near_sifted};
+use pmt_causes::Origin;
 use pmt_model::{Format, Op, OutOfMemory, Selection, Trace, Verdict, line_of};
 use std::alloc::Global;
-use std::collections::HashMap;
-
-// The places that have a kept flush that no store of its thread to another line finds open.
-type Closed = HashMap<Origin, bool>;
 
 /// The flushes that are kept, and that their thread has not fenced when it stores to another line: what it stores there may persist
 /// before what was flushed. `kept` is what is kept of the trace.
@@ -49,8 +47,9 @@ pub fn open_at_store(
 /// passes has a byte. `labels` are the numbers of the labels of the events, in order; an event past their end has none. A place is a label,
 /// or without one a thread. `verdicts` are those of the trace.
 ///
-/// It takes what `open_at_store` does and, if a flush is open, a look-up at each one that is kept. If there is such a place, it takes one
-/// at each line of an assertion that passes.
+/// It takes one look at each event that is kept, and a few at each flush among them up to the first of its place that is not open. Where
+/// these do not tell, it takes one at each event. A label that is above the number of `labels` takes a look-up at each of its flushes. If
+/// there is such a place, it takes one at each of its flushes, and at each line of an assertion that passes.
 ///
 /// # Errors
 /// Where memory was refused.
@@ -80,13 +79,8 @@ fn open_throughout(
     requires { IsKeep trace.now kept.now }
     ensures { IfOk result (AreThose (IsOpenThroughout trace.now labels.now)) }
 {
-    let Parted { passed, others } = parted_flushes(alloc, trace, kept.numbers())?;
-    let flushes = passed.as_slice();
-    if flushes.is_empty() {
-        return Ok(selection_of(passed));
-    }
-    let closed = closed_places(alloc, trace, labels, others.as_slice())?;
-    let told = told_numbers(alloc, trace, labels, flushes, &closed)?;
+    let Sifted { passed, closed } = sifted_flushes(alloc, trace, labels, kept.numbers())?;
+    let told = told_numbers(alloc, trace, labels, passed.as_slice(), &closed)?;
     Ok(selection_of(told))
 }
 
@@ -122,7 +116,38 @@ fn parted_flushes(alloc: Global, trace: &Trace, numbers: &[u64]) -> Result<Parte
     }
 }
 
+// Open flushes among the events with these numbers, and the places of others.
+fn sifted_flushes(
+    alloc: Global,
+    trace: &Trace,
+    labels: &[Option<u64>],
+    numbers: &[u64],
+) -> Result<Sifted, OutOfMemory>
+    requires { IsRising 0 numbers.now }
+    ensures { IfOk result (λ sifted. AreSifted trace.now labels.now numbers.now sifted.passed.items sifted.closed) }
+{
+    match near_sifted(alloc, trace, labels, numbers)? {
+        Some(sifted) => Ok(sifted),
+        None => all_sifted(alloc, trace, labels, numbers),
+    }
+}
+
 // The same, however far away what tells of them stands.
+fn all_sifted(
+    alloc: Global,
+    trace: &Trace,
+    labels: &[Option<u64>],
+    numbers: &[u64],
+) -> Result<Sifted, OutOfMemory>
+    requires { IsRising 0 numbers.now }
+    ensures { IfOk result (λ sifted. AreSifted trace.now labels.now numbers.now sifted.passed.items sifted.closed) }
+{
+    let Parted { passed, others } = all_parted(alloc, trace, numbers)?;
+    let closed = closed_places(alloc, trace, labels, others.as_slice())?;
+    Ok(Sifted { passed, closed })
+}
+
+// The flushes among them, however far away what tells of them stands.
 fn all_parted(alloc: Global, trace: &Trace, numbers: &[u64]) -> Result<Parted, OutOfMemory>
     requires { IsRising 0 numbers.now }
     ensures { IfOk result (λ parted. AreParted trace.now numbers.now parted.passed.items parted.others.items) }
@@ -139,45 +164,14 @@ fn closed_places(
     trace: &Trace,
     labels: &[Option<u64>],
     numbers: &[u64],
-) -> Result<Closed, OutOfMemory>
+) -> Result<Places, OutOfMemory>
     ensures { IfOk result (AreClosed trace.now labels.now numbers.now) }
 {
-    let mut closed = HashMap::new(alloc);
+    let mut closed = Places::new(alloc, labels)?;
     for number in numbers {
-        note_closed(&mut closed, flush_place(trace, labels, *number))?;
+        closed.add(flush_place(trace, labels, *number))?;
     }
     Ok(closed)
-}
-
-// Notes the place, if it is one.
-fn note_closed(closed: &mut Closed, place: Option<Origin>) -> Result<(), OutOfMemory>
-    ensures { OnOk result ((p : Origin) → closed_at closed.new p ≡ (closed_at closed.old p || is_place p place)) }
-{
-    match place {
-        None => Ok(()),
-        Some(place) => {
-            closed.insert(place, true)?;
-            Ok(())
-        }
-    }
-}
-
-// The place of the event, if it is a flush.
-fn flush_place(trace: &Trace, labels: &[Option<u64>], number: u64) -> Option<Origin>
-    ensures { result ≡ place_in labels.now number (event trace.now number) }
-{
-    let Some(event) = trace.get(number) else {
-        return None;
-    };
-    match event.op {
-        Op::Clwb(_) | Op::ClflushOpt(_) => Some(origin_of(labels, number, event.thread)),
-        Op::Store(_)
-        | Op::Clflush(_)
-        | Op::Sfence
-        | Op::Mfence
-        | Op::IsPersist(_)
-        | Op::IsOrderedBefore(_, _) => None,
-    }
 }
 
 // Those of these flushes whose place is not closed.
@@ -186,7 +180,7 @@ fn told_numbers(
     trace: &Trace,
     labels: &[Option<u64>],
     numbers: &[u64],
-    closed: &Closed,
+    closed: &Places,
 ) -> Result<Vec<u64>, OutOfMemory>
     ensures { IfOk result (λ told. told.items ≡ filter (told_so trace.now labels.now closed.now) numbers.now) }
 {
@@ -198,19 +192,20 @@ fn told_numbers(
 }
 
 // Whether the event's place is not closed.
-fn is_told(trace: &Trace, labels: &[Option<u64>], closed: &Closed, number: u64) -> bool
+fn is_told(trace: &Trace, labels: &[Option<u64>], closed: &Places, number: u64) -> bool
     ensures { result ≡ told_so trace.now labels.now closed.now number }
 {
     !is_closed(closed, flush_place(trace, labels, number))
 }
 
 // Whether the place is closed.
-fn is_closed(closed: &Closed, place: Option<Origin>) -> bool
+#[inline(always)]
+fn is_closed(closed: &Places, place: Option<Origin>) -> bool
     ensures { result ≡ is_closed_in closed.now place }
 {
     match place {
         None => false,
-        Some(place) => closed.get(&place).copied().unwrap_or(false),
+        Some(place) => closed.has(place),
     }
 }
 

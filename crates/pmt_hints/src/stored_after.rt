@@ -2,6 +2,7 @@
 
 ghost use Rattle.std.specs.Prelude.{◌≡◌, ◌<◌, ◌&&◌, ℕ, length, IfOk, OnOk};
 ghost use Rattle.pmt_model.specs.Traces.{act_of};
+ghost use Rattle.pmt_causes.specs.Late.{AreWaited};
 ghost use Rattle.pmt_causes.specs.Numbers.{number_at};
 ghost use Rattle.pmt_causes.specs.Flushing.{next_before};
 ghost use Rattle.pmt_hints.specs.Hints.{AreThose, IsAfterOpenFlush, IsStoredAfterFlush};
@@ -12,6 +13,7 @@ use crate::flushers::{LastFlushes, last_flush, note_flush};
 use crate::near_stores::near_stores;
 use crate::numbers::selection_of;
 use crate::per_thread::PerThread;
+use pmt_explain::SafePlaces;
 use pmt_flags::marked_numbers;
 use pmt_model::{Format, Op, OutOfMemory, Selection, Trace, line_of};
 use std::alloc::Global;
@@ -23,14 +25,25 @@ type NextFlushes = HashMap<u64, u64>;
 /// The stores to a line that their thread has flushed before and not fenced since, and of which no flush of the line stands between the
 /// store and that thread's next fence: the flush came too early for them.
 ///
-/// It takes a few looks at each event. Where these do not tell, it takes two more, each with one look-up.
+/// `waited` is for how many fences each event of the trace of these places waits.
+///
+/// It takes one look at each event, and keeps a number of it. At each store that a fence of its thread leaves unsafe, or that is never
+/// safe, it takes one more at each flush that the thread has not fenced, from the last one back to one of the store's line; if there is
+/// one, also at the events after the store, up to a flush of the line or a fence of the thread. Where these are more than 8 for each event
+/// so far and 4096 besides, it takes two at each event instead, each with one look-up.
 ///
 /// # Errors
 /// Where memory was refused.
-pub fn stored_after_flush(alloc: Global, trace: &Trace) -> Result<Selection, OutOfMemory>
-    ensures { IfOk result (AreThose (IsStoredAfterFlush trace.now)) }
+pub fn stored_after_flush(
+    alloc: Global,
+    safe: &SafePlaces<'_>,
+    waited: &[u64],
+) -> Result<Selection, OutOfMemory>
+    requires { AreWaited safe.now.trace.now waited.now }
+    ensures { IfOk result (AreThose (IsStoredAfterFlush safe.now.trace.now)) }
 {
-    match near_stores(alloc, trace)? {
+    let trace = safe.trace();
+    match near_stores(alloc, trace, safe.places(), waited)? {
         Some(numbers) => Ok(selection_of(numbers)),
         None => all_stores(alloc, trace),
     }

@@ -1,5 +1,4 @@
 use Rattle.std.proofs.Common.{rules, ◌≡◌, ◌++◌, subst}
-use Rattle.pmt_hints.specs.declared.hint.Hint.{Hint}
 use Rattle.pmt_hints.specs.declared.hint.HintKind.TheVariants.{OneLineShort, OpenAtStore}
 use Rattle.pmt_hints.specs.Hints.{AreThose, IsToldOpen}
 use Rattle.pmt_hints.specs.Placing.{AreHintsOf}

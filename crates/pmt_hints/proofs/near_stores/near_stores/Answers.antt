@@ -1,21 +1,24 @@
-use Rattle.std.proofs.Common.{◌≡◌, suc, length, true, Some, ap, sym, subst, ◌∙◌, arith}
-use Rattle.std.specs.Prelude.{◌↔◌, nat_lt, slice_get}
+use Rattle.std.proofs.Common.{◌≡◌, suc, [], ◌∷◌, length, length-append, get_or, true, Some, ap, sym, subst, ◌∙◌, arith}
+use Rattle.std.specs.Prelude.{◌↔◌, ◌&&◌, nat_lt, slice_get}
 use Rattle.pmt_hints.specs.Numbers.{of_thread}
 use Rattle.std.proofs.lemmas.Option.{slice_get-get_or}
 use Rattle.pmt_model.specs.Traces.{act, act_of, event}
 use Rattle.pmt_hints.specs.Hints.{IsStoredAfterFlush}
-use Rattle.pmt_hints.specs.Near.{AreUpTo, IsLeftOpen}
-use Rattle.pmt_hints.proofs.NearLemmas.{any-none, any-up, some-told, told-store}
+use Rattle.pmt_hints.specs.Near.{AreEarlier, AreUpTo, IsLeftOpen, left_unsafe}
+use Rattle.pmt_hints.proofs.NearLemmas.{none-both, some-told, told-store}
+use Rattle.pmt_hints.proofs.ChainLemmas.{earlier-none, earlier-up, none-open, open-none, open-up}
+use Rattle.pmt_hints.proofs.LeftLemmas.{none-left}
 use Rattle.pmt_hints.proofs.NumberLemmas.{upto-more, upto-none, upto-those}
-use Rattle.pmt_hints.proofs.StoredAfterLemmas.{fences-none, fences-up, stored-bound}
+use Rattle.pmt_hints.proofs.StoredAfterLemmas.{stored-bound}
 use Rattle.pmt_hints.proofs.near_stores.near_stores.Goals as goal
 
 pub loop-index-init : goal.loop-index-init
 loop-index-init c =
     let P = IsStoredAfterFlush c.args.trace.now in
     record {
-      fences = fences-none c.args.trace.now c.new-fences.result c.new-fences.ensures;
-      flushes = any-none c.args.trace.now c.new-flushes.result c.new-flushes.ensures;
+      flushes = open-none c.args.trace.now c.new-flushes.result c.new-flushes.ensures;
+      size = ap (λ xs. length xs) c.in_ok-earlier.ensures.items;
+      earlier = earlier-none c.args.trace.now c.in_ok-earlier.earlier.items c.in_ok-earlier.ensures.items;
       numbers = subst (AreUpTo P 0) (sym c.new-numbers.ensures.items) (upto-none P (λ i p. (stored-bound c.args.trace.now i p).0));
     }
 
@@ -29,12 +32,24 @@ loop-index-preserved c =
     let at : event T (suc i) ≡ Some e = ap (λ xs. slice_get xs i) (sym c.events-events.ensures.value) ∙ slice_get-get_or es i e (omega arith) ∙ ap Some (sym c.index-events-index.is) in
     let own : act T.format e ≡ a = ap (λ g. act_of g e.thread e.op) (sym c.format-format.ensures.value) in
     let told = c.in-Some.is_told in
-    let test : _ ≡ nat_lt (of_thread c.loop-index.fences e.thread) (of_thread c.loop-index.flushes e.thread) = ap (λ x. nat_lt x c.get-flush.result) c.get-fence.ensures ∙ ap (nat_lt (of_thread c.loop-index.fences e.thread)) c.get-flush.ensures in
+    let long : length c.events-events.result.now ≡ length T.events = ap (λ xs. length xs) c.events-events.ensures.value in
+    let waits : slice_get c.args.waited.now i ≡ Some (get_or c.args.waited.now i 0) = slice_get-get_or c.args.waited.now i 0 (omega (arith, c.requires.waited.size, long)) in
+    let safe : slice_get c.args.places.now i ≡ Some (get_or c.args.places.now i 0) = slice_get-get_or c.args.places.now i 0 (omega (arith, c.requires.places.size, long)) in
+    let test : nat_lt 0 c.get-flush.result ≡ nat_lt 0 (of_thread c.loop-index.flushes e.thread) = ap (nat_lt 0) c.get-flush.ensures in
+    let w = get_or c.args.waited.now i 0 in
+    let s = get_or c.args.places.now i 0 in
+    let same : c.may_be_told-may.result ≡ (nat_lt 0 c.get-flush.result && left_unsafe w s (length T.events)) = c.may_be_told-may.ensures ∙ ap (λ n. nat_lt 0 c.get-flush.result && left_unsafe w s n) long in
+    let none = none-both (IsStoredAfterFlush T (suc i)) _ (left_unsafe w s (length T.events)) c.may_be_told-may.result
+    (λ off. none-open T i e c.loop-index.flushes at c.stored_line-line.ensures.small c.loop-index.invariant.flushes (sym test ∙ off))
+    (none-left T c.args.places.now c.args.waited.now i s w c.requires.places c.requires.waited safe waits) same
+    in
     record {
-      fences = fences-up T i _ a c.loop-index.fences c.note_fence.new.self (omega arith) (e, at, own) c.note_fence.ensures c.loop-index.invariant.fences;
-      flushes = any-up T i _ a c.loop-index.flushes c.note_flush.new.self (omega arith) (e, at, own) c.note_flush.ensures c.loop-index.invariant.flushes;
+      flushes = open-up T i _ a c.loop-index.flushes c.note_open.new.self (omega arith) (e, at, own) c.note_open.ensures c.loop-index.invariant.flushes;
+      size = ap (λ xs. length xs) c.in_ok-push.ensures.items ∙ omega (arith, c.loop-index.invariant.size, length-append c.loop-index.earlier.items (c.get-flush.result ∷ []));
+      earlier = earlier-up T i c.get-flush.result e c.loop-index.flushes c.loop-index.earlier.items c.push.new.self.items c.loop-index.invariant.size at c.stored_line-line.ensures.small c.get-flush.ensures c.in_ok-push.ensures.items
+          c.loop-index.invariant.flushes c.loop-index.invariant.earlier;
       numbers = upto-more (IsStoredAfterFlush T) i _ told c.loop-index.numbers.items c.push_if.new.numbers.items (omega arith) c.in_ok-push_if.ensures
-          (told-store T i e a c.loop-index.fences c.loop-index.flushes _ told c.stored_line-line.result at c.stored_line-line.ensures.small own c.loop-index.invariant.fences c.loop-index.invariant.flushes test c.stored_line-line.ensures.value
+          (told-store T i e a _ told c.stored_line-line.result at own none c.stored_line-line.ensures.value
           (some-told c.judged.result (λ b. (b ≡ true) ↔ IsLeftOpen T e.thread (suc i) c.stored_line-line.result) told c.judged.ensures c.in-Some.is))
           c.loop-index.invariant.numbers;
     }
@@ -46,3 +61,6 @@ returns c =
     let long : length c.events-events.result.now ≡ length T.events = ap (λ xs. length xs) c.events-events.ensures.value in
     let all : c.loop-index.index ≡ length T.events = omega (arith, long) in
     upto-those P (length T.events) c.loop-index.numbers.items (λ i p. (stored-bound T i p).1) (subst (λ n. AreUpTo P n c.loop-index.numbers.items) all c.loop-index.invariant.numbers)
+
+pub judged-requires-clause-earlier : goal.judged-requires-clause-earlier
+judged-requires-clause-earlier c = subst (AreEarlier c.args.trace.now) (sym c.as_slice.ensures.value) c.loop-index.invariant.earlier

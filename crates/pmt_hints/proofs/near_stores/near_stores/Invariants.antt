@@ -1,12 +1,13 @@
+use Rattle.std.proofs.Common.{◌≡◌, length}
 use Rattle.pmt_hints.specs.Hints.{IsStoredAfterFlush}
-use Rattle.pmt_hints.specs.Near.{AreUpTo}
-use Rattle.pmt_hints.proofs.NearLemmas.{AnyFlushesUpTo}
-use Rattle.pmt_hints.proofs.StoredAfterLemmas.{FencesUpTo}
+use Rattle.pmt_hints.specs.Near.{AreEarlier, AreUpTo}
+use Rattle.pmt_hints.proofs.ChainLemmas.{OpenUpTo}
 use Rattle.pmt_hints.proofs.near_stores.near_stores.Given as goal
 
 abbrev pub invariant-loop-index : goal.invariant-loop-index
 invariant-loop-index l = record {
-  fences : FencesUpTo l.trace l.index l.fences;
-  flushes : AnyFlushesUpTo l.trace l.index l.flushes;
+  flushes : OpenUpTo l.trace l.index l.flushes;
+  size : length l.earlier.items ≡ l.index;
+  earlier : AreEarlier l.trace l.earlier.items;
   numbers : AreUpTo (IsStoredAfterFlush l.trace) l.index l.numbers.items;
 }
