@@ -338,6 +338,12 @@ class Explain(Checks):
             done = self.explain(*words, folder=folder)
             self.expect(f"{words}", done.returncode == 2 and b"is read, and can not be written" in done.stderr, done.stderr)
         self.expect_equal("both are as they were", ((folder / "t").read_text(), (folder / "l").read_text()), (TWO_LOST, "1 a\n"))
+        (folder / "put.c").write_text("put();\n")
+        (folder / "l").write_text("1 put.c:1 put\n")
+        for words in ([], ["--html"]):
+            done = self.explain(*words, "--source", ".", "--labels", "l", "-o", "put.c", "t", folder=folder)
+            self.expect(f"a file of source, {words}", done.returncode == 2 and b"'put.c' is read, and can not be written" in done.stderr, done.stderr)
+            self.expect_equal("it is as it was", (folder / "put.c").read_text(), "put();\n")
         done = self.explain("-o", "/dev/full", "t", folder=folder)
         self.expect_equal("a full device", (done.returncode, done.stderr), (4, b"cannot write /dev/full: No space left on device\n"))
         done = self.explain("-o", "none/o", "t", folder=folder)

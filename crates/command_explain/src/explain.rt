@@ -253,7 +253,7 @@ fn text_with_sources<O: Opener>(
     };
     let choice = &words.options.choice;
     let wanted = source_places(alloc, explanation, &known.labels, choice)?;
-    let sources = sources_of(alloc, files, folder, wanted.as_slice())?;
+    let sources = sources_of(alloc, files, folder, words.out, wanted.as_slice())?;
     Ok(people_text(alloc, explanation, known, words, Some(&sources))?)
 }
 

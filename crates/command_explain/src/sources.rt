@@ -5,17 +5,18 @@ use pmt_model::OutOfMemory;
 use pmt_sources::{SourceLine, SourcePlace, Sources, line_in, visible};
 use std::alloc::{AllocError, Global};
 
-/// The lines of these places, in files below this folder.
+/// The lines of these places, in files below this folder, none of which is the file that is to be written, if one is named.
 ///
 /// # Errors
-/// The fault of the folder, where it has no real name; `OutOfMemory`.
+/// The fault of the folder, where it has no real name; a usage fault where a file is the one that is to be written; `OutOfMemory`.
 pub(crate) fn sources_of<'a, O: Opener>(
     alloc: Global,
     files: &O,
     given: &str,
+    written: Option<&str>,
     wanted: &[SourcePlace<'a>],
 ) -> Result<Sources<'a>, Fault> {
-    let folder = SourceFolder::open(alloc, files, given)?;
+    let folder = SourceFolder::open(alloc, files, given, written)?;
     let mut places = Places::new(alloc);
     for place in wanted {
         places.insert(*place)?;

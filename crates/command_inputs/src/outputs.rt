@@ -42,11 +42,16 @@ pub fn check_apart<O: Opener>(
     for output in outputs {
         let name = output.name.as_str();
         if is_same(alloc, files, name, input)? {
-            let message = format!(in alloc; "'{name}' is read, and can not be written")?;
-            return Err(Fault::usage(alloc, message.as_str())?);
+            return Err(written_fault(alloc, name)?);
         }
     }
     Ok(())
+}
+
+// The fault of a file that is read and was to be written.
+pub(crate) fn written_fault(alloc: Global, name: &str) -> Result<Fault, Fault> {
+    let message = format!(in alloc; "'{name}' is read, and can not be written")?;
+    Ok(Fault::usage(alloc, message.as_str())?)
 }
 
 // Whether both names are of one file that is there.
@@ -61,7 +66,11 @@ fn is_same<O: Opener>(alloc: Global, files: &O, name: &str, other: &str) -> Resu
 }
 
 // The absolute name of the file; none where there is no such file.
-fn real_name<O: Opener>(alloc: Global, files: &O, name: &str) -> Result<Option<String>, Fault> {
+pub(crate) fn real_name<O: Opener>(
+    alloc: Global,
+    files: &O,
+    name: &str,
+) -> Result<Option<String>, Fault> {
     match files.real_name(alloc, name) {
         Ok(found) => Ok(Some(found)),
         Err(OpenError::System(_)) => Ok(None),

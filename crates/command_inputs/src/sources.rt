@@ -2,6 +2,7 @@
 
 use crate::fault::Fault;
 use crate::opener::{OpenError, Opener};
+use crate::outputs::{real_name, written_fault};
 use crate::reading::{reason, system_fault};
 use pmt_sources::SourcePlace;
 use std::alloc::{AllocError, Global};
@@ -27,6 +28,8 @@ pub struct SourceFolder {
     given: String,
     // Its real name.
     real: String,
+    // The real name of the file that is to be written, if it is there.
+    written: Option<String>,
 }
 
 /// A file that labels name, with the numbers of the lines, rising.
@@ -98,15 +101,25 @@ impl<'a> Places<'a> {
 }
 
 impl SourceFolder {
-    /// The folder with this name.
+    /// The folder with this name, where the file that is to be written, if one is named, must not be read.
     ///
     /// # Errors
     /// The fault of the folder, where it has no real name; `OutOfMemory`.
-    pub fn open<O: Opener>(alloc: Global, files: &O, given: &str) -> Result<Self, Fault> {
+    pub fn open<O: Opener>(
+        alloc: Global,
+        files: &O,
+        given: &str,
+        written: Option<&str>,
+    ) -> Result<Self, Fault> {
+        let written = match written {
+            Some(name) => real_name(alloc, files, name)?,
+            None => None,
+        };
         match files.real_name(alloc, given) {
             Ok(real) => Ok(SourceFolder {
                 given: String::from_str(alloc, given)?,
                 real,
+                written,
             }),
             Err(OpenError::System(error)) => Err(system_fault(alloc, "cannot open", given, error)?),
             Err(OpenError::OutOfMemory) => Err(Fault::OutOfMemory),
@@ -126,7 +139,7 @@ impl SourceFolder {
     /// What is read of the file with this name below the folder.
     ///
     /// # Errors
-    /// `OutOfMemory`.
+    /// A usage fault where it is the file that is to be written; `OutOfMemory`.
     pub fn read<O: Opener>(
         &self,
         alloc: Global,
@@ -145,7 +158,18 @@ impl SourceFolder {
         if below(top, real.as_str()).is_none() {
             return refused(alloc, OUTSIDE);
         }
+        if self.is_written(real.as_str()) {
+            return Err(written_fault(alloc, name)?);
+        }
         read_real(alloc, files, real.as_str())
+    }
+
+    // Whether it is the real name of the file that is to be written.
+    fn is_written(&self, real: &str) -> bool {
+        match &self.written {
+            Some(written) => written.as_str() == real,
+            None => false,
+        }
     }
 
     // The name from the folder on; none, where it leads out of it.

@@ -59,12 +59,14 @@ struct Asked<'a> {
     labels: &'a Labels,
     name: &'a str,
     source: Option<&'a str>,
+    written: Option<&'a str>,
 }
 
 /// The page of the explained trace that has these bytes, with this text for people. The explanation has what stands on the page then, or more.
 ///
 /// # Errors
-/// The fault of the folder of the source files; `OutOfMemory`. What the explanation has then is not said.
+/// The fault of the folder of the source files; a usage fault where a source file is the one to be written; `OutOfMemory`. What the
+/// explanation has then is not said.
 pub fn page_of<O: Opener>(
     alloc: Global,
     files: &O,
@@ -83,6 +85,7 @@ pub fn page_of<O: Opener>(
         labels,
         name: words.file.unwrap_or(STANDARD_INPUT),
         source: words.source,
+        written: words.out,
     };
     page_with_room(alloc, files, explanation, words, asked)
 }
@@ -139,7 +142,7 @@ fn page_within<O: Opener>(
 ) -> Result<Vec<u8>, Fault> {
     let events = explanation.analysis.trace().len() as u64;
     let named = page_labels(alloc, asked.labels, events, room.labels)?;
-    let sources = sources(alloc, files, asked.source, named.list.as_slice(), room)?;
+    let sources = sources(alloc, files, &asked, named.list.as_slice(), room)?;
     let blocks = Blocks {
         text: asked.text,
         picture: asked.picture,
@@ -239,12 +242,12 @@ fn about(
 fn sources<O: Opener>(
     alloc: Global,
     files: &O,
-    folder: Option<&str>,
+    asked: &Asked<'_>,
     labels: &[Label<'_>],
     room: Room,
 ) -> Result<Vec<u8>, Fault> {
-    match folder {
-        Some(folder) if room.has_sources => sources_of(alloc, files, folder, labels),
+    match asked.source {
+        Some(folder) if room.has_sources => sources_of(alloc, files, folder, asked.written, labels),
         Some(_) => Ok(sources_text(alloc, &[], &[], false)?),
         None => {
             let mut none = Vec::new(alloc);

@@ -15,17 +15,19 @@ const MOST_FILES: usize = 1_000;
 // The most bytes of names and lines on a page.
 const MOST_SHOWN: usize = 2_000_000;
 
-/// The block of the lines round each place `FILE:LINE` that a label names, in files below this folder.
+/// The block of the lines round each place `FILE:LINE` that a label names, in files below this folder, none of which is the file that is
+/// to be written, if one is named.
 ///
 /// # Errors
-/// The fault of the folder, where it has no real name; `OutOfMemory`.
+/// The fault of the folder, where it has no real name; a usage fault where a file is the one that is to be written; `OutOfMemory`.
 pub fn sources_of<O: Opener>(
     alloc: Global,
     files: &O,
     given: &str,
+    written: Option<&str>,
     labels: &[Label<'_>],
 ) -> Result<Vec<u8>, Fault> {
-    let folder = SourceFolder::open(alloc, files, given)?;
+    let folder = SourceFolder::open(alloc, files, given, written)?;
     let mut shown = Shown {
         lines: Lines::new(alloc, MOST_SHOWN),
         reasons: Vec::new(alloc),
