@@ -207,8 +207,8 @@ LOOP_OTHERS = "  also: events 3 4 5 6 7 8 9 10 11 12 and 2 more"
 TABLE = "pmtrace 1\nstore 0 0x1000 0102030405060708\nstore 0 0x1040 0010000000000000\nclwb 0 0x1040\nsfence 0\nclwb 0 0x1000\nsfence 0\n"
 TABLE_LABELS = "1 list.c:57 fill < main list.c:90\n2 list.c:60 link\n"
 TABLE_TOLD = """\
-hint: list.c:57 fill: 1 store is saved one fence late, and a crash can keep what the fence before
-       saves without it; first: event 1
+hint: list.c:57 fill: 1 store is saved one fence late: a crash right after the fence before can lose
+       it and keep what that saves; first: event 1
   before: a crash after event 4 keeps this store and can lose event 1: event 2 (line 3, thread 0) at
           list.c:60 link: store 0 0x1040 0010000000000000
   fix:    Flush cache line 0x1000 by thread 0 after event 1 (list.c:57 fill), before its next fence,

@@ -13,7 +13,7 @@ FINGERPRINT = "pmtrimCause/v1"
 RULES = {
     FAILURE: ("error", "A crash can violate an assertion."),
     NEVER_PERSISTED: ("error", "Stores are never persisted: a crash at the end can lose them."),
-    LATE: ("note", "Stores are saved late: a crash loses them though their thread went on."),
+    LATE: ("note", "Stores are saved late: two or more fences of their thread left them unsafe."),
     DROPPED: ("note", "A flush or a fence does nothing that a crash could show."),
     OVERWRITTEN: ("note", "Stores are written over before any flush."),
     UNWRITTEN: ("warning", "An assertion is about bytes that no store has written."),

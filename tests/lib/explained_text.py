@@ -23,7 +23,7 @@ DROPPED = "note: flushes and fences that do nothing, most first:"
 OTHER_THREADS = "note: fences that complete nothing while flushes of another thread wait, most first:"
 OVERWRITTEN = "note: stores overwritten before any flush of their cache line, those with other bytes first:"
 OVERWRITTEN_PLACES = "note: stores overwritten before any flush of their cache line, by the place of the first in a line:"
-SAVED_LATE = "  stores saved late, which a crash can lose though their thread went on: "
+SAVED_LATE = "  stores saved late, left unsafe by two or more fences of their thread: "
 LATE = "note: stores that two fences or more of their own thread left unsafe, most first:"
 THREADS = "table: what threads make whose flushes and fences do nothing, and how many do:"
 LABELS = "table: source places whose flushes and fences do nothing, most first:"
@@ -133,7 +133,7 @@ def overwritten_lines(explained):
     """A line for each cache line."""
     return [
         f"  {times(group['count'])} in cache line {group['cache_line']}, {group['count'] - group['same']} with other bytes,"
-        f" first {placed(group['earlier'])} by {placed(group['later'])}"
+        f" first {placed(group['earlier'])}, overwritten by {placed(group['later'])}"
         for group in overwritten_groups(explained)
     ]
 
@@ -145,7 +145,7 @@ def overwritten_places(explained):
         row = found.setdefault(by_place.place(explained, group["earlier"]["event"]), [0, 0, 0, group["earlier"]["event"], group["later"]["event"]])
         row[:3] = [row[0] + group["count"], row[1] + group["count"] - group["same"], row[2] + 1]
     return [
-        f"  {by_place.name_of(key)}: {times(count)} in {plural(lines, 'cache line')}, {differing} with other bytes, first event {earlier} by event {later}"
+        f"  {by_place.name_of(key)}: {times(count)} in {plural(lines, 'cache line')}, {differing} with other bytes, first event {earlier}, overwritten by event {later}"
         for key, (count, differing, lines, earlier, later) in sorted(found.items(), key=lambda item: (-item[1][1], -item[1][0]))
     ]
 

@@ -178,7 +178,7 @@ def left_lines(explained):
     for key, row in left(explained):
         count, number = row["left"], row["first_left"]
         stores, them = ("1 store is", "it") if count == 1 else (f"{count} stores are", "them")
-        yield f"hint: {name_of(key)}: {stores} saved one fence late, and a crash can keep what the fence before saves without {them}; first: event {number}"
+        yield f"hint: {name_of(key)}: {stores} saved one fence late: a crash right after the fence before can lose {them} and keep what that saves; first: event {number}"
         saved = saved_before(explained, number)
         if saved:
             fence, kept = saved

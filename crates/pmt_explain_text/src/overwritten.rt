@@ -79,7 +79,7 @@ fn push_overwritten(pen: &mut Pen, told: &Telling<'_>, group: &OverwrittenGroup)
         &[line, differing(group), earlier],
     );
     push_label(&mut words, told, earlier);
-    words.fill(" by event #", &[group.first.later]);
+    words.fill(", overwritten by event #", &[group.first.later]);
     push_label(&mut words, told, group.first.later);
     push_wrapped(pen, &words, HEAD);
 }

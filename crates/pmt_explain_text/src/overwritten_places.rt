@@ -113,7 +113,7 @@ fn push_sum(pen: &mut Pen, told: &Telling<'_>, sum: &Sum) {
     line.fill(" in # cache line", &[sum.lines]);
     line.put(plural(sum.lines));
     line.fill(
-        ", # with other bytes, first event # by event #",
+        ", # with other bytes, first event #, overwritten by event #",
         &[sum.differing, sum.earlier, sum.later],
     );
     push_wrapped(pen, &line, HEAD);

@@ -54,7 +54,7 @@ fn push_counts(pen: &mut Pen, told: &Telling<'_>, counts: &Summary) {
 fn push_late(pen: &mut Pen, told: &Telling<'_>, stores: u64) {
     if stores > 0 {
         pen.fill(
-            "  stores saved late, which a crash can lose though their thread went on: # of #\n",
+            "  stores saved late, left unsafe by two or more fences of their thread: # of #\n",
             &[late_stores(told), stores],
         );
     }

@@ -10,10 +10,10 @@ use pmt_telling::{
 };
 
 const ONE_LATE: &str =
-    " is saved one fence late, and a crash can keep what the fence before saves without it";
+    " is saved one fence late: a crash right after the fence before can lose it and keep what that saves";
 
 const LATE: &str =
-    " are saved one fence late, and a crash can keep what the fence before saves without them";
+    " are saved one fence late: a crash right after the fence before can lose them and keep what that saves";
 
 // How many places are hinted at so, if hints at all places are asked for.
 pub(crate) fn count_left(told: &Telling<'_>) -> usize {
