@@ -125,6 +125,13 @@ function ownFlushNodes(trace, after, store) {
   return fence === 0 ? [...nodes, '.'] : [...nodes, ', ', ...placeNodes(trace, fence), '.'];
 }
 
+// The flush and the fence that save a store before another one is made.
+function flushAndFenceNodes(trace, store, other) {
+  const start = `Flush cache line ${lineAddressOf(trace, store)} by thread ${trace.thread[store]} after `;
+  const end = ': after one fence for both a crash can still keep that alone.';
+  return [start, ...placeNodes(trace, store), ', and fence, both before ', ...placeNodes(trace, other), end];
+}
+
 // Where a crash shows what is late or hinted at: right after a fence that leaves the store unsafe, or after the store that can be kept alone.
 // 0 of anything else.
 function shownAt(trace, { kind, hint, first }, other) {
@@ -180,5 +187,7 @@ function hintRemedy(trace, entry) {
   const { remedy } = HINTS[entry.hint] ?? { remedy: '' };
   const { event } = entry.first;
   if (remedy !== undefined) return [remedy];
+  const kept = entry.saved?.store.event ?? 0;
+  if (event < kept) return flushAndFenceNodes(trace, event, kept);
   return ownFlushNodes(trace, event, entry.hint === 'one_line_short' ? otherOf(trace, entry) || event : event);
 }

@@ -211,8 +211,8 @@ hint: list.c:57 fill: 1 store is saved one fence late: a crash right after the f
        it and keep what that saves; first: event 1
   before: a crash after event 4 keeps this store and can lose event 1: event 2 (line 3, thread 0) at
           list.c:60 link: store 0 0x1040 0010000000000000
-  fix:    Flush cache line 0x1000 by thread 0 after event 1 (list.c:57 fill), before its next fence,
-          event 4.
+  fix:    Flush cache line 0x1000 by thread 0 after event 1 (list.c:57 fill), and fence, both before
+          event 2 (list.c:60 link): after one fence for both a crash can still keep that alone.
   or:     See that recovery does not follow event 2 to what event 1 stores.
 """
 # The same with the pointer stored first, and with the first fence saving nothing.

@@ -116,7 +116,7 @@ class Hints(Checks):
     def test_one_line_short(self):
         text = self.expect_short("a lost rest", SHORT, [("log.c:40 flush", 3, 1)], LABELS)
         wanted = """hint: log.c:40 flush: 1 time flushes end one cache line short of what is stored; first: event 3,
-       missed store event 2
+       missed store event 2 (log.c:30 copy)
   fix:    Flush cache line 0x1040 by thread 0 after event 3 (log.c:40 flush), before its next fence,
           event 4 (log.c:41 fence).
 """

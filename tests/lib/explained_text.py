@@ -25,6 +25,7 @@ OVERWRITTEN = "note: stores overwritten before any flush of their cache line, th
 OVERWRITTEN_PLACES = "note: stores overwritten before any flush of their cache line, by the place of the first in a line:"
 SAVED_LATE = "  stores saved late, left unsafe by two or more fences of their thread: "
 LATE = "note: stores that two fences or more of their own thread left unsafe, most first:"
+ORDER = "  order:  A crash may keep any part of what waits for one fence: fence before what must come later."
 THREADS = "table: what threads make whose flushes and fences do nothing, and how many do:"
 LABELS = "table: source places whose flushes and fences do nothing, most first:"
 MARKS = ("note: ", " the mark of isOrderedBefore lies in several cache lines, of which ")
@@ -304,8 +305,9 @@ def wrong_places(explained, lines):
         if len(story) > MOST_ROWS or entry[1 : len(story) + 1] != story:
             return f"the story of a place: wanted {story}, in {entry}"
         draw = f"  draw:   pmtrim draw --line {explained.address(explained.trace.line(store))} "
-        names = [line[:10] for line in entry[len(story) + 1 :]]
-        if names != ["  fix:    ", "  draw:   "] or not entry[-1].startswith(draw) or not entry[-1].endswith(f" > event{store}.svg"):
+        order = [ORDER] if explained.trace.is_safe(store, explained.end) else []
+        names = [line if line == ORDER else line[:10] for line in entry[len(story) + 1 :]]
+        if names != ["  fix:    ", *order, "  draw:   "] or not entry[-1].startswith(draw) or not entry[-1].endswith(f" > event{store}.svg"):
             return f"a place: wanted what mends it, and {draw}, in {entry}"
     return None
 

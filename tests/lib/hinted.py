@@ -15,7 +15,7 @@ WORDS = {
     "one_line_short": "flushes end one cache line short of what is stored",
     "open_at_store": "a flush is unfenced at a store that a crash can keep alone",
 }
-OTHERS = {"split_word": "other part event", "stored_after_flush": "flush event", "one_line_short": "missed store event", "open_at_store": "store event"}
+OTHERS = {"split_word": "other part", "stored_after_flush": "flush", "one_line_short": "missed store", "open_at_store": "store"}
 FIXES = {
     "split_word": "Lay the word out in one cache line, or let a log or a checksum vouch for both parts.",
     "open_at_store": "If that store may not be saved first, fence before it; isOrderedBefore claims the order.",
@@ -186,7 +186,12 @@ def left_lines(explained):
             at = f" at {event['label']}" if event["label"] else ""
             where = f"event {kept} (line {event['line']}, thread {event['thread']}){at}: {event['words']}"
             yield f"  before: a crash after event {fence} keeps this store and can lose event {number}: {where}"
-        yield f"  fix:    {fix(explained, 'stored_after_flush', number)}"
+        if saved and number < kept:
+            line, thread = explained.address(explained.trace.line(number)), explained.trace.event(number)[1]
+            flush = f"Flush cache line {line} by thread {thread} after {named(explained, number)}, and fence"
+            yield f"  fix:    {flush}, both before {named(explained, kept)}: after one fence for both a crash can still keep that alone."
+        else:
+            yield f"  fix:    {fix(explained, 'stored_after_flush', number)}"
         if saved:
             yield f"  or:     See that recovery does not follow event {kept} to what event {number} stores."
 
@@ -195,7 +200,7 @@ def lines(explained):
     """The lines of each hint."""
     for kind, key, numbers in hints(explained):
         times = "1 time" if len(numbers) == 1 else f"{len(numbers)} times"
-        other = f"{OTHERS[kind]} {SETS[kind](explained, numbers[0])}"
+        other = f"{OTHERS[kind]} {named(explained, SETS[kind](explained, numbers[0]))}"
         yield f"hint: {name_of(key)}: {times} {WORDS[kind]}; first: event {numbers[0]}, {other}"
         yield f"  fix:    {fix(explained, kind, numbers[0])}"
     yield from left_lines(explained)

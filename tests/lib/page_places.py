@@ -80,7 +80,7 @@ sfence 3|short.c:3 put
 PLACE = re.compile(r"^(?:error|warning|note): (.*): \d+ stores?: (\d+) never persisted, (\d+) saved late, (\d+) in time", re.M)
 # Places that lose all they store to one cache line, which nothing flushes, are one entry of the text: how many, their stores, their names.
 SHARED = re.compile(r"^error: cache line 0x[0-9a-f]+ is never flushed: (\d+) places lose all that they store to it, (\d+) stores?: (.*)$", re.M)
-HINT = re.compile(r"^hint: (.*): (\d+) (?:time|store)s? .*; first: event (\d+)(?:, [a-z ]+ event (\d+))?\n(?:  before: (.*)\n)?  fix:    (.*)", re.M)
+HINT = re.compile(r"^hint: (.*): (\d+) (?:time|store)s? .*; first: event (\d+)(?:, [a-z ]+ event (\d+)(?: \(.*\))?)?\n(?:  before: (.*)\n)?  fix:    (.*)", re.M)
 # The page names an event by its whole label, the text by the innermost frame.
 CALLERS = re.compile(r" < [^()]*(?=\))")
 EVENT = re.compile(r"\bevent (\d+)")

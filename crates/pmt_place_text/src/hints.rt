@@ -6,7 +6,7 @@ use pmt_hints::{Hint, HintKind};
 use pmt_pen::Pen;
 use pmt_telling::{
     HEAD, Hinting, Section, Telling, hint_line, hint_partner, line_of_store, push_hint_words,
-    push_own_flush, push_wrapped,
+    push_own_flush, push_place, push_wrapped,
 };
 
 const HEADING: &str =
@@ -56,7 +56,8 @@ fn push_hint(pen: &mut Pen, told: &Telling<'_>, hint: &Hint) {
     push_hint_words(&mut head, told, hint);
     head.fill("; first: event #", &[hint.first]);
     if let Some(other) = hint_partner(told.trace, hint) {
-        head.fill(other_words(hint.kind), &[other]);
+        head.put(other_words(hint.kind));
+        push_place(&mut head, told, other);
     }
     push_wrapped(pen, &head, HEAD);
     push_fix(pen, told, hint);
@@ -65,10 +66,10 @@ fn push_hint(pen: &mut Pen, told: &Telling<'_>, hint: &Hint) {
 // How the event that the first one goes with is told.
 fn other_words(kind: HintKind) -> &'static str {
     match kind {
-        HintKind::SplitWord => ", other part event #",
-        HintKind::StoredAfterFlush => ", flush event #",
-        HintKind::OpenAtStore => ", store event #",
-        HintKind::OneLineShort => ", missed store event #",
+        HintKind::SplitWord => ", other part ",
+        HintKind::StoredAfterFlush => ", flush ",
+        HintKind::OpenAtStore => ", store ",
+        HintKind::OneLineShort => ", missed store ",
     }
 }
 

@@ -5,8 +5,8 @@ use pmt_causes::Origin;
 use pmt_fates::{PlaceRow, SavedBefore};
 use pmt_pen::Pen;
 use pmt_telling::{
-    HEAD, SOURCE, Section, Telling, line_of_store, push_count, push_event, push_own_flush,
-    push_place_name, push_wrapped,
+    HEAD, SOURCE, Section, Telling, line_address, line_of_store, push_count, push_event,
+    push_own_flush, push_place, push_place_name, push_wrapped,
 };
 
 const ONE_LATE: &str =
@@ -118,11 +118,38 @@ fn push_remedy(
         push_event(&mut before, told, saved.store);
         push_wrapped(pen, &before, SOURCE);
     }
-    push_own_flush(pen, told, line_of_store(told.trace, store), thread, store);
+    let line = line_of_store(told.trace, store);
+    match saved {
+        Some(saved) if store < saved.store => {
+            push_flush_and_fence(pen, told, line, thread, store, saved.store)
+        }
+        _ => push_own_flush(pen, told, line, thread, store),
+    }
     if let Some(saved) = saved {
         pen.fill(
             "  or:     See that recovery does not follow event # to what event # stores.\n",
             &[saved.store, store],
         );
     }
+}
+
+// Adds the flush and the fence that save the thread's store to the line before another one is made.
+fn push_flush_and_fence(
+    pen: &mut Pen,
+    told: &Telling<'_>,
+    line: u64,
+    thread: u8,
+    store: u64,
+    other: u64,
+) {
+    let mut fix = Pen::new(pen.alloc());
+    fix.fill(
+        "  fix:    Flush cache line @ by thread # after ",
+        &[line_address(told.trace, line), thread as u64],
+    );
+    push_place(&mut fix, told, store);
+    fix.put(", and fence, both before ");
+    push_place(&mut fix, told, other);
+    fix.put(": after one fence for both a crash can still keep that alone.");
+    push_wrapped(pen, &fix, SOURCE);
 }

@@ -23,6 +23,9 @@ const LABELLED: &str =
 const THREADS: &str =
     "places: what became of the stores of each thread; with --labels FILE a place is a line of source:\n";
 
+const ORDER: &str =
+    "  order:  A crash may keep any part of what waits for one fence: fence before what must come later.\n";
+
 /// The places that lose or delay stores, unless something is asked for.
 pub fn places_section(told: &Telling<'_>, claims: &Claims) -> Section {
     let rows = troubled(told.explanation, told.screen.choice);
@@ -228,6 +231,7 @@ fn push_late(pen: &mut Pen, told: &Telling<'_>, store: u64, is_story: bool) {
     };
     let line = line_of_store(told.trace, store);
     push_own_flush(pen, told, line, event.thread, store);
+    pen.put(ORDER);
     pen.put("  draw:   ");
     push_draw(pen, told, "--line @", line_address(told.trace, line), store);
 }
