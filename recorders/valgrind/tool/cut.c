@@ -1,5 +1,7 @@
 #include "cut.h"
 
+enum { MOST_BYTES = 4096 };
+
 static const HChar *trace_file;
 static HChar *cut_file;
 
@@ -14,16 +16,28 @@ void begin_cut(const HChar *trace) {
     VG_(unlink)(cut_file);
 }
 
+static void cut_fails(const HChar *why) {
+    VG_(printf)("pmtrim-record: %s can't be written: %s\n", cut_file, why);
+}
+
 void write_cut(ULong events, const HChar *why) {
+    HChar line[MOST_BYTES];
     struct vg_stat status;
-    VgFile *file;
+    Int length, done;
     if (sr_isError(VG_(stat)(trace_file, &status)) || !VKI_S_ISREG(status.mode))
         return;
-    file = VG_(fopen)(cut_file, VKI_O_CREAT | VKI_O_TRUNC | VKI_O_WRONLY, 0666);
-    if (file == NULL) {
-        VG_(printf)("pmtrim-record: %s can't be written\n", cut_file);
+    SysRes opened = VG_(open)(cut_file, VKI_O_CREAT | VKI_O_TRUNC | VKI_O_WRONLY, 0666);
+    if (sr_isError(opened)) {
+        cut_fails(VG_(strerror)(sr_Err(opened)));
         return;
     }
-    VG_(fprintf)(file, "%llu %s\n", events, why);
-    VG_(fclose)(file);
+    length = (Int)VG_(snprintf)(line, sizeof line, "%llu %s\n", events, why);
+    done = VG_(write)((Int)sr_Res(opened), line, length);
+    if (done < 0)
+        cut_fails(VG_(strerror)((UWord)-done));
+    else if (done < length) {
+        VG_(do_syscall)(__NR_ftruncate, sr_Res(opened), 0, 0, 0, 0, 0, 0, 0);
+        cut_fails("there is no room for it");
+    }
+    VG_(close)((Int)sr_Res(opened));
 }

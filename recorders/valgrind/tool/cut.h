@@ -1,5 +1,5 @@
 /* The file FILE.cut beside a trace that is not all of what happened: one line, the number of the last event and why no more are
- * there. Where the disk is full it may be empty. */
+ * there. Where the disk is full it may be empty, which is told. */
 #ifndef CUT_H
 #define CUT_H
 

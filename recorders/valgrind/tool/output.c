@@ -131,7 +131,10 @@ void end_trace(const HChar *why) {
     if (recording == RECORDING || recording == BEFORE_WINDOW) {
         recording = ENDED;
         common->trace.ended = True;
-        VG_(printf)("pmtrim-record: %s: the trace ends after event %llu: %s\n", path_of_trace, event_count(), why);
+        if (event_count() == 0)
+            VG_(printf)("pmtrim-record: %s: no event is recorded: %s\n", path_of_trace, why);
+        else
+            VG_(printf)("pmtrim-record: %s: the trace ends after event %llu: %s\n", path_of_trace, event_count(), why);
         write_cut(event_count(), why);
     }
 }
@@ -158,7 +161,7 @@ static void is_written(WrittenFile file) {
     keep_progress();
 }
 
-/* Cuts the trace behind its last whole line that was written: the events after it are missing. */
+/* Cuts the trace behind its last whole line that was written: the events after it are missing. The first line of all is none. */
 static void give_up(Int done, const HChar *why) {
     const HChar *text = common->trace.text[TRACE_FILE];
     Int lost = 0, kept = done, at;
@@ -166,6 +169,8 @@ static void give_up(Int done, const HChar *why) {
         kept--;
     for (at = kept; at < common->trace.now.waiting[TRACE_FILE]; at++)
         lost += text[at] == '\n';
+    if (common->trace.now.written[TRACE_FILE] + (ULong)kept == 0)
+        lost--;
     cut(TRACE_FILE, common->trace.now.written[TRACE_FILE] + (ULong)kept);
     common->trace.now.events -= (ULong)lost;
     event_counts.missing += (ULong)lost;
@@ -173,7 +178,8 @@ static void give_up(Int done, const HChar *why) {
 }
 
 static void end_labels(const HChar *why) {
-    VG_(printf)("pmtrim-record: %s.labels ends before event %llu: %s\n", path_of_trace, event_count(), why);
+    if (event_count() > 0)
+        VG_(printf)("pmtrim-record: %s.labels ends before event %llu: %s\n", path_of_trace, event_count(), why);
     common->trace.labels_ended = True;
 }
 

@@ -89,6 +89,8 @@ static void print_meeting(void) {
 
 /* Why the trace has no event. */
 static const HChar *why_empty(void) {
+    if (recording == ENDED)
+        return "no event could be written";
     if (had_pools())
         return "no store, flush or fence of a pool came in the window";
     return options.written ? "no file was opened or mapped that counts as a pool: see --file and --pool"
