@@ -1,7 +1,11 @@
 """Where pmtrim-record writes: media without room, traces that another run writes, and files that are no traces. The program is ends.c."""
+import contextlib
+import os
 import resource
+import signal
+import subprocess
 
-from valgrind_runs import text_of
+from valgrind_runs import text_of, wait_until
 
 
 class Places:
@@ -20,6 +24,8 @@ class Places:
     def run(self):
         self.pool.write_bytes(bytes(65536))
         self.full()
+        self.taken()
+        self.left()
 
     def full(self):
         """No room for the first line, or for no more than that: no event is recorded, and the run goes on."""
@@ -34,3 +40,41 @@ class Places:
             self.expect(f"room of {room} bytes: told", right and "events after the end of the trace: 3; no event could be written\n" in told, told)
             unwritten = f"{trace}.cut can't be written: there is no room for it\n" in told
             self.expect(f"room of {room} bytes: what is not written", unwritten == (cut == "") and "labels" not in told, told)
+
+    @contextlib.contextmanager
+    def running(self, *words):
+        """A recorded run that lasts till the end."""
+        with subprocess.Popen([str(word) for word in words], stdin=subprocess.PIPE, stdout=subprocess.PIPE, stderr=subprocess.PIPE) as run:
+            self.expect("a run that lasts", run.stdout.readline() != b"", "it writes nothing")
+            yield run
+            run.kill()
+
+    def taken(self):
+        """A trace that another run is writing, of one process or of several: the second run does not begin, and the trace is the first one's."""
+        told = "another run is writing it: name another file with --trace\n"
+        trace, mark = self.tests.folder / "taken.trace", self.tests.folder / "taken.mark"
+        waits = [self.program, "waits", self.pool]
+        for first in ([], ["--one-trace"], ["--trace-children", "yes"]):
+            with self.running(self.tests.recorder, *first, "--trace", trace, *waits):
+                for second in (["--labels=no"], ["--one-trace"], ["--before", f"touch {mark}"], ["--parts"]):
+                    status, faults = self.record(trace, *second, "touch", mark, env=self.tests.known)
+                    right = status == 2 and not mark.exists() and faults == f"pmtrim-record: {trace}: {told}"
+                    self.expect(f"a trace that {first} writes, and {second}", right, f"{status} {faults}")
+                self.expect(f"a trace that {first} writes goes on", wait_until(lambda: text_of(trace).count("\n") > 3000), text_of(trace)[:99])
+            status, faults = self.record(trace)
+            self.expect(f"a trace that {first} wrote", status == 3 and text_of(trace).count("\n") == 4, f"{status} {faults}")
+        with self.running(self.tests.recorder, "--labels=no", "--trace", "/dev/null", *waits):
+            status, faults = self.record("/dev/null", "--labels=no", self.program, "saves", self.pool)
+            self.expect("a device, which is no run's own", status == 3, faults)
+
+    def left(self):
+        """A process that lives on when its run has ended, recorded or not, is no run that writes."""
+        trace, number, told = (self.tests.folder / f"left.{ending}" for ending in ("trace", "number", "told"))
+        for words in ([], ["--one-trace"], ["--trace-children=yes"]):
+            with told.open("w") as stream:
+                left = ["sh", "-c", f"(while :; do sleep 1; done) & echo $! > {number}"]
+                first = [self.tests.recorder, *words, "--trace", trace, *left]
+                subprocess.run(first, stdin=subprocess.DEVNULL, stdout=stream, stderr=stream, timeout=300, check=False)
+            status, faults = self.record(trace)
+            self.expect(f"a process of {words} that lives on", status == 3 and text_of(trace).count("\n") == 4, f"{status} {faults}")
+            os.kill(int(number.read_text()), signal.SIGKILL)

@@ -79,18 +79,18 @@ static SysRes open_file(Int flags) {
 }
 
 /* A file of this name is left where all processes of an earlier run were killed. */
-static void remove_old(void) {
+static void remove_old(const HChar *trace) {
     if (sr_isError(open_file(0)))
         return;
     if (any_locked(0, MOST_PROCESSES))
-        refuse("processes of an earlier run still write to this trace; end them first: see ", path);
+        refuse(trace, ": processes of an earlier run are writing it: name another file with --trace");
     VG_(close)(descriptor);
     VG_(unlink)(path);
 }
 
 void make_common(const HChar *trace) {
     name_file(absolute(trace));
-    remove_old();
+    remove_old(trace);
     SysRes made = open_file(VKI_O_CREAT | VKI_O_EXCL);
     if (!sr_isError(made))
         made = take_room(0, PAGES_BEGIN);

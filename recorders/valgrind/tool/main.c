@@ -27,6 +27,8 @@ static void begin(void) {
     begin_threads();
     begin_calls();
     begin_windows();
+    if (options.parent_trace == NULL)
+        take_trace(options.trace);
     has_trace = begin_processes();
     if (!has_trace)
         leave_trace();
@@ -42,9 +44,10 @@ static void begin(void) {
 static void finish(Int status) {
     if (recording == OFF)
         print_unrecorded();
-    else if (!options.one_trace || end_process())
+    else if (!options.one_trace || end_process()) {
         print_summary();
-    else
+        release_trace();
+    } else
         print_summary_of_process();
     write_outcome();
     give_up_process_turn();

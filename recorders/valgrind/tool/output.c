@@ -79,16 +79,50 @@ static const HChar *label_path(void) {
     return path;
 }
 
+/* Of flock. The lock ends when the last descriptor of this opening is closed: those of processes that were forked are of it too. */
+enum { SHARED = 1, EXCLUSIVE = 2, AT_ONCE = 4, UNLOCK = 8 };
+
+/* Whether no other run has the lock. Where the file system has no locks nobody has. */
+static Bool lock_trace(Int kind) {
+    SysRes done = VG_(do_syscall)(__NR_flock, (RegWord)descriptors[TRACE_FILE], (RegWord)(kind | AT_ONCE), 0, 0, 0, 0, 0, 0);
+    return !sr_isError(done) || sr_Err(done) != VKI_EWOULDBLOCK;
+}
+
+/* Any number of runs may write to a device. Of the processes of one trace the first one has the lock, also as another program, while
+ * those that it forked still have what it had before. */
+void take_trace(const HChar *path) {
+    struct vg_stat status;
+    descriptors[TRACE_FILE] = open_file(path, VKI_O_CREAT);
+    if (VG_(fstat)(descriptors[TRACE_FILE], &status) != 0 || !VKI_S_ISREG(status.mode))
+        return;
+    if (!lock_trace(EXCLUSIVE) || (options.one_trace && !lock_trace(SHARED)))
+        refuse(path, ": another run is writing it: name another file with --trace");
+}
+
+void release_trace(void) {
+    if (descriptors[TRACE_FILE] >= 0)
+        lock_trace(UNLOCK);
+}
+
+static void cut(WrittenFile file, ULong length) {
+    if (descriptors[file] >= 0) {
+        VG_(do_syscall)(__NR_ftruncate, (RegWord)descriptors[file], (RegWord)length, 0, 0, 0, 0, 0, 0);
+        VG_(lseek)(descriptors[file], (Off64T)length, VKI_SEEK_SET);
+    }
+}
+
 static void open_files(const HChar *path, Int flags) {
     path_of_trace = path;
     place_of_trace = absolute(path);
-    descriptors[TRACE_FILE] = open_file(path, flags);
     if (options.labels)
         descriptors[LABEL_FILE] = open_file(label_path(), flags);
 }
 
 void open_trace(const HChar *path) {
+    if (descriptors[TRACE_FILE] < 0)
+        take_trace(path);
     open_files(path, VKI_O_CREAT | VKI_O_TRUNC);
+    cut(TRACE_FILE, 0);
     begin_cut(place_of_trace);
     begin_outcome(place_of_trace);
     put(TRACE_FILE, HEAD);
@@ -96,6 +130,9 @@ void open_trace(const HChar *path) {
 }
 
 void open_common_trace(const HChar *path) {
+    descriptors[TRACE_FILE] = open_file(path, 0);
+    if (VG_(getpid)() == common->first_process)
+        lock_trace(SHARED);
     open_files(path, 0);
     name_cut(place_of_trace);
 }
@@ -106,13 +143,6 @@ const HChar *trace_path(void) {
 
 const HChar *trace_place(void) {
     return place_of_trace;
-}
-
-static void cut(WrittenFile file, ULong length) {
-    if (descriptors[file] >= 0) {
-        VG_(do_syscall)(__NR_ftruncate, (RegWord)descriptors[file], (RegWord)length, 0, 0, 0, 0, 0, 0);
-        VG_(lseek)(descriptors[file], (Off64T)length, VKI_SEEK_SET);
-    }
 }
 
 void restart_trace(void) {
@@ -229,12 +259,22 @@ void write_trace(void) {
         write_labels();
 }
 
+/* A copy of a process holds no trace: it may live on when the run has ended. */
+static void close_files(void) {
+    Int file;
+    for (file = 0; file < FILE_COUNT; file++) {
+        if (descriptors[file] >= 0)
+            VG_(close)(descriptors[file]);
+        descriptors[file] = -1;
+    }
+}
+
 void leave_trace(void) {
     leave_outcome();
     recording = OFF;
     common->trace.now = (Progress){0};
     common->trace.ended = common->trace.labels_ended = False;
-    descriptors[TRACE_FILE] = descriptors[LABEL_FILE] = -1;
+    close_files();
     event_counts = (EventCounts){0};
 }
 

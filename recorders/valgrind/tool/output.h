@@ -37,7 +37,14 @@ typedef struct {
     HChar text[FILE_COUNT][TEXT_BYTES_WAITING];
 } TraceText;
 
-/* Creates the trace, and its labels where they are asked for; what stood there is lost. Ends the run where it can't. */
+/* Takes the file of a trace for this run, and leaves what stands there. Ends the run where it can't, or where another run has it. */
+void take_trace(const HChar *path);
+
+/* All is written: another run may have it, though copies of this process live on. */
+void release_trace(void);
+
+/* Begins the trace, which was taken or is now, and its labels where they are asked for; what stood there is lost. Ends the run where it
+ * can't. */
 void open_trace(const HChar *path);
 
 /* Goes on with the trace that another process has created. */
