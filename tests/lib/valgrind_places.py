@@ -24,6 +24,7 @@ class Places:
     def run(self):
         self.pool.write_bytes(bytes(65536))
         self.full()
+        self.others_files()
         self.taken()
         self.left()
 
@@ -40,6 +41,29 @@ class Places:
             self.expect(f"room of {room} bytes: told", right and "events after the end of the trace: 3; no event could be written\n" in told, told)
             unwritten = f"{trace}.cut can't be written: there is no room for it\n" in told
             self.expect(f"room of {room} bytes: what is not written", unwritten == (cut == "") and "labels" not in told, told)
+
+    def others_files(self):
+        """A file that is no trace is not overwritten, by its first words; one that is empty, and an older trace, are."""
+        folder, why = self.tests.folder, "is there and is no trace: it is not overwritten\n"
+        mark = folder / "others.mark"
+        for name, text, status in (
+            ("program", (folder / "ends").read_bytes(), 2),
+            ("pool", bytes(65536), 2),
+            ("short", b"pmtrac", 2),
+            ("word", b"pmtrace\n", 2),
+            ("empty", b"", 3),
+            ("first", b"pmtrace 1\nsfence 0\n", 3),
+            ("second", b"pmtrace 2 64\n" + b"sfence 0\n" * 99, 3),
+        ):
+            place = folder / f"others.{name}"
+            for words, there in (([], place), (["--seeds", "1"], folder / f"others.{name}.1"), (["--parts"], place)):
+                there.write_bytes(text)
+                found = self.record(place, *words, "--before", f"touch {mark}", self.program, "saves", self.pool, env=self.tests.known)
+                told = status == 3 or found[1] == f"pmtrim-record: {there} {why}"
+                self.expect(f"a file that is {name} {words}", found[0] == status and told, found)
+                kept = there.exists() and there.read_bytes() == text and not mark.exists()
+                self.expect(f"a file that is {name} {words}: it is kept", kept == (status == 2), kept)
+                mark.unlink(missing_ok=True)
 
     @contextlib.contextmanager
     def running(self, *words):
