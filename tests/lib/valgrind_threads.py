@@ -15,7 +15,7 @@ def switches_of(events):
 
 
 def told_switches(faults):
-    found = re.search(r" events of (\d+) threads?.*, (\d+) switches between threads", faults)
+    found = re.search(r" events? of (\d+) threads?.*, (\d+) switch(?:es)? between threads", faults)
     return tuple(map(int, found.groups())) if found else None
 
 

@@ -76,7 +76,7 @@ static void add_switches(void) {
     if (carried_events > 0)
         add(", %llu carried into the window", carried_events);
     if (thread_count() > 1)
-        add(", %llu switches between threads", switches().all);
+        add(", %llu switch%s between threads", switches().all, switches().all == 1 ? "" : "es");
 }
 
 /* Threads that never met, which no seed changes. */
@@ -224,7 +224,8 @@ void print_summary(void) {
     if (ended_ignoring > 0)
         VG_(printf)("%s%llu range%s of that kind %s freed or used again, and %s not ignored\n", recorder_name(), ended_ignoring,
                     ended_ignoring == 1 ? "" : "s", ended_ignoring == 1 ? "was" : "were", ended_ignoring == 1 ? "is" : "are");
-    add("%s%llu events of %llu thread%s", recorder_name(), event_count(), thread_count(), thread_count() == 1 ? "" : "s");
+    add("%s%llu event%s of %llu thread%s", recorder_name(), event_count(), event_count() == 1 ? "" : "s", thread_count(),
+        thread_count() == 1 ? "" : "s");
     if (options.one_trace)
         add(" of %u process%s", process_count(), process_count() == 1 ? "" : "es");
     add(" in %s", trace_path());
@@ -248,6 +249,7 @@ void print_summary_of_process(void) {
 
 void print_unrecorded(void) {
     if (event_counts.missing > 0)
-        VG_(printf)("%s%llu events of a child process are not recorded; %s\n", recorder_name(), event_counts.missing,
+        VG_(printf)("%s%llu event%s of a child process %s not recorded; %s\n", recorder_name(), event_counts.missing,
+                    event_counts.missing == 1 ? "" : "s", event_counts.missing == 1 ? "is" : "are",
                     options.parent_trace != NULL ? "the first process had ended before" : "--trace-children yes records them");
 }
