@@ -369,8 +369,9 @@ class Tests:
         told = run([RECORD, "--help"])[1]
         self.expect("help", "--locked-fences" in told and "Intel SDM" in told, told)
         _, _, told = run([RECORD, "--trace", self.folder / "none.trace", "--pool", self.folder / "other", program, "saves", pool])
-        self.expect("no pool", "no file was mapped that counts as a pool: see --pool" in told, told)
-        self.is_cut("no pool", self.folder / "none.trace", "0 no file was mapped that counts as a pool: see --pool\n")
+        why = f"no file counts as a pool: {pool} was mapped (see --pool)\n"
+        self.expect("no pool", why in told, told)
+        self.is_cut("no pool", self.folder / "none.trace", f"0 {why}")
 
     def yes_or_no(self):
         shown = re.findall(r"^  (--[a-z-]+)(\[=yes\|no\]| yes\|no)", run([RECORD, "--help"])[1], re.M)

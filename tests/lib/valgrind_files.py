@@ -88,7 +88,10 @@ class FileTests(Tests):
             status, _, faults = run([RECORD, *names, "--trace", trace, "sqlite3", pool, f".read {told}"])
             addresses = {path: int(at, 16) for path, at in re.findall(r"(\S+) has the addresses from (\S+) on", faults)}
             files = {path: pathlib.Path(path).read_bytes() for path in addresses}
-            self.expect(f"sqlite {synchronous}", status == 0 and len(files) == 2 and "not recorded" not in faults, faults)
+            # it makes the database by a journal, before the log is there
+            missing = re.search(r"not recorded: (.*?), synced \d+ times \(see --file\); next", faults)
+            right = missing and missing[1] == f"writes to {pool}-journal"
+            self.expect(f"sqlite {synchronous}", status == 0 and len(files) == 2 and right, faults)
             for path, last in files.items():
                 right = len(last) > 20000 and rebuilt(trace, bytes(len(last)), addresses[path]) == last
                 self.expect(f"sqlite {synchronous}: {path}", right, len(last))
@@ -153,6 +156,31 @@ class FileTests(Tests):
         self.expect("256 pools", status == 0 and found == [number * SECOND_POOL for number in range(256)], len(found))
         self.expect("256 pools: the next one", "mappings of a 257th pool or a further one: 1" in faults, faults[-300:])
 
+    def others(self):
+        """The one pool is named, and files that are none, where that tells why the trace lacks something. The names are those from the folder."""
+        program, folder = self.build("others"), self.folder / "others.files"
+        folder.mkdir()
+        pool, none = "pmtrim-record: the pool is mapped\n", "no file counts as a pool: "
+        for options, words, wanted in (
+            ([], ["+mapped"], [pool, "others.trace; next: "]),
+            ([], ["+mapped", "log"], [pool, "; not recorded: writes to log, synced 2 times (see --file); next: "]),
+            ([], ["log", "+mapped", "data", "more"], [pool, "; not recorded: writes to log and 2 more, synced 6 times (see --file); next: "]),
+            ([], ["mapped", "+mapped"], [pool, "others.trace; next: "]),
+            ([f"--file={folder}/log"], ["log", "data"], ["the pool is log\n", "; not recorded: writes to data, synced 2 times (see --file)"]),
+            ([f"--file-prefix={folder}/"], ["log", "data"], [f"{folder}/log has the addresses from 0x0 on", "others.trace; next: "]),
+            ([], [], ["; no file was mapped that counts as a pool: see --pool, and --file for a file that is written\n"]),
+            ([], ["log"], [f"; {none}log was written (see --file)\n"]),
+            ([], ["log", "data", "more"], [f"; {none}log and 2 more were written (see --file)\n"]),
+            (["--pool=none"], ["+mapped"], [f"; {none}mapped was mapped (see --pool)\n"]),
+            (["--pool=none"], ["+mapped", "log", "+two"], [f"; {none}mapped and 1 more were mapped (see --pool), log was written (see --file)\n"]),
+        ):
+            trace, status, _, faults = self.record("others", [program, *words], *options, cwd=folder)
+            told = status == 0 and all(text in faults for text in wanted) and ("the pool is" in faults) == ("the pool is" in wanted[0])
+            self.expect(f"files {words} with {options}", told, faults)
+            reason = re.search(f"; ({none}.*)", faults)
+            if reason:
+                self.is_cut(f"files {words} with {options}", trace, f"0 {reason[1]}\n")
+
     # Names
 
     def functions(self):
@@ -193,7 +221,7 @@ class FileTests(Tests):
 def main():
     with tempfile.TemporaryDirectory() as name:
         tests = FileTests(sys.argv[1], pathlib.Path(name).resolve())
-        for part in (tests.named, tests.files, tests.sqlite, tests.answers, tests.holes, tests.many, tests.functions, tests.quoted):
+        for part in (tests.named, tests.files, tests.sqlite, tests.answers, tests.holes, tests.many, tests.others, tests.functions, tests.quoted):
             part()
     print(f"{tests.counts.passed} passed, {tests.counts.failed} failed")
     return 1 if tests.counts.failed else 0

@@ -3,6 +3,7 @@
 #include "calls.h"
 #include "events.h"
 #include "options.h"
+#include "others.h"
 #include "outcome.h"
 #include "output.h"
 #include "pools.h"
@@ -24,6 +25,12 @@ const HChar *absolute(const HChar *path) {
     whole = VG_(malloc)("children.path", VG_(strlen)(folder) + VG_(strlen)(path) + 2);
     VG_(sprintf)(whole, "%s/%s", folder, path);
     return whole;
+}
+
+const HChar *from_folder(const HChar *path) {
+    const HChar *folder = VG_(get_startup_wd)();
+    SizeT length = folder == NULL ? 0 : VG_(strlen)(folder);
+    return length > 1 && VG_(strncmp)(path, folder, length) == 0 && path[length] == '/' ? path + length + 1 : path;
 }
 
 /* The programs that this one becomes or begins learn that they are children, by words of their command lines. */
@@ -105,6 +112,7 @@ static void go_on_as_child(ThreadId thread) {
     call_counts = (CallCounts){0};
     pool_counts = (PoolCounts){0};
     system_counts = (SystemCounts){0};
+    forget_others();
     become_child();
 }
 
@@ -115,6 +123,7 @@ void in_child(ThreadId thread) {
     }
     forget_events();
     leave_trace();
+    forget_others();
     only_thread(thread);
     unrecorded_children = 0;
     if (!options.children)

@@ -13,6 +13,9 @@ const HChar *path_for_process(void);
 /* A path from the root on, of one that is meant from the folder in which the program began. */
 const HChar *absolute(const HChar *path);
 
+/* The same path from that folder on, if it is below it. */
+const HChar *from_folder(const HChar *path);
+
 /* Told before the program asks to become another one, of which the path is known or NULL, and where the system refuses that. */
 void before_execution(const HChar *path);
 void execution_failed(void);

@@ -2,6 +2,7 @@
 #include "bases.h"
 #include "emptied.h"
 #include "events.h"
+#include "others.h"
 #include "pools.h"
 #include "syscalls.h"
 
@@ -149,11 +150,15 @@ void before_file_call(ThreadId thread, UInt call, const UWord *arguments) {
     }
 }
 
+static Bool opens(UInt call) {
+    return call == __NR_open || call == __NR_openat || call == __NR_creat;
+}
+
 /* Told where a call opened a file, cut it, made it longer or moved bytes in it. */
 static void after_shaping(ThreadId thread, UInt call, const UWord *arguments, ULong result) {
-    Bool opens = call == __NR_open || call == __NR_openat || call == __NR_creat, by_name = call == __NR_truncate;
-    Int descriptor = opens ? (Int)result : (Int)arguments[0];
-    if (opens && opened(descriptor))
+    Bool by_name = call == __NR_truncate;
+    Int descriptor = opens(call) ? (Int)result : (Int)arguments[0];
+    if (opens(call) && opened(descriptor))
         keep_bases();
     Pool *pool = by_name ? pool_named(VKI_AT_FDCWD, (const HChar *)arguments[0]) : pool_of(descriptor);
     if (pool != NULL)
@@ -163,8 +168,18 @@ static void after_shaping(ThreadId thread, UInt call, const UWord *arguments, UL
         system_counts.cut_files++;
 }
 
+/* That a file is cut or made longer is no sign of what it is for. */
+static void note_other(UInt call, const UWord *arguments, ULong result) {
+    Int descriptor;
+    if (opens(call))
+        other_is_opened((Int)result);
+    else if (writes_to(call, arguments, &descriptor) && call != __NR_ftruncate && call != __NR_fallocate)
+        other_is_written(descriptor);
+}
+
 void after_file_call(ThreadId thread, UInt call, const UWord *arguments, ULong result) {
     Int descriptor = (Int)arguments[0];
+    note_other(call, arguments, result);
     if (!had_pools() && !options.written)
         return;
     switch (call) {

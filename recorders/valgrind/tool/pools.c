@@ -2,6 +2,7 @@
 #include "common.h"
 #include "descriptors.h"
 #include "options.h"
+#include "others.h"
 
 enum { LARGEST_STORE = 4096, KIND_OF_SHARING = 15, LINK_BYTES = 64 };
 
@@ -102,8 +103,7 @@ static void name_link(HChar *link, Int descriptor) {
     VG_(snprintf)(link, LINK_BYTES, "/proc/self/fd/%d", descriptor);
 }
 
-/* The name of a descriptor's file; whether there is one. */
-static Bool read_name(Int descriptor, HChar *name) {
+Bool read_name(Int descriptor, HChar *name) {
     HChar link[LINK_BYTES];
     name_link(link, descriptor);
     SSizeT length = VG_(readlink)(link, name, MOST_PATH_BYTES - 1);
@@ -222,6 +222,8 @@ void mapped(Addr start, SizeT length, Int flags, Int descriptor, ULong offset) {
     if (shared && (flags & VKI_MAP_ANONYMOUS) == 0) {
         Int pool = known_pool(descriptor, True);
         any_mapped = any_mapped || pool >= 0;
+        if (pool < 0)
+            other_is_mapped(descriptor);
         if (pool >= 0 && (offset >= POOL_SPAN || length > POOL_SPAN - offset))
             pool_counts.too_far++;
         else if (pool >= 0)

@@ -61,6 +61,9 @@ Int pool_number(const Pool *pool);
 ULong pool_address(const Pool *pool, ULong offset);
 const HChar *pool_name(const Pool *pool);
 
+/* The full name of a descriptor's file, of at most MOST_PATH_BYTES with its end; whether there is one. */
+Bool read_name(Int descriptor, HChar *name);
+
 /* The word of the command line by which it is a pool; NULL if there is none. */
 const PoolName *pool_taken_by(const Pool *pool);
 

@@ -7,6 +7,7 @@
 #include "ignored.h"
 #include "instrument.h"
 #include "options.h"
+#include "others.h"
 #include "output.h"
 #include "pending.h"
 #include "pools.h"
@@ -41,6 +42,16 @@ static void add_missing(ULong count, const HChar *what) {
     any_missing = True;
 }
 
+/* A log, or a database that is not mapped: the pool may be the lesser part of what is saved. */
+static void add_others(void) {
+    HChar names[NAMES_BYTES];
+    ULong saves = saves_of_others();
+    if (!had_pools() || name_others(WRITTEN_AND_SAVED, names) == 0)
+        return;
+    add("; %swrites to %s, synced %llu time%s (see --file)", any_missing ? "" : "not recorded: ", names, saves, saves == 1 ? "" : "s");
+    any_missing = True;
+}
+
 static void add_all_missing(void) {
     any_missing = False;
     add_missing(event_counts.before, "events before the window");
@@ -66,6 +77,7 @@ static void add_all_missing(void) {
     add_missing(unrecorded_children, "child processes (--trace-children yes records them)");
     add_missing(undrawn_turns, "turns that were drawn without the seed");
     add_missing(refused_windows, "windows that the program asked for, which one trace of several processes has not");
+    add_others();
 }
 
 static const HChar *recorder_name(void) {
@@ -87,14 +99,33 @@ static void print_meeting(void) {
                     recorder_name());
 }
 
+/* Why there is no pool, though files were mapped or written; NULL if none were. */
+static const HChar *why_others(void) {
+    static HChar why[2 * NAMES_BYTES + 100];
+    HChar mapped[NAMES_BYTES], written[NAMES_BYTES];
+    Int mapped_count = name_others(MAPPED, mapped), written_count = name_others(ONLY_WRITTEN, written), end;
+    if (mapped_count + written_count == 0)
+        return NULL;
+    end = (Int)VG_(sprintf)(why, "no file counts as a pool: ");
+    if (mapped_count > 0)
+        end += (Int)VG_(sprintf)(why + end, "%s %s mapped (see --pool)", mapped, mapped_count == 1 ? "was" : "were");
+    if (written_count > 0)
+        VG_(sprintf)(why + end, "%s%s %s written (see --file)", mapped_count > 0 ? ", " : "", written, written_count == 1 ? "was" : "were");
+    return why;
+}
+
 /* Why the trace has no event. */
 static const HChar *why_empty(void) {
+    const HChar *why;
     if (recording == ENDED)
         return "no event could be written";
     if (had_pools())
         return "no store, flush or fence of a pool came in the window";
+    why = why_others();
+    if (why != NULL)
+        return why;
     return options.written ? "no file was opened or mapped that counts as a pool: see --file and --pool"
-                           : "no file was mapped that counts as a pool: see --pool";
+                           : "no file was mapped that counts as a pool: see --pool, and --file for a file that is written";
 }
 
 /* Says beside a trace that did not end too early where it is not all of what happened all the same. */
@@ -152,10 +183,12 @@ static void print_processes(void) {
                     killed == 1 ? " was" : "es were");
 }
 
-/* Which addresses the pools have, where there are several. */
+/* Which the pool is, and where there are several which addresses they have. */
 static void print_pools(void) {
     const Pool *pool;
     Int number;
+    if (pool_numbered(0) != NULL && pool_numbered(1) == NULL)
+        VG_(printf)("%sthe pool is %s\n", recorder_name(), from_folder(pool_name(pool_numbered(0))));
     for (number = 0; pool_numbered(1) != NULL && (pool = pool_numbered(number)) != NULL; number++)
         VG_(printf)("%s%s has the addresses from 0x%llx on\n", recorder_name(), pool_name(pool), pool_address(pool, 0));
 }

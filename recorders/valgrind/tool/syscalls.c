@@ -5,6 +5,7 @@
 #include "emptied.h"
 #include "events.h"
 #include "file_writes.h"
+#include "others.h"
 #include "outcome.h"
 #include "output.h"
 #include "pools.h"
@@ -84,9 +85,10 @@ static void after_synchronizing(ThreadId thread, UInt call, const UWord *argumen
     Int number;
     if (call == __NR_msync && (arguments[2] & SYNCHRONOUS))
         synchronized_range(thread, arguments[0], arguments[1]);
-    else if (call == __NR_fsync || call == __NR_fdatasync)
+    else if (call == __NR_fsync || call == __NR_fdatasync) {
         synchronized_file(thread, pool_of((Int)arguments[0]));
-    else if (call == __NR_sync || call == __NR_syncfs)
+        other_is_saved((Int)arguments[0]);
+    } else if (call == __NR_sync || call == __NR_syncfs)
         for (number = 0; pool_numbered(number) != NULL; number++)
             synchronized_file(thread, pool_numbered(number));
 }
