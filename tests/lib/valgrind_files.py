@@ -24,6 +24,14 @@ insert into words select value, hex(zeroblob(value)) from generate_series(1, 100
 pragma wal_checkpoint(passive);
 """
 
+# The last functions of names.cpp that are called, with the numbers of the arguments that are what they save, and that.
+SPELLED = (
+    ("tree::(anonymous namespace)::grow", "1,2", "0x140 1"),
+    ("tree::Root::operator()", "2,3", "0x180 1"),
+    ("tree::Numbered<char, (unsigned char)8>::put", "2,3", "0x1c0 1"),
+    ("main::{lambda(char*, unsigned long)#1}::operator()", "2,3", "0x200 1"),
+)
+
 
 class FileTests(Tests):
     """The tests."""
@@ -194,6 +202,8 @@ class FileTests(Tests):
             ("tree::Leaf::save:2,3", ["0xc0 1"]),
             ("tree::put", ["0x100 8", "0x108 8"]),
             ("tree::put<long>", ["0x100 8"]),
+            ("tree::(anonymous namespace)::put<char>", ["0x108 8"]),
+            *((f"{name}:{numbers}", [claim]) for name, numbers, claim in SPELLED),
         ):
             trace, status, _, faults = self.record("functions", [built, self.folder / "functions.pool"], "--persist", name)
             found = [" ".join(fields[2:]) for fields in events_of(trace) if fields[0] == "isPersist"]
@@ -206,6 +216,20 @@ class FileTests(Tests):
         hint = "Leaf::save was never called by that name: is it inlined, or has it no symbol? Called were: save(char*, unsigned long, bool), "
         hint += "tree::Leaf::save(char*, unsigned long) const\n"
         self.expect("a name that is none: a hint", hint in faults, faults)
+        self.spelled(built)
+
+    def spelled(self, built):
+        """Only the brackets of a function's parameters are no part of its name."""
+        trace = self.record("functions", [built, self.folder / "functions.pool"])[0]
+        labels = [re.sub(r"^\d+ names.cpp:\d+ ", "", label) for label in text_of(trace.with_name("functions.trace.labels")).splitlines()]
+        stores = [label.split(" < ")[0] for label, fields in zip(labels, events_of(trace)) if fields[0] == "store"]
+        self.expect("labels: the functions", stores == ["main"] * 5 + [name for name, _, _ in SPELLED], stores)
+        for number, (name, _, _) in enumerate(SPELLED):
+            trace, _, _, faults = self.record("after", [built, self.folder / "functions.pool"], "--start-after", name)
+            stores = [fields[2] for fields in events_of(trace) if fields[0] == "store"]
+            # the store whose saving was left by an exception is not safe then
+            wanted = ["0x40", *(claim.split(" ")[0] for _, _, claim in SPELLED[number + 1 :])]
+            self.expect(f"--start-after {name}", stores == wanted, f"{stores} {faults}")
 
     def quoted(self):
         """The next command is one for the shell, whatever the trace's name is."""

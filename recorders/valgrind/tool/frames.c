@@ -31,15 +31,39 @@ static void copy(HChar *to, const HChar *from, SizeT room, SizeT length) {
     to[length] = '\0';
 }
 
-/* A parenthesis begins the parameters unless it is part of `(anonymous namespace)` or `operator()`. */
-SizeT name_length(const HChar *name, SizeT length) {
+/* Whether a text may stand behind a function's parameters, as ` const` or ` [clone .cold]`. Where a name goes on, its last brackets are
+ * others: those of a template's argument, a lambda, an unnamed namespace, or a function that another one is in. */
+static Bool follows_parameters(const HChar *text, SizeT length) {
     SizeT at;
-    for (at = 1; at < length; at++) {
-        Bool is_operator = at >= 8 && VG_(strncmp)(name + at - 8, "operator", 8) == 0;
-        if (name[at] == '(' && VG_(strncmp)(name + at, "(anonymous", 10) != 0 && !is_operator)
-            return at;
-    }
-    return length;
+    for (at = 0; at < length; at++)
+        if (text[at] == '>' || text[at] == '}' || text[at] == ':')
+            return False;
+    return length == 0 || text[0] == ' ';
+}
+
+/* Whether the brackets from `at` on are the name of `operator()` itself. */
+static Bool is_call_operator(const HChar *name, SizeT at) {
+    static const HChar word[] = "operator";
+    const SizeT length = sizeof word - 1;
+    if (at < length || name[at + 1] != ')' || VG_(strncmp)(name + at - length, word, length) != 0)
+        return False;
+    return at == length || name[at - length - 1] == ':' || name[at - length - 1] == ' ';
+}
+
+SizeT name_length(const HChar *name, SizeT length) {
+    SizeT end = length, at;
+    Int depth = 0;
+    while (end > 0 && name[end - 1] != ')')
+        end--;
+    if (end == 0 || !follows_parameters(name + end, length - end))
+        return length;
+    at = end;
+    do {
+        at--;
+        depth += name[at] == ')';
+        depth -= name[at] == '(';
+    } while (at > 0 && depth > 0);
+    return at == 0 || is_call_operator(name, at) ? length : at;
 }
 
 /* Takes `0x1234: function (path:line)` apart, as the core describes an address. */

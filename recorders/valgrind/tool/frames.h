@@ -24,7 +24,7 @@ Bool is_in_object(Addr address);
 /* Whether an address is in the C library or the loader, whose lines are there where their debug symbols are installed. */
 Bool is_in_c_library(Addr address);
 
-/* The length of a function's name without its parameters. */
+/* The length of a function's name without its parameters, which are the last brackets that it has. */
 SizeT name_length(const HChar *name, SizeT length);
 
 #endif

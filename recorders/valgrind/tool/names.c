@@ -3,13 +3,15 @@
 
 enum { PLAIN_BYTES = 1000 };
 
+static const HChar unnamed[] = "(anonymous namespace)::";
+
 /* The type before the name of a function that a template made ends at the last space that is in no brackets. */
 static SizeT name_begin(const HChar *name, SizeT end) {
     SizeT at, begin = 0;
     Int depth = 0;
     for (at = 0; at < end; at++) {
-        depth += name[at] == '<' || name[at] == '(';
-        depth -= name[at] == '>' || name[at] == ')';
+        depth += name[at] == '<' || name[at] == '(' || name[at] == '{';
+        depth -= name[at] == '>' || name[at] == ')' || name[at] == '}';
         if (name[at] == ' ' && depth == 0)
             begin = at + 1;
     }
@@ -30,16 +32,18 @@ static SizeT without_template(const HChar *name, SizeT end) {
     return at;
 }
 
-/* The name without its parameters, the type before it, unnamed namespaces, and the arguments of a template, if they are not asked for. */
-static void spell_plainly(const HChar *name, Bool with_template, HChar *plain) {
-    static const HChar unnamed[] = "(anonymous namespace)::";
+/* The name without its parameters, the type before it, and, where the wanted name has none, unnamed namespaces and the arguments of a
+ * template at the end. */
+static void spell_plainly(const HChar *name, const HChar *wanted, HChar *plain) {
     SizeT end = name_length(name, VG_(strlen)(name)), at = 0, length = 0;
+    SizeT wanted_end = VG_(strlen)(wanted);
+    Bool with_unnamed = VG_(strstr)(wanted, unnamed) != NULL, with_template = without_template(wanted, wanted_end) < wanted_end;
     if (VG_(strstr)(name, "operator") == NULL) {
         at = name_begin(name, end);
         end = with_template ? end : without_template(name, end);
     }
     while (at < end && length < PLAIN_BYTES - 1)
-        if (VG_(strncmp)(name + at, unnamed, sizeof unnamed - 1) == 0)
+        if (!with_unnamed && VG_(strncmp)(name + at, unnamed, sizeof unnamed - 1) == 0)
             at += sizeof unnamed - 1;
         else
             plain[length++] = name[at++];
@@ -70,14 +74,13 @@ static Bool is_similar(const HChar *wanted, const HChar *plain) {
 
 Bool is_meant(WantedName *wanted, const HChar *name) {
     HChar plain[PLAIN_BYTES], wanted_plain[PLAIN_BYTES];
-    Bool with_template = VG_(strchr)(wanted->wanted, '<') != NULL;
     Bool meant = VG_(strcmp)(name, wanted->wanted) == 0;
     if (!meant) {
-        spell_plainly(name, with_template, plain);
+        spell_plainly(name, wanted->wanted, plain);
         meant = VG_(strcmp)(plain, wanted->wanted) == 0;
     }
     if (!meant) {
-        spell_plainly(wanted->wanted, with_template, wanted_plain);
+        spell_plainly(wanted->wanted, wanted->wanted, wanted_plain);
         if (!is_similar(wanted_plain, plain))
             return False;
     }

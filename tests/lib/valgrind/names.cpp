@@ -28,7 +28,23 @@ namespace {
 template <class type> APART void put(type *place, unsigned long) {
     flush(reinterpret_cast<char *>(place));
 }
+APART void grow(char *place, unsigned long) {
+    place[0] = 6;
+    flush(place);
 }
+}
+struct Root {
+    APART void operator()(char *place, unsigned long) const {
+        place[0] = 7;
+        flush(place);
+    }
+};
+template <class type, unsigned char number> struct Numbered {
+    APART void put(type *place, unsigned long) {
+        place[0] = number;
+        flush(place);
+    }
+};
 }
 
 int main(int argc, char **argv) {
@@ -50,5 +66,13 @@ int main(int argc, char **argv) {
     pool[256] = 5;
     tree::put(reinterpret_cast<long *>(pool + 256), 8);
     tree::put(pool + 264, 8);
+    tree::grow(pool + 320, 1);
+    tree::Root()(pool + 384, 1);
+    tree::Numbered<char, 8>().put(pool + 448, 1);
+    auto last = [](char *place, unsigned long) APART {
+        place[0] = 9;
+        flush(place);
+    };
+    last(pool + 512, 1);
     return 0;
 }
