@@ -19,7 +19,7 @@ from counts import Counts
 from valgrind_places import Places
 from valgrind_processes import Processes
 from valgrind_runs import drawn, events_of, rebuilt, run, stores_of, text_of, wait_until
-from valgrind_texts import CLAIMED, FINISHED, FLUSHES, FORMATTED, LABELS, LOCKED_FLUSHES, SYSTEM, WATCHED, saved, saved_value
+from valgrind_texts import CLAIMED, FINISHED, FIRST_LABELS, FLUSHES, FORMATTED, LABELS, LOCKED_FLUSHES, SYSTEM, WATCHED, saved, saved_value
 from valgrind_threads import Threads
 from valgrind_windows import Windows
 
@@ -311,12 +311,7 @@ class Tests:
 
     def labels(self):
         program, pool = self.build("lines"), self.folder / "lines.pool"
-        source = (HERE / "lines.c").read_text().splitlines()
-        line = lambda what: next(f"lines.c:{number}" for number, text in enumerate(source, 1) if f"/* {what} */" in text)
-        trace = self.record("lines", [program, pool])[0]
-        found = list(dict.fromkeys(text.split(" ", 1)[1] for text in text_of(trace.with_name("lines.trace.labels")).splitlines()))
-        wanted = [f"{line(what)} " + re.sub(r"\{(.*?)\}", lambda call: line(call[1]), chain) for what, chain in LABELS]
-        self.expect("labels", found == wanted, found)
+        trace, wanted = self.labelled("lines", program, LABELS)
         self.record("callers", [program, pool], "--callers", 0)
         found = {text.split(" ", 1)[1] for text in text_of(self.folder / "callers.trace.labels").splitlines()}
         self.expect("labels without callers", found == {" ".join(label.split(" ")[:2]) for label in wanted}, found)
@@ -329,6 +324,17 @@ class Tests:
             labels = text_of(same.with_name(f"{same.name}.labels")).splitlines()
             right = len(labels) == len(events_of(same)) and labels[0].startswith(f"1 {wanted}")
             self.expect(f"{name}: labels", right, labels[:2])
+        self.labelled("first", self.build("first"), FIRST_LABELS)
+
+    def labelled(self, name, program, chains):
+        """A program's trace, and its labels, in which lines are told by the comments that stand there."""
+        source = (HERE / f"{name}.c").read_text().splitlines()
+        line = lambda what: next(f"{name}.c:{number}" for number, text in enumerate(source, 1) if f"/* {what} */" in text)
+        trace = self.record(name, [program, self.folder / f"{name}.pool"])[0]
+        found = list(dict.fromkeys(text.split(" ", 1)[1] for text in text_of(trace.with_name(f"{name}.trace.labels")).splitlines()))
+        wanted = [f"{line(what)} " + re.sub(r"\{(.*?)\}", lambda call: line(call[1]), chain) for what, chain in chains]
+        self.expect(f"labels of {name}", found == wanted, found)
+        return trace, wanted
 
     # Examples
 

@@ -86,6 +86,15 @@ LABELS = [
     ("fills", "insert < main {calls insert}"),
     ("writes", "main"),
 ]
+CHANGE = "change {{{}}} < main {{calls change}}"
+FIRST_LABELS = [
+    ("stores", "store_first < " + CHANGE.format("calls store_first")),
+    ("stores", "store_first < " + CHANGE.format("calls it again")),
+    ("flushes", "flush_first < " + CHANGE.format("calls flush_first")),
+    ("fences", "fence_first < " + CHANGE.format("calls fence_first")),
+    ("flushes in a frame", "flush_second < " + CHANGE.format("calls flush_second")),
+    ("fences", "fence_first < flush_second {calls fence_first in a frame} < " + CHANGE.format("calls flush_second")),
+]
 
 
 def saved(words):

@@ -36,14 +36,34 @@ IRExpr *guest_register(Writer *writer, Int number) {
     return computed(writer, Ity_I64, IRExpr_Get(offsets[number], Ity_I64));
 }
 
+void follow_pointer(Writer *writer, const IRStmt *statement) {
+    const IRExpr *value;
+    if (statement->tag != Ist_Put || statement->Ist.Put.offset != writer->layout->offset_IP)
+        return;
+    value = statement->Ist.Put.data;
+    writer->pointer = value->tag == Iex_Const ? value->Iex.Const.con->Ico.U64 : 0;
+}
+
+/* The stack is unwound from the instruction pointer on. The translator does not write it where its code goes on in a function that is
+ * called, or behind a jump, nor before an instruction that it does not know: there it is that of an earlier instruction, which does not
+ * fit the stack pointer, and callers would be missing. */
+static void put_pointer(Writer *writer) {
+    if (writer->pointer == writer->instruction)
+        return;
+    addStmtToIRSB(writer->code, IRStmt_Put(writer->layout->offset_IP, constant(writer->instruction)));
+    writer->pointer = writer->instruction;
+}
+
 static void reads(IRDirty *called, Int which, Int offset, Int size) {
     called->fxState[which].fx = Ifx_Read;
     called->fxState[which].offset = (UShort)offset;
     called->fxState[which].size = (UShort)size;
 }
 
-/* What unwinding the stack reads. */
-static void reads_frame(IRDirty *called, const VexGuestLayout *layout) {
+/* What unwinding the stack reads, which is in place before the call. */
+static void reads_frame(Writer *writer, IRDirty *called) {
+    const VexGuestLayout *layout = writer->layout;
+    put_pointer(writer);
     VG_(memset)(&called->fxState, 0, sizeof called->fxState);
     called->nFxState = 3;
     reads(called, 0, layout->offset_SP, layout->sizeof_SP);
@@ -64,14 +84,14 @@ void call(Writer *writer, const HChar *name, void *function, IRExpr *guard, IREx
     IRDirty *called = unsafeIRDirty_0_N(0, name, VG_(fnptr_to_fnentry)(function), arguments(first, second, third, fourth));
     if (guard != NULL)
         called->guard = guard;
-    reads_frame(called, writer->layout);
+    reads_frame(writer, called);
     addStmtToIRSB(writer->code, IRStmt_Dirty(called));
 }
 
 void call_with_registers(Writer *writer, const HChar *name, void *function, Int offset, IRExpr *second, IRExpr *third) {
     IRDirty *called =
         unsafeIRDirty_0_N(0, name, VG_(fnptr_to_fnentry)(function), arguments(IRExpr_GSPTR(), second, third, NULL));
-    reads_frame(called, writer->layout);
+    reads_frame(writer, called);
     called->nFxState = 4;
     called->fxState[3].fx = Ifx_Modify;
     called->fxState[3].offset = (UShort)offset;

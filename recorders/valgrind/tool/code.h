@@ -9,8 +9,12 @@ typedef struct {
     IRSB *code;
     const VexGuestLayout *layout;
     Addr instruction;
-    UInt length; /* of the instruction */
+    UInt length;  /* of the instruction */
+    Addr pointer; /* what the program's instruction pointer holds where the code has come to, 0 if it is not known */
 } Writer;
+
+/* Follows what a statement of the program writes to its instruction pointer. */
+void follow_pointer(Writer *writer, const IRStmt *statement);
 
 IRExpr *constant(ULong value);
 IRExpr *computed(Writer *writer, IRType type, IRExpr *value);

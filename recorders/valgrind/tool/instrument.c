@@ -231,6 +231,7 @@ static void add_statement(Writer *writer, const IRSB *code, IRStmt *statement) {
         add_cpuid(writer, statement);
     else
         addStmtToIRSB(writer->code, statement);
+    follow_pointer(writer, statement);
     if (writer->instruction != 0)
         add_after(writer, code, statement);
     if (statement->tag == Ist_IMark && first)
@@ -282,7 +283,8 @@ static void add_way_out(Writer *writer, Addr begin) {
 
 IRSB *instrument(VgCallbackClosure *closure, IRSB *code, const VexGuestLayout *layout, const VexGuestExtents *extents,
                  const VexArchInfo *machine, IRType guest_word, IRType host_word) {
-    Writer writer = {.code = deepCopyIRSBExceptStmts(code), .layout = layout};
+    /* the core writes the instruction pointer before a block */
+    Writer writer = {.code = deepCopyIRSBExceptStmts(code), .layout = layout, .pointer = closure->nraddr};
     Flush flush;
     Int at;
     Bool looks = turns_are_drawn() && may_make_event(code);
