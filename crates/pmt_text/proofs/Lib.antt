@@ -14,6 +14,7 @@ pub mod LineWriting
 pub mod LinePutting
 pub mod SpelledLemmas
 pub mod SpelledReading
+pub mod StoreReading
 pub mod LaneReading
 pub mod FrontReading
 pub mod WholeLemmas

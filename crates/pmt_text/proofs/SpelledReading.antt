@@ -1,12 +1,10 @@
 -- What one pass over a line takes, part by part.
-use Rattle.std.proofs.Common.{◌≡◌, ◌≢◌, ℕ, zero, suc, ◌+◌, ◌*◌, ◌/◌, ◌%◌, ◌^◌, ◌<◌, ◌≤◌, List, [], ◌∷◌, ◌++◌, length, get_or, take, drop, set, refl, sym, ◌∙◌, ap, ap₂, arith, append_assoc, get_or-set_same, mul-le-mul_left}
-use Rattle.std.proofs.Math.Seq.{drop-cons}
-use Rattle.std.proofs.lemmas.List.{take-append-drop, take-set, length-set}
+use Rattle.std.proofs.Common.{◌≡◌, ◌≢◌, ℕ, zero, suc, ◌<◌, ◌≤◌, List, [], ◌∷◌, ◌++◌, length, get_or, take, drop, refl, sym, ◌∙◌, ap, ap₂, arith, append_assoc}
+use Rattle.std.proofs.lemmas.List.{take-append-drop}
 use Rattle.std.specs.Str.Parse.{digits_value}
-use Rattle.std.proofs.lemmas.Int.Digits.{digits_value_more}
-use Rattle.pmt_text.specs.Spelling.{glyph, numeral, hex_bytes}
+use Rattle.pmt_text.specs.Spelling.{numeral}
 use Rattle.pmt_text.specs.Reading.{digit_of, IsBase}
-use Rattle.pmt_text.proofs.NumeralLemmas.{AreDigits, base-high, glyph-digit_of, digit_value-digit_of, numeral-digits_value, numeral-zero}
+use Rattle.pmt_text.proofs.NumeralLemmas.{AreDigits, numeral-digits_value, numeral-zero}
 use Rattle.std.proofs.Common.{Option, Some, None, IfSome, Ok, length-append}
 use Rattle.std.specs.Borrow.{Bor}
 use Rattle.pmt_model.specs.declared.event.Event.{Event}
@@ -17,7 +15,6 @@ use Rattle.pmt_text.specs.Spelled.{IsAfterWord, IsFirstEvent}
 use Rattle.pmt_text.specs.Writing.{spaced}
 use Rattle.pmt_text.specs.Coming.{text_lines}
 use Rattle.pmt_text.specs.Texts.{SplitsJudged}
-use Rattle.pmt_text.proofs.NumberWriting.{hex_bytes-more}
 use Rattle.pmt_text.proofs.LineLemmas.{parts-append}
 use Rattle.pmt_text.proofs.LineWriting.{event_text-parts}
 use Rattle.pmt_text.proofs.SpelledLemmas.{event_line_free, line_judged-event_line}
@@ -40,49 +37,6 @@ digits-first base (suc n) [] b some within other each = absurd (omega arith)
 digits-first base (suc n) (c ∷ cs) b some within other each =
     sym (take-append-drop (suc n) (c ∷ cs))
     ∙ ap (λ (xs : List ℕ). xs ++ drop (suc n) (c ∷ cs)) (sym (numeral-digits_value base c (take n cs) b (each 0 (omega arith), AreDigits-take base n cs (omega arith) (λ k below. each (suc k) (omega arith))) other))
-
--- one digit more
-pub value-more : (base : ℕ) (text : List ℕ) (at : ℕ) → IsBase base → at < length text → digit_of (get_or text at 0) < base
-    → digits_value base (take at text) * base + digit_of (get_or text at 0) ≡ digits_value base (take (at + 1) text)
-value-more base text at b l h =
-    ap (λ (d : ℕ). digits_value base (take at text) * base + d) (sym (digit_value-digit_of (get_or text at 0) (omega (arith, h, base-high base b)))) ∙ sym (digits_value_more base text at l)
-
--- and it keeps its bound
-pub bound-more : (base number d : ℕ) → IsBase base → number < 2 ^ 44 → d < base → number * base + d < 2 ^ 48
-bound-more base number d b l h = let high = base-high base b in let times : number * base ≤ number * 16 = mul-le-mul_left number high in omega (arith, times, high)
-
--- two bytes stand at place n
-pub two-first : (text : List ℕ) (n : ℕ) → n + 1 < length text → drop n text ≡ get_or text n 0 ∷ get_or text (n + 1) 0 ∷ drop (n + 2) text
-two-first text n l =
-    let next : suc n ≡ n + 1 = omega arith in
-    let after : suc (n + 1) ≡ n + 2 = omega arith in
-    drop-cons text n 0 (omega arith)
-    ∙ ap (λ (m : ℕ). get_or text n 0 ∷ drop m text) next
-    ∙ ap (λ (xs : List ℕ). get_or text n 0 ∷ xs) (drop-cons text (n + 1) 0 l ∙ ap (λ (m : ℕ). get_or text (n + 1) 0 ∷ drop m text) after)
-
--- one byte more
-pub bytes-more : (text out : List ℕ) (n high low : ℕ) → n < length out → 2 * n + 1 < length text → high ≡ digit_of (get_or text (2 * n) 0) → low ≡ digit_of (get_or text (2 * n + 1) 0) → high < 16 → low < 16
-    → text ≡ hex_bytes (take n out) ++ drop (2 * n) text → text ≡ hex_bytes (take (n + 1) (set out n (16 * high + low))) ++ drop (2 * (n + 1)) text
-bytes-more text out n high low room some is_high is_low h l so_far =
-    let v : ℕ = 16 * high + low in
-    let new : List ℕ = set out n v in
-    let byte : get_or new n 0 ≡ v = get_or-set_same out n v 0 room in
-    let fits : n < length new = omega (arith, length-set out n v) in
-    let more : hex_bytes (take (n + 1) new) ≡ hex_bytes (take n new) ++ glyph (get_or new n 0 / 16) ∷ glyph (get_or new n 0 % 16) ∷ [] = hex_bytes-more new n fits (omega (arith, byte)) in
-    let quotient : get_or new n 0 / 16 ≡ high = omega (arith, byte) in
-    let remainder : get_or new n 0 % 16 ≡ low = omega (arith, byte) in
-    let first : glyph (get_or new n 0 / 16) ≡ get_or text (2 * n) 0 = ap glyph (quotient ∙ is_high) ∙ glyph-digit_of (get_or text (2 * n) 0) (omega (arith, is_high)) in
-    let second : glyph (get_or new n 0 % 16) ≡ get_or text (2 * n + 1) 0 = ap glyph (remainder ∙ is_low) ∙ glyph-digit_of (get_or text (2 * n + 1) 0) (omega (arith, is_low)) in
-    let written : hex_bytes (take (n + 1) new) ≡ hex_bytes (take n out) ++ get_or text (2 * n) 0 ∷ get_or text (2 * n + 1) 0 ∷ [] =
-    more ∙ ap (λ (xs : List ℕ). hex_bytes xs ++ glyph (get_or new n 0 / 16) ∷ glyph (get_or new n 0 % 16) ∷ []) (take-set out n v)
-    ∙ ap₂ (λ (x y : ℕ). hex_bytes (take n out) ++ x ∷ y ∷ []) first second in
-    let rest : List ℕ = drop (2 * n + 2) text in
-    let even : 2 * n + 2 ≡ 2 * (n + 1) = omega arith in
-    so_far
-    ∙ ap (λ (xs : List ℕ). hex_bytes (take n out) ++ xs) (two-first text (2 * n) some)
-    ∙ sym (append_assoc (hex_bytes (take n out)) (get_or text (2 * n) 0 ∷ get_or text (2 * n + 1) 0 ∷ []) rest)
-    ∙ ap (λ (xs : List ℕ). xs ++ rest) (sym written)
-    ∙ ap (λ (m : ℕ). hex_bytes (take (n + 1) new) ++ drop m text) even
 
 -- a word stands first
 pub word-first : (word text : List ℕ) → length word ≤ length text → ((k : ℕ) → k < length word → get_or text k 0 ≡ get_or word k 0) → text ≡ word ++ drop (length word) text

@@ -1,33 +1,115 @@
 //! The events of the lines at the front of a text, for as long as each is plain in one pass.
-ghost use Rattle.std.specs.Prelude.{◌≡◌, ◌++◌, ◌<◌, ◌≤◌, ◌⊎◌, length, IfOk, OnOk};
+ghost use Rattle.std.specs.Prelude.{◌≡◌, [], ◌∷◌, ◌++◌, ◌<◌, ◌≤◌, ◌⊎◌, length, IfOk, OnOk};
 ghost use Rattle.pmt_model.specs.Traces.{event_limit};
-ghost use Rattle.pmt_text.specs.Plain.{AddsFirst, AreFirstEvents};
-ghost use Rattle.pmt_text.specs.Spelling.{event_text};
+ghost use Rattle.pmt_text.specs.Plain.{Adds, AddsFirst, AddsLine, AddsStore, AreFirstEvents};
+ghost use Rattle.pmt_text.specs.Spelling.{event_text, word_text};
 
-use crate::spelled::{after_clwb, after_sfence, after_store, take_other, take_word};
+use crate::spelled::{SpelledStore, after_clwb, after_sfence, take_other, take_store, take_word};
+use crate::word::Word;
 use pmt_model::{Event, OutOfMemory, Trace};
 use std::alloc::AllocError;
 
+// Puts the event at the trace's end, if it is of the trace's format: whether it is.
+#[inline(always)]
+fn add(event: Event, trace: &mut Trace) -> Result<bool, OutOfMemory>
+    requires { length trace.old.events < event_limit }
+    ensures { IfOk result (λ added. Adds event added trace.old trace.new) }
+{
+    if !event.is_in(trace.format()) {
+        return Ok(false);
+    }
+    let Event { thread, op } = event;
+    match trace.push(Event { thread, op }) {
+        Ok(()) => Ok(true),
+        Err(_) => Err(AllocError),
+    }
+}
+
+// Puts the event of a store of eight bytes at the trace's end, if it is one of the trace's format: whether it is.
+#[inline(always)]
+fn add_whole(store: SpelledStore, trace: &mut Trace) -> Result<bool, OutOfMemory>
+    requires whole { store.len ≡ 8 }
+    requires room { length trace.old.events < event_limit }
+    ensures { IfOk result (λ added. AddsStore store added trace.old trace.new) }
+{
+    match store.whole_event() {
+        Some(event) => add(event, trace),
+        None => Ok(false),
+    }
+}
+
+// The same, of fewer bytes, which are copied by a call. It is one of its own, so that the others keep their values in registers.
+#[inline(never)]
+fn add_short(store: SpelledStore, trace: &mut Trace) -> Result<bool, OutOfMemory>
+    requires few { store.len ≤ 8 }
+    requires room { length trace.old.events < event_limit }
+    ensures { IfOk result (λ added. AddsStore store added trace.old trace.new) }
+{
+    match store.event() {
+        Some(event) => add(event, trace),
+        None => Ok(false),
+    }
+}
+
+// Puts the event of the store's line, after whose word this stands, at the trace's end: what stands after its LF.
+#[inline(always)]
+fn add_store<'a>(
+    line: &[u8],
+    text: &'a [u8],
+    trace: &mut Trace,
+) -> Result<Option<&'a [u8]>, OutOfMemory>
+    requires word { line.now ≡ (word_text Word.Store ++ 32 ∷ []) ++ text.now }
+    requires room { length trace.old.events < event_limit }
+    ensures { IfOk result (λ left. AddsFirst line.now left trace.old trace.new) }
+{
+    let _line = line;
+    let Some((store, rest)) = take_store(text) else {
+        return Ok(None);
+    };
+    if store.len != 8 {
+        return match add_short(store, trace)? {
+            true => Ok(Some(rest)),
+            false => Ok(None),
+        };
+    }
+    match add_whole(store, trace)? {
+        true => Ok(Some(rest)),
+        false => Ok(None),
+    }
+}
+
 // Puts the event, after whose line this stands, at the trace's end, if it is of the trace's format: what stands after it.
 #[inline(always)]
-fn add<'a>(
-    text: &[u8],
+fn add_plain<'a>(
+    line: &[u8],
     event: Event,
     rest: &'a [u8],
     trace: &mut Trace,
 ) -> Result<Option<&'a [u8]>, OutOfMemory>
-    requires first { text.now ≡ event_text event ++ rest.now }
+    requires first { line.now ≡ event_text event ++ rest.now }
     requires room { length trace.old.events < event_limit }
-    ensures { IfOk result (λ left. AddsFirst text.now left trace.old trace.new) }
+    ensures { IfOk result (λ left. AddsFirst line.now left trace.old trace.new) }
 {
-    let _text = text;
-    if !event.is_in(trace.format()) {
-        return Ok(None);
+    let _line = line;
+    match add(event, trace)? {
+        true => Ok(Some(rest)),
+        false => Ok(None),
     }
-    let Event { thread, op } = event;
-    match trace.push(Event { thread, op }) {
-        Ok(()) => Ok(Some(rest)),
-        Err(_) => Err(AllocError),
+}
+
+// Puts the event of a line of a rarer kind at the trace's end: how many bytes the line has with its LF, or 0 where it is not plain.
+#[inline(never)]
+fn add_other(text: &[u8], trace: &mut Trace) -> Result<usize, OutOfMemory>
+    requires { length trace.old.events < event_limit }
+    ensures { IfOk result (λ count. AddsLine text.now count trace.old trace.new) }
+{
+    let Some((event, rest)) = take_other(text) else {
+        return Ok(0);
+    };
+    let count = text.len() - rest.len();
+    match add(event, trace)? {
+        true => Ok(count),
+        false => Ok(0),
     }
 }
 
@@ -39,27 +121,24 @@ fn add_first<'a>(text: &'a [u8], trace: &mut Trace) -> Result<Option<&'a [u8]>, 
     ensures { IfOk result (λ left. AddsFirst text.now left trace.old trace.new) }
 {
     if let Some(rest) = take_word(b"store ", text) {
-        let Some((event, left)) = after_store(rest) else {
-            return Ok(None);
-        };
-        return add(text, event, left, trace);
+        return add_store(text, rest, trace);
     }
     if let Some(rest) = take_word(b"clwb ", text) {
         let Some((event, left)) = after_clwb(rest) else {
             return Ok(None);
         };
-        return add(text, event, left, trace);
+        return add_plain(text, event, left, trace);
     }
     if let Some(rest) = take_word(b"sfence ", text) {
         let Some((event, left)) = after_sfence(rest) else {
             return Ok(None);
         };
-        return add(text, event, left, trace);
+        return add_plain(text, event, left, trace);
     }
-    let Some((event, left)) = take_other(text) else {
-        return Ok(None);
-    };
-    add(text, event, left, trace)
+    match add_other(text, trace)? {
+        0 => Ok(None),
+        count => Ok(Some(&text[count..])),
+    }
 }
 
 /// Puts the events of the lines at the front at the end of the trace, until it has `most` or a line is not plain in one pass: what

@@ -1,45 +1,22 @@
 //! One pass over the bytes of a line that is spelled rightly. Where a line is not, or where that is not plain at once, these answer
 //! `None`, and the line is judged.
-ghost use Rattle.std.specs.Prelude.{◌≡◌, ◌∷◌, ◌++◌, ◌≤◌, length, take, IfOk, IfSome};
+ghost use Rattle.std.specs.Prelude.{◌≡◌, ◌∷◌, ◌++◌, ◌≤◌, length, IfOk, IfSome};
 ghost use Rattle.std.specs.Int.{to_le_bytes, w32};
-ghost use Rattle.pmt_text.specs.Reading.{HasRead, IsBase};
-ghost use Rattle.pmt_text.specs.Spelled.{IsAfterWord, IsFirstEvent, front_four, spelled_span};
-ghost use Rattle.pmt_text.specs.Spelling.{address, event_text, hex_bytes, numeral};
+ghost use Rattle.pmt_text.specs.Spelled.{IsAfterWord, IsEventOfStore, IsFirstEvent, front_four, spelled_span, spelled_store};
+ghost use Rattle.pmt_text.specs.Spelling.{address, event_text, numeral};
 
 use crate::number::digit;
 use crate::word::Word;
 use pmt_lanes::{decimal_number, hex_bytes, hex_number};
 use pmt_model::{Addr, Event, Format, Op, OpError, Payload, Range, WordStore};
 
-/// A number below this takes one more digit of base 16 and stays below 2^48.
-const DIGIT_LIMIT: u64 = 1 << 44;
-
-/// The number at the front, digit by digit, and what stands after it.
-#[inline(never)]
-fn take_number(base: u64, text: &[u8]) -> Option<(u64, &[u8])>
-    requires { IsBase base }
-    ensures { IfSome result (λ p. text.now ≡ numeral base p.0 ++ p.1.now) }
-{
-    if text.is_empty() {
-        return None;
-    }
-    if text[0] == b'0' {
-        return Some((0, &text[1..]));
-    }
-    let mut number = 0;
-    let mut at = 0;
-    while at < text.len() && number < DIGIT_LIMIT {
-        let digit = digit(text[at]);
-        if digit >= base {
-            break;
-        }
-        number = number * base + digit;
-        at += 1;
-    }
-    if at == 0 {
-        return None;
-    }
-    Some((number, &text[at..]))
+/// A store as its line spells it: the lowest byte of the number is the first of its `len` bytes, which are at most 8.
+#[derive(Clone, Copy)]
+pub(crate) struct SpelledStore {
+    pub(crate) thread: u8,
+    pub(crate) addr: u64,
+    pub(crate) number: u64,
+    pub(crate) len: usize,
 }
 
 /// The first four bytes as one number.
@@ -82,7 +59,7 @@ fn take_decimal(text: &[u8]) -> Option<(u64, &[u8])>
 {
     match decimal_number(text) {
         Some((number, count)) => Some((number, &text[count..])),
-        None => take_number(10, text),
+        None => None,
     }
 }
 
@@ -93,7 +70,7 @@ fn take_hex(text: &[u8]) -> Option<(u64, &[u8])>
 {
     match hex_number(text) {
         Some((number, count)) => Some((number, &text[count..])),
-        None => take_number(16, text),
+        None => None,
     }
 }
 
@@ -160,42 +137,6 @@ fn take_thread(text: &[u8]) -> Option<(u8, &[u8])>
     }
 }
 
-/// The bytes at the front, at most 8, which are put at the front of `out`, digit by digit: how many, and what stands after them.
-#[inline(never)]
-fn take_bytes<'a>(text: &'a [u8], out: &mut [u8; 8]) -> (usize, &'a [u8])
-    ensures given { text.now ≡ hex_bytes (take result.0 out.new) ++ result.1.now }
-    ensures few { result.0 ≤ 8 }
-    ensures eight { length out.new ≡ 8 }
-{
-    let mut count = 0;
-    while count < 8 && 2 * count + 1 < text.len() {
-        let high = digit(text[2 * count]);
-        let low = digit(text[2 * count + 1]);
-        if high == 16 || low == 16 {
-            break;
-        }
-        out[count] = (16 * high + low) as u8;
-        count += 1;
-    }
-    (count, &text[2 * count..])
-}
-
-/// As `take_bytes`, by lanes.
-#[inline(always)]
-fn take_pairs<'a>(text: &'a [u8], out: &mut [u8; 8]) -> (usize, &'a [u8])
-    ensures given { text.now ≡ hex_bytes (take result.0 out.new) ++ result.1.now }
-    ensures few { result.0 ≤ 8 }
-    ensures eight { length out.new ≡ 8 }
-{
-    match hex_bytes(text) {
-        Some((number, count)) => {
-            *out = number.to_le_bytes();
-            (count, &text[2 * count..])
-        }
-        None => take_bytes(text, out),
-    }
-}
-
 /// The address and the length at the front, and what stands after them.
 #[inline(always)]
 fn take_span(text: &[u8]) -> Option<((u64, u64), &[u8])>
@@ -224,19 +165,6 @@ fn store_of(addr: u64, bytes: &[u8]) -> Option<Op>
     }
 }
 
-/// The store of the first `len` bytes. Most stores have all eight, which are copied at once.
-#[inline(always)]
-fn store_of_first(addr: u64, bytes: &[u8], len: usize) -> Option<Op>
-    requires eight { length bytes.now ≡ 8 }
-    requires within { len ≤ 8 }
-    ensures { IfSome result (λ op. op ≡ Op.Store (record { addr = addr; bytes = take len bytes.now })) }
-{
-    if len == 8 {
-        return store_of(addr, bytes);
-    }
-    store_of(addr, &bytes[..len])
-}
-
 /// The isPersist of the span.
 fn persist_of(addr: u64, len: u64) -> Result<Op, OpError>
     ensures { IfOk result (λ op. op ≡ Op.IsPersist (record { addr = addr; len = len })) }
@@ -254,19 +182,60 @@ fn ordered_of(addr: u64, len: u64, later_addr: u64, later_len: u64) -> Result<Op
     Ok(Op::IsOrderedBefore(first, second))
 }
 
-/// The event of a store after its word, and what stands after the line.
+/// The store after its word, and what stands after the line.
 #[inline(always)]
-pub(crate) fn after_store(text: &[u8]) -> Option<(Event, &[u8])>
-    ensures { IfSome result (λ p. IsAfterWord Word.Store text.now p.0 p.1.now) }
+pub(crate) fn take_store(text: &[u8]) -> Option<(SpelledStore, &[u8])>
+    ensures spelled { IfSome result (λ p. text.now ≡ spelled_store p.0 ++ 10 ∷ p.1.now) }
+    ensures few { IfSome result (λ p. p.0.len ≤ 8) }
 {
     let (thread, text) = take_thread(text)?;
     let (addr, text) = take_address(take_space(text)?)?;
     let text = take_space(text)?;
-    let mut bytes = [0; 8];
-    let (len, text) = take_pairs(text, &mut bytes);
-    let text = take_end(text)?;
-    let op = store_of_first(addr, &bytes, len)?;
-    Some((Event { thread, op }, text))
+    let (number, len) = hex_bytes(text)?;
+    let text = take_end(&text[2 * len..])?;
+    let store = SpelledStore {
+        thread,
+        addr,
+        number,
+        len,
+    };
+    Some((store, text))
+}
+
+impl SpelledStore {
+    /// Its event, if its address and its bytes are those of a store.
+    #[inline(always)]
+    pub(crate) fn event(&self) -> Option<Event>
+        requires { self.now.len ≤ 8 }
+        ensures { IfSome result (IsEventOfStore self.now) }
+    {
+        let bytes = self.number.to_le_bytes();
+        let thread = self.thread;
+        let op = store_of(self.addr, &bytes[..self.len])?;
+        Some(Event { thread, op })
+    }
+
+    /// The same, of a store of eight bytes, which are copied at once.
+    #[inline(always)]
+    pub(crate) fn whole_event(&self) -> Option<Event>
+        requires { self.now.len ≡ 8 }
+        ensures { IfSome result (IsEventOfStore self.now) }
+    {
+        let bytes = self.number.to_le_bytes();
+        let thread = self.thread;
+        let op = store_of(self.addr, &bytes)?;
+        Some(Event { thread, op })
+    }
+}
+
+/// The event of a store after its word, and what stands after the line.
+#[inline(always)]
+fn after_store(text: &[u8]) -> Option<(Event, &[u8])>
+    ensures { IfSome result (λ p. IsAfterWord Word.Store text.now p.0 p.1.now) }
+{
+    let (store, text) = take_store(text)?;
+    let event = store.event()?;
+    Some((event, text))
 }
 
 /// The event of a clwb after its word, and what stands after the line.
