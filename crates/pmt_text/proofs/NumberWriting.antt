@@ -70,6 +70,12 @@ room-two n zero l h = absurd (omega arith)
 room-two n (suc zero) l h = absurd (omega arith)
 room-two n (suc (suc at)) l h = omega arith
 
+pub room-three : (n at : ℕ) → 100 ≤ n → n < 10 ^ at → 3 ≤ at
+room-three n zero l h = absurd (omega arith)
+room-three n (suc zero) l h = absurd (omega arith)
+room-three n (suc (suc zero)) l h = absurd (omega arith)
+room-three n (suc (suc (suc at))) l h = omega arith
+
 pub base-ten : (b : ℕ) → IsBase b → 10 ≤ b
 base-ten b (inl e) = omega arith
 base-ten b (inr e) = omega arith

@@ -26,6 +26,12 @@ static PAIRS: [u8; 512] = *b"000102030405060708090a0b0c0d0e0f1011121314151617181
     c0c1c2c3c4c5c6c7c8c9cacbcccdcecfd0d1d2d3d4d5d6d7d8d9dadbdcdddedf\
     e0e1e2e3e4e5e6e7e8e9eaebecedeeeff0f1f2f3f4f5f6f7f8f9fafbfcfdfeff";
 
+/// The two digits of each number below 100.
+static DECIMALS: [u8; 200] = *b"00010203040506070809101112131415161718192021222324\
+    25262728293031323334353637383940414243444546474849\
+    50515253545556575859606162636465666768697071727374\
+    75767778798081828384858687888990919293949596979899";
+
 /// The character of a digit: 0 to 9, and then a to f.
 #[inline(always)]
 pub(crate) fn glyph(digit: u64) -> u8
@@ -49,6 +55,24 @@ fn low_digit(byte: u8) -> u8
     ensures { result ≡ glyph_of (byte % 16) }
 {
     PAIRS[2 * byte as usize + 1]
+}
+
+/// The first of the two digits of a number below 100.
+#[inline(always)]
+fn tens(number: u64) -> u8
+    requires { number < 100 }
+    ensures { result ≡ glyph_of (number / 10) }
+{
+    DECIMALS[2 * number as usize]
+}
+
+/// The second of them.
+#[inline(always)]
+fn ones(number: u64) -> u8
+    requires { number < 100 }
+    ensures { result ≡ glyph_of (number % 10) }
+{
+    DECIMALS[2 * number as usize + 1]
 }
 
 /// Puts the byte in front of what stands from `at` on; so do the others with what they put. Each answers where that begins.
@@ -79,7 +103,7 @@ pub fn put_word(line: &mut [u8; LINE_ROOM], at: usize, word: &[u8]) -> usize
     start
 }
 
-/// Puts the number in base 10, of at most 20 digits.
+/// Puts the number in base 10, of at most 20 digits, two at once.
 #[inline(always)]
 pub fn put_decimal(line: &mut [u8; LINE_ROOM], at: usize, number: u64) -> usize
     requires room { 20 ≤ at }
@@ -88,11 +112,16 @@ pub fn put_decimal(line: &mut [u8; LINE_ROOM], at: usize, number: u64) -> usize
 {
     let mut start = at;
     let mut rest = number;
-    while rest >= 10 {
-        start = put(line, start, glyph(rest % 10));
-        rest /= 10;
+    while rest >= 100 {
+        let last = put(line, start, ones(rest % 100));
+        start = put(line, last, tens(rest % 100));
+        rest /= 100;
     }
-    put(line, start, glyph(rest))
+    if rest < 10 {
+        return put(line, start, glyph(rest));
+    }
+    let start = put(line, start, ones(rest));
+    put(line, start, tens(rest))
 }
 
 /// Puts the two digits of the byte.
