@@ -209,3 +209,27 @@ class Late(Answers):
         for workers in ("1", "2", "16"):
             told = self.run_program(["check", "--workers", workers], text)
             self.expect(f"{workers} workers", told == (1, lines(report), b""), told[1][:200])
+
+
+class Crowded(Answers):
+    """More threads flush one line than a short list holds."""
+
+    def test_twenty_flushers(self):
+        """Twenty threads flush a line twice after a store, and again after another store; then each fences.
+
+        By the definition (docs/MODEL.md): in each round the first flush of a thread marks a store that is not safe, and that no flush
+        of its own marks yet; its second one has nothing to mark. The first fence makes both stores safe, by the last flush of its thread.
+        """
+        threads = range(0, 260, 13)
+        flushes = [f"clwb {thread} 0x1000" for thread in threads]
+        again = flushes[::-1]
+        fences = [f"sfence {thread}" for thread in threads]
+        events = ["store 0 0x1000 01", *flushes, *again, "store 0 0x1008 02", *flushes, *again, *fences]
+        redundant = "; ".join(f"redundant-flush {event}" for event in (*range(22, 42), *range(63, 83)))
+        report = f"events 102 lines 1; {redundant}; kept 4 dropped 98"
+        text = lines("; ".join(["pmtrace 1", *events]))
+        for workers in ("1", "2", "16"):
+            self.expect_answer("twenty_flushers", ["check", "--workers", workers], text, 0, lines(report))
+        kept = "pmtrace 1; store 0 0x1000 01; store 0 0x1008 02; clwb 0 0x1000; sfence 0"
+        for words in (["trim"], ["trim", "--stream"]):
+            self.expect_answer("twenty_flushers", words, text, 0, lines(kept))

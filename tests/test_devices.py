@@ -90,12 +90,13 @@ def every_cut(command):
 
 
 def every_read(command):
-    """Reads of a byte each, one of which fails or is interrupted; the last of them would have told the end."""
+    """Reads of a byte each, one of which fails or is interrupted; the last would have told the end. Reads of 20 bytes, the second fails."""
     whole, answer = command.whole()
     for fault in ("read", "interrupted"):
         for at in range(1, len(whole) + 2):
             yield whole, FILE_FAULT, 1, {"fault": fault, "fault_at": at, "fault_piece": 1}
         yield whole, answer, 0, {"fault": fault, "fault_at": len(whole) + 2, "fault_piece": 1}
+        yield whole, FILE_FAULT, 1, {"fault": fault, "fault_at": 2, "fault_piece": 20}
 
 
 def every_write(command):
