@@ -1,3 +1,4 @@
+mod FoundLemmas
 mod LineLemmas
 mod NamingLemmas
 mod PlaceLemmas

@@ -1,7 +1,6 @@
 //! Lines of source files that were read.
 ghost use Rattle.std.specs.Prelude.{MatchOption};
-ghost use Rattle.std.specs.List.{AllByRecursion};
-ghost use Rattle.pmt_sources.specs.Places.{AreSame};
+ghost use Rattle.pmt_sources.specs.Choosing.{IsFirstAt, NoLineAt};
 
 use crate::place::{SourcePlace, is_same};
 
@@ -23,12 +22,12 @@ pub struct Sources<'a> {
     pub notes: Vec<String>,
 }
 
-/// The line of this place, if it is one of these.
+/// The line of this place, if it is one of these; of two, the first.
 pub fn found_line<'b, 'a>(
     lines: &'b [SourceLine<'a>],
     place: SourcePlace<'_>,
 ) -> Option<&'b SourceLine<'a>>
-    ensures { MatchOption result (AllByRecursion (λ line. ¬ AreSame line.place place.entry) lines.now) (λ line. AreSame line.now.place place.entry) }
+    ensures { MatchOption result (NoLineAt place.entry lines.now) (λ line. IsFirstAt place.entry lines.now line.now) }
 {
     for line in lines {
         if is_same(line.place, place) {
