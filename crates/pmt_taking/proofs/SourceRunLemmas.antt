@@ -1,5 +1,5 @@
 -- What a source has told and given while its events are taken.
-use Rattle.std.proofs.Common.{◌≡◌, ◌≢◌, ℕ, ◌+◌, ◌<◌, ◌≤◌, inl, inr, List, [], ◌∷◌, length, Option, Some, None, Result, Ok, Err, refl, ap, sym, subst, ◌∙◌, arith}
+use Rattle.std.proofs.Common.{◌≡◌, ◌≢◌, ℕ, ◌+◌, ◌<◌, ◌≤◌, inl, inr, List, [], ◌∷◌, ◌++◌, length, Option, Some, None, Result, Ok, Err, refl, ap, sym, subst, ◌∙◌, arith}
 use Rattle.std.proofs.lemmas.List.{length-append}
 use Rattle.std.proofs.lemmas.Option.{same_Some}
 use Rattle.pmt_model.specs.declared.event.Event.{Event}
@@ -16,7 +16,7 @@ use Rattle.pmt_text.proofs.SourceLemmas.{Gives-over, Gives-same, Gives-trans, wh
 use Rattle.pmt_taking.specs.declared.taking.TakeError.{TakeError}
 use Rattle.pmt_taking.specs.declared.taking.TakeError.TheVariants as refusals
 use Rattle.pmt_taking.specs.Sourcing.{TakesFirst, TellsEnd, TellsNothing, told_by}
-use Rattle.pmt_taking.specs.Blocks.{Shown, TakesBlock}
+use Rattle.pmt_taking.specs.Blocks.{LeavesRest, RefusedLeaves, Shown, TakesBlock}
 
 -- no read has failed since
 abbrev pub SameReads : Option ℕ → Option ℕ → Type 0
@@ -204,3 +204,26 @@ block-ended most first now next B fewer block takes tells kept same = record {
   same_format = block.same_format;
   roomy = omega (arith, block.roomy, same);
 }
+
+-- where memory was refused after an event
+pub event-leaves : (most : ℕ) (first now next : Shown) (B : Recording) (e : Event) → length B.events < most → BlockSoFar most first now B → TakesNext now.coming (Ok (Some e)) next.coming → LeavesFewer now.room (Ok (Some e)) next.room → LeavesRest most first next
+event-leaves most first now next B e within block takes fewer = record {
+  taken = B.events ++ e ∷ [];
+  few = omega (arith, within, length-append B.events (e ∷ []));
+  rest = Gives-trans first.coming now.coming next.coming B.events (e ∷ []) block.so_far.given takes;
+  roomy = omega (arith, block.roomy, fewer, length-append B.events (e ∷ []));
+}
+
+-- and after a call that took nothing
+pub still-leaves : (most : ℕ) (first now next : Shown) → LeavesRest most first now → next.coming ≡ now.coming → next.room ≡ now.room → LeavesRest most first next
+still-leaves most first now next left coming room = record {
+  taken = left.taken;
+  few = left.few;
+  rest = subst (λ c. Gives first.coming left.taken c) (sym coming) left.rest;
+  roomy = omega (arith, left.roomy, room);
+}
+
+pub refused-leaves : {A : Type 0} (most : ℕ) (old new : Shown) (r : Result A TakeError) → LeavesRest most old new → RefusedLeaves most old r new
+refused-leaves most old new (Ok x) left = tt
+refused-leaves most old new (Err (refusals.Source e)) left = tt
+refused-leaves most old new (Err refusals.OutOfMemory) left = left

@@ -1,11 +1,11 @@
 //! Taking the events of a source.
-ghost use Rattle.std.specs.Prelude.{◌≡◌, ◌<◌, length, IfOk, IfErr, IfSome, OnOk};
+ghost use Rattle.std.specs.Prelude.{◌≡◌, ◌<◌, length, IfOk, IfErr, IfSome, OnErr, OnOk};
 ghost use Rattle.pmt_model.specs.Pushing.{with_event};
 ghost use Rattle.pmt_model.specs.Traces.{event_limit, IsEventIn};
 ghost use Rattle.pmt_text.specs.Coming.{ComesWhole};
 ghost use Rattle.pmt_text.specs.Sources.{CountsReads};
 ghost use Rattle.pmt_taking.specs.Sourcing.{IsFaultOf, TellsRefusal, TellsSplit, told_by};
-ghost use Rattle.pmt_taking.specs.Blocks.{TakesBlock, shown_by};
+ghost use Rattle.pmt_taking.specs.Blocks.{RefusedLeaves, TakesBlock, shown_by};
 ghost use Rattle.pmt_taking.specs.declared.taking.TakeError.TheVariants.{Source, OutOfMemory};
 
 use pmt_model::{Event, OutOfMemory, Trace};
@@ -43,12 +43,13 @@ impl From<AllocError> for TakeError {
 /// Takes all events of the source, as a trace.
 ///
 /// # Errors
-/// `Source` with the fault that the source told, or with `Failed` where it had told a fault before. `OutOfMemory` where memory
-/// was refused to the trace; the source told nothing then. The source stands past the events that were taken.
+/// `Source` with the fault that the source told, or with `Failed` where it had told a fault before; it answers `Failed` from then
+/// on. `OutOfMemory` where memory was refused to the trace; the source told nothing then, and stands past the events that were taken.
 pub fn take_trace<S: EventSource>(alloc: Global, source: &mut S) -> Result<Trace, TakeError>
     ensures whole { IfOk result (λ trace. ComesWhole (S.coming source.old) trace) }
     ensures fault { IfErr (told_by result) (λ e. IfSome (S.coming source.old) (λ c. IsFaultOf c e)) }
     ensures told { TellsSplit (S.state source.old) result (S.state source.new) }
+    ensures rest { let shown = shown_by S.coming S.state S.known_format S.failures S.room in RefusedLeaves event_limit (shown source.old) result (shown source.new) }
     ensures failures { CountsReads (S.failures source.old) (told_by result) (S.failures source.new) }
 {
     let trace = take_block(alloc, source, u64::MAX)?;
@@ -76,6 +77,7 @@ pub fn take_block<S: EventSource>(
     ensures block { let shown = shown_by S.coming S.state S.known_format S.failures S.room in IfOk result (TakesBlock most (shown source.old) (shown source.new)) }
     ensures fault { IfErr (told_by result) (λ e. IfSome (S.coming source.old) (λ c. IsFaultOf c e)) }
     ensures told { TellsRefusal (S.state source.old) result (S.state source.new) }
+    ensures rest { let shown = shown_by S.coming S.state S.known_format S.failures S.room in RefusedLeaves most (shown source.old) result (shown source.new) }
     ensures failures { CountsReads (S.failures source.old) (told_by result) (S.failures source.new) }
 {
     let format = source.format()?;
@@ -94,12 +96,13 @@ pub fn take_block<S: EventSource>(
 /// Adds an event that the trace has room for, and that is of its format: memory alone may be refused.
 ///
 /// # Errors
-/// Where memory was refused.
+/// Where memory was refused. The trace stays as it was.
 #[inline(always)]
 pub fn add(trace: &mut Trace, event: Event) -> Result<(), OutOfMemory>
     requires room { length trace.old.events < event_limit }
     requires known { IsEventIn trace.old.format event }
-    ensures { OnOk result (trace.new ≡ with_event trace.old event) }
+    ensures added { OnOk result (trace.new ≡ with_event trace.old event) }
+    ensures same { OnErr result (trace.new ≡ trace.old) }
 {
     let Event { thread, op } = event;
     match trace.push(Event { thread, op }) {
