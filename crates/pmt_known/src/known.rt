@@ -10,7 +10,7 @@ ghost use Rattle.pmt_known.specs.Flags.{FlagsKept};
 ghost use Rattle.pmt_known.specs.Known.{AddsOverwrittenBy, IsActAt, IsKnownAmong, IsKnownOf, IsStoreAt, IsStoreNext};
 
 use crate::first_flush::FirstFlushes;
-use crate::line_words::{WordBytes, add_words, bytes_of};
+use crate::line_words::{WordBytes, bytes_of};
 use pmt_fencing::fence;
 use pmt_links::Links;
 use pmt_model::{Format, OutOfMemory, WordStore, line_of};
@@ -153,7 +153,7 @@ impl Known {
         let place = self.rows.place_of(line)?;
         let is_new = lines < self.rows.len();
         if is_new {
-            add_words(&mut self.words, self.words_of_line)?;
+            self.words.add_many(self.words_of_line)?;
         }
         Ok(place)
     }

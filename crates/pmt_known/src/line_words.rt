@@ -1,13 +1,11 @@
 //! The words of lines, by the places of the lines.
-ghost use Rattle.std.specs.Prelude.{◌≡◌, ℕ, ◌+◌, ◌*◌, ◌<◌, ◌≤◌, length, OnOk};
+ghost use Rattle.std.specs.Prelude.{◌≡◌, ◌+◌, ◌*◌, ◌<◌, ◌≤◌};
 ghost use Rattle.pmt_model.specs.Values.{line_of as line_in};
-ghost use Rattle.pmt_words.specs.Lasts.{last_at};
 ghost use Rattle.pmt_words.specs.Written.{WritesIn};
 ghost use Rattle.pmt_known.specs.LineWords.{word_address};
 ghost use Rattle.pmt_known.specs.Parts.{IsPartOfWord};
 
-use pmt_model::{Format, OutOfMemory, WordStore};
-use pmt_words::Words;
+use pmt_model::{Format, WordStore};
 
 // Some bytes of one of the words of a line.
 #[derive(Clone, Copy)]
@@ -49,16 +47,4 @@ pub(crate) fn part_of_word(word: usize, low: u32, high: u32) -> WordBytes
         low: low.saturating_sub(start),
         high: (high - start).min(8),
     }
-}
-
-// So many words more, to which no store has come.
-pub(crate) fn add_words(words: &mut Words, many: usize) -> Result<(), OutOfMemory>
-    ensures many { OnOk result (length words.new ≡ length words.old + many) }
-    ensures none { OnOk result ((i k : ℕ) → length words.old ≤ i → i < length words.new → k < 8 → last_at words.new i k ≡ 0) }
-    ensures others { OnOk result ((i k : ℕ) → i < length words.old → k < 8 → last_at words.new i k ≡ last_at words.old i k) }
-{
-    for _added in 0..many {
-        words.add()?;
-    }
-    Ok(())
 }

@@ -1,12 +1,12 @@
 -- The words of all lines: one that is written whole, one that gets a table, and a table that is written.
-use Rattle.std.proofs.Common.{◌≡◌, ℕ, zero, suc, ◌+◌, ◌-◌, ◌<◌, ◌≤◌, inl, inr, ◌==◌, List, [], ◌∷◌, ◌++◌, length, get_or, refl, sym, ap, subst, ◌∙◌, arith, eq-eqb}
-use Rattle.std.specs.Prelude.{if◌then◌else◌, slice_index, slice_set}
+use Rattle.std.proofs.Common.{◌≡◌, ℕ, zero, suc, ◌+◌, ◌-◌, ◌<◌, ◌≤◌, inl, inr, ◌==◌, Bool, true, false, List, [], ◌∷◌, ◌++◌, length, get_or, refl, sym, ap, subst, ◌∙◌, arith, eq-eqb}
+use Rattle.std.specs.Prelude.{if◌then◌else◌, replicate, slice_index, slice_set}
 use Rattle.std.proofs.lemmas.Bool.{cases_lt, cases_eq, ne_eqb, lt-ltb, le-ltb}
-use Rattle.std.proofs.lemmas.List.{get_or-map, get_or-set_same, get_or-set_other, get_or_append_left, get_or_push, length-set, length_push}
+use Rattle.std.proofs.lemmas.List.{get_or-map, get_or-set_same, get_or-set_other, get_or-append_right, get_or-replicate, get_or_append_left, get_or_push, length-append, length-replicate, length-set, length_push}
 use Rattle.std.proofs.lemmas.List.Elements.{All-push, All-set}
 use Rattle.pmt_words.specs.declared.table.Table.{Table}
-use Rattle.pmt_words.specs.Lasts.{last_at}
-use Rattle.pmt_words.specs.Packed.{last_by, first_table, no_table, last_of, last_in, bytes_of, all_bytes, IsWhole, AreWords}
+use Rattle.pmt_words.specs.Lasts.{is_in, last_at}
+use Rattle.pmt_words.specs.Packed.{number_of, low_of, high_of, last_by, first_table, no_table, last_of, last_in, bytes_of, all_bytes, IsWhole, AreWords}
 
 -- a word below the first table has none, and one from there on has
 pub last-whole : (tables : List Table) (w k : ℕ) → w < first_table → last_of tables w k ≡ last_by w k
@@ -31,33 +31,49 @@ seen words tables i k within small = ap (λ bs. slice_index bs k) (get_or-map (b
     byte f (suc (suc (suc (suc (suc (suc (suc (suc k)))))))) small = absurd (omega (arith, small))
 
 module _ (words : List ℕ) (tables : List Table) (are : AreWords words tables) where
-  -- ---- No store has come to a new word
+  -- ---- New words without a table
 
-  pub add-are : (w : ℕ) → w < first_table → IsWhole w → AreWords (words ++ w ∷ []) tables
-  add-are w less whole = record {
-    eight = are.eight;
-    inside = λ i within more. old-or-new i within (λ v. first_table ≤ v → v - first_table < length tables) (λ before. are.inside i before) (λ table. absurd (omega (arith, table, less))) more;
-    apart = λ i j within to more same. elim (cases_lt i (length words)) [
-      | inr last ↦ absurd (omega (arith, more, less, new i last within))
-      | inl first ↦ elim (cases_lt j (length words)) [
-        | inl second ↦ are.apart i j first second (subst (λ v. first_table ≤ v) (old i first) more) (sym (old i first) ∙ same ∙ old j second)
-        | inr last ↦ absurd (omega (arith, more, less, same, new j last to))
-      ]
-    ];
-    whole = λ i within no_table_. old-or-new i within (λ v. v < first_table → IsWhole v) (λ before. are.whole i before) (λ _. whole) no_table_;
-  }
-    where
-      old : (i : ℕ) → i < length words → slice_index (words ++ w ∷ []) i ≡ slice_index words i
-      old i within = get_or_append_left words (w ∷ []) 0 i within
+  module _ (many w : ℕ) (less : w < first_table) (whole : IsWhole w) where
+    added-old : (i : ℕ) → i < length words → slice_index (words ++ replicate many w) i ≡ slice_index words i
+    added-old i within = get_or_append_left words (replicate many w) 0 i within
 
-      new : (i : ℕ) → length words ≤ i → i < length (words ++ w ∷ []) → slice_index (words ++ w ∷ []) i ≡ w
-      new i last within = get_or_push words w 0 i (omega (arith, last, within, length_push words w))
+    added-new : (i : ℕ) → length words ≤ i → i < length (words ++ replicate many w) → slice_index (words ++ replicate many w) i ≡ w
+    added-new i last within =
+        let place : i - length words < many = omega (arith, last, within, length-append words (replicate many w), length-replicate many w) in
+        get_or-append_right words (replicate many w) (length words) i 0 refl last ∙ get_or-replicate many (i - length words) w 0 place
 
-      old-or-new : (i : ℕ) → i < length (words ++ w ∷ []) → (P : ℕ → Type 0) → (i < length words → P (slice_index words i)) → P w → P (slice_index (words ++ w ∷ []) i)
-      old-or-new i within P before last = elim (cases_lt i (length words)) [
-        | inl first ↦ subst P (sym (old i first)) (before first)
-        | inr end ↦ subst P (sym (new i end within)) last
-      ]
+    pub added-are : AreWords (words ++ replicate many w) tables
+    added-are = record {
+      eight = are.eight;
+      inside = λ i within more. old-or-new i within (λ v. first_table ≤ v → v - first_table < length tables) (λ before. are.inside i before) (λ table. absurd (omega (arith, table, less))) more;
+      apart = λ i j within to more same. elim (cases_lt i (length words)) [
+        | inr last ↦ absurd (omega (arith, more, less, added-new i last within))
+        | inl first ↦ elim (cases_lt j (length words)) [
+          | inl second ↦ are.apart i j first second (subst (λ v. first_table ≤ v) (added-old i first) more) (sym (added-old i first) ∙ same ∙ added-old j second)
+          | inr last ↦ absurd (omega (arith, more, less, same, added-new j last to))
+        ]
+      ];
+      whole = λ i within no_table_. old-or-new i within (λ v. v < first_table → IsWhole v) (λ before. are.whole i before) (λ _. whole) no_table_;
+    }
+      where
+        old-or-new : (i : ℕ) → i < length (words ++ replicate many w) → (P : ℕ → Type 0) → (i < length words → P (slice_index words i)) → P w → P (slice_index (words ++ replicate many w) i)
+        old-or-new i within P before last = elim (cases_lt i (length words)) [
+          | inl first ↦ subst P (sym (added-old i first)) (before first)
+          | inr end ↦ subst P (sym (added-new i end within)) last
+        ]
+
+    pub added-none : number_of w ≡ 0 → (i k : ℕ) → length words ≤ i → i < length (words ++ replicate many w) → k < 8 → last_at (all_bytes (words ++ replicate many w) tables) i k ≡ 0
+    added-none none i k from to small =
+        seen (words ++ replicate many w) tables i k to small ∙ ap (λ v. last_of tables v k) (added-new i from to) ∙ last-whole tables w k less ∙ byte (is_in (low_of w) (high_of w) k)
+      where
+        byte : (b : Bool) → (if b then number_of w else 0) ≡ 0
+        byte true = none
+        byte false = refl
+
+    pub added-others : (i k : ℕ) → i < length words → k < 8 → last_at (all_bytes (words ++ replicate many w) tables) i k ≡ last_at (all_bytes words tables) i k
+    added-others i k within small =
+        let to : i < length (words ++ replicate many w) = omega (arith, within, length-append words (replicate many w)) in
+        seen (words ++ replicate many w) tables i k to small ∙ ap (λ v. last_of tables v k) (added-old i within) ∙ sym (seen words tables i k within small)
 
   -- ---- A word that one store writes whole
 

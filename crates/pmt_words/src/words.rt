@@ -47,17 +47,21 @@ impl Words {
         }
     }
 
-    /// One word more, to which no store has come.
+    /// So many words more, to which no store has come.
     ///
     /// # Errors
-    /// Where memory was refused. All words stay as they were.
-    pub fn add(&mut self) -> Result<(), OutOfMemory>
-        ensures many { OnOk result (length self.new ≡ length self.old + 1) }
-        ensures none { OnOk result ((k : ℕ) → k < 8 → last_at self.new (length self.old) k ≡ 0) }
+    /// Where memory was refused, or there would be too many to count. All words stay as they were.
+    #[inline(always)]
+    pub fn add_many(&mut self, many: usize) -> Result<(), OutOfMemory>
+        ensures many { OnOk result (length self.new ≡ length self.old + many) }
+        ensures none { OnOk result ((i k : ℕ) → length self.old ≤ i → i < length self.new → k < 8 → last_at self.new i k ≡ 0) }
         ensures others { (i k : ℕ) → i < length self.old → k < 8 → last_at self.new i k ≡ last_at self.old i k }
         ensures same { OnErr result (length self.new ≡ length self.old) }
     {
-        self.words.push(NONE)?;
+        let Some(count) = self.words.len().checked_add(many) else {
+            return Err(AllocError);
+        };
+        self.words.resize(count, NONE)?;
         Ok(())
     }
 

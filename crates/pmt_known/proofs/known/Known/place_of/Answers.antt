@@ -5,19 +5,19 @@ use Rattle.pmt_known.proofs.WordsLemmas.{AreAdded}
 use Rattle.pmt_known.proofs.KnownLemmas.{placed-flushed, placed-waiting, placed-words, placed-same}
 use Rattle.pmt_known.proofs.known.Known.place_of.Goals as goal
 
-pub returns-in_ok-add_words-clause-known : goal.returns-in_ok-add_words-clause-known
-returns-in_ok-add_words-clause-known c = λ T n lines is.
+pub returns-in_ok-add_many-clause-known : goal.returns-in_ok-add_many-clause-known
+returns-in_ok-add_many-clause-known c = λ T n lines is.
     let k = c.args.self.now in
     let l = c.args.line in
     let placed = c.in_ok-place.ensures.known lines (history T n) (λ m. safe_store_at T m n) is.rows in
     let more : length k.rows.rows.items < length c.place_of.new.self.rows.items = omega arith in
-    let added : AreAdded k.words_of_line k.words c.add_words.new.words = record { in_all = c.in_ok-add_words.ensures.many; none = c.in_ok-add_words.ensures.none; others = c.in_ok-add_words.ensures.others } in
+    let added : AreAdded k.words_of_line k.words c.add_many.new.self = record { in_all = c.in_ok-add_many.ensures.many; none = c.in_ok-add_many.ensures.none; others = c.in_ok-add_many.ensures.others } in
     record {
       trace = is.trace;
       format = is.format;
       many = is.many;
       rows = placed;
-      words = placed-words T n l lines k c.place_of.new.self is placed c.add_words.new.words more added;
+      words = placed-words T n l lines k c.place_of.new.self is placed c.add_many.new.self more added;
       entries = is.entries;
       flushed = placed-flushed T n l lines k c.place_of.new.self is placed;
       waiting = placed-waiting T n l lines k c.place_of.new.self is placed;

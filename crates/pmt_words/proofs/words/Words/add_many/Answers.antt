@@ -1,0 +1,19 @@
+use Rattle.std.proofs.Common.{◌≡◌, ◌-◌, ◌<◌, ◌≤◌, inr, ◌++◌, length, refl, ap, ◌∙◌, arith}
+use Rattle.std.specs.Prelude.{replicate}
+use Rattle.std.specs.Vec.{vec_len}
+use Rattle.std.proofs.lemmas.List.{take_all, length-map}
+use Rattle.pmt_words.specs.Lasts.{last_at}
+use Rattle.pmt_words.specs.Packed.{all_bytes, bytes_of}
+use Rattle.pmt_words.proofs.WordLemmas.{added-none}
+use Rattle.pmt_words.proofs.words.Words.add_many.Goals as goal
+
+pub returns-clause-none : goal.returns-clause-none
+returns-clause-none c = λ i k from to small.
+    let words = c.self.inside.words.items in
+    let tables = c.self.inside.tables.items in
+    let many = c.in-Some.count - vec_len c.self.inside.words in
+    let fewer : length words ≤ c.in-Some.count = omega (arith, c.in-Some.ensures) in
+    let all : c.resize.new.self.items ≡ words ++ replicate many 128 = c.in_ok-resize.ensures.items ∙ ap (λ xs. xs ++ replicate many 128) (take_all c.in-Some.count words fewer) in
+    let here : length words ≤ i = omega (arith, from, ap length c.self.view_is, length-map words (bytes_of tables)) in
+    let there : i < length (words ++ replicate many 128) = omega (arith, to, length-map c.resize.new.self.items (bytes_of tables), ap length all) in
+    ap (λ ws. last_at (all_bytes ws tables) i k) all ∙ added-none words tables c.self.invariant many 128 (omega arith) (record { some = inr refl; eight = omega arith }) refl i k here there small
