@@ -229,6 +229,7 @@ module _ (S : Recording) (more : List Event) where
     format = swept.format;
     known = lines-more s.known trace swept.known;
     found = found-more s.found.items swept.found;
+    over = swept.over;
     kept = kept-more s.kept.items swept.kept;
     verdicts = verdicts-more s.verdicts.items swept.verdicts;
   }

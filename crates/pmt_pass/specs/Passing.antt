@@ -1,5 +1,5 @@
 -- What a sweep knows of the events that it has taken.
-use Rattle.std.specs.Prelude.{◌≡◌, ℕ, length}
+use Rattle.std.specs.Prelude.{◌≡◌, ℕ, [], length}
 use Rattle.pmt_model.specs.Traces.{Recording}
 use Rattle.pmt_known.specs.Known.{IsKnownOf}
 use Rattle.pmt_pass.specs.declared.sweeping.Sweeper.{Sweeper}
@@ -12,6 +12,7 @@ pub record IsPassOf (T : Recording) (n : ℕ) (s : Sweeper) : Type 0 where
   pub format : s.format ≡ T.format
   pub known : IsKnownOf T n s.known
   pub found : AreKnownTo T n s.found.items
+  pub over : s.over.items ≡ []
   pub kept : AreFlagsTo T n s.kept.items
   pub verdicts : AreVerdictsTo T n s.verdicts.items
 

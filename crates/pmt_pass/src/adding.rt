@@ -1,5 +1,5 @@
 //! What is found or judged at an event is added to what was before.
-ghost use Rattle.std.specs.Prelude.{◌≡◌, ◌++◌, OnOk};
+ghost use Rattle.std.specs.Prelude.{◌≡◌, [], ◌++◌, OnOk};
 ghost use Rattle.pmt_model.specs.declared.finding.Finding.TheVariants.{Overwritten};
 ghost use Rattle.pmt_pass.specs.Adding.{found_if, overwritten, with_verdict};
 
@@ -23,15 +23,29 @@ pub(crate) fn push_if(
 
 // Adds that these stores are overwritten.
 #[inline(always)]
-pub(crate) fn push_overwritten(
-    found: &mut Vec<Finding>,
-    over: &[Overwrite],
-) -> Result<(), OutOfMemory>
+fn push_overwritten(found: &mut Vec<Finding>, over: &[Overwrite]) -> Result<(), OutOfMemory>
     ensures { OnOk result (found.new.items ≡ found.old.items ++ overwritten over.now) }
 {
     for index in 0..over.len() {
         found.push(finding_of(over[index]))?;
     }
+    Ok(())
+}
+
+// Adds that these stores are overwritten, and leaves none of them.
+#[inline(always)]
+pub(crate) fn move_overwritten(
+    found: &mut Vec<Finding>,
+    over: &mut Vec<Overwrite>,
+) -> Result<(), OutOfMemory>
+    ensures found { OnOk result (found.new.items ≡ found.old.items ++ overwritten over.old.items) }
+    ensures none { OnOk result (over.new.items ≡ []) }
+{
+    if over.is_empty() {
+        return Ok(());
+    }
+    push_overwritten(found, over.as_slice())?;
+    over.clear();
     Ok(())
 }
 

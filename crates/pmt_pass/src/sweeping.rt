@@ -10,7 +10,7 @@ ghost use Rattle.pmt_known.specs.Known.{IsStoreNext};
 ghost use Rattle.pmt_ending.specs.SafePlaces.{AreSafePlaces};
 ghost use Rattle.pmt_pass.specs.Passing.{HasSwept, IsPassOf};
 
-use crate::adding::{push_if, push_overwritten, push_verdict};
+use crate::adding::{move_overwritten, push_if, push_verdict};
 use crate::joining::joined;
 use pmt_ending::{Ended, SafePlaces};
 use pmt_known::Known;
@@ -59,7 +59,7 @@ pub struct Sweeper {
     known: Known,
     // What is found, apart from stores that are never persisted.
     found: Vec<Finding>,
-    // The stores that the last store has overwritten.
+    // The stores that a store overwrites: none once they are found.
     over: Vec<Overwrite>,
     // Of each event that has come, whether it is kept, as far as that is decided: a flush is not while it waits for a fence.
     kept: Vec<bool>,
@@ -124,9 +124,8 @@ impl Sweeper {
         requires { (T : Recording) × (n : ℕ) × IsPassOf T n self.old × IsStoreNext T n store.now }
         ensures { OnOk result ((T : Recording) (n : ℕ) → IsPassOf T n self.old → IsStoreNext T n store.now → IsPassOf T (suc n) self.new) }
     {
-        self.over.clear();
         self.known.store(store, &mut self.over)?;
-        push_overwritten(&mut self.found, self.over.as_slice())?;
+        move_overwritten(&mut self.found, &mut self.over)?;
         self.kept.push(true)?;
         Ok(())
     }

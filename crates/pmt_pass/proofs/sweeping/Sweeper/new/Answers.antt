@@ -17,6 +17,7 @@ returns c =
       format = refl;
       known = c.in_ok-new.ensures T trace refl;
       found = subst (AreKnownTo T 0) (sym c.new-2.ensures.items) (known-start T);
+      over = c.new-3.ensures.items;
       kept = subst (AreFlagsTo T 0) (sym c.new-4.ensures.items) (flags-start T);
       verdicts = subst (AreVerdictsTo T 0) (sym c.new-5.ensures.items) (verdicts-start T);
     }

@@ -34,6 +34,7 @@ returns c T n pass next is =
       format = pass.format;
       known = known;
       found = known-next T n s.found.items s.found.items pass.found ([], sym (append-nil s.found.items), known-assertion T (suc n) is);
+      over = pass.over;
       kept = subst (AreFlagsTo T (suc n)) (sym c.in_ok-push.ensures.items) (flags-stays T n s.kept.items Asserts is refl pass.kept);
       verdicts = subst (λ (vs : List Verdict). AreVerdictsTo T (suc n) vs) (sym c.in_ok-push_verdict.ensures) (verdicts-next T n s.verdicts.items c.verdict-judged.result verdict pass.verdicts);
     }

@@ -21,6 +21,7 @@ returns c T n pass is =
       format = pass.format;
       known = c.in_ok-is_kept.ensures.known T n pass.known is;
       found = known-next T n s.found.items c.push_if.new.found.items pass.found (found_if (not b) (RedundantFlush (suc n)), pushed, known-clflush T (suc n) c.args.line b is (c.in_ok-is_kept.ensures.redundant T n pass.known is));
+      over = pass.over;
       kept = subst (AreFlagsTo T (suc n)) (sym c.in_ok-push.ensures.items) (flags-clflush T n c.args.line s.kept.items b is (c.in_ok-is_kept.ensures.kept T n pass.known is) pass.kept);
       verdicts = verdicts-act T n s.verdicts.items (Clflushes c.args.line) is (λ e. cc) pass.verdicts;
     }

@@ -29,6 +29,7 @@ returns c T n pass is =
       format = pass.format;
       known = c.in_ok-fenced.ensures.known T n pass.known is;
       found = known-next T n s.found.items c.push_if.new.found.items pass.found (found_if fenced.without_flush (FenceWithoutFlush (suc n)), pushed, known-fence T (suc n) t fenced.without_flush is (c.in_ok-fenced.ensures.empty T n pass.known is));
+      over = pass.over;
       kept = subst (AreFlagsTo T (suc n)) (sym added) (flags-fence T n t s.kept.items flags fenced.kept is same pass.kept kept (c.in_ok-fenced.ensures.kept T n pass.known is));
       verdicts = verdicts-act T n s.verdicts.items (Fences t) is (λ e. cc) pass.verdicts;
     }

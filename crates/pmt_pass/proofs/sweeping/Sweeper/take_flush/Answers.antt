@@ -21,6 +21,7 @@ returns c T n pass is =
       format = pass.format;
       known = c.in_ok-is_redundant.ensures.known T n pass.known is;
       found = known-next T n s.found.items c.push_if.new.found.items pass.found (found_if b (RedundantFlush (suc n)), pushed, known-flush T (suc n) c.args.thread c.args.line b is (c.in_ok-is_redundant.ensures.tells T n pass.known is));
+      over = pass.over;
       kept = subst (AreFlagsTo T (suc n)) (sym c.in_ok-push.ensures.items) (flags-flush T n c.args.thread c.args.line s.kept.items is pass.kept);
       verdicts = verdicts-act T n s.verdicts.items (Flushes c.args.thread c.args.line) is (λ e. cc) pass.verdicts;
     }

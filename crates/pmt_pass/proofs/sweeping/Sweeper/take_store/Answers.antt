@@ -1,9 +1,8 @@
-use Rattle.std.proofs.Common.{suc, List, ◌++◌, refl, sym, ap, subst, ◌∙◌}
+use Rattle.std.proofs.Common.{suc, List, refl, sym, subst}
 use Rattle.pmt_model.specs.Machine.{Stores}
 use Rattle.pmt_model.specs.Values.{line_of}
 use Rattle.pmt_words.specs.declared.words.Overwrite.{Overwrite}
 use Rattle.pmt_known.specs.Known.{AddsOverwrittenBy}
-use Rattle.pmt_pass.specs.Adding.{overwritten}
 use Rattle.pmt_pass.specs.Flags.{AreFlagsTo}
 use Rattle.pmt_pass.proofs.FlagLemmas.{flags-stays}
 use Rattle.pmt_pass.proofs.KnownLemmas.{adds-overwritten, known-next}
@@ -18,13 +17,13 @@ returns c T n pass next =
     let s = c.args.self.now in
     let w = c.args.store.now in
     let over = c.store.new.over.items in
-    let by = subst (λ (old : List Overwrite). AddsOverwrittenBy T (suc n) old over) c.clear.ensures.items (c.in_ok-store.ensures.tells T n pass.known next) in
-    let pushed = c.in_ok-push_overwritten.ensures ∙ ap (λ o. s.found.items ++ overwritten o) c.as_slice.ensures.value in
-    let adds = adds-overwritten T (suc n) (line_of T.format w.addr) w over s.found.items c.push_overwritten.new.found.items next by pushed in
+    let by = subst (λ (old : List Overwrite). AddsOverwrittenBy T (suc n) old over) pass.over (c.in_ok-store.ensures.tells T n pass.known next) in
+    let adds = adds-overwritten T (suc n) (line_of T.format w.addr) w over s.found.items c.move_overwritten.new.found.items next by c.in_ok-move_overwritten.ensures.found in
     record {
       format = pass.format;
       known = c.in_ok-store.ensures.known T n pass.known next;
-      found = known-next T n s.found.items c.push_overwritten.new.found.items pass.found adds;
+      found = known-next T n s.found.items c.move_overwritten.new.found.items pass.found adds;
+      over = c.in_ok-move_overwritten.ensures.none;
       kept = subst (AreFlagsTo T (suc n)) (sym c.in_ok-push.ensures.items) (flags-stays T n s.kept.items (Stores (line_of T.format w.addr) w) next refl pass.kept);
       verdicts = verdicts-act T n s.verdicts.items (Stores (line_of T.format w.addr) w) next (λ e. cc) pass.verdicts;
     }
