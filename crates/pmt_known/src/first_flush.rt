@@ -74,7 +74,11 @@ fn reach(first: &mut Vec<FirstFlush>, place: usize) -> Result<(), OutOfMemory>
     ensures many { OnOk result (length first.new.items ≡ max (length first.old.items) (place + 1)) }
     ensures same { OnOk result ((p : ℕ) → get_or first.new.items p none_first ≡ get_or first.old.items p none_first) }
 {
-    if first.len() <= place {
+    let many = first.len();
+    if many == place {
+        // mostly just this one lacks
+        first.push(NONE)?;
+    } else if many < place {
         first.resize(place + 1, NONE)?;
     }
     Ok(())
