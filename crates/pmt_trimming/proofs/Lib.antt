@@ -5,6 +5,7 @@ pub mod PassingLemmas
 pub mod FencingLemmas
 pub mod SettlingLemmas
 pub mod QueueLemmas
+pub mod LengthLemmas
 pub mod HeldLemmas
 pub mod StreamLemmas
 pub mod FlowLemmas

@@ -3,7 +3,7 @@ use Rattle.std.proofs.Common.{◌≡◌, ℕ, zero, suc, ◌+◌, ◌-◌, ◌<�
 use Rattle.std.specs.Prelude.{◌↔◌, slice_get, IfSome}
 use Rattle.std.specs.List.{flat_map}
 use Rattle.std.proofs.lemmas.Bool.{cases_lt, cases_eq, false≢true}
-use Rattle.std.proofs.lemmas.List.{drop-append-le}
+use Rattle.std.proofs.lemmas.List.{drop-append-le, map-append}
 use Rattle.std.proofs.lemmas.List.Elements.{filter_map-append}
 use Rattle.std.proofs.lemmas.Grind.{flat_map-append}
 use Rattle.pmt_model.specs.declared.event.Event.{Event}
@@ -164,19 +164,19 @@ left-start f text is = record {
   spelled = is ∙ sym (append-nil (ended (header f))) ∙ sym (spelled (empty f) []);
 }
 
-pub left-take : (T : Recording) (e : Event) (place : ℕ) (waiting : List Event) (text : List ℕ) → ((k : ℕ) → k ≤ place → IsDecided T k) → place ≤ length T.events →
-    HaveLeft T place waiting text → HaveLeft (with_event T e) place (waiting ++ e ∷ []) text
-left-take T e place waiting text decided le left = record {
-  others = ap (λ (es : List Event). es ++ e ∷ []) left.others ∙ sym (drop-append-le place T.events (e ∷ []) le);
+pub left-take : (T : Recording) (es : List Event) (place : ℕ) (waiting : List Event) (text : List ℕ) → ((k : ℕ) → k ≤ place → IsDecided T k) → place ≤ length T.events →
+    HaveLeft T place waiting text → HaveLeft (with_events T es) place (waiting ++ es) text
+left-take T es place waiting text decided le left = record {
+  others = ap (λ (xs : List Event). xs ++ es) left.others ∙ sym (drop-append-le place T.events es le);
   numbers = left.numbers;
   kept = record {
     rising = left.kept.rising;
     just = λ i. (
-      λ has. (let told = (left.kept.just i).0 has in ((decided_stays T (e ∷ []) i (decided i told.1)).1.0 told.0, told.1)),
-      λ x. (left.kept.just i).1 ((decided_stays T (e ∷ []) i (decided i x.1)).1.1 x.0, x.1),
+      λ has. (let told = (left.kept.just i).0 has in ((decided_stays T es i (decided i told.1)).1.0 told.0, told.1)),
+      λ x. (left.kept.just i).1 ((decided_stays T es i (decided i x.1)).1.1 x.0, x.1),
     );
   };
-  spelled = left.spelled ∙ sym (text-continued T (e ∷ []) left.numbers (λ i has. (let told = (left.kept.just i).0 has in omega (arith, told.1))));
+  spelled = left.spelled ∙ sym (text-continued T es left.numbers (λ i has. (let told = (left.kept.just i).0 has in omega (arith, told.1))));
 }
 
 -- an event that is dropped leaves
@@ -368,13 +368,9 @@ left-popped T place next kept result (e ∷ events) lines others base text longe
     ap (λ (bytes : List ℕ). base ++ bytes) of.1 ∙ sym (append_assoc base text (kept_text kept (event_text e))) ∙ ap (λ (bytes : List ℕ). (base ++ text) ++ bytes) (kept-is kept e) in
     (events, of.0, left-pop T place next kept result e (e ∷ events) events (base ++ text) (base ++ longer) told settles refl is left)
 
--- a line comes
-lines-append : (events : List Event) (e : Event) → map event_text events ++ event_text e ∷ [] ≡ map event_text (events ++ e ∷ [])
-lines-append [] e = refl
-lines-append (x ∷ events) e = ap (λ (ls : List (List ℕ)). event_text x ∷ ls) (lines-append events e)
-
-pub lines-more : (events : List Event) (e : Event) (old new : List (List ℕ)) → old ≡ map event_text events → new ≡ old ++ event_text e ∷ [] → new ≡ map event_text (events ++ e ∷ [])
-lines-more events e old new are is = is ∙ ap (λ (ls : List (List ℕ)). ls ++ event_text e ∷ []) are ∙ lines-append events e
+-- lines come
+pub lines-more : (events es : List Event) (old new : List (List ℕ)) → old ≡ map event_text events → new ≡ old ++ map event_text es → new ≡ map event_text (events ++ es)
+lines-more events es old new are is = is ∙ ap (λ (ls : List (List ℕ)). ls ++ map event_text es) are ∙ sym (map-append event_text events es)
 
 -- a line that the source lends
 pub lent-is : (e : Event) (lent : Option (List ℕ)) (result : Option (Bor (List ℕ))) → Lends (Ok (Some e)) lent → IfSome result (λ l. lent ≡ Some l.now) → IfSome result (λ l. l.now ≡ event_text e)
@@ -393,13 +389,13 @@ left-none f place waiting base text start none fresh is =
     let Q : List Event → Type 0 = λ es. HaveLeft (empty f) 0 es text in
     subst P (sym start) (subst Q (sym none) (left-start f text (is ∙ ap (λ (bytes : List ℕ). bytes ++ ended (header f)) fresh)))
 
--- an event has come
-pub left-next : (T : Recording) (e : Event) (place next all : ℕ) (waiting longer : List Event) (text : List ℕ) → next ≡ place → longer ≡ waiting ++ e ∷ [] →
-    ((k : ℕ) → k ≤ place → IsDecided T k) → place + all ≡ length T.events → HaveLeft T place waiting text → HaveLeft (with_event T e) next longer text
-left-next T e place next all waiting longer text same is decided within left =
-    let P : ℕ → Type 0 = λ n. HaveLeft (with_event T e) n longer text in
-    let Q : List Event → Type 0 = λ es. HaveLeft (with_event T e) place es text in
-    subst P (sym same) (subst Q (sym is) (left-take T e place waiting text decided (omega arith) left))
+-- events have come
+pub left-next : (T : Recording) (es : List Event) (place next all : ℕ) (waiting longer : List Event) (text : List ℕ) → next ≡ place → longer ≡ waiting ++ es →
+    ((k : ℕ) → k ≤ place → IsDecided T k) → place + all ≡ length T.events → HaveLeft T place waiting text → HaveLeft (with_events T es) next longer text
+left-next T es place next all waiting longer text same is decided within left =
+    let P : ℕ → Type 0 = λ n. HaveLeft (with_events T es) n longer text in
+    let Q : List Event → Type 0 = λ ws. HaveLeft (with_events T es) place ws text in
+    subst P (sym same) (subst Q (sym is) (left-take T es place waiting text decided (omega arith) left))
 
 -- the lines of the events whose flag is set
 pub texts-lines : (flags : List Bool) (events : List Event) → kept_texts flags (map event_text events) ≡ kept_lines flags events
@@ -473,7 +469,7 @@ pub left-alone : (T : Recording) (e : Event) (place all : ℕ) (waiting : List E
     ((k : ℕ) → k ≤ place → IsDecided T k) → place + all ≡ length T.events → HaveLeft T place waiting text → HaveLeft (with_event T e) place (e ∷ []) text
 left-alone T e place all waiting lines text none are decided within left =
     let alone : waiting ≡ [] = none-mapped waiting (sym none ∙ are) in
-    left-next T e place place all waiting (e ∷ []) text refl (sym (ap (λ (es : List Event). es ++ e ∷ []) alone)) decided within left
+    left-next T (e ∷ []) place place all waiting (e ∷ []) text refl (sym (ap (λ (es : List Event). es ++ e ∷ []) alone)) decided within left
 
 -- it leaves at once
 pub alone-left : (T : Recording) (place next : ℕ) (kept : Bool) (e : Event) (base text longer : List ℕ) → Settles T place (Some kept) next →

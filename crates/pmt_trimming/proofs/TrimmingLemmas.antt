@@ -1,5 +1,5 @@
 -- From the flags of a pass to what is kept.
-use Rattle.std.proofs.Common.{◌≡◌, ℕ, zero, suc, ◌+◌, ◌<◌, ◌≤◌, Bool, true, false, List, [], ◌∷◌, ◌++◌, length, get_or, take, Some, inl, inr, refl, sym, ap, ◌∙◌, arith}
+use Rattle.std.proofs.Common.{◌≡◌, ℕ, zero, suc, ◌+◌, ◌<◌, ◌≤◌, Bool, true, false, List, [], ◌∷◌, ◌++◌, length, get_or, take, Some, inl, inr, refl, sym, ap, ◌∙◌, arith, append_assoc}
 use Rattle.std.specs.Prelude.{◌↔◌, slice_get}
 use Rattle.std.proofs.lemmas.Bool.{false≢true}
 use Rattle.std.proofs.lemmas.List.{take_more, take_all}
@@ -7,7 +7,7 @@ use Rattle.std.proofs.lemmas.Option.{same_Some}
 use Rattle.std.specs.List.{AllByRecursion}
 use Rattle.pmt_model.specs.declared.event.Event.{Event}
 use Rattle.pmt_model.specs.Traces.{Recording}
-use Rattle.pmt_model.specs.Pushing.{with_event}
+use Rattle.pmt_model.specs.Pushing.{with_event, with_events}
 use Rattle.pmt_model.specs.Selections.{IsRising, Has, IsSelection}
 use Rattle.pmt_model.specs.Keeping.{IsKept, IsKeep}
 use Rattle.pmt_flags.specs.Flags.{is_kept_at}
@@ -22,6 +22,12 @@ first_events T n = record { format = T.format; events = take n T.events }
 pub first-more : (T : Recording) (n : ℕ) (e : Event) → n < length T.events → e ≡ get_or T.events n e → with_event (first_events T n) e ≡ first_events T (n + 1)
 first-more T n e within at =
     ap (λ (es : List Event). let R : Recording = record { format = T.format; events = es } in R) (ap (λ x. take n T.events ++ x ∷ []) at ∙ sym (take_more T.events n e within))
+
+-- also behind another trace
+pub events-next : (T : Recording) (es : List Event) (n : ℕ) (e : Event) → n < length es → e ≡ get_or es n e → with_event (with_events T (take n es)) e ≡ with_events T (take (n + 1) es)
+events-next T es n e within at =
+    ap (λ (more : List Event). let R : Recording = record { format = T.format; events = more } in R)
+    (append_assoc T.events (take n es) (e ∷ []) ∙ ap (λ (more : List Event). T.events ++ more) (ap (λ x. take n es ++ x ∷ []) at ∙ sym (take_more es n e within)))
 
 -- and all of them
 pub first-all : (T : Recording) (n : ℕ) → length T.events ≤ n → first_events T n ≡ T

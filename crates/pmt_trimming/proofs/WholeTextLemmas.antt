@@ -1,26 +1,35 @@
 -- The whole text at the end of a source, and a fault before it.
-use Rattle.std.proofs.Common.{◌≡◌, ℕ, List, Option, None, Some, Result, Err, refl, sym, subst, ◌∙◌}
+use Rattle.std.proofs.Common.{◌≡◌, ◌≢◌, ℕ, ◌+◌, ◌≤◌, inl, List, [], ◌++◌, length, Option, None, Some, Result, Ok, Err, Bor, refl, sym, ap, subst, ◌∙◌, arith, length-append}
 use Rattle.std.specs.Prelude.{IfErr, IfSome}
 use Rattle.pmt_model.specs.declared.event.Event.{Event}
 use Rattle.pmt_model.specs.Traces.{Recording}
+use Rattle.pmt_model.specs.Pushing.{empty, with_events}
 use Rattle.pmt_text.specs.declared.kind.SourceError.{SourceError}
 use Rattle.pmt_text.specs.declared.kind.SourceError.TheVariants.{Text, TooMany, Read, OutOfMemory, Failed}
+use Rattle.pmt_text.specs.declared.source.SourceState.{SourceState}
+use Rattle.pmt_text.specs.declared.source.SourceState.TheVariants as states
 use Rattle.pmt_text.specs.Coming.{Coming}
-use Rattle.pmt_text.specs.Sources.{Gives, HasFormat, IsOver, Faults, CountsReads}
+use Rattle.pmt_text.specs.Sources.{Gives, HasFormat, IsOver, Faults, CountsReads, LendsAll, TakesReady}
 use Rattle.pmt_taking.specs.declared.taking.TakeError.{TakeError}
-use Rattle.pmt_taking.specs.declared.taking.TakeError.TheVariants.{Source}
-use Rattle.pmt_taking.specs.Sourcing.{IsFaultOf, told_by}
-use Rattle.pmt_taking.proofs.SourceRunLemmas.{SameReads}
+use Rattle.pmt_taking.specs.declared.taking.TakeError.TheVariants as refusals
+use Rattle.pmt_taking.specs.Sourcing.{IsFaultOf, TellsNothing, TellsTaken, told_by}
+use Rattle.pmt_text.proofs.SourceLemmas.{Gives-trans}
+use Rattle.pmt_taking.specs.Blocks.{Shown}
+use Rattle.pmt_taking.proofs.SourceRunLemmas.{SameReads, SoFar}
 use Rattle.pmt_trimming.specs.Streaming.{IsTextOfTrimmed}
 use Rattle.pmt_trimming.specs.WholeTexts.{IsTextOfWhole}
 use Rattle.pmt_trimming.proofs.FlowEnds.{comes-over}
+
+-- the events that were ready, where the trace had none
+ready-events : (before after : Recording) (old new : Option Coming) (lent : Option (List ℕ)) → before.events ≡ [] → (ready : TakesReady old new lent before after) → after.events ≡ ready.events
+ready-events before after old new lent fresh ready = ap (λ (R : Recording). R.events) ready.added ∙ ap (λ (es : List Event). es ++ ready.events) fresh
 
 -- the source has told its end
 pub text-whole : (first now : Option Coming) (T : Recording) (text : List ℕ) → Gives first T.events now → HasFormat first (Some T.format) → IsOver now None → IsTextOfTrimmed T text → IsTextOfWhole first text
 text-whole first now T text given format over right = record { trace = T; come = comes-over first now T None given format over; right = right }
 
 -- it has told a fault, which is the one that came
-pub text-fault : {B : Type 0} (first now : Option Coming) (T : Recording) (e : SourceError) (r : Result B TakeError) → Gives first T.events now → Faults now e → r ≡ Err (Source e) →
+pub text-fault : {B : Type 0} (first now : Option Coming) (T : Recording) (e : SourceError) (r : Result B TakeError) → Gives first T.events now → Faults now e → r ≡ Err (refusals.Source e) →
     IfErr (told_by r) (λ f. IfSome first (λ c. IsFaultOf c f))
 text-fault {B = B} first now T e r given faults refused = subst (λ (q : Result B TakeError). IfErr (told_by q) (λ f. IfSome first (λ c. IsFaultOf c f))) (sym refused) (go first given)
   where
@@ -45,8 +54,48 @@ text-fault {B = B} first now T e r given faults refused = subst (λ (q : Result 
         same c rest e refl (part rest e (subst (λ o. Faults o e) given.2 faults))
 
 -- and it was counted, if it was a failed read
-pub counts-fault : {B : Type 0} (old mid new : Option ℕ) (e : SourceError) (r : Result B TakeError) → SameReads old mid → CountsReads {T = Option Event} mid (Err e) new → r ≡ Err (Source e) →
+pub counts-fault : {B : Type 0} (old mid new : Option ℕ) (e : SourceError) (r : Result B TakeError) → SameReads old mid → CountsReads {T = Option Event} mid (Err e) new → r ≡ Err (refusals.Source e) →
     CountsReads old (told_by r) new
 counts-fault None mid new e r same counts refused = tt
 counts-fault {B = B} (Some n) mid new e r same counts refused =
     subst (λ (q : Result B TakeError). CountsReads (Some n) (told_by q) new) (sym refused) (subst (λ m. CountsReads {T = Option Event} m (Err e) new) same counts)
+
+-- the lines that it lends of events that were ready
+pub lent-all : (before after : Recording) (old new : Option Coming) (lent : Option (List ℕ)) (result : Option (Bor (List ℕ))) → before.events ≡ [] → TakesReady old new lent before after → IfSome result (λ l. lent ≡ Some l.now) →
+    IfSome result (λ l. LendsAll after.events (Some l.now))
+lent-all before after old new lent None fresh ready is = tt
+lent-all before after old new lent (Some l) fresh ready is =
+    subst (λ es. LendsAll es (Some l.now)) (sym (ready-events before after old new lent fresh ready)) (subst (λ (o : Option (List ℕ)). LendsAll ready.events o) is ready.lends)
+
+-- after them
+pub so_far-ready : (first now next : Shown) (T before after : Recording) (lent : Option (List ℕ)) → before ≡ empty T.format → SoFar first now T → TakesReady now.coming next.coming lent before after →
+    next.room + length after.events ≤ now.room + length before.events → next.state ≡ now.state → next.format ≡ now.format → next.failures ≡ now.failures → SoFar first next (with_events T after.events)
+so_far-ready first now next T before after lent fresh so_far ready roomy state format failures =
+    let none : before.events ≡ [] = ap (λ (R : Recording). R.events) fresh in
+    record {
+      given = subst (λ (es : List Event). Gives first.coming (T.events ++ es) next.coming) (sym (ready-events before after now.coming next.coming lent none ready)) (Gives-trans first.coming now.coming next.coming T.events ready.events so_far.given ready.taken);
+      format = so_far.format;
+      in_format = format ∙ so_far.in_format;
+      same_state = state ∙ so_far.same_state;
+      unfailed = so_far.unfailed;
+      same_reads = subst (λ m. SameReads first.failures m) (sym failures) so_far.same_reads;
+      roomy = omega (arith, so_far.roomy, roomy, ap length none, length-append T.events after.events);
+    }
+
+-- memory is refused to the trimmer itself: the source has told nothing
+pub refused-told : {B : Type 0} (first now : Shown) (T : Recording) (new : SourceState) (r : Result B TakeError) → SoFar first now T → new ≡ now.state → r ≡ Err refusals.OutOfMemory → TellsTaken first.state r new
+refused-told {B = B} first now T new r so_far same refused =
+    subst (λ (q : Result B TakeError). TellsTaken first.state q new) (sym refused) (inl (nothing first.state (same ∙ so_far.same_state) so_far.unfailed))
+  where
+    nothing : (old : SourceState) → new ≡ old → ((told : SourceError) → old ≢ states.Failed told) → TellsNothing old new
+    nothing states.Open is unfailed = is
+    nothing states.Ended is unfailed = is
+    nothing (states.Failed told) is unfailed = absurd (unfailed told refl)
+
+pub refused-counted : {B : Type 0} (first now : Shown) (T : Recording) (new : Option ℕ) (r : Result B TakeError) → SoFar first now T → new ≡ now.failures → r ≡ Err refusals.OutOfMemory → CountsReads first.failures (told_by r) new
+refused-counted {B = B} first now T new r so_far same refused =
+    subst (λ (q : Result B TakeError). CountsReads first.failures (told_by q) new) (sym refused) (go first.failures (subst (λ m. SameReads first.failures m) (sym same) so_far.same_reads))
+  where
+    go : (old : Option ℕ) → SameReads old new → CountsReads {T = Unit {0}} old (Ok tt) new
+    go None reads = tt
+    go (Some n) reads = let e : n ≡ n + 0 = omega arith in reads ∙ ap (λ (k : ℕ). Some k) e

@@ -5,6 +5,7 @@
 
 mod held_lines;
 pub mod laws;
+mod line_len;
 mod line_queue;
 mod marks;
 mod pass;

@@ -1,9 +1,9 @@
 //! The trimmer that gives the whole text.
-ghost use Rattle.std.specs.Prelude.{◌≡◌, ◌++◌, ◌∷◌, [], ◌<◌, Bool, List, map, IfOk, IfErr, IfSome, OnOk};
-ghost use Rattle.pmt_model.specs.Pushing.{empty, with_event};
+ghost use Rattle.std.specs.Prelude.{◌≡◌, ◌+◌, ◌++◌, ◌∷◌, [], ◌<◌, ◌≤◌, Bool, List, length, map, Some, IfOk, IfErr, IfSome, OnOk};
+ghost use Rattle.pmt_model.specs.Pushing.{empty, with_event, with_events};
 ghost use Rattle.pmt_model.specs.Traces.{Recording, event_limit};
 ghost use Rattle.pmt_text.specs.Spelling.{event_text};
-ghost use Rattle.pmt_text.specs.Sources.{CountsReads};
+ghost use Rattle.pmt_text.specs.Sources.{CountsReads, LendsAll};
 ghost use Rattle.pmt_taking.specs.Sourcing.{IsFaultOf, TellsTaken, told_by};
 ghost use Rattle.pmt_trimming.specs.LineQueues.{kept_texts};
 ghost use Rattle.pmt_trimming.specs.Passing.{flag_by, taken};
@@ -12,11 +12,14 @@ ghost use Rattle.pmt_trimming.specs.WholeTexts.{IsTextOfWhole, IsWhole, IsWholeO
 
 use crate::held_lines::HeldLines;
 use crate::pass::{Mark, Pass, flag};
-use pmt_model::{Event, Format, OutOfMemory};
+use pmt_model::{Event, Format, OutOfMemory, Trace};
 use pmt_taking::TakeError;
 use pmt_text::EventSource;
 use pmt_text::write::{LINE_ROOM, push_header, spell_event};
 use std::alloc::Global;
+
+/// The most events of a block: a read gives about a hundred.
+const BLOCK_ROOM: usize = 512;
 
 /// The text of the trimmed trace whose events the source has still to give. Memory is that of the text of all that comes.
 ///
@@ -31,10 +34,24 @@ pub fn trimmed_text<S: EventSource>(alloc: Global, source: &mut S) -> Result<Vec
 {
     let format = source.format()?;
     let mut whole = Whole::new(alloc, format)?;
+    let mut block = Trace::with_room(alloc, format, BLOCK_ROOM)?;
     while let Some(event) = source.next()? {
         whole.take(&event, source.last_line())?;
+        source.take_ready(&mut block, BLOCK_ROOM)?;
+        whole.take_all(block.events(), source.last_line())?;
+        block = emptied(alloc, block)?;
     }
     Ok(whole.into_text())
+}
+
+// The block without its events: one that has none stays.
+fn emptied(alloc: Global, block: Trace) -> Result<Trace, OutOfMemory>
+    ensures { IfOk result (λ trace. trace ≡ empty block.format) }
+{
+    if block.is_empty() {
+        return Ok(block);
+    }
+    Trace::with_room(alloc, block.format(), BLOCK_ROOM)
 }
 
 /// The header, and the lines of all events that have come.
@@ -67,6 +84,18 @@ impl Whole {
     {
         hold(&mut self.held, event, line)?;
         self.pass.take(event)?;
+        Ok(())
+    }
+
+    // The next events come, perhaps with their lines, which are not spelled again then.
+    fn take_all(&mut self, events: &[Event], lines: Option<&[u8]>) -> Result<(), OutOfMemory>
+        requires whole { IsWhole self.old }
+        requires lines { IfSome lines (λ bytes. LendsAll events.now (Some bytes.now)) }
+        requires room { taken self.old.pass + length events.now ≤ event_limit }
+        ensures { (T : Recording) → IsWholeOf T self.old → OnOk result (IsWholeOf (with_events T events.now) self.new) }
+    {
+        hold_all(&mut self.held, events, lines)?;
+        self.pass.take_all(events)?;
         Ok(())
     }
 
@@ -119,4 +148,27 @@ fn hold_spelled(held: &mut HeldLines, event: Event) -> Result<(), OutOfMemory>
 {
     let mut room = [0; LINE_ROOM];
     held.push(spell_event(&mut room, &event))
+}
+
+// The lines of the events are held. They are spelled where none were given.
+fn hold_all(held: &mut HeldLines, events: &[Event], lines: Option<&[u8]>) -> Result<(), OutOfMemory>
+    requires { IfSome lines (λ bytes. LendsAll events.now (Some bytes.now)) }
+    ensures text { OnOk result (held.new.text ≡ held.old.text) }
+    ensures lines { OnOk result (held.new.lines ≡ held.old.lines ++ map event_text events.now) }
+{
+    match lines {
+        Some(bytes) => held.push_all(events, bytes),
+        None => hold_each(held, events),
+    }
+}
+
+// The lines of the events are spelled, and held.
+fn hold_each(held: &mut HeldLines, events: &[Event]) -> Result<(), OutOfMemory>
+    ensures text { OnOk result (held.new.text ≡ held.old.text) }
+    ensures lines { OnOk result (held.new.lines ≡ held.old.lines ++ map event_text events.now) }
+{
+    for event in events {
+        hold_spelled(held, *event)?;
+    }
+    Ok(())
 }

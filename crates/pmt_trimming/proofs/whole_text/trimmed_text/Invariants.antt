@@ -1,14 +1,16 @@
+use Rattle.std.proofs.Common.{◌≡◌}
+use Rattle.pmt_model.specs.Pushing.{empty}
 use Rattle.pmt_model.specs.Traces.{Recording}
 use Rattle.pmt_taking.specs.Blocks.{shown_by}
 use Rattle.pmt_taking.proofs.SourceRunLemmas.{SoFar}
 use Rattle.pmt_trimming.specs.WholeTexts.{IsWholeOf}
 use Rattle.pmt_trimming.proofs.whole_text.trimmed_text.Given as goal
 
-abbrev pub invariant-loop-whole : goal.invariant-loop-whole
-invariant-loop-whole g l =
+abbrev pub invariant-loop-block : goal.invariant-loop-block
+invariant-loop-block g l =
     let source = g.S.EventSource in
     let shown = shown_by source.coming source.state source.known_format source.failures source.room in
-    (T : Recording) × SoFar (shown l.fn.source) (shown l.source) T × IsWholeOf T l.whole
+    (T : Recording) × SoFar (shown l.fn.source) (shown l.source) T × IsWholeOf T l.whole × (l.block ≡ empty T.format)
 
-abbrev pub decreases-loop-whole : goal.decreases-loop-whole
-decreases-loop-whole g l = g.S.EventSource.room l.source
+abbrev pub decreases-loop-block : goal.decreases-loop-block
+decreases-loop-block g l = g.S.EventSource.room l.source

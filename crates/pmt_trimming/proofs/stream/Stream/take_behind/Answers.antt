@@ -17,8 +17,8 @@ leave-requires-clause-stream c =
       record {
         pass = took.follows T is.pass;
         waiting = is.waiting ++ e ∷ [];
-        lines = lines-more is.waiting e _ _ is.lines c.in_ok-wait.ensures.lines;
-        left = left-next T e _ _ _ is.waiting _ _ took.settled refl is.pass.before is.pass.all (subst (λ (bytes : List ℕ). HaveLeft T c.args.self.now.pass.settled is.waiting (of.1 ++ bytes)) (sym same) is.left);
+        lines = lines-more is.waiting (e ∷ []) _ _ is.lines c.in_ok-wait.ensures.lines;
+        left = left-next T (e ∷ []) _ _ _ is.waiting _ _ took.settled refl is.pass.before is.pass.all (subst (λ (bytes : List ℕ). HaveLeft T c.args.self.now.pass.settled is.waiting (of.1 ++ bytes)) (sym same) is.left);
       },
     )
 
@@ -40,8 +40,8 @@ returns-clause-stream c = λ T text is.
     (record {
       pass = took.follows T is.pass;
       waiting = is.waiting ++ e ∷ [];
-      lines = lines-more is.waiting e _ _ is.lines c.in_ok-wait.ensures.lines;
-      left = left-next T e _ _ _ is.waiting _ _ took.settled refl is.pass.before is.pass.all (subst (λ (bytes : List ℕ). HaveLeft T c.args.self.now.pass.settled is.waiting (text ++ bytes)) (sym same) is.left);
+      lines = lines-more is.waiting (e ∷ []) _ _ is.lines c.in_ok-wait.ensures.lines;
+      left = left-next T (e ∷ []) _ _ _ is.waiting _ _ took.settled refl is.pass.before is.pass.all (subst (λ (bytes : List ℕ). HaveLeft T c.args.self.now.pass.settled is.waiting (text ++ bytes)) (sym same) is.left);
     })
 
 pub returns-clause-out : goal.returns-clause-out
@@ -53,6 +53,6 @@ returns-clause-out c = λ T text is.
     (record {
       pass = took.follows T is.pass;
       waiting = is.waiting ++ e ∷ [];
-      lines = lines-more is.waiting e _ _ is.lines c.in_ok-wait.ensures.lines;
-      left = left-next T e _ _ _ is.waiting _ _ took.settled refl is.pass.before is.pass.all (subst (λ (bytes : List ℕ). HaveLeft T c.args.self.now.pass.settled is.waiting (text ++ bytes)) (sym same) is.left);
+      lines = lines-more is.waiting (e ∷ []) _ _ is.lines c.in_ok-wait.ensures.lines;
+      left = left-next T (e ∷ []) _ _ _ is.waiting _ _ took.settled refl is.pass.before is.pass.all (subst (λ (bytes : List ℕ). HaveLeft T c.args.self.now.pass.settled is.waiting (text ++ bytes)) (sym same) is.left);
     })

@@ -13,6 +13,6 @@ returns c = λ T is.
     record {
       pass = took.follows T is.pass;
       waiting = is.waiting ++ e ∷ [];
-      lines = lines-more is.waiting e _ _ is.lines c.in_ok-hold.ensures.lines;
-      left = left-next T e _ _ _ is.waiting _ _ took.settled refl is.pass.before is.pass.all (subst (λ (bytes : List ℕ). HaveLeft T c.args.self.now.pass.settled is.waiting bytes) (sym c.in_ok-hold.ensures.text) is.left);
+      lines = lines-more is.waiting (e ∷ []) _ _ is.lines c.in_ok-hold.ensures.lines;
+      left = left-next T (e ∷ []) _ _ _ is.waiting _ _ took.settled refl is.pass.before is.pass.all (subst (λ (bytes : List ℕ). HaveLeft T c.args.self.now.pass.settled is.waiting bytes) (sym c.in_ok-hold.ensures.text) is.left);
     }

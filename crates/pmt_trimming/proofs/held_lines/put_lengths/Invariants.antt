@@ -1,0 +1,10 @@
+use Rattle.std.proofs.Common.{◌≡◌, ◌+◌, ◌≤◌, ◌++◌, length, map, take, vec_capacity, vec_len}
+use Rattle.pmt_text.specs.Spelling.{event_text}
+use Rattle.pmt_trimming.proofs.held_lines.put_lengths.Given as goal
+
+abbrev pub invariant-loop-event : goal.invariant-loop-event
+invariant-loop-event l = record {
+  items : l.lengths.items ≡ l.fn.lengths.items ++ map (λ e. length (event_text e)) (take l.event-index l.events);
+  len : vec_len l.lengths ≡ vec_len l.fn.lengths + l.event-index;
+  room : vec_len l.fn.lengths + length l.events ≤ vec_capacity l.lengths;
+}
