@@ -18,7 +18,7 @@ use Rattle.pmt_safety.proofs.RedundantLemmas.{never_persisted_by_stores}
 use Rattle.pmt_safety.proofs.SafetyLemmas.{safe-up_to, safe-later}
 use Rattle.pmt_ending.specs.Late.{is_known_late, AreKnownLate}
 use Rattle.pmt_ending.specs.SafePlaces.{tells_lost, place_in, IsSafePlace, AreSafePlaces}
-use Rattle.pmt_ending.specs.Entries.{IsLost, AreMarked, lost_at}
+use Rattle.pmt_ending.specs.Entries.{IsLost, AreLostAfter, AreMarked, lost_at}
 use Rattle.pmt_ending.proofs.MarkedLemmas.{same-line}
 
 -- ---- Entries
@@ -176,8 +176,8 @@ late-is_lost T (FenceWithoutFlush i) h late = absurd (let no : ⊥ = cc in no)
 late-within : (T : Recording) (f : Finding) → IsFinding T f → is_known_late f ≡ true → (1 ≤ reported_at f) × (reported_at f ≤ length T.events)
 late-within T f h late = let x = late-is_lost T f h late in act-within T (reported_at f) (Stores x.0 x.1.what) x.1.is_store
 
-pub late-none : (T : Recording) → AreLateTo T 0 []
-late-none T = record { ordered = tt; just = λ f. (λ none. absurd none, λ h. absurd (omega (arith, h.2, (late-within T f h.0 h.1).0))) }
+pub late-none : (T : Recording) (n : ℕ) → AreLostAfter T n → AreLateTo T n []
+late-none T n after = record { ordered = tt; just = λ f. (λ none. absurd none, λ h. let x = late-is_lost T f h.0 h.1 in absurd (omega (arith, h.2, after x.0 (reported_at f) x.1))) }
 
 equal_or_less : (m n : ℕ) → m ≤ suc n → (m ≡ suc n) ⊎ (m ≤ n)
 equal_or_less m n h = grind arith

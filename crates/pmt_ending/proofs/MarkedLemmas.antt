@@ -18,8 +18,8 @@ use Rattle.pmt_rows.specs.declared.rows.Row.{Row}
 use Rattle.pmt_rows.specs.declared.rows.Rows.{Rows}
 use Rattle.pmt_rows.specs.Known.{row_after}
 use Rattle.pmt_known.specs.Ends.{AreEndsOf}
-use Rattle.pmt_ending.specs.Entries.{IsLost, lost_entry, AreMarked}
-use Rattle.pmt_ending.specs.Marking.{IsLineEnd, IsLineMarked}
+use Rattle.pmt_ending.specs.Entries.{IsLost, lost_entry, AreLostAfter, AreMarked}
+use Rattle.pmt_ending.specs.Marking.{IsLineEnd, IsLineLostAfter, IsLineMarked}
 
 -- the lines of a trace
 abbrev pub all_lines : Recording → List ℕ
@@ -43,6 +43,10 @@ pub record AreMarkedTo (T : Recording) (old new : List ℕ) (place : ℕ) : Type
   pub many : length new ≡ length old
   pub own : (l p j : ℕ) → IsPlaceOf l p (all_lines T) → p < place → IsLost T l j → slice_index new j ≡ lost_entry T l j
   pub others : (j : ℕ) → ((l p : ℕ) → IsPlaceOf l p (all_lines T) → p < place → ¬ IsLost T l j) → slice_index new j ≡ slice_index old j
+
+-- All lost stores to the lines at the first places come after this event.
+abbrev pub AreLostAfterTo : Recording → ℕ → ℕ → Type 0
+AreLostAfterTo T place before = (l p j : ℕ) → IsPlaceOf l p (all_lines T) → p < place → IsLost T l j → before < j
 
 module _ (T : Recording) (rows : Rows) (old : List ℕ) (ends : AreEndsOf T (length T.events) rows old) where
   pub marked-none : AreMarkedTo T old old 0
@@ -84,6 +88,17 @@ module _ (T : Recording) (rows : Rows) (old : List ℕ) (ends : AreEndsOf T (len
               let own_line : l ≡ k = cc in
               subst (λ m. slice_index after j ≡ lost_entry T m j) own_line (line.own j (subst (λ m. IsLost T m j) (sym own_line) lost))
         ]
+
+  -- one line more
+  pub after-next : (place l before own least : ℕ) → IsPlaceOf l place (all_lines T) → least ≤ before → least ≤ own → AreLostAfterTo T place before → IsLineLostAfter T l own → AreLostAfterTo T (place + 1) least
+  after-next place l before own least at first second so_far line k p j there less lost = elim (cases_lt p place) [
+    | inl earlier ↦ omega (arith, first, so_far k p j there earlier lost)
+    | inr last ↦
+        let same : p ≡ place = omega (arith, less, last) in
+        let here : Some k ≡ Some l = sym there ∙ ap (λ q. slice_get (all_lines T) q) same ∙ at in
+        let own_line : k ≡ l = cc in
+        omega (arith, second, line j (subst (λ m. IsLost T m j) own_line lost))
+  ]
 
   module _ (new : List ℕ) (place : ℕ) (all : length (all_lines T) ≤ place) (so_far : AreMarkedTo T old new place) where
     -- the line of a store has a place
@@ -148,3 +163,6 @@ module _ (T : Recording) (rows : Rows) (old : List ℕ) (ends : AreEndsOf T (len
       others = is-place;
       safe = safe-from;
     }
+
+    pub after-all : (before : ℕ) → AreLostAfterTo T place before → AreLostAfter T before
+    after-all before so_far_after l j lost = let x = placed l j lost.what lost.is_store in so_far_after l x.0 j x.1 (omega (arith, slice_get_within (all_lines T) x.0 l x.1, all)) lost

@@ -11,7 +11,7 @@ use Rattle.pmt_safety.proofs.StoreLemmas.{IsLineStore, last-is_store, last-great
 use Rattle.pmt_links.proofs.LinkedLemmas.{last-by_now}
 use Rattle.pmt_rows.specs.declared.rows.Row.{Row}
 use Rattle.pmt_ending.specs.Entries.{IsLost, entry_of_lost, lost_entry}
-use Rattle.pmt_ending.specs.Marking.{IsLineEnd, IsLineMarked}
+use Rattle.pmt_ending.specs.Marking.{IsLineEnd, IsLineLostAfter, IsLineMarked}
 
 -- The walk has come down to this store to line l, or to 0: the entries above it tell whether a flush follows.
 pub record IsWalking (T : Recording) (l : ℕ) (old new : List ℕ) (number : ℕ) : Type 0 where
@@ -21,16 +21,17 @@ pub record IsWalking (T : Recording) (l : ℕ) (old new : List ℕ) (number : �
   pub others : (j : ℕ) → (IsLost T l j → j ≤ number) → slice_index new j ≡ slice_index old j
 
 module _ (T : Recording) (l : ℕ) (row : Row) (old : List ℕ) (end : IsLineEnd T l row old) where
-  pub walk-starts : IsWalking T l old old row.last_store
-  walk-starts = record { many = refl; is = subst (IsLineStore T l (length T.events)) (sym last) (last-is_store T l (length T.events)); own = λ j lost above. absurd (past j lost above); others = λ j below. refl }
-    where
-      last : row.last_store ≡ last_line_store_at T l (length T.events)
-      last = ap (λ (r : Row). r.last_store) end.ends
+  last-is : row.last_store ≡ last_line_store_at T l (length T.events)
+  last-is = ap (λ (r : Row). r.last_store) end.ends
 
-      past : (j : ℕ) → IsLost T l j → row.last_store < j → ⊥
-      past j lost above =
-          let within = act-within T j (Stores l lost.what) lost.is_store in
-          omega (arith, above, last, last-greatest T l (length T.events) j lost.what lost.is_store within.1)
+  -- no lost store comes after the last one
+  pub none-above : (j : ℕ) → IsLost T l j → row.last_store < j → ⊥
+  none-above j lost above =
+      let within = act-within T j (Stores l lost.what) lost.is_store in
+      omega (arith, above, last-is, last-greatest T l (length T.events) j lost.what lost.is_store within.1)
+
+  pub walk-starts : IsWalking T l old old row.last_store
+  walk-starts = record { many = refl; is = subst (IsLineStore T l (length T.events)) (sym last-is) (last-is_store T l (length T.events)); own = λ j lost above. absurd (none-above j lost above); others = λ j below. refl }
 
   safe-is : row.safe ≡ safe_store_at T l (length T.events)
   safe-is = ap (λ (r : Row). r.safe) end.ends
@@ -98,6 +99,17 @@ module _ (T : Recording) (l : ℕ) (row : Row) (old : List ℕ) (end : IsLineEnd
         | inl same ↦ absurd (omega (arith, same, down, last-by_now T l i, below (subst (IsLost T l) (sym same) here)))
         | inr other ↦ get_or-set_other new (suc i) j entry 0 other ∙ w.others j (λ lost. omega (arith, below lost, down, last-by_now T l i))
       ]
+
+  -- the lost stores that come after what it leads to are those from it on
+  pub walk-after : (new : List ℕ) (number : ℕ) → row.safe < number → IsWalking T l old new number → (j : ℕ) → IsLost T l j → slice_index new number < j → number ≤ j
+  walk-after new zero above w j lost later = omega arith
+  walk-after new (suc i) above w j lost later = elim (cases_lt j (suc i)) [
+    | inl low ↦ absurd (omega (arith, later, leads new i above w, last-greatest T l i j lost.what lost.is_store (omega (arith, low))))
+    | inr from ↦ from
+  ]
+
+  pub all-after : (number before : ℕ) → number ≤ row.safe → ((j : ℕ) → IsLost T l j → number < j → before < j) → IsLineLostAfter T l before
+  all-after number before done after j lost = after j lost (omega (arith, done, safe-is, lost.later))
 
   pub walk-ends : (new : List ℕ) (number : ℕ) → number ≤ row.safe → IsWalking T l old new number → IsLineMarked T l old new
   walk-ends new number done w = record { many = w.many; own = λ j lost. w.own j lost (omega (arith, done, safe-is, lost.later)); others = λ j none. w.others j (λ lost. absurd (none lost)) }

@@ -15,6 +15,10 @@ pub record IsLost (T : Recording) (l j : ℕ) : Type 0 where
   pub is_store : IsAct T j (Stores l what)
   pub later : safe_store_at T l (length T.events) < j
 
+-- All lost stores come after this event.
+abbrev pub AreLostAfter : Recording → ℕ → Type 0
+AreLostAfter T before = (l j : ℕ) → IsLost T l j → before < j
+
 -- The entry of a lost store with this number, where the last flush of its line is this one: the greatest number of 32 bits if that comes
 -- after the store, else 0.
 abbrev pub entry_of_lost : ℕ → ℕ → ℕ

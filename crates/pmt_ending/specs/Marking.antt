@@ -1,5 +1,5 @@
 -- What the entries of one line's stores tell at the end of a trace.
-use Rattle.std.specs.Prelude.{◌≡◌, ℕ, suc, List, length, slice_index}
+use Rattle.std.specs.Prelude.{◌≡◌, ℕ, suc, ◌<◌, List, length, slice_index}
 use Rattle.pmt_model.specs.Traces.{Recording, history}
 use Rattle.pmt_safety.specs.Safety.{last_line_store_at, safe_store_at}
 use Rattle.pmt_rows.specs.declared.rows.Row.{Row}
@@ -17,3 +17,7 @@ pub record IsLineMarked (T : Recording) (l : ℕ) (old new : List ℕ) : Type 0 
   pub many : length new ≡ length old
   pub own : (j : ℕ) → IsLost T l j → slice_index new j ≡ lost_entry T l j
   pub others : (j : ℕ) → ¬ IsLost T l j → slice_index new j ≡ slice_index old j
+
+-- All lost stores to line l come after this event.
+abbrev pub IsLineLostAfter : Recording → ℕ → ℕ → Type 0
+IsLineLostAfter T l before = (j : ℕ) → IsLost T l j → before < j

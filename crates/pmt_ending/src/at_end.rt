@@ -24,8 +24,8 @@ pub struct Ended {
 }
 
 impl Ended {
-    /// The end of a trace of which this is known after its last event. It takes a step for each line and each event, and no memory but that
-    /// of the findings.
+    /// The end of a trace of which this is known after its last event. It takes a step for each line, and for each event from
+    /// the first store on that is never persisted, and no memory but that of the findings.
     ///
     /// # Errors
     /// Where memory was refused.
@@ -36,8 +36,8 @@ impl Ended {
         ensures safe { IfOk result (λ end. (T : Recording) → IsKnownOf T (length T.events) known → AreSafePlaces T end.safe) }
     {
         let Ends { rows, mut entries } = known.into_ends();
-        mark_lost(&rows, entries.as_mut_slice());
-        let lost = lost_stores(alloc, entries.as_slice())?;
+        let before = mark_lost(&rows, entries.as_mut_slice());
+        let lost = lost_stores(alloc, entries.as_slice(), before)?;
         Ok(Ended {
             lines: rows.len(),
             lost,

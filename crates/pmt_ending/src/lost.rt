@@ -1,19 +1,23 @@
 //! The stores that are never persisted.
 ghost use Rattle.std.specs.Prelude.{◌≡◌, ◌++◌, IfOk, OnOk};
 ghost use Rattle.pmt_model.specs.Traces.{Recording};
-ghost use Rattle.pmt_ending.specs.Entries.{AreMarked, lost_at};
+ghost use Rattle.pmt_ending.specs.Entries.{AreLostAfter, AreMarked, lost_at};
 ghost use Rattle.pmt_ending.specs.Late.{AreKnownLate};
 
 use crate::entry::{FLUSHED, tells_lost};
 use pmt_model::{Finding, OutOfMemory};
 use std::alloc::Global;
 
-// Those that the entries tell of, in report order.
-pub(crate) fn lost_stores(alloc: Global, entries: &[u32]) -> Result<Vec<Finding>, OutOfMemory>
-    ensures { IfOk result (λ lost. (T : Recording) → AreMarked T entries.now → AreKnownLate T lost.items) }
+// Those that the entries tell of, in report order: all come after event `before`.
+pub(crate) fn lost_stores(
+    alloc: Global,
+    entries: &[u32],
+    before: u32,
+) -> Result<Vec<Finding>, OutOfMemory>
+    ensures { IfOk result (λ lost. (T : Recording) → AreMarked T entries.now → AreLostAfter T before → AreKnownLate T lost.items) }
 {
     let mut lost = Vec::new(alloc);
-    for number in 1..entries.len() {
+    for number in before as usize + 1..entries.len() {
         push_lost(&mut lost, number as u64, entries[number])?;
     }
     Ok(lost)
