@@ -37,6 +37,7 @@ pub(crate) fn write(table: &mut Table, low: u32, high: u32, number: u32)
 }
 
 // The greatest number of these bytes.
+#[inline(never)]
 pub(crate) fn newest(table: &Table, low: u32, high: u32) -> u32
     requires some { low ≤ high }
     requires within { high ≤ 8 }
@@ -75,6 +76,17 @@ pub(crate) fn least_above(table: &Table, low: u32, high: u32, above: u32) -> u32
         }
     }
     number
+}
+
+// The least number of these bytes that is not 0, or 0.
+#[inline(never)]
+pub(crate) fn oldest(table: &Table, low: u32, high: u32) -> u32
+    requires some { low ≤ high }
+    requires within { high ≤ 8 }
+    requires eight { length table.now.numbers ≡ 8 }
+    ensures { IsLeastAbove 0 low high (λ k. slice_index table.now.numbers k) result }
+{
+    least_above(table, low, high, 0)
 }
 
 // Adds what the later store overwrites of these bytes: at most eight stores, each found by one look at the bytes.

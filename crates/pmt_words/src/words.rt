@@ -4,7 +4,9 @@ ghost use Rattle.pmt_words.specs.Lasts.{AddsOverwritten, IsLeastAbove, IsNewest,
 ghost use Rattle.pmt_words.specs.Packed.{AreWords, first_table, last_in};
 
 use crate::packed::{FIRST_TABLE, NONE, covers, number_in, number_of, packed};
-use crate::table::{Table, least_above, newest, push_overwritten, push_whole, table_of, write};
+use crate::table::{
+    Table, least_above, newest, oldest, push_overwritten, push_whole, table_of, write,
+};
 use pmt_model::OutOfMemory;
 use std::alloc::{AllocError, Global};
 use std::marker::Model;
@@ -144,7 +146,7 @@ impl Words {
     {
         let known = self.words[word];
         if known >= FIRST_TABLE {
-            return least_above(&self.tables[(known - FIRST_TABLE) as usize], low, high, 0);
+            return oldest(&self.tables[(known - FIRST_TABLE) as usize], low, high);
         }
         number_in(known, low, high)
     }

@@ -5,8 +5,8 @@ use Rattle.pmt_words.proofs.words.Words.oldest.Goals as goal
 
 pub returns-then-known-ge-FIRST_TABLE : goal.returns-then-known-ge-FIRST_TABLE
 returns-then-known-ge-FIRST_TABLE c =
-    least-same 0 c.args.low c.args.high _ _ c.least_above.result (λ k from to. read-table c.args.self.now c.self.inside.words.items c.self.inside.tables.items c.self.view_is c.self.invariant c.args.word c.index-known.result.now c.requires.within c.index-known.ensures
-    c.index.result.now (omega (arith, c.if-known-ge-FIRST_TABLE.true)) c.index.ensures k (omega (arith, to, c.requires.eight))) c.least_above.ensures
+    least-same 0 c.args.low c.args.high _ _ c.oldest.result (λ k from to. read-table c.args.self.now c.self.inside.words.items c.self.inside.tables.items c.self.view_is c.self.invariant c.args.word c.index-known.result.now c.requires.within c.index-known.ensures
+    c.index.result.now (omega (arith, c.if-known-ge-FIRST_TABLE.true)) c.index.ensures k (omega (arith, to, c.requires.eight))) c.oldest.ensures
 
 pub number_in-requires-clause-whole : goal.number_in-requires-clause-whole
 number_in-requires-clause-whole c =
