@@ -146,8 +146,8 @@ coming-clflush T l m past fence new is early any flush' fence' safe' cover' = re
 }
 
 -- where a store is safe first is told
-safe-told : (T : Recording) (l j n p : ℕ) (w : Written) (c : Coming) → IsAct T j (Stores l w) → IsComing T l j (suc n) c → p ≤ n → IsSafeFrom T l j p → p ≡ c.safe
-safe-told T l j n p w c is coming within from =
+pub saved-at : (T : Recording) (l j n p : ℕ) (w : Written) (c : Coming) → IsAct T j (Stores l w) → IsComing T l j (suc n) c → p ≤ n → IsSafeFrom T l j p → p ≡ c.safe
+saved-at T l j n p w c is coming within from =
     first-unique (IsCompletedAfter T l j) (suc n) c.safe p coming.safe ((completed-is_safe T l j p w is).1 from.safe) (omega arith) (λ m before it. from.first m before ((completed-is_safe T l j m w is).0 it))
 
 -- and what is told is so
@@ -157,14 +157,19 @@ told-safe T l j n w c is coming within = record {
   first = λ m before safe. coming.safe.none_before m before ((completed-is_safe T l j m w is).1 safe);
 }
 
+-- the first flush is told
+pub flushed-at : (T : Recording) (l j n k : ℕ) (c : Coming) → IsComing T l j (suc n) c → k ≤ n → IsFirstFlush T l j k → k ≡ c.flush
+flushed-at T l j n k c coming within first =
+    first-unique (IsFlushAfter T l j) (suc n) c.flush k coming.flush (first.after, first.is_flush) (omega (arith, within)) (λ m before x. first.first m x.0 before x.1)
+
 -- all that tells of a store comes after it so
 pub tells-coming : (T : Recording) (l j n k : ℕ) (w : Written) (c : Coming) → IsAct T j (Stores l w) → IsComing T l j (suc n) c → Tells T n l j k → IsOfStore j c n k
 tells-coming T l j n k w c is coming (Itself e) = TheStore e
-tells-coming T l j n k w c is coming (Completes within from) = let e = safe-told T l j n k w c is coming within from in TheCompletion (omega arith) e
+tells-coming T l j n k w c is coming (Completes within from) = let e = saved-at T l j n k w c is coming within from in TheCompletion (omega arith) e
 tells-coming T l j n k w c is coming (Covers t p within from fence first) = go (coming.cover (omega (arith, e, within)))
   where
     e : p ≡ c.safe
-    e = safe-told T l j n p w c is coming within from
+    e = saved-at T l j n p w c is coming within from
 
     go : IsCompletion T l j c.cover c.safe → IsOfStore j c n k
     go (OfFence u other own before) =
@@ -173,9 +178,9 @@ tells-coming T l j n k w c is coming (Covers t p within from fence first) = go (
         TheCover (omega (arith, e, within)) (first-flush-unique T t l j k c.cover first (subst (λ v. IsFirstFlushBy T v l j c.cover) thread own))
     go (OfClflush other after own) = let same = act-unique T p (Fences t) (Clflushes l) fence (subst (λ q. IsAct T q (Clflushes l)) (sym e) other) in cc
 tells-coming T l j n k w c is coming (FirstFlush within first) =
-    TheFlush (first-unique (IsFlushAfter T l j) (suc n) c.flush k coming.flush (first.after, first.is_flush) (omega arith) (λ m before x. first.first m x.0 before x.1))
+    TheFlush (flushed-at T l j n k c coming within first)
 tells-coming T l j n k w c is coming (FirstFence f first fence unsafe) =
-    let flush : f ≡ c.flush = first-unique (IsFlushAfter T l j) (suc n) c.flush f coming.flush (first.after, first.is_flush) (omega (arith, fence.after, fence.by_now)) (λ m before x. first.first m x.0 before x.1) in
+    let flush : f ≡ c.flush = flushed-at T l j n f c coming (omega (arith, fence.after, fence.by_now)) first in
     let same : k ≡ c.fence = first-unique (IsAnyFenceAfter T c.flush) (suc n) c.fence k (coming.fence (omega (arith, fence.after, fence.by_now))) (omega (arith, fence.after), (fence.thread, fence.is_fence)) (omega (arith, fence.by_now)) (λ m before x. fence.none_before m (x.1).0 (omega (arith, x.0)) before (x.1).1) in
     TheFence (late (cases_lt c.safe c.fence) same) (omega (arith, fence.after, fence.by_now)) same
   where

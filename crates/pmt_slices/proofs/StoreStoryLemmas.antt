@@ -9,7 +9,7 @@ use Rattle.pmt_model.specs.Machine.{Stores, Flushes, Clflushes, Fences}
 use Rattle.pmt_model.specs.Traces.{Recording, IsAct, act, event}
 use Rattle.pmt_model.specs.Selections.{IsRising, Has}
 use Rattle.pmt_model.specs.Findings.{IsFlushOf, ByFlush, ByClflush, IsSafe}
-use Rattle.pmt_laws.proofs.Histories.{act-within}
+use Rattle.pmt_laws.proofs.Histories.{act-within, act-unique}
 use Rattle.pmt_reasons.specs.Causes.{IsFirstFenceAt}
 use Rattle.pmt_safety.specs.Safety.{IsSafeFrom}
 use Rattle.pmt_explain.specs.Following.{past_of}
@@ -17,14 +17,14 @@ use Rattle.pmt_slices.specs.declared.store_story.StorePart.TheVariants as part
 use Rattle.pmt_slices.specs.declared.store_story.StoreStory.{StoreStory}
 use Rattle.pmt_slices.specs.declared.store_story.Turn.{Turn}
 use Rattle.pmt_slices.specs.declared.store_story.Turn.TheVariants as turn
-use Rattle.pmt_slices.specs.Slices.{IsFirstFlush, IsFirstFlushBy}
+use Rattle.pmt_slices.specs.Slices.{IsFirstFlush, IsFirstFlushBy, Tells, Covers, FirstFence}
 use Rattle.pmt_slices.specs.Scanning.{IsChosen, IsCompletion, OfFence, OfClflush}
 use Rattle.pmt_slices.specs.Choosing.{Chooses, IsOfStore, TheStore, TheFlush, TheCompletion, TheCover, TheFence}
 use Rattle.pmt_slices.specs.StoreSlices.{IsStoreBy, line_in}
 use Rattle.pmt_slices.specs.Fates.{IsFate}
-use Rattle.pmt_slices.specs.StoreStories.{turn_of, IsTurn, IsOther, AreOthers, IsOfOthers, IsOfStory, IsNextFence, IsStorePart, IsInStoreStory, OfStore, OwnFence, OfOthers, IsStoreStory}
+use Rattle.pmt_slices.specs.StoreStories.{turn_of, IsTurn, IsOther, AreOthers, IsOfOthers, IsOfStory, IsNextFence, IsStorePart, IsStoreTold, IsInStoreStory, OfStore, OwnFence, OfOthers, IsStoreStory}
 use Rattle.pmt_slices.proofs.SliceLemmas.{tells-within, tells-some}
-use Rattle.pmt_slices.proofs.ComingLemmas.{tells-coming, coming-tells, told-safe}
+use Rattle.pmt_slices.proofs.ComingLemmas.{tells-coming, coming-tells, told-safe, saved-at, flushed-at}
 use Rattle.pmt_slices.proofs.ChosenLemmas.{chosen-within}
 use Rattle.pmt_slices.proofs.StoreSliceLemmas.{store-by, unsafe-before, safe-from}
 
@@ -269,24 +269,91 @@ module _ (T : Recording) (j : ℕ) (s : StoreStory) (is : IsStoreStory T j s) wh
   unsafe-sooner : (k : ℕ) → k ≤ length T.events → ¬ IsSafe T (line_in T is.what) k j → k < s.fate.coming.safe
   unsafe-sooner k within unsafe = elim (cases_lt k s.fate.coming.safe) [ inl less ↦ less | inr from ↦ absurd (unsafe (safe-from T is.thread j is.what s.fate is.is_store is.fate k from within)) ]
 
+  -- what tells of a store is not past all of these
+  none-of : (k : ℕ) → k ≢ s.store → k ≢ s.fate.coming.safe → k ≢ s.fate.coming.flush → (s.fate.coming.safe ≤ s.end → k ≢ s.fate.coming.cover) →
+      (s.fate.coming.fence ≤ s.fate.coming.safe → s.fate.coming.flush ≤ s.end → k ≢ s.fate.coming.fence) → ¬ Tells T (length T.events) (line_in T is.what) j k
+  none-of k a b d g h tells = go (tells-coming T (line_in T is.what) j (length T.events) k is.what s.fate.coming own is.fate.coming tells)
+    where
+      go : IsOfStore j s.fate.coming (length T.events) k → ⊥
+      go (TheStore e) = a (e ∙ sym is.store)
+      go (TheFlush e) = d e
+      go (TheCompletion safe e) = b e
+      go (TheCover safe e) = g (omega (arith, safe, is.end)) e
+      go (TheFence late flushed e) = h late (omega (arith, flushed, is.end)) e
+
   pub part-other : (k : ℕ) → Has s.numbers k → k ≢ s.store → k ≢ s.fate.coming.safe → (s.fate.first < s.fate.coming.safe → k ≢ s.fate.first) → k ≢ s.fate.coming.flush →
       (s.fate.coming.safe ≤ s.end → k ≢ s.fate.coming.cover) → (s.fate.coming.fence ≤ s.fate.coming.safe → s.fate.coming.flush ≤ s.end → k ≢ s.fate.coming.fence) → IsOther T is.thread (line_in T is.what) j k
   part-other k has no_store no_safe no_own no_flush no_cover no_fence = go ((is.just k).0 has)
     where
-      of : IsOfStore j s.fate.coming (length T.events) k → IsOther T is.thread (line_in T is.what) j k
-      of (TheStore e) = absurd (no_store (e ∙ sym is.store))
-      of (TheFlush e) = absurd (no_flush e)
-      of (TheCompletion safe e) = absurd (no_safe e)
-      of (TheCover safe e) = absurd (no_cover (omega (arith, safe, is.end)) e)
-      of (TheFence late flushed e) = absurd (no_fence late (omega (arith, flushed, is.end)) e)
-
       go : IsInStoreStory T is.thread (line_in T is.what) j s.others k → IsOther T is.thread (line_in T is.what) j k
-      go (OfStore tells) = of (tells-coming T (line_in T is.what) j (length T.events) k is.what s.fate.coming own is.fate.coming tells)
+      go (OfStore tells) = absurd (none-of k no_store no_safe no_flush no_cover no_fence tells)
       go (OwnFence next unsafe) =
           let same = same-fence k next in
           let less = unsafe-sooner k (by-now k has) unsafe in
           absurd (no_own (omega (arith, less, same)) same)
       go (OfOthers x) = other-of k x
+
+  -- what it is not
+  no-saves : (k : ℕ) → Has s.numbers k → k ≢ s.fate.coming.safe → ¬ IsSafeFrom T (line_in T is.what) j k
+  no-saves k has other from = other (saved-at T (line_in T is.what) j (length T.events) k is.what s.fate.coming own is.fate.coming (by-now k has) from)
+
+  no-flush : (k : ℕ) → Has s.numbers k → k ≢ s.fate.coming.flush → ¬ IsFirstFlush T (line_in T is.what) j k
+  no-flush k has other first = other (flushed-at T (line_in T is.what) j (length T.events) k s.fate.coming is.fate.coming (by-now k has) first)
+
+  no-own : (k : ℕ) → Has s.numbers k → (s.fate.first < s.fate.coming.safe → k ≢ s.fate.first) → ¬ IsStorePart T is.thread (line_in T is.what) j part.OwnFence k
+  no-own k has other x =
+      let same = same-fence k x.0 in
+      let less = unsafe-sooner k (by-now k has) x.1 in
+      other (omega (arith, less, same)) same
+
+  flush-no-own : (k : ℕ) → IsFlushOf T (line_in T is.what) k → ¬ IsStorePart T is.thread (line_in T is.what) j part.OwnFence k
+  flush-no-own k (ByFlush t flush) x = let same = act-unique T k (Flushes t (line_in T is.what)) (Fences is.thread) flush x.0.is_fence in cc
+  flush-no-own k (ByClflush flush) x = let same = act-unique T k (Clflushes (line_in T is.what)) (Fences is.thread) flush x.0.is_fence in cc
+
+  fence-no-cover : (k : ℕ) → IsStorePart T is.thread (line_in T is.what) j part.Fence k → ¬ IsStorePart T is.thread (line_in T is.what) j part.Cover k
+  fence-no-cover k x y =
+      let same = act-unique T k (Flushes y.0 (line_in T is.what)) (Fences x.2.thread) y.4.is_flush x.2.is_fence in
+      cc
+
+  -- what it is told to be
+  pub told-saves : (k : ℕ) → Has s.numbers k → k ≢ s.store → k ≡ s.fate.coming.safe → IsStoreTold T is.thread (line_in T is.what) j part.Saves k
+  told-saves k has a e =
+      let from = part-saves k has e in
+      inr (λ store. a (store ∙ sym is.store), inr (λ x. x.1 from.safe, inl (refl, from)))
+
+  pub told-own : (k : ℕ) → k ≢ s.store → s.fate.first < s.fate.coming.safe → k ≡ s.fate.first → IsStoreTold T is.thread (line_in T is.what) j part.OwnFence k
+  told-own k a less e = inr (λ store. a (store ∙ sym is.store), inl (refl, part-own k less e))
+
+  pub told-flush : (k : ℕ) → Has s.numbers k → k ≢ s.store → k ≢ s.fate.coming.safe → k ≡ s.fate.coming.flush → IsStoreTold T is.thread (line_in T is.what) j part.Flush k
+  told-flush k has a b e =
+      let first = part-flush k has e in
+      inr (λ store. a (store ∙ sym is.store), inr (flush-no-own k first.is_flush, inr (no-saves k has b, inl (refl, first))))
+
+  pub told-cover : (k : ℕ) → Has s.numbers k → k ≢ s.store → k ≢ s.fate.coming.safe → k ≢ s.fate.coming.flush → s.fate.coming.safe ≤ s.end → k ≡ s.fate.coming.cover →
+      IsStoreTold T is.thread (line_in T is.what) j part.Cover k
+  told-cover k has a b c early e =
+      let cover = part-cover k b early e in
+      inr (λ store. a (store ∙ sym is.store), inr (flush-no-own k (ByFlush cover.0 cover.4.is_flush), inr (no-saves k has b, inr (no-flush k has c, inl (refl, cover)))))
+
+  pub told-fence : (k : ℕ) → Has s.numbers k → k ≢ s.store → k ≢ s.fate.coming.safe → (s.fate.first < s.fate.coming.safe → k ≢ s.fate.first) → k ≢ s.fate.coming.flush →
+      s.fate.coming.fence ≤ s.fate.coming.safe → s.fate.coming.flush ≤ s.end → k ≡ s.fate.coming.fence → IsStoreTold T is.thread (line_in T is.what) j part.Fence k
+  told-fence k has a b c d late flushed e =
+      let fence = part-fence k has b late flushed e in
+      inr (λ store. a (store ∙ sym is.store), inr (no-own k has c, inr (no-saves k has b, inr (no-flush k has d, inr (fence-no-cover k fence, inl (refl, fence))))))
+
+  pub told-other : (k : ℕ) → Has s.numbers k → k ≢ s.store → k ≢ s.fate.coming.safe → (s.fate.first < s.fate.coming.safe → k ≢ s.fate.first) → k ≢ s.fate.coming.flush →
+      (s.fate.coming.safe ≤ s.end → k ≢ s.fate.coming.cover) → (s.fate.coming.fence ≤ s.fate.coming.safe → s.fate.coming.flush ≤ s.end → k ≢ s.fate.coming.fence) →
+      IsStoreTold T is.thread (line_in T is.what) j part.Other k
+  told-other k has a b c d g h =
+      inr (λ store. a (store ∙ sym is.store), inr (no-own k has c, inr (no-saves k has b, inr (no-flush k has d, inr (no-cover, inr (no-fence, inl (refl, part-other k has a b c d g h)))))))
+    where
+      no-cover : ¬ IsStorePart T is.thread (line_in T is.what) j part.Cover k
+      no-cover x = none-of k a b d g h (Covers x.0 x.1 (act-within T x.1 (Fences x.0) x.3).1 x.2 x.3 x.4)
+
+      no-fence : ¬ IsStorePart T is.thread (line_in T is.what) j part.Fence k
+      no-fence x =
+          let sooner = unsafe-sooner k (by-now k has) x.3 in
+          none-of k a b d g h (FirstFence x.0 x.1 x.2 (λ p before. unsafe-before T is.thread j is.what s.fate is.is_store is.fate p (omega (arith, before, sooner))))
 
   -- ---- What is told of it
 

@@ -1,5 +1,5 @@
 -- The story of a failed assertion.
-use Rattle.std.proofs.Common.{◌≡◌, ◌≢◌, ℕ, suc, ◌<◌, ◌≤◌, ◌⊎◌, inl, inr, Bool, List, length, Option, None, Some, false, true≢false, refl, sym, ap, subst, ◌∙◌, arith}
+use Rattle.std.proofs.Common.{◌≡◌, ◌≢◌, ℕ, suc, ◌<◌, ◌≤◌, inl, inr, Bool, List, length, Option, None, Some, false, true≢false, refl, sym, ap, subst, ◌∙◌, arith}
 use Rattle.std.specs.Prelude.{◌↔◌, MatchOption, nat_eq}
 use Rattle.std.specs.Option.{option_eq, option_map}
 use Rattle.std.proofs.lemmas.Bool.{eq-eqb}
@@ -8,10 +8,9 @@ use Rattle.pmt_model.specs.Values.{Written, Span}
 use Rattle.pmt_model.specs.declared.event.Event.{Event}
 use Rattle.pmt_model.specs.declared.event.Op.{Op}
 use Rattle.pmt_model.specs.declared.event.Op.TheVariants.{Store, Clwb, ClflushOpt, Clflush, Sfence, Mfence, IsPersist, IsOrderedBefore}
-use Rattle.pmt_model.specs.Machine.{Stores, Fences}
-use Rattle.pmt_model.specs.Traces.{Recording, IsAct, act, event}
+use Rattle.pmt_model.specs.Machine.{Stores, Flushes, Fences}
+use Rattle.pmt_model.specs.Traces.{Recording, IsAct, event}
 use Rattle.pmt_model.specs.Selections.{IsRising, Has}
-use Rattle.pmt_model.specs.Findings.{IsSafe}
 use Rattle.pmt_laws.proofs.Histories.{act-unique, act-within}
 use Rattle.pmt_laws.proofs.OverwrittenLemmas.{last_store_number-is}
 use Rattle.pmt_reasons.specs.declared.failure.ByteStore.{ByteStore}
@@ -19,16 +18,15 @@ use Rattle.pmt_reasons.specs.declared.failure.Failure.{Failure}
 use Rattle.pmt_reasons.specs.Causes.{IsFirstFenceAt}
 use Rattle.pmt_reasons.specs.Failures.{IsLastIn, IsFailureOf, IsFailureAt}
 use Rattle.pmt_safety.specs.Safety.{IsSafeFrom}
-use Rattle.pmt_slices.specs.declared.coming.Coming.{Coming}
-use Rattle.pmt_slices.specs.declared.story.Part.TheVariants.{Cover, Fence}
+use Rattle.pmt_slices.specs.declared.story.Part.TheVariants.{Kept, Saves, Flush, Cover, Fence}
 use Rattle.pmt_slices.specs.declared.story.Story.{Story}
 use Rattle.pmt_slices.specs.Slices.{IsFirstFlush, IsFirstFlushBy, Tells, Itself, IsRangeOf, IsSlice, TheAssertion as TheAsserted, OfStore}
 use Rattle.pmt_slices.specs.Scanning.{IsChosen, IsCompletion, OfFence, OfClflush, IsComing}
 use Rattle.pmt_slices.specs.Choosing.{Chooses, IsOfStore, TheStore, TheFlush, TheCompletion, TheCover, TheFence, IsOfFailure}
-use Rattle.pmt_slices.specs.Stories.{IsPart, IsInStory, TheAssertion, TheKept, OfLost, HasLost, IsStory, StoryTells}
+use Rattle.pmt_slices.specs.Stories.{IsPart, IsTold, IsInStory, TheAssertion, TheKept, OfLost, IsStory, StoryTells}
 use Rattle.pmt_slices.proofs.TellLemmas.{completed-is_safe}
 use Rattle.pmt_slices.proofs.SliceLemmas.{tells-within, tells-some, persist-range, first-range, second-range}
-use Rattle.pmt_slices.proofs.ComingLemmas.{tells-coming, coming-tells, told-safe}
+use Rattle.pmt_slices.proofs.ComingLemmas.{tells-coming, coming-tells, told-safe, saved-at, flushed-at}
 use Rattle.pmt_slices.proofs.ChosenLemmas.{chosen-within}
 use Rattle.pmt_slices.proofs.FailureLemmas.{line-last}
 
@@ -92,6 +90,42 @@ module _ (T : Recording) (n : ℕ) (f : Failure) (s : Story) (is : IsStory T n f
       go (TheAssertion e) = absurd (no_assertion (e ∙ sym is.assertion))
       go (TheKept y at e some within) = absurd (no_kept (is.kept ∙ ap (option_map (λ (z : ByteStore). z.store)) at ∙ ap Some (sym e)))
       go (OfLost tells) = of (tells-coming T is.lost_one.line f.lost.store n k is.lost_one.what s.coming is.lost_one.is_store is.coming tells)
+
+  -- what it is not
+  no-assertion : k ≢ s.assertion → k ≢ n
+  no-assertion other e = other (e ∙ sym is.assertion)
+
+  no-lost : k ≢ s.lost → k ≢ f.lost.store
+  no-lost other e = other (e ∙ sym is.lost)
+
+  no-kept : s.kept ≢ Some k → ¬ IsPart T n is.lost_one.line f Kept k
+  no-kept other x = other (is.kept ∙ ap (option_map (λ (z : ByteStore). z.store)) x.1 ∙ ap Some (sym x.2))
+
+  no-saves : k ≢ s.coming.safe → ¬ IsSafeFrom T is.lost_one.line f.lost.store k
+  no-saves other from = other (saved-at T is.lost_one.line f.lost.store n k is.lost_one.what s.coming is.lost_one.is_store is.coming by-now from)
+
+  no-flush : k ≢ s.coming.flush → ¬ IsFirstFlush T is.lost_one.line f.lost.store k
+  no-flush other first = other (flushed-at T is.lost_one.line f.lost.store n k s.coming is.coming by-now first)
+
+  fence-no-cover : IsPart T n is.lost_one.line f Fence k → ¬ IsPart T n is.lost_one.line f Cover k
+  fence-no-cover x y =
+      let same = act-unique T k (Flushes y.0 is.lost_one.line) (Fences x.2.thread) y.4.is_flush x.2.is_fence in
+      cc
+
+  -- what it is told to be
+  pub told-saves : k ≢ s.assertion → k ≢ s.lost → s.kept ≢ Some k → k ≡ s.coming.safe → IsTold T n is.lost_one.line f Saves k
+  told-saves a b c e = inr (no-assertion a, inr (no-lost b, inr (no-kept c, inl (refl, part-saves e))))
+
+  pub told-flush : k ≢ s.assertion → k ≢ s.lost → s.kept ≢ Some k → k ≢ s.coming.safe → k ≡ s.coming.flush → IsTold T n is.lost_one.line f Flush k
+  told-flush a b c d e = inr (no-assertion a, inr (no-lost b, inr (no-kept c, inr (no-saves d, inl (refl, part-flush e)))))
+
+  pub told-cover : k ≢ s.assertion → k ≢ s.lost → s.kept ≢ Some k → k ≢ s.coming.safe → k ≢ s.coming.flush → s.coming.safe ≤ s.assertion → k ≡ s.coming.cover → IsTold T n is.lost_one.line f Cover k
+  told-cover a b c d e early at = inr (no-assertion a, inr (no-lost b, inr (no-kept c, inr (no-saves d, inr (no-flush e, inl (refl, part-cover d early at))))))
+
+  pub told-fence : k ≢ s.assertion → k ≢ s.lost → s.kept ≢ Some k → k ≢ s.coming.safe → k ≢ s.coming.flush → (s.coming.safe ≤ s.assertion → k ≢ s.coming.cover) → IsTold T n is.lost_one.line f Fence k
+  told-fence a b c d e g =
+      let own = part-fence a b c d e g in
+      inr (no-assertion a, inr (no-lost b, inr (no-kept c, inr (no-saves d, inr (no-flush e, inr (fence-no-cover own, inl (refl, own)))))))
 
 -- the store that is kept is that of the failure
 pub part-kept : (f : Failure) (k : ℕ) (o : Option ℕ) → o ≡ option_map (λ (z : ByteStore). z.store) f.kept → o ≡ Some k → (y : ByteStore) × (f.kept ≡ Some y) × (k ≡ y.store)

@@ -1,5 +1,5 @@
 -- The story of a store: why it is not safe, and what makes it so.
-use Rattle.std.specs.Prelude.{◌≡◌, ℕ, suc, ◌<◌, ◌⊎◌, ◌↔◌, ◌==◌, if◌then◌else◌, List, length, slice_get, Some}
+use Rattle.std.specs.Prelude.{◌≡◌, ℕ, suc, ◌<◌, ◌⊎◌, ◌↔◌, ◌==◌, if◌then◌else◌, List, [], ◌∷◌, length, slice_get, Some}
 use Rattle.pmt_model.specs.Values.{Layout, Written, line_of}
 use Rattle.pmt_model.specs.declared.event.Event.{Event}
 use Rattle.pmt_model.specs.declared.event.Op.{Op}
@@ -20,6 +20,7 @@ use Rattle.pmt_slices.specs.Slices.{IsFirstFlush, IsFirstFlushBy, Tells}
 use Rattle.pmt_slices.specs.Choosing.{IsOfStore}
 use Rattle.pmt_slices.specs.StoreSlices.{IsStoreBy, line_in}
 use Rattle.pmt_slices.specs.Fates.{IsFate}
+use Rattle.pmt_slices.specs.Stories.{IsFirstOf}
 
 -- What an op of a store's thread is to the store's line: a flush of it and a fence are one, a flush of another line, or nothing.
 abbrev pub flush_turn : ℕ → ℕ → Turn
@@ -77,6 +78,11 @@ IsStorePart T t l j part.Flush k = IsFirstFlush T l j k
 IsStorePart T t l j part.Cover k = (u : ℕ) × (p : ℕ) × IsSafeFrom T l j p × IsAct T p (Fences u) × IsFirstFlushBy T u l j k
 IsStorePart T t l j part.Fence k = (g : ℕ) × IsFirstFlush T l j g × IsFirstFenceAt T g (length T.events) k × (¬ IsSafe T l k j)
 IsStorePart T t l j part.Other k = IsOther T t l j k
+
+-- What event k is told to be: the first of these that it is.
+abbrev pub IsStoreTold : Recording → ℕ → ℕ → ℕ → StorePart → ℕ → Type 0
+IsStoreTold T t l j told k =
+    IsFirstOf (λ p. IsStorePart T t l j p k) told (part.Store ∷ part.OwnFence ∷ part.Saves ∷ part.Flush ∷ part.Cover ∷ part.Fence ∷ part.Other ∷ [])
 
 -- Event k tells of store j to line l by thread t up to the end, is the thread's next fence, which leaves the store unsafe, or is one of the
 -- first three of the thread's flushes of other lines, or the last.

@@ -1,5 +1,5 @@
 -- The story of a failed assertion: what becomes of the store that its crash loses, among the events of its slice.
-use Rattle.std.specs.Prelude.{◌≡◌, ℕ, suc, ◌<◌, ◌≤◌, ◌⊎◌, ◌↔◌, List, length, Option, Some}
+use Rattle.std.specs.Prelude.{◌≡◌, ℕ, suc, ◌≤◌, ◌⊎◌, ◌↔◌, List, [], ◌∷◌, length, Some}
 use Rattle.std.specs.Option.{option_map}
 use Rattle.pmt_model.specs.Values.{Written}
 use Rattle.pmt_model.specs.Machine.{Stores, Fences}
@@ -26,6 +26,15 @@ IsPart T n l f Saves k = IsSafeFrom T l f.lost.store k
 IsPart T n l f Flush k = IsFirstFlush T l f.lost.store k
 IsPart T n l f Cover k = (t : ℕ) × (p : ℕ) × IsSafeFrom T l f.lost.store p × IsAct T p (Fences t) × IsFirstFlushBy T t l f.lost.store k
 IsPart T n l f Fence k = (g : ℕ) × IsFirstFlush T l f.lost.store g × IsFirstFenceAt T g n k × (¬ IsSafe T l k f.lost.store)
+
+-- x is the first of these with the property.
+abbrev pub IsFirstOf : {X : Type 0} → (X → Type 0) → X → List X → Type 0
+IsFirstOf P x [] = ⊥
+IsFirstOf P x (y ∷ ys) = ((x ≡ y) × P y) ⊎ ((¬ P y) × IsFirstOf P x ys)
+
+-- What event k is told to be: the first of these that it is.
+abbrev pub IsTold : Recording → ℕ → ℕ → Failure → Part → ℕ → Type 0
+IsTold T n l f part k = IsFirstOf (λ p. IsPart T n l f p k) part (Assertion ∷ Lost ∷ Kept ∷ Saves ∷ Flush ∷ Cover ∷ Fence ∷ [])
 
 -- Event k is the assertion at n, the store that its crash keeps, or tells of the store to line l that its crash loses.
 pub data IsInStory (T : Recording) (n l : ℕ) (f : Failure) (k : ℕ) : Type 0 where

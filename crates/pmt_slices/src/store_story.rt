@@ -9,7 +9,7 @@ ghost use Rattle.pmt_slices.specs.Slices.{IsFirstFlush};
 ghost use Rattle.pmt_slices.specs.Choosing.{Chooses};
 ghost use Rattle.pmt_slices.specs.Fates.{IsFate};
 ghost use Rattle.pmt_slices.specs.StoreSlices.{IsStoreBy};
-ghost use Rattle.pmt_slices.specs.StoreStories.{AreOthers, IsOfOthers, IsOfStory, IsOther, IsStoreAt, IsStorePart, IsStoreStory, turn_of as turn_in};
+ghost use Rattle.pmt_slices.specs.StoreStories.{AreOthers, IsOfOthers, IsOfStory, IsOther, IsStoreAt, IsStoreStory, IsStoreTold, turn_of as turn_in};
 
 use crate::choosing::{choose, choose_store, nothing};
 use crate::store_slicing::{Fate, fate_of};
@@ -20,7 +20,7 @@ use std::alloc::Global;
 // The most flushes of other lines that a story has, but for the last one.
 const FEW: usize = 3;
 
-/// What an event is in the story of a store.
+/// What an event is in the story of a store; of several, the one that stands first here.
 #[derive(Clone, Copy, Debug, PartialEq, Eq)]
 pub enum StorePart {
     /// The store.
@@ -70,7 +70,7 @@ impl StoreStory {
 
     /// What the event of the story with this number is.
     pub fn part(&self, number: u64) -> StorePart
-        ensures { (T : Recording) (n : ℕ) → (is : IsStoreStory T n self.now) → Has self.now.numbers number → IsStorePart T is.thread (line_in T.format is.what.addr) n result number }
+        ensures { (T : Recording) (n : ℕ) → (is : IsStoreStory T n self.now) → Has self.now.numbers number → IsStoreTold T is.thread (line_in T.format is.what.addr) n result number }
     {
         let coming = self.fate.coming;
         if number == self.store {

@@ -8,7 +8,7 @@ ghost use Rattle.pmt_model.specs.Traces.{Recording, IsAct};
 ghost use Rattle.pmt_model.specs.Selections.{Has};
 ghost use Rattle.pmt_reasons.specs.declared.failure.Failure.{Failure};
 ghost use Rattle.pmt_slices.specs.Choosing.{Chooses, IsOfFailure};
-ghost use Rattle.pmt_slices.specs.Stories.{HasLost, IsPart, IsStory};
+ghost use Rattle.pmt_slices.specs.Stories.{HasLost, IsStory, IsTold};
 
 use crate::after::coming_after;
 use crate::choosing::{choose, choose_store, only};
@@ -18,7 +18,7 @@ use pmt_model::{Op, OutOfMemory, Selection, Trace, WordStore};
 use pmt_reasons::Failure;
 use std::alloc::Global;
 
-/// What an event is in a story.
+/// What an event is in a story; of several, the one that stands first here.
 #[derive(Clone, Copy, Debug, PartialEq, Eq)]
 pub enum Part {
     /// The assertion that fails.
@@ -58,7 +58,7 @@ impl Story {
 
     /// What the event of the story with this number is.
     pub fn part(&self, number: u64) -> Part
-        ensures { (T : Recording) (n : ℕ) (f : Failure) → (is : IsStory T n f self.now) → Has self.now.numbers number → IsPart T n is.lost_one.line f result number }
+        ensures { (T : Recording) (n : ℕ) (f : Failure) → (is : IsStory T n f self.now) → Has self.now.numbers number → IsTold T n is.lost_one.line f result number }
     {
         if number == self.assertion {
             Part::Assertion
