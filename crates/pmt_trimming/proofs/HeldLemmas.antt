@@ -1,13 +1,8 @@
 -- Lines that are held until all have come.
-use Rattle.std.proofs.Common.{◌≡◌, ℕ, ◌+◌, ◌-◌, ◌≤◌, List, [], ◌∷◌, ◌++◌, length, take, drop, sum, map, false, Some, refl, sym, ap, ap₂, ◌∙◌, true≢false, arith, append_assoc, length-append, length-drop}
-use Rattle.std.specs.Prelude.{◌==◌}
-use Rattle.std.specs.List.{flat_map}
-use Rattle.std.proofs.Math.Seq.{take-add, take-append_seam, drop-append_seam}
+use Rattle.std.proofs.Common.{◌≡◌, ℕ, ◌+◌, ◌-◌, ◌≤◌, List, [], ◌∷◌, ◌++◌, length, take, drop, sum, refl, sym, ap, ap₂, ◌∙◌, arith, append_assoc, length-append, length-drop}
+use Rattle.std.proofs.Math.Seq.{take-add}
 use Rattle.std.proofs.lemmas.List.{drop-append-le, drop-drop, take-append-le}
 use Rattle.std.proofs.lemmas.List.Sums.{sum_by-append, sum_by-cons}
-use Rattle.pmt_model.specs.declared.event.Event.{Event}
-use Rattle.pmt_text.specs.Sources.{LendsAll}
-use Rattle.pmt_text.specs.Spelling.{event_text}
 use Rattle.pmt_trimming.specs.LineQueues.{cut_by, AreHeld, run_text}
 use Rattle.pmt_trimming.proofs.QueueLemmas.{queue-more}
 
@@ -59,49 +54,30 @@ held-text end from at left lengths bytes more line held is =
 
 -- ---- Lines come together
 
--- the lengths are those of the bytes
-sum-lengths : (es : List Event) → sum (map (λ e. length (event_text e)) es) ≡ length (flat_map event_text es)
-sum-lengths [] = refl
-sum-lengths (e ∷ es) = sum_by-cons (λ x. x) (length (event_text e)) (map (λ x. length (event_text x)) es) ∙ omega (arith, sum-lengths es, length-append (event_text e) (flat_map event_text es))
-
--- and cut them into the lines
-cut-lines : (es : List Event) → cut_by (map (λ e. length (event_text e)) es) (flat_map event_text es) ≡ map event_text es
-cut-lines [] = refl
-cut-lines (e ∷ es) =
-    ap₂ (λ (l : List ℕ) (ls : List (List ℕ)). l ∷ ls) (take-append_seam (event_text e) (flat_map event_text es))
-    (ap (cut_by (map (λ x. length (event_text x)) es)) (drop-append_seam (event_text e) (flat_map event_text es)) ∙ cut-lines es)
-
-cut-all : (lengths bytes : List ℕ) (es : List Event) → sum lengths ≡ length bytes → cut_by (lengths ++ map (λ e. length (event_text e)) es) (bytes ++ flat_map event_text es) ≡ cut_by lengths bytes ++ map event_text es
-cut-all [] [] es all = cut-lines es
-cut-all [] (b ∷ bytes) es all = absurd (omega arith)
-cut-all (n ∷ lengths) bytes es all =
+cut-all : (lengths bytes ns more : List ℕ) → sum lengths ≡ length bytes → cut_by (lengths ++ ns) (bytes ++ more) ≡ cut_by lengths bytes ++ cut_by ns more
+cut-all [] [] ns more all = refl
+cut-all [] (b ∷ bytes) ns more all = absurd (omega arith)
+cut-all (n ∷ lengths) bytes ns more all =
     let first : sum (n ∷ lengths) ≡ n + sum lengths = sum_by-cons (λ x. x) n lengths in
     let within : n ≤ length bytes = omega arith in
-    let more = flat_map event_text es in
     ap₂ (λ (l : List ℕ) (ls : List (List ℕ)). l ∷ ls) (take-append-le n bytes more within)
-    (ap (cut_by (lengths ++ map (λ e. length (event_text e)) es)) (drop-append-le n bytes more within) ∙ cut-all lengths (drop n bytes) es (omega (arith, length-drop n bytes)))
+    (ap (cut_by (lengths ++ ns)) (drop-append-le n bytes more within) ∙ cut-all lengths (drop n bytes) ns more (omega (arith, length-drop n bytes)))
 
-pub held-with_all : (end from at left : ℕ) (lengths longer bytes more : List ℕ) (es : List Event) → AreHeld end from at left lengths bytes → longer ≡ lengths ++ map (λ e. length (event_text e)) es → more ≡ bytes ++ flat_map event_text es →
-    AreHeld end from at left longer more
-held-with_all end from at left lengths longer bytes more es held lengths_are bytes_are = record {
+pub held-with_all : (end from at left : ℕ) (lengths longer bytes longest ns more : List ℕ) → AreHeld end from at left lengths bytes → sum ns ≡ length more → longer ≡ lengths ++ ns → longest ≡ bytes ++ more →
+    AreHeld end from at left longer longest
+held-with_all end from at left lengths longer bytes longest ns more held all lengths_are bytes_are = record {
   run = held.run;
-  some = omega (arith, held.some, ap length lengths_are, length-append lengths (map (λ e. length (event_text e)) es));
-  cut = omega (arith, held.cut, size, sum-lengths es, ap length bytes_are, length-append bytes (flat_map event_text es));
+  some = omega (arith, held.some, ap length lengths_are, length-append lengths ns);
+  cut = omega (arith, held.cut, size, all, ap length bytes_are, length-append bytes more);
 }
   where
-    size : sum (drop left longer) ≡ sum (drop left lengths) + sum (map (λ e. length (event_text e)) es)
-    size = ap (λ (ns : List ℕ). sum (drop left ns)) lengths_are ∙ ap sum (drop-append-le left lengths (map (λ e. length (event_text e)) es) held.some)
-        ∙ sum_by-append (λ x. x) (drop left lengths) (map (λ e. length (event_text e)) es)
+    size : sum (drop left longer) ≡ sum (drop left lengths) + sum ns
+    size = ap (λ (xs : List ℕ). sum (drop left xs)) lengths_are ∙ ap sum (drop-append-le left lengths ns held.some) ∙ sum_by-append (λ x. x) (drop left lengths) ns
 
-pub held-all : (end from at left : ℕ) (lengths longer bytes more : List ℕ) (es : List Event) → AreHeld end from at left lengths bytes → longer ≡ lengths ++ map (λ e. length (event_text e)) es → more ≡ bytes ++ flat_map event_text es →
-    cut_by (drop left longer) (drop at more) ≡ cut_by (drop left lengths) (drop at bytes) ++ map event_text es
-held-all end from at left lengths longer bytes more es held lengths_are bytes_are =
-    ap₂ (λ (ns bs : List ℕ). cut_by ns bs)
-    (ap (drop left) lengths_are ∙ drop-append-le left lengths (map (λ e. length (event_text e)) es) held.some)
-    (ap (drop at) bytes_are ∙ drop-append-le at bytes (flat_map event_text es) (omega (arith, held.cut)))
-    ∙ cut-all (drop left lengths) (drop at bytes) es (omega (arith, held.cut, length-drop at bytes))
-
--- the lines that are lent of some events
-pub lent-lines : (es : List Event) (text : List ℕ) → (length es == 0) ≡ false → LendsAll es (Some text) → text ≡ flat_map event_text es
-lent-lines [] text some lends = absurd (true≢false some)
-lent-lines (e ∷ es) text some lends = lends
+pub held-all : (end from at left : ℕ) (lengths longer bytes longest ns more : List ℕ) → AreHeld end from at left lengths bytes → longer ≡ lengths ++ ns → longest ≡ bytes ++ more →
+    cut_by (drop left longer) (drop at longest) ≡ cut_by (drop left lengths) (drop at bytes) ++ cut_by ns more
+held-all end from at left lengths longer bytes longest ns more held lengths_are bytes_are =
+    ap₂ (λ (xs bs : List ℕ). cut_by xs bs)
+    (ap (drop left) lengths_are ∙ drop-append-le left lengths ns held.some)
+    (ap (drop at) bytes_are ∙ drop-append-le at bytes more (omega (arith, held.cut)))
+    ∙ cut-all (drop left lengths) (drop at bytes) ns more (omega (arith, held.cut, length-drop at bytes))

@@ -1,7 +1,11 @@
 -- How long a line is.
-use Rattle.std.proofs.Common.{◌≡◌, ℕ, zero, suc, ◌+◌, ◌-◌, ◌*◌, ◌/◌, ◌%◌, ◌^◌, ◌<◌, ◌≤◌, inl, inr, List, [], ◌∷◌, ◌++◌, length, refl, sym, ap, ◌∙◌, subst, arith, pow-suc, length-append, append_assoc, append-nil, map, take, get_or}
+use Rattle.std.proofs.Common.{◌≡◌, ℕ, zero, suc, ◌+◌, ◌-◌, ◌*◌, ◌/◌, ◌%◌, ◌^◌, ◌<◌, ◌≤◌, inl, inr, List, [], ◌∷◌, ◌++◌, length, sum, false, Some, refl, sym, ap, ap₂, ◌∙◌, subst, true≢false, arith, pow-suc, length-append, append_assoc, append-nil, map, take, get_or}
+use Rattle.std.specs.Prelude.{◌==◌}
+use Rattle.std.specs.List.{flat_map}
 use Rattle.std.specs.Int.Count.{count_leading_zeros}
 use Rattle.std.proofs.lemmas.List.{map-append, take_more}
+use Rattle.std.proofs.lemmas.List.Sums.{sum_by-cons}
+use Rattle.std.proofs.Math.Seq.{take-append_seam, drop-append_seam}
 use Rattle.std.proofs.Math.Nat.{pow-le-pow_right, one-le-pow}
 use Rattle.std.proofs.lemmas.Nat.{leading_top, pow-add}
 use Rattle.pmt_model.specs.declared.event.Op.{Op}
@@ -9,10 +13,12 @@ use Rattle.pmt_model.specs.declared.event.Op.TheVariants.{Store}
 use Rattle.pmt_model.specs.declared.event.Event.{Event}
 use Rattle.pmt_model.specs.Values.{Written}
 use Rattle.pmt_text.specs.Reading.{IsBase}
+use Rattle.pmt_text.specs.Sources.{LendsAll}
 use Rattle.pmt_text.specs.Spelling.{address, arguments_of, event_text, glyph, hex_bytes, numeral, word_of, word_text}
 use Rattle.pmt_text.specs.Writing.{spaced}
 use Rattle.pmt_text.proofs.LineWriting.{event_text-parts}
 use Rattle.pmt_text.proofs.NumberWriting.{numeral-step, numeral-digit}
+use Rattle.pmt_trimming.specs.LineQueues.{cut_by}
 
 -- ---- Numbers
 
@@ -104,3 +110,26 @@ length-next es n e base old new len within at before is longer =
     ∙ ap (λ (k : ℕ). (base ++ map (λ x. length (event_text x)) (take n es)) ++ k ∷ []) is
     ∙ append_assoc base (map (λ x. length (event_text x)) (take n es)) (length (event_text e) ∷ [])
     ∙ ap (λ (ns : List ℕ). base ++ ns) (sym more)
+
+-- they are those of the lines together
+pub sum-lengths : (es : List Event) (ns text : List ℕ) → ns ≡ map (λ e. length (event_text e)) es → text ≡ flat_map event_text es → sum ns ≡ length text
+sum-lengths es ns text are is = ap sum are ∙ go es ∙ ap length (sym is)
+  where
+    go : (xs : List Event) → sum (map (λ e. length (event_text e)) xs) ≡ length (flat_map event_text xs)
+    go [] = refl
+    go (e ∷ xs) = sum_by-cons (λ x. x) (length (event_text e)) (map (λ x. length (event_text x)) xs) ∙ omega (arith, go xs, length-append (event_text e) (flat_map event_text xs))
+
+-- and cut these
+pub cut-lines : (es : List Event) (ns text : List ℕ) → ns ≡ map (λ e. length (event_text e)) es → text ≡ flat_map event_text es → cut_by ns text ≡ map event_text es
+cut-lines es ns text are is = ap₂ (λ (xs bytes : List ℕ). cut_by xs bytes) are is ∙ go es
+  where
+    go : (xs : List Event) → cut_by (map (λ e. length (event_text e)) xs) (flat_map event_text xs) ≡ map event_text xs
+    go [] = refl
+    go (e ∷ xs) =
+        ap₂ (λ (l : List ℕ) (ls : List (List ℕ)). l ∷ ls) (take-append_seam (event_text e) (flat_map event_text xs))
+        (ap (cut_by (map (λ x. length (event_text x)) xs)) (drop-append_seam (event_text e) (flat_map event_text xs)) ∙ go xs)
+
+-- the lines that are lent of some events
+pub lent-lines : (es : List Event) (text : List ℕ) → (length es == 0) ≡ false → LendsAll es (Some text) → text ≡ flat_map event_text es
+lent-lines [] text some lends = absurd (true≢false some)
+lent-lines (e ∷ es) text some lends = lends

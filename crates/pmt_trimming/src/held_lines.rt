@@ -1,12 +1,9 @@
 //! A text, and after it lines, of which those that are kept end the text once all have come.
-ghost use Rattle.std.specs.Prelude.{◌≡◌, ◌+◌, ◌<◌, ◌≤◌, [], ◌∷◌, ◌++◌, length, map, take, drop, Some, OnOk, vec_capacity, vec_len};
-ghost use Rattle.pmt_text.specs.Sources.{LendsAll};
-ghost use Rattle.pmt_text.specs.Spelling.{event_text};
-ghost use Rattle.pmt_trimming.specs.LineQueues.{AreHeld, IsRun, Pops, kept_text, run_text};
+ghost use Rattle.std.specs.Prelude.{◌≡◌, ◌+◌, ◌<◌, ◌≤◌, [], ◌∷◌, ◌++◌, length, sum, take, drop, OnOk};
+ghost use Rattle.pmt_trimming.specs.LineQueues.{AreHeld, IsRun, Pops, cut_by, kept_text, run_text};
 
-use crate::line_len::line_len;
 use crate::line_queue::move_down;
-use pmt_model::{Event, OutOfMemory};
+use pmt_model::OutOfMemory;
 use std::alloc::Global;
 use std::marker::Model;
 
@@ -71,18 +68,15 @@ impl HeldLines {
         Ok(())
     }
 
-    // Puts the lines of these events at the end, which are given one after another.
-    pub(crate) fn push_all(&mut self, events: &[Event], lines: &[u8]) -> Result<(), OutOfMemory>
-        requires { LendsAll events.now (Some lines.now) }
+    // Puts lines at the end, which stand one after another and have these lengths.
+    pub(crate) fn push_all(&mut self, lengths: &[u8], lines: &[u8]) -> Result<(), OutOfMemory>
+        requires { sum lengths.now ≡ length lines.now }
         ensures text { OnOk result (self.new.text ≡ self.old.text) }
-        ensures lines { OnOk result (self.new.lines ≡ self.old.lines ++ map event_text events.now) }
+        ensures lines { OnOk result (self.new.lines ≡ self.old.lines ++ cut_by lengths.now lines.now) }
     {
-        if events.is_empty() {
-            return Ok(());
-        }
-        self.lengths.reserve(events.len())?;
+        self.bytes.reserve(lines.len())?;
+        self.lengths.extend_from_slice(lengths)?;
         self.bytes.extend_from_slice(lines)?;
-        put_lengths(&mut self.lengths, events);
         Ok(())
     }
 
@@ -141,15 +135,5 @@ fn past(bytes: &mut Vec<u8>, run: Run, len: usize, kept: bool) -> Run
         end: run.end + size,
         from: at,
         at,
-    }
-}
-
-// Puts the lengths of the events' lines at the end. There is room for them.
-fn put_lengths(lengths: &mut Vec<u8>, events: &[Event])
-    requires { vec_len lengths.old + length events.now ≤ vec_capacity lengths.old }
-    ensures { lengths.new.items ≡ lengths.old.items ++ map (λ e. length (event_text e)) events.now }
-{
-    for event in events {
-        lengths.push_reserved(line_len(event));
     }
 }

@@ -2,7 +2,7 @@
 
 ghost use Rattle.std.specs.Prelude.{◌≡◌, ℕ, ◌+◌, ◌<◌, ◌≤◌, [], length, map, IfOk, OnOk};
 ghost use Rattle.pmt_model.specs.Machine.{Stores, Flushes, Clflushes, Fences};
-ghost use Rattle.pmt_model.specs.Pushing.{empty, with_event, with_events};
+ghost use Rattle.pmt_model.specs.Pushing.{empty, with_event};
 ghost use Rattle.pmt_model.specs.Traces.{Recording, act, event_limit};
 ghost use Rattle.pmt_model.specs.Values.{Written};
 ghost use Rattle.pmt_model.specs.declared.event.Event.{Event};
@@ -67,22 +67,6 @@ impl Pass {
     {
         let mark = self.judge(event)?;
         self.marks.push(mark)?;
-        Ok(())
-    }
-
-    /// Takes the next events.
-    ///
-    /// # Errors
-    /// Where memory was refused. What the pass holds then is not told.
-    pub(crate) fn take_all(&mut self, events: &[Event]) -> Result<(), OutOfMemory>
-        requires passing { IsPassing self.old }
-        requires room { taken self.old + length events.now ≤ event_limit }
-        ensures follows { (T : Recording) → IsPassOf T self.old → OnOk result (IsPassOf (with_events T events.now) self.new) }
-        ensures settled { OnOk result (self.new.settled ≡ self.old.settled) }
-    {
-        for event in events {
-            self.take(event)?;
-        }
         Ok(())
     }
 

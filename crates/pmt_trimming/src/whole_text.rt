@@ -1,16 +1,18 @@
 //! The trimmer that gives the whole text.
-ghost use Rattle.std.specs.Prelude.{◌≡◌, ◌+◌, ◌++◌, ◌∷◌, [], ◌<◌, ◌≤◌, Bool, List, length, map, Some, IfOk, IfErr, IfSome, OnOk};
+ghost use Rattle.std.specs.Prelude.{◌≡◌, ◌+◌, ◌++◌, ◌∷◌, [], ◌<◌, ◌≤◌, Bool, List, length, map, Some, IfOk, IfErr, IfSome, OnOk, vec_capacity, vec_len};
+ghost use Rattle.std.specs.List.{flat_map};
 ghost use Rattle.pmt_model.specs.Pushing.{empty, with_event, with_events};
 ghost use Rattle.pmt_model.specs.Traces.{Recording, event_limit};
 ghost use Rattle.pmt_text.specs.Spelling.{event_text};
 ghost use Rattle.pmt_text.specs.Sources.{CountsReads, LendsAll};
 ghost use Rattle.pmt_taking.specs.Sourcing.{IsFaultOf, TellsTaken, told_by};
 ghost use Rattle.pmt_trimming.specs.LineQueues.{kept_texts};
-ghost use Rattle.pmt_trimming.specs.Passing.{flag_by, taken};
+ghost use Rattle.pmt_trimming.specs.Passing.{IsPassOf, IsPassing, flag_by, taken};
 ghost use Rattle.pmt_trimming.specs.Streaming.{IsTextOfTrimmed};
 ghost use Rattle.pmt_trimming.specs.WholeTexts.{IsTextOfWhole, IsWhole, IsWholeOf};
 
 use crate::held_lines::HeldLines;
+use crate::line_len::line_len;
 use crate::pass::{Mark, Pass, flag};
 use pmt_model::{Event, Format, OutOfMemory, Trace};
 use pmt_taking::TakeError;
@@ -38,7 +40,7 @@ pub fn trimmed_text<S: EventSource>(alloc: Global, source: &mut S) -> Result<Vec
     while let Some(event) = source.next()? {
         whole.take(&event, source.last_line())?;
         source.take_ready(&mut block, BLOCK_ROOM)?;
-        whole.take_all(block.events(), source.last_line())?;
+        whole.take_all(alloc, block.events(), source.last_line())?;
         block = emptied(alloc, block)?;
     }
     Ok(whole.into_text())
@@ -88,14 +90,50 @@ impl Whole {
     }
 
     // The next events come, perhaps with their lines, which are not spelled again then.
-    fn take_all(&mut self, events: &[Event], lines: Option<&[u8]>) -> Result<(), OutOfMemory>
+    fn take_all(
+        &mut self,
+        alloc: Global,
+        events: &[Event],
+        lines: Option<&[u8]>,
+    ) -> Result<(), OutOfMemory>
         requires whole { IsWhole self.old }
         requires lines { IfSome lines (λ bytes. LendsAll events.now (Some bytes.now)) }
         requires room { taken self.old.pass + length events.now ≤ event_limit }
         ensures { (T : Recording) → IsWholeOf T self.old → OnOk result (IsWholeOf (with_events T events.now) self.new) }
     {
-        hold_all(&mut self.held, events, lines)?;
-        self.pass.take_all(events)?;
+        match lines {
+            Some(bytes) if !events.is_empty() => self.take_lent(alloc, events, bytes),
+            _ => self.take_each(events),
+        }
+    }
+
+    // The next events come, with their lines.
+    fn take_lent(
+        &mut self,
+        alloc: Global,
+        events: &[Event],
+        lines: &[u8],
+    ) -> Result<(), OutOfMemory>
+        requires whole { IsWhole self.old }
+        requires lines { lines.now ≡ flat_map event_text events.now }
+        requires room { taken self.old.pass + length events.now ≤ event_limit }
+        ensures { (T : Recording) → IsWholeOf T self.old → OnOk result (IsWholeOf (with_events T events.now) self.new) }
+    {
+        let mut lengths = Vec::with_capacity(alloc, events.len())?;
+        take_measured(&mut self.pass, events, &mut lengths)?;
+        self.held.push_all(lengths.as_slice(), lines)?;
+        Ok(())
+    }
+
+    // The next events come, and their lines are spelled.
+    fn take_each(&mut self, events: &[Event]) -> Result<(), OutOfMemory>
+        requires whole { IsWhole self.old }
+        requires room { taken self.old.pass + length events.now ≤ event_limit }
+        ensures { (T : Recording) → IsWholeOf T self.old → OnOk result (IsWholeOf (with_events T events.now) self.new) }
+    {
+        for event in events {
+            self.take(event, None)?;
+        }
         Ok(())
     }
 
@@ -150,25 +188,23 @@ fn hold_spelled(held: &mut HeldLines, event: Event) -> Result<(), OutOfMemory>
     held.push(spell_event(&mut room, &event))
 }
 
-// The lines of the events are held. They are spelled where none were given.
-fn hold_all(held: &mut HeldLines, events: &[Event], lines: Option<&[u8]>) -> Result<(), OutOfMemory>
-    requires { IfSome lines (λ bytes. LendsAll events.now (Some bytes.now)) }
-    ensures text { OnOk result (held.new.text ≡ held.old.text) }
-    ensures lines { OnOk result (held.new.lines ≡ held.old.lines ++ map event_text events.now) }
-{
-    match lines {
-        Some(bytes) => held.push_all(events, bytes),
-        None => hold_each(held, events),
-    }
-}
-
-// The lines of the events are spelled, and held.
-fn hold_each(held: &mut HeldLines, events: &[Event]) -> Result<(), OutOfMemory>
-    ensures text { OnOk result (held.new.text ≡ held.old.text) }
-    ensures lines { OnOk result (held.new.lines ≡ held.old.lines ++ map event_text events.now) }
+// The pass takes the events, and the lengths of their lines are put at the end. There is room for these. One loop does both, since the
+// kind of an event that was guessed wrong once is known then.
+fn take_measured(
+    pass: &mut Pass,
+    events: &[Event],
+    lengths: &mut Vec<u8>,
+) -> Result<(), OutOfMemory>
+    requires passing { IsPassing pass.old }
+    requires room { taken pass.old + length events.now ≤ event_limit }
+    requires spare { vec_len lengths.old + length events.now ≤ vec_capacity lengths.old }
+    ensures follows { (T : Recording) → IsPassOf T pass.old → OnOk result (IsPassOf (with_events T events.now) pass.new) }
+    ensures settled { OnOk result (pass.new.settled ≡ pass.old.settled) }
+    ensures lengths { OnOk result (lengths.new.items ≡ lengths.old.items ++ map (λ e. length (event_text e)) events.now) }
 {
     for event in events {
-        hold_spelled(held, *event)?;
+        lengths.push_reserved(line_len(event));
+        pass.take(event)?;
     }
     Ok(())
 }

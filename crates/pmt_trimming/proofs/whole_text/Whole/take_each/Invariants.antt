@@ -1,0 +1,8 @@
+use Rattle.std.proofs.Common.{take}
+use Rattle.pmt_model.specs.Pushing.{with_events}
+use Rattle.pmt_model.specs.Traces.{Recording}
+use Rattle.pmt_trimming.specs.WholeTexts.{IsWholeOf}
+use Rattle.pmt_trimming.proofs.whole_text.Whole.take_each.Given as goal
+
+abbrev pub invariant-loop-event : goal.invariant-loop-event
+invariant-loop-event l = (T : Recording) → IsWholeOf T l.fn.self → IsWholeOf (with_events T (take l.event-index l.events)) l.self
