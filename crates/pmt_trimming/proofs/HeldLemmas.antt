@@ -63,17 +63,6 @@ cut-all (n ∷ lengths) bytes ns more all =
     ap₂ (λ (l : List ℕ) (ls : List (List ℕ)). l ∷ ls) (take-append-le n bytes more within)
     (ap (cut_by (lengths ++ ns)) (drop-append-le n bytes more within) ∙ cut-all lengths (drop n bytes) ns more (omega (arith, length-drop n bytes)))
 
-pub held-with_all : (end from at left : ℕ) (lengths longer bytes longest ns more : List ℕ) → AreHeld end from at left lengths bytes → sum ns ≡ length more → longer ≡ lengths ++ ns → longest ≡ bytes ++ more →
-    AreHeld end from at left longer longest
-held-with_all end from at left lengths longer bytes longest ns more held all lengths_are bytes_are = record {
-  run = held.run;
-  some = omega (arith, held.some, ap length lengths_are, length-append lengths ns);
-  cut = omega (arith, held.cut, size, all, ap length bytes_are, length-append bytes more);
-}
-  where
-    size : sum (drop left longer) ≡ sum (drop left lengths) + sum ns
-    size = ap (λ (xs : List ℕ). sum (drop left xs)) lengths_are ∙ ap sum (drop-append-le left lengths ns held.some) ∙ sum_by-append (λ x. x) (drop left lengths) ns
-
 pub held-all : (end from at left : ℕ) (lengths longer bytes longest ns more : List ℕ) → AreHeld end from at left lengths bytes → longer ≡ lengths ++ ns → longest ≡ bytes ++ more →
     cut_by (drop left longer) (drop at longest) ≡ cut_by (drop left lengths) (drop at bytes) ++ cut_by ns more
 held-all end from at left lengths longer bytes longest ns more held lengths_are bytes_are =

@@ -1,19 +1,21 @@
 -- How long a line is.
-use Rattle.std.proofs.Common.{◌≡◌, ℕ, zero, suc, ◌+◌, ◌-◌, ◌*◌, ◌/◌, ◌%◌, ◌^◌, ◌<◌, ◌≤◌, inl, inr, List, [], ◌∷◌, ◌++◌, length, sum, false, Some, refl, sym, ap, ap₂, ◌∙◌, subst, true≢false, arith, pow-suc, length-append, append_assoc, append-nil, map, take, get_or}
-use Rattle.std.specs.Prelude.{◌==◌}
+use Rattle.std.proofs.Common.{◌≡◌, ℕ, zero, suc, ◌+◌, ◌-◌, ◌*◌, ◌/◌, ◌%◌, ◌^◌, ◌<◌, ◌≤◌, ◌⊎◌, inl, inr, List, [], ◌∷◌, ◌++◌, length, sum, refl, sym, ap, ap₂, ◌∙◌, subst, arith, pow-suc, length-append, append_assoc, append-nil, map, take, get_or}
+use mir.Val.{bool_byte}
+use Rattle.std.specs.Prelude.{nat_le}
 use Rattle.std.specs.List.{flat_map}
 use Rattle.std.specs.Int.Count.{count_leading_zeros}
 use Rattle.std.proofs.lemmas.List.{map-append, take_more}
 use Rattle.std.proofs.lemmas.List.Sums.{sum_by-cons}
 use Rattle.std.proofs.Math.Seq.{take-append_seam, drop-append_seam}
 use Rattle.std.proofs.Math.Nat.{pow-le-pow_right, one-le-pow}
-use Rattle.std.proofs.lemmas.Nat.{leading_top, pow-add}
+use Rattle.std.specs.Int.Bits.{bit_or, or_zero_r}
+use Rattle.std.proofs.lemmas.Bool.{cases_lt, le-leb, lt-leb}
+use Rattle.std.proofs.lemmas.Nat.{leading_top, le_or_l, le_or_r, or_lt, or_shr, pow-add}
 use Rattle.pmt_model.specs.declared.event.Op.{Op}
 use Rattle.pmt_model.specs.declared.event.Op.TheVariants.{Store}
 use Rattle.pmt_model.specs.declared.event.Event.{Event}
 use Rattle.pmt_model.specs.Values.{Written}
 use Rattle.pmt_text.specs.Reading.{IsBase}
-use Rattle.pmt_text.specs.Sources.{LendsAll}
 use Rattle.pmt_text.specs.Spelling.{address, arguments_of, event_text, glyph, hex_bytes, numeral, word_of, word_text}
 use Rattle.pmt_text.specs.Writing.{spaced}
 use Rattle.pmt_text.proofs.LineWriting.{event_text-parts}
@@ -23,20 +25,34 @@ use Rattle.pmt_trimming.specs.LineQueues.{cut_by}
 -- ---- Numbers
 
 -- a number of one digit, and of one more
-pub one-digit : (base n : ℕ) → IsBase base → n < base → length (numeral base n) ≡ 1
+one-digit : (base n : ℕ) → IsBase base → n < base → length (numeral base n) ≡ 1
 one-digit base n is low = ap length (numeral-digit base n is low)
 
 digit-more : (base n : ℕ) → IsBase base → base ≤ n → length (numeral base n) ≡ suc (length (numeral base (n / base)))
 digit-more base n is low = ap length (numeral-step base n is low) ∙ length-append (numeral base (n / base)) (glyph (n % base) ∷ []) ∙ omega arith
 
-pub two-digits : (n : ℕ) → 10 ≤ n → n < 100 → length (numeral 10 n) ≡ 2
-two-digits n low high = digit-more 10 n (inl refl) low ∙ ap suc (one-digit 10 (n / 10) (inl refl) (omega arith))
+-- a number of at most four digits of base 10
+pub decimal-length : (n : ℕ) → n < 10000 → 1 + bool_byte (nat_le 10 n) + bool_byte (nat_le 100 n) + bool_byte (nat_le 1000 n) ≡ length (numeral 10 n)
+decimal-length n high = go (cases_lt n 10) (cases_lt n 100) (cases_lt n 1000)
+  where
+    more : (m : ℕ) → 10 ≤ m → length (numeral 10 m) ≡ suc (length (numeral 10 (m / 10)))
+    more m low = digit-more 10 m (inl refl) low
 
-pub three-digits : (n : ℕ) → 100 ≤ n → n < 1000 → length (numeral 10 n) ≡ 3
-three-digits n low high = digit-more 10 n (inl refl) (omega arith) ∙ ap suc (two-digits (n / 10) (omega arith) (omega arith))
+    one : (m : ℕ) → m < 10 → length (numeral 10 m) ≡ 1
+    one m low = one-digit 10 m (inl refl) low
 
-pub four-digits : (n : ℕ) → 1000 ≤ n → n < 10000 → length (numeral 10 n) ≡ 4
-four-digits n low high = digit-more 10 n (inl refl) (omega arith) ∙ ap suc (three-digits (n / 10) (omega arith) (omega arith))
+    is : (a : ℕ) → a ≤ n → bool_byte (nat_le a n) ≡ 1
+    is a from = ap bool_byte (le-leb a n from)
+
+    not : (a : ℕ) → n < a → bool_byte (nat_le a n) ≡ 0
+    not a below = ap bool_byte (lt-leb a n below)
+
+    go : (n < 10) ⊎ (10 ≤ n) → (n < 100) ⊎ (100 ≤ n) → (n < 1000) ⊎ (1000 ≤ n) → 1 + bool_byte (nat_le 10 n) + bool_byte (nat_le 100 n) + bool_byte (nat_le 1000 n) ≡ length (numeral 10 n)
+    go (inl ten) _ _ = omega (arith, not 10 ten, not 100 (omega arith), not 1000 (omega arith), one n ten)
+    go (inr ten) (inl hundred) _ = omega (arith, is 10 ten, not 100 hundred, not 1000 (omega arith), more n ten, one (n / 10) (omega arith))
+    go (inr ten) (inr hundred) (inl thousand) = omega (arith, is 10 ten, is 100 hundred, not 1000 thousand, more n ten, more (n / 10) (omega arith), one (n / 10 / 10) (omega arith))
+    go (inr ten) (inr hundred) (inr thousand) =
+        omega (arith, is 10 ten, is 100 hundred, is 1000 thousand, more n ten, more (n / 10) (omega arith), more (n / 10 / 10) (omega arith), one (n / 10 / 10 / 10) (omega arith))
 
 -- so many digits of base 16 beside the first
 hex-digits : (q n : ℕ) → 16 ^ q ≤ n → n < 16 ^ suc q → length (numeral 16 n) ≡ suc q
@@ -52,14 +68,26 @@ pow-four (suc q) =
     let four : 4 * suc q ≡ 4 * q + 4 = omega arith in
     pow-suc 16 q ∙ ap (λ (n : ℕ). n * 16) (pow-four q) ∙ sym (pow-add 2 (4 * q) 4) ∙ ap (λ (n : ℕ). 2 ^ n) (sym four)
 
-pub hex-length : (n leading len : ℕ) → 0 < n → n < 2 ^ 64 → leading ≡ count_leading_zeros 64 n → len ≡ (67 - leading) / 4 → len ≡ length (numeral 16 n)
-hex-length n leading len some high is told =
+hex-top : (n leading len : ℕ) → 0 < n → n < 2 ^ 64 → leading ≡ count_leading_zeros 64 n → len ≡ (67 - leading) / 4 → len ≡ length (numeral 16 n)
+hex-top n leading len some high is told =
     let top = leading_top 64 n some high in
     let q : ℕ = top.0 / 4 in
     let low : 16 ^ q ≤ n = omega (arith, pow-four q, pow-le-pow_right {n = 2} (omega arith) {i = 4 * q} {j = top.0} (omega arith), top.2) in
     let below : n < 16 ^ suc q = omega (arith, pow-four (suc q), pow-le-pow_right {n = 2} (omega arith) {i = suc top.0} {j = 4 * suc q} (omega arith), top.3) in
     let size : len ≡ suc q = omega (arith, told, is, top.1) in
     size ∙ sym (hex-digits q n low below)
+
+-- the lowest digit does not matter
+same-length : (n m : ℕ) → n ≤ m → m / 16 ≡ n / 16 → length (numeral 16 m) ≡ length (numeral 16 n)
+same-length n m le same = go (cases_lt m 16)
+  where
+    go : (m < 16) ⊎ (16 ≤ m) → length (numeral 16 m) ≡ length (numeral 16 n)
+    go (inl low) = one-digit 16 m (inr refl) low ∙ sym (one-digit 16 n (inr refl) (omega arith))
+    go (inr high) = digit-more 16 m (inr refl) high ∙ ap (λ (q : ℕ). suc (length (numeral 16 q))) same ∙ sym (digit-more 16 n (inr refl) (omega arith))
+
+pub hex-length : (n leading len : ℕ) → n < 2 ^ 64 → leading ≡ count_leading_zeros 64 (bit_or n 1) → len ≡ (67 - leading) / 4 → len ≡ length (numeral 16 n)
+hex-length n leading len fits is told =
+    hex-top (bit_or n 1) leading len (le_or_r n 1) (or_lt 64 n 1 fits (omega arith)) is told ∙ same-length n (bit_or n 1) (le_or_l n 1) (or_shr n 1 4 ∙ or_zero_r (n / 16))
 
 -- ---- Fields
 
@@ -128,8 +156,3 @@ cut-lines es ns text are is = ap₂ (λ (xs bytes : List ℕ). cut_by xs bytes) 
     go (e ∷ xs) =
         ap₂ (λ (l : List ℕ) (ls : List (List ℕ)). l ∷ ls) (take-append_seam (event_text e) (flat_map event_text xs))
         (ap (cut_by (map (λ x. length (event_text x)) xs)) (drop-append_seam (event_text e) (flat_map event_text xs)) ∙ go xs)
-
--- the lines that are lent of some events
-pub lent-lines : (es : List Event) (text : List ℕ) → (length es == 0) ≡ false → LendsAll es (Some text) → text ≡ flat_map event_text es
-lent-lines [] text some lends = absurd (true≢false some)
-lent-lines (e ∷ es) text some lends = lends

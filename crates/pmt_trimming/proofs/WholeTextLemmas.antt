@@ -1,5 +1,5 @@
 -- The whole text at the end of a source, and a fault before it.
-use Rattle.std.proofs.Common.{◌≡◌, ◌≢◌, ℕ, ◌+◌, ◌≤◌, inl, List, [], ◌++◌, length, Option, None, Some, Result, Ok, Err, Bor, refl, sym, ap, subst, ◌∙◌, arith, length-append}
+use Rattle.std.proofs.Common.{◌≡◌, ◌≢◌, ℕ, ◌+◌, ◌≤◌, inl, List, [], ◌++◌, length, Option, None, Some, Result, Ok, Err, refl, sym, ap, subst, ◌∙◌, arith, length-append}
 use Rattle.std.specs.Prelude.{IfErr, IfSome}
 use Rattle.pmt_model.specs.declared.event.Event.{Event}
 use Rattle.pmt_model.specs.Traces.{Recording}
@@ -9,7 +9,7 @@ use Rattle.pmt_text.specs.declared.kind.SourceError.TheVariants.{Text, TooMany, 
 use Rattle.pmt_text.specs.declared.source.SourceState.{SourceState}
 use Rattle.pmt_text.specs.declared.source.SourceState.TheVariants as states
 use Rattle.pmt_text.specs.Coming.{Coming}
-use Rattle.pmt_text.specs.Sources.{Gives, HasFormat, IsOver, Faults, CountsReads, LendsAll, TakesReady}
+use Rattle.pmt_text.specs.Sources.{Gives, HasFormat, IsOver, Faults, CountsReads, TakesReady}
 use Rattle.pmt_taking.specs.declared.taking.TakeError.{TakeError}
 use Rattle.pmt_taking.specs.declared.taking.TakeError.TheVariants as refusals
 use Rattle.pmt_taking.specs.Sourcing.{IsFaultOf, TellsNothing, TellsTaken, told_by}
@@ -60,14 +60,7 @@ counts-fault None mid new e r same counts refused = tt
 counts-fault {B = B} (Some n) mid new e r same counts refused =
     subst (λ (q : Result B TakeError). CountsReads (Some n) (told_by q) new) (sym refused) (subst (λ m. CountsReads {T = Option Event} m (Err e) new) same counts)
 
--- the lines that it lends of events that were ready
-pub lent-all : (before after : Recording) (old new : Option Coming) (lent : Option (List ℕ)) (result : Option (Bor (List ℕ))) → before.events ≡ [] → TakesReady old new lent before after → IfSome result (λ l. lent ≡ Some l.now) →
-    IfSome result (λ l. LendsAll after.events (Some l.now))
-lent-all before after old new lent None fresh ready is = tt
-lent-all before after old new lent (Some l) fresh ready is =
-    subst (λ es. LendsAll es (Some l.now)) (sym (ready-events before after old new lent fresh ready)) (subst (λ (o : Option (List ℕ)). LendsAll ready.events o) is ready.lends)
-
--- after them
+-- after events that were ready
 pub so_far-ready : (first now next : Shown) (T before after : Recording) (lent : Option (List ℕ)) → before ≡ empty T.format → SoFar first now T → TakesReady now.coming next.coming lent before after →
     next.room + length after.events ≤ now.room + length before.events → next.state ≡ now.state → next.format ≡ now.format → next.failures ≡ now.failures → SoFar first next (with_events T after.events)
 so_far-ready first now next T before after lent fresh so_far ready roomy state format failures =

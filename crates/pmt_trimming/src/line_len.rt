@@ -5,16 +5,13 @@ ghost use Rattle.pmt_text.specs.Writing.{spaced};
 
 use pmt_model::{Addr, Event, Op, Range};
 
-// How many digits the number has in base 16.
+// How many digits the number has in base 16. Its lowest bit is set first: 0 has one digit too.
 #[inline(always)]
 fn hex_len(number: u64) -> usize
     ensures value { result ≡ length (numeral 16 number) }
     ensures few { result ≤ 16 }
 {
-    if number == 0 {
-        return 1;
-    }
-    (67 - number.leading_zeros() as usize) / 4
+    (67 - (number | 1).leading_zeros() as usize) / 4
 }
 
 // How many digits the number has in base 10.
@@ -24,15 +21,7 @@ fn decimal_len(number: u64) -> usize
     ensures value { result ≡ length (numeral 10 number) }
     ensures few { result ≤ 4 }
 {
-    if number < 10 {
-        1
-    } else if number < 100 {
-        2
-    } else if number < 1000 {
-        3
-    } else {
-        4
-    }
+    1 + (number >= 10) as usize + (number >= 100) as usize + (number >= 1000) as usize
 }
 
 // How many bytes the address has in a line, behind a space.
