@@ -188,8 +188,8 @@ fn hold_spelled(held: &mut HeldLines, event: Event) -> Result<(), OutOfMemory>
     held.push(spell_event(&mut room, &event))
 }
 
-// The pass takes the events, and the lengths of their lines are put at the end. There is room for these. One loop does both, since the
-// kind of an event that was guessed wrong once is known then.
+// The pass takes the events, and the lengths of their lines are put at the end, where there is room for them. One loop does both, so that
+// the processor guesses the kind of each event once.
 fn take_measured(
     pass: &mut Pass,
     events: &[Event],
