@@ -2,4 +2,3 @@ mod LineLemmas
 mod EntryLemmas
 mod LatestLemmas
 mod OrderLemmas
-mod PlacedLemmas

@@ -1,5 +1,5 @@
 -- The bytes of a range in one line.
-use Rattle.std.proofs.Common.{◌≡◌, ℕ, ◌+◌, ◌*◌, ◌%◌, ◌^◌, ◌<◌, ◌≤◌, ◌⊎◌, inl, inr, Bool, true, false, refl, sym, ap, subst, ◌∙◌, arith}
+use Rattle.std.proofs.Common.{◌≡◌, ℕ, ◌+◌, ◌-◌, ◌*◌, ◌%◌, ◌^◌, ◌<◌, ◌≤◌, ◌⊎◌, inl, inr, Bool, true, false, refl, sym, ap, subst, ◌∙◌, arith}
 use Rattle.std.specs.Prelude.{◌↔◌, ◌&&◌, nat_le}
 use Rattle.std.proofs.lemmas.Bool.{cases_lt, le-leb, and_from}
 use Rattle.std.proofs.lemmas.Nat.{div-add-mod', div-mul-add, mod_below}
@@ -23,7 +23,7 @@ use Rattle.pmt_known.proofs.WordsLemmas.{byte-le_last}
 use Rattle.pmt_known.proofs.ReadingLemmas.{some-bytes}
 use Rattle.pmt_verdicts.specs.declared.placed.Placed.{Placed}
 use Rattle.pmt_verdicts.specs.Lines.{EachIn, IsAtLine, IsLineBefore, IsLineSafe}
-use Rattle.pmt_verdicts.specs.Placed.{AreWithout, IsFirst}
+use Rattle.pmt_verdicts.specs.Placed.{AreLinesOf}
 
 -- ---- Lines without stores to the range
 
@@ -39,10 +39,8 @@ none-without T n l k known without = ap (λ (y : Row). y.last_store) (known.rows
 abbrev pub IsLineBare : Recording → ℕ → Span → ℕ → Type 0
 IsLineBare T n A l = EachIn T A l (λ b. last_number T n b ≡ 0)
 
-pub bare-without : (T : Recording) (n l low high : ℕ) (A : Span) (k : Known) → IsKnownOf T n k → AreWithout T n low high → low ≤ l → l < high → IsLineBare T n A l
-bare-without T n l low high A k known without from to b own here =
-    let none = none-without T n l k known (λ place at. without l place from to at) in
-    omega (arith, byte-le_last T n b known.trace, ap (λ m. last_line_store_at T m n) here, none)
+pub bare-unplaced : (T : Recording) (n l : ℕ) (A : Span) (k : Known) → IsKnownOf T n k → ((place : ℕ) → IsPlaceOf l place (lines_of (history T n)) → ⊥) → IsLineBare T n A l
+bare-unplaced T n l A k known without b own here = omega (arith, byte-le_last T n b known.trace, ap (λ m. last_line_store_at T m n) here, none-without T n l k known without)
 
 -- a line that the range does not meet has none of its bytes
 pub bare-above : (T : Recording) (n l : ℕ) (A : Span) (s : Spanned) → IsSpanned T.format A s → s.last < l → IsLineBare T n A l
@@ -60,6 +58,32 @@ record IsByteOf (T : Recording) (l b o : ℕ) : Type 0 where
 
 byte-of : (T : Recording) (l b : ℕ) → IsTrace T → line_of T.format b ≡ l → IsByteOf T l b (b % T.format.line_size)
 byte-of T l b trace here = let size = T.format.line_size in record { within = mod_below b size (some-bytes T trace); at = ap (λ m. m * size + b % size) (sym here) ∙ div-add-mod' b size }
+
+-- a line that comes later begins after the last byte of this one
+later-begins : (k l size : ℕ) → k < l → k * size + size ≤ l * size
+later-begins k l size less =
+    let e : k + 1 + (l - k - 1) ≡ l = omega (arith, less) in
+    omega (arith, spread k (l - k - 1) size, ap (λ m. m * size) e)
+  where
+    spread : (k d size : ℕ) → (k + 1 + d) * size ≡ k * size + size + d * size
+    spread k d size = omega arith
+
+-- of a line between the first and the last one all bytes are of the range
+pub inner-bytes : (T : Recording) (l : ℕ) (A : Span) (s : Spanned) → IsTrace T → IsSpanned T.format A s → s.first < l → l < s.last → AreBytesOf T.format A l (record { low = 0; high = T.format.line_size })
+inner-bytes T l A s trace is after before = record {
+  some = some-bytes T trace;
+  within = omega arith;
+  just = λ o within. (λ _. (low o, high o within), λ _. (omega arith, within));
+}
+  where
+    low : (o : ℕ) → A.addr ≤ l * T.format.line_size + o
+    low o =
+        let addr = div-add-mod' A.addr T.format.line_size in
+        let rest = mod_below A.addr T.format.line_size (some-bytes T trace) in
+        omega (arith, addr, rest, ap (λ m. m * T.format.line_size) is.first, later-begins s.first l T.format.line_size after)
+
+    high : (o : ℕ) → o < T.format.line_size → l * T.format.line_size + o < A.addr + A.len
+    high o within = omega (arith, within, is.high, later-begins l s.last T.format.line_size before)
 
 module _ (T : Recording) (n l : ℕ) (A : Span) (bytes : LineBytes) (trace : IsTrace T) (are : AreBytesOf T.format A l bytes) where
   -- a byte of the range in the line is one of these
@@ -128,13 +152,23 @@ last-safe T n l A trace le = (safe-before T n l A).0 (λ b own here. omega (arit
 pub bare-safe : (T : Recording) (n l : ℕ) (A : Span) → IsLineBare T n A l → IsLineSafe T n A l
 bare-safe T n l A bare b own here = omega (arith, bare b own here)
 
--- ---- A line that a walk has come to
+-- ---- A line with its place
 
-pub at-line : (T : Recording) (n low high : ℕ) (A : Span) (s : Spanned) (at : Placed) (k : Known) → IsKnownOf T n k → IsSpanned T.format A s → IsFirst T n low at → s.first ≤ low → high ≡ s.last + 1 → low ≤ at.line → at.line < high → at.place < 2 ^ 32 → IsAtLine T n A s at k
-at-line T n low high A s at k known spanned first from end after below small = record {
-  spanned = spanned;
-  from = omega (arith, from, after);
-  to = omega (arith, end, below);
-  line = record { known = known; at = first.at };
+pub at-line : (T : Recording) (n : ℕ) (A : Span) (s : Spanned) (at : Placed) (k : Known) → AreLinesOf T n A s at.line (at.line + 1) k → IsPlaceOf at.line at.place (lines_of (history T n)) → at.place < 2 ^ 32 → IsAtLine T n A s at k
+at-line T n A s at k are here small = record {
+  spanned = are.spanned;
+  from = are.first;
+  to = omega (arith, are.last);
+  line = record { known = are.known; at = here };
   small = small;
+}
+
+-- of lines that the range meets some are some
+pub lines-part : (T : Recording) (n : ℕ) (A : Span) (s : Spanned) (from stop low high : ℕ) (k : Known) → AreLinesOf T n A s from stop k → from ≤ low → low ≤ high → high ≤ stop → AreLinesOf T n A s low high k
+lines-part T n A s from stop low high k are lower order higher = record {
+  known = are.known;
+  spanned = are.spanned;
+  first = omega (arith, are.first, lower);
+  order = order;
+  last = omega (arith, are.last, higher);
 }

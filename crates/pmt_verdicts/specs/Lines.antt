@@ -4,12 +4,14 @@ use Rattle.pmt_model.specs.Values.{Span, line_of}
 use Rattle.pmt_model.specs.Traces.{Recording}
 use Rattle.pmt_model.specs.Assertions.{InSpan}
 use Rattle.pmt_safety.specs.Safety.{safe_store_at}
+use Rattle.pmt_words.specs.Lasts.{IsNewest}
 use Rattle.pmt_words.specs.Written.{last_number}
 use Rattle.pmt_bytes.specs.Judged.{IsByteSafe, IsNoLaterThan}
+use Rattle.pmt_spans.specs.declared.spanned.LineBytes.{LineBytes}
 use Rattle.pmt_spans.specs.declared.spanned.Spanned.{Spanned}
-use Rattle.pmt_spans.specs.Spans.{IsSpanned}
+use Rattle.pmt_spans.specs.Spans.{AreBytesOf, IsSpanned}
 use Rattle.pmt_known.specs.declared.known.Known.{Known}
-use Rattle.pmt_known.specs.Reading.{IsLineAt}
+use Rattle.pmt_known.specs.Reading.{IsLineAt, last_in_line}
 use Rattle.pmt_verdicts.specs.declared.latest.Latest.{Latest}
 use Rattle.pmt_verdicts.specs.declared.placed.Placed.{Placed}
 use Rattle.pmt_verdicts.specs.Latest.{IsLatest}
@@ -30,6 +32,12 @@ IsLineBefore T n A l store = EachIn T A l (λ b. last_number T n b ≤ store)
 abbrev pub IsLineOrdered : Recording → ℕ → List ℕ → Span → Span → ℕ → Type 0
 IsLineOrdered T n entries A B l =
     EachIn T B l (λ b. 0 < last_number T n b → (a : ℕ) → InSpan A a → 0 < last_number T n a → IsNoLaterThan T n entries a b)
+
+-- The newest of the last stores to the bytes of A in line l, or 0 where there is none.
+pub record IsNewestIn (T : Recording) (n : ℕ) (A : Span) (l newest : ℕ) : Type 0 where
+  pub bytes : LineBytes
+  pub are : AreBytesOf T.format A l bytes
+  pub told : IsNewest bytes.low bytes.high (last_in_line T n l) newest
 
 -- What stands for the place from which a store is safe that is not.
 abbrev pub no_place : ℕ

@@ -1,15 +1,17 @@
 //! What an order of two ranges asks of their lines.
-ghost use Rattle.std.specs.Prelude.{◌≡◌, ℕ, ◌+◌, ◌^◌, ◌<◌, ◌↔◌, true};
+ghost use Rattle.std.specs.Prelude.{◌≡◌, ℕ, ◌+◌, ◌/◌, ◌^◌, ◌<◌, ◌↔◌, true, option_copied};
 ghost use Rattle.pmt_model.specs.Traces.{Recording};
 ghost use Rattle.pmt_model.specs.Values.{Span};
 ghost use Rattle.pmt_spans.specs.Spans.{IsSpanned};
 ghost use Rattle.pmt_known.specs.Known.{IsKnownOf};
-ghost use Rattle.pmt_known.specs.Reading.{IsLineAt};
-ghost use Rattle.pmt_verdicts.specs.Lines.{AreSafeFrom, AreSafeFromBelow, IsAtLine, IsLineBefore, IsLineOrdered, IsToldFrom};
+ghost use Rattle.pmt_known.specs.Reading.{IsBlockOf, IsLineAt};
+ghost use Rattle.pmt_verdicts.specs.Lines.{AreSafeFrom, AreSafeFromBelow, IsAtLine, IsLineBefore, IsLineOrdered, IsNewestIn, IsToldFrom};
+ghost use Rattle.pmt_verdicts.specs.Placed.{AreLinesOf, IsInBlock};
 
 use crate::latest::Latest;
-use crate::placed::{Placed, PlacedLines};
+use crate::placed::{Placed, block_end, place_in};
 use pmt_known::Known;
+use pmt_places::Block;
 use pmt_spans::Spanned;
 
 // Of the lines of the range the places from which their last stores are safe: the latest one, and the latest one of the other lines.
@@ -18,12 +20,39 @@ pub(crate) fn latest_of(known: &Known, lines: &Spanned) -> Latest
     requires { (T : Recording) × (n : ℕ) × (A : Span) × IsKnownOf T n known.now × IsSpanned T.format A lines.now }
     ensures { (T : Recording) (n : ℕ) (A : Span) → IsKnownOf T n known.now → IsSpanned T.format A lines.now → AreSafeFrom T n known.now.links A result }
 {
+    let end = lines.last + 1;
     let mut latest = Latest::none();
-    let mut placed = PlacedLines::new(known, lines);
-    while let Some(at) = placed.next() {
-        add_line(&mut latest, known, lines, &at);
+    let mut line = lines.first;
+    while line < end {
+        let stop = block_end(line, end);
+        add_block(&mut latest, known, lines, line, stop);
+        line = stop;
     }
     latest
+}
+
+// Some more lines, which are of one block: it is looked up once.
+#[inline(always)]
+fn add_block(latest: &mut Latest, known: &Known, lines: &Spanned, from: u64, stop: u64)
+    requires block { IsInBlock from stop }
+    requires lines { (T : Recording) × (n : ℕ) × (A : Span) × AreLinesOf T n A lines.now from stop known.now }
+    ensures { (T : Recording) (n : ℕ) (A : Span) → AreLinesOf T n A lines.now from stop known.now → AreSafeFromBelow T n known.now.links A from latest.old → AreSafeFromBelow T n known.now.links A stop latest.new }
+{
+    let block = known.neighbours(from / 8);
+    for line in from..stop {
+        add_placed(latest, known, lines, block, line);
+    }
+}
+
+// One more line, if it has a place.
+#[inline(always)]
+fn add_placed(latest: &mut Latest, known: &Known, lines: &Spanned, block: Option<&Block>, line: u64)
+    requires { (T : Recording) × (n : ℕ) × (A : Span) × AreLinesOf T n A lines.now line (line + 1) known.now × IsBlockOf T n (line / 8) (option_copied block) }
+    ensures { (T : Recording) (n : ℕ) (A : Span) → AreLinesOf T n A lines.now line (line + 1) known.now → IsBlockOf T n (line / 8) (option_copied block.entry) → AreSafeFromBelow T n known.now.links A line latest.old → AreSafeFromBelow T n known.now.links A (line + 1) latest.new }
+{
+    if let Some(place) = place_in(block, line) {
+        add_line(latest, known, lines, &Placed { line, place });
+    }
 }
 
 // One more line, if its bytes of the range have stores.
@@ -32,11 +61,24 @@ fn add_line(latest: &mut Latest, known: &Known, lines: &Spanned, at: &Placed)
     requires { (T : Recording) × (n : ℕ) × (A : Span) × IsAtLine T n A lines.now at.now known.now }
     ensures { (T : Recording) (n : ℕ) (A : Span) → IsAtLine T n A lines.now at.now known.now → AreSafeFromBelow T n known.now.links A at.now.line latest.old → AreSafeFromBelow T n known.now.links A (at.now.line + 1) latest.new }
 {
-    let bytes = lines.bytes(at.line);
-    let newest = known.newest(at.place, bytes.low, bytes.high);
+    let newest = newest_in(known, lines, at);
     if newest > 0 {
         latest.add(at.line, safe_from(known, at.place, newest));
     }
+}
+
+// The newest of the last stores to the bytes of the range in the line, or 0: the line's last store where the range goes beyond the line on
+// both sides.
+#[inline(always)]
+fn newest_in(known: &Known, lines: &Spanned, at: &Placed) -> u32
+    requires { (T : Recording) × (n : ℕ) × (A : Span) × IsAtLine T n A lines.now at.now known.now }
+    ensures { (T : Recording) (n : ℕ) (A : Span) → IsAtLine T n A lines.now at.now known.now → IsNewestIn T n A at.now.line result }
+{
+    if lines.first < at.line && at.line < lines.last {
+        return known.row(at.place).last_store;
+    }
+    let bytes = lines.bytes(at.line);
+    known.newest(at.place, bytes.low, bytes.high)
 }
 
 // The place from which this store to the line at this place is safe, `u32::MAX` where it is not.

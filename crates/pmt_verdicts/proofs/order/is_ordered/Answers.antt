@@ -1,54 +1,46 @@
 use Rattle.std.proofs.Common.{inl, inr, ◌∙◌, sym, refl, subst, arith}
 use Rattle.std.proofs.lemmas.Bool.{cases_lt}
 use Rattle.pmt_spans.specs.Spans.{IsSpanned}
-use Rattle.pmt_verdicts.specs.Lines.{IsLineOrdered}
-use Rattle.pmt_verdicts.specs.Placed.{IsFirst}
-use Rattle.pmt_verdicts.proofs.LineLemmas.{at-line, bare-above, bare-without}
+use Rattle.pmt_verdicts.specs.Placed.{AreLinesOf}
+use Rattle.pmt_verdicts.proofs.LineLemmas.{bare-above}
 use Rattle.pmt_verdicts.proofs.OrderLemmas.{bare-ordered, ordered-by_lines}
-use Rattle.pmt_verdicts.proofs.PlacedLemmas.{below-all, below-next}
 use Rattle.pmt_verdicts.proofs.order.is_ordered.Goals as goal
 
-pub loop-at-preserved : goal.loop-at-preserved
-loop-at-preserved c = record {
-  end = c.in-Some.ensures.end ∙ c.loop-at.invariant.end;
-  line = omega (arith, c.loop-at.invariant.line, c.in-Some.ensures.line.0, c.in-Some.ensures.line.2);
-  walk = λ T n known. c.in-Some.ensures.walk T n (c.loop-at.invariant.walk T n known);
-  ordered = λ T n known.
-      let k = c.args.known.now in
+pub loop-line-preserved : goal.loop-line-preserved
+loop-line-preserved c = record {
+  first = omega (arith, c.loop-line.invariant.first, c.block_end-stop.ensures.after);
+  ordered = λ T n known k less.
       let A = c.args.first in
       let B = c.args.second in
-      let at = c.in-Some.at in
-      let low = c.loop-at.placed.line in
-      let line = c.in-Some.ensures.line in
+      let line = c.loop-line.line in
       let spanned : IsSpanned T.format B c.new-after.result = subst (λ f. IsSpanned f B c.new-after.result) (c.format-format.ensures ∙ known.format) c.new-after.ensures in
-      let first : IsFirst T n low at = c.in-Some.ensures.next T n (c.loop-at.invariant.walk T n known) in
       let before : IsSpanned T.format A c.new-before.result = subst (λ f. IsSpanned f A c.new-before.result) (c.format-format.ensures ∙ known.format) c.new-before.ensures in
-      let here = at-line T n c.loop-at.placed.line c.loop-at.placed.end B c.new-after.result at k known spanned first c.loop-at.invariant.line c.loop-at.invariant.end line.0 line.1 c.in-Some.ensures.small in
-      let all = below-next (IsLineOrdered T n k.links A B) low at.line (c.loop-at.invariant.ordered T n known) (λ l from less. bare-ordered T n l k.links A B (bare-without T n l low at.line B k known first.before from less)) ((c.is_line_ordered.ensures T n A B here before (c.latest_of-latest.ensures T n A known before)).0 c.if-not-is_line_ordered.false) in
-      λ l less. all l (omega (arith, less, line.2));
+      let lines : AreLinesOf T n B c.new-after.result line c.block_end-stop.result c.args.known.now = record { known = known; spanned = spanned; first = c.loop-line.invariant.first; order = omega (arith, c.block_end-stop.ensures.after); last = c.block_end-stop.ensures.within } in
+      let law = c.is_block_ordered.ensures T n A B lines before (c.latest_of-latest.ensures T n A known before) in
+      elim (cases_lt k line) [ inl lower ↦ c.loop-line.invariant.ordered T n known k lower | inr from ↦ law.0 c.if-not-is_block_ordered.false k from less ];
 }
 
-pub returns-then-not-is_line_ordered : goal.returns-then-not-is_line_ordered
-returns-then-not-is_line_ordered c = λ T n known.
+pub returns-then-not-is_block_ordered : goal.returns-then-not-is_block_ordered
+returns-then-not-is_block_ordered c = λ T n known.
     let k = c.args.known.now in
     let A = c.args.first in
     let B = c.args.second in
-    let at = c.in-Some.at in
-    let line = c.in-Some.ensures.line in
     let spanned : IsSpanned T.format B c.new-after.result = subst (λ f. IsSpanned f B c.new-after.result) (c.format-format.ensures ∙ known.format) c.new-after.ensures in
-    let first : IsFirst T n c.loop-at.placed.line at = c.in-Some.ensures.next T n (c.loop-at.invariant.walk T n known) in
     let before : IsSpanned T.format A c.new-before.result = subst (λ f. IsSpanned f A c.new-before.result) (c.format-format.ensures ∙ known.format) c.new-before.ensures in
-    let here = at-line T n c.loop-at.placed.line c.loop-at.placed.end B c.new-after.result at k known spanned first c.loop-at.invariant.line c.loop-at.invariant.end line.0 line.1 c.in-Some.ensures.small in
-    (λ told. absurd cc, λ passes. sym c.if-not-is_line_ordered.true ∙ (c.is_line_ordered.ensures T n A B here before (c.latest_of-latest.ensures T n A known before)).1 ((ordered-by_lines T n k.links A B known.trace known.entries).1 passes at.line))
+    let lines : AreLinesOf T n B c.new-after.result c.loop-line.line c.block_end-stop.result k = record { known = known; spanned = spanned; first = c.loop-line.invariant.first; order = omega (arith, c.block_end-stop.ensures.after); last = c.block_end-stop.ensures.within } in
+    let law = c.is_block_ordered.ensures T n A B lines before (c.latest_of-latest.ensures T n A known before) in
+    (λ told. absurd cc, λ passes. sym c.if-not-is_block_ordered.true ∙ law.1 (λ l from less. (ordered-by_lines T n k.links A B known.trace known.entries).1 passes l))
 
 pub returns : goal.returns
 returns c = λ T n known.
     let k = c.args.known.now in
     let A = c.args.first in
     let B = c.args.second in
-    let low = c.loop-at.placed.line in
-    let high = c.loop-at.placed.end in
-    let spanned : IsSpanned T.format B c.new-after.result = subst (λ f. IsSpanned f B c.new-after.result) (c.format-format.ensures ∙ known.format) c.new-after.ensures in
-    let rest = c.in_default.ensures.next T n (c.loop-at.invariant.walk T n known) in
-    let met = below-all (IsLineOrdered T n k.links A B) low high (c.loop-at.invariant.ordered T n known) (λ l from less. bare-ordered T n l k.links A B (bare-without T n l low high B k known rest from less)) in
-    (λ told. (ordered-by_lines T n k.links A B known.trace known.entries).0 (λ l. elim (cases_lt l high) [ inl less ↦ met l less | inr past ↦ bare-ordered T n l k.links A B (bare-above T n l B c.new-after.result spanned (omega (arith, past, c.loop-at.invariant.end))) ]), λ passes. refl)
+    let line = c.loop-line.line in
+    let spanned : IsSpanned T.format B c.new-after.result = subst (λ f. IsSpanned f B c.new-after.result) (c.format-format.ensures ∙ known.format) c.new-after.ensures in (
+      λ told. (ordered-by_lines T n k.links A B known.trace known.entries).0 (λ l. elim (cases_lt l line) [
+        | inl less ↦ c.loop-line.invariant.ordered T n known l less
+        | inr past ↦ bare-ordered T n l k.links A B (bare-above T n l B c.new-after.result spanned (omega (arith, past, c.loop-line-test.false)))
+      ]),
+      λ passes. refl,
+    )
