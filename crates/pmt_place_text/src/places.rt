@@ -107,7 +107,9 @@ struct Beside {
 
 // Adds an entry for each of these places that is not told with another one, as many as the limit says.
 fn add_places(section: &mut Section, told: &Telling<'_>, rows: &[PlaceRow], beside: &Beside) {
+    let most = most_stories(told);
     let mut added = 0usize;
+    let mut stories = 0usize;
     for (number, row) in rows.iter().enumerate() {
         if added >= told.explanation.limit {
             break;
@@ -117,14 +119,24 @@ fn add_places(section: &mut Section, told: &Telling<'_>, rows: &[PlaceRow], besi
         }
         added = added.saturating_add(1);
         let mut pen = Pen::new(told.alloc);
-        let is_story = number < MOST_STORIES;
-        push_place_entry(&mut pen, told, rows, row, beside, is_story);
+        let is_story = number < MOST_STORIES && stories < most;
+        if push_place_entry(&mut pen, told, rows, row, beside, is_story) {
+            stories = stories.saturating_add(1);
+        }
         section.add(pen);
     }
 }
 
+// How many stories are told: an entry with one has three lines at least, so on a screen no more have room.
+fn most_stories(told: &Telling<'_>) -> usize {
+    match told.screen.rows {
+        Some(lines) => (lines / 3).saturating_add(1),
+        None => MOST_STORIES,
+    }
+}
+
 // Adds the place, or those that share its line, and its first store that is lost or late, with or without its story; or which failed
-// assertion tells of that.
+// assertion tells of that. Whether it may have a story: there is none where an assertion tells.
 fn push_place_entry(
     pen: &mut Pen,
     told: &Telling<'_>,
@@ -132,7 +144,7 @@ fn push_place_entry(
     row: &PlaceRow,
     beside: &Beside,
     is_story: bool,
-) {
+) -> bool {
     if let Some(numbers) = beside.sharing.shared(row.place) {
         let line = line_of_store(told.trace, row.first_lost.unwrap_or(0));
         push_shared(pen, told, rows, numbers, line_address(told.trace, line));
@@ -140,7 +152,7 @@ fn push_place_entry(
         let failure = beside.retold.event_of(told, row.place);
         push_head(pen, told, row, failure);
         if failure.is_some() {
-            return;
+            return false;
         }
     }
     if let Some(store) = row.first_lost {
@@ -148,6 +160,7 @@ fn push_place_entry(
     } else if let Some(store) = row.first_late {
         push_late(pen, told, store, is_story);
     }
+    true
 }
 
 // Adds how many stores the place has, and what becomes of them; and which failed assertion tells why, if one does.
