@@ -5,8 +5,7 @@ use crate::image_list_words::list_words;
 use clap::ArgMatches;
 use command_inputs::{Fault, read_origin};
 use command_requests::{AddressStores, AskedCrash, ImageRequest, ImageWords};
-use pmt_model::Addr;
-use pmt_text::number::{read_address, read_number};
+use pmt_image::{LineWord, read_line_word};
 use std::alloc::Global;
 
 /// The command `image`.
@@ -126,25 +125,14 @@ fn lines_of(alloc: Global, given: &ArgMatches<'_>) -> Result<Vec<AddressStores>,
 
 // The line that this word asks for.
 fn line_of_word(alloc: Global, word: &str) -> Result<AddressStores, Fault> {
-    match read_line(word.as_bytes()) {
-        Some(line) => Ok(line),
+    match read_line_word(word) {
+        Some(LineWord { address, stores }) => Ok(AddressStores { address, stores }),
         None => Err(bad_word(
             alloc,
             word,
             "--line <A:K>",
             "an address and how many stores, as 0x1000:2",
         )?),
-    }
-}
-
-// The line that `A:K` asks for.
-fn read_line(word: &[u8]) -> Option<AddressStores> {
-    let colon = word.iter().position(|byte| *byte == b':')?;
-    let value = read_address(&word[..colon])?;
-    let stores = read_number(10, &word[colon + 1..])?;
-    match Addr::new(value) {
-        Ok(address) => Some(AddressStores { address, stores }),
-        Err(_) => None,
     }
 }
 

@@ -8,3 +8,5 @@ pub mod StoreLemmas
 pub mod SpanLemmas
 pub mod WalkLemmas
 pub mod ListingLemmas
+pub mod WordLemmas
+mod ReadBackLemmas

@@ -10,3 +10,4 @@ pub mod Persisting
 pub mod Outsiders
 pub mod Copying
 pub mod Refusing
+pub mod Words

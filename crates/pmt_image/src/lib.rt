@@ -13,6 +13,7 @@ mod persisting;
 pub mod pool;
 mod spans;
 pub mod walk;
+pub mod words;
 
 pub use crate::copying::{CopyFault, ImageFault, Stop, check_pool, write_image};
 pub use crate::crash::{CountFault, Crash, LineStores, crash_at, crash_of_failure};
@@ -20,3 +21,4 @@ pub use crate::listing::{is_turn, push_crash};
 pub use crate::near::NearCrashes;
 pub use crate::pool::Pool;
 pub use crate::walk::Walk;
+pub use crate::words::{LineWord, read_line_word};
