@@ -7,6 +7,7 @@ pub mod NearLemmas
 pub mod NumberLemmas
 pub mod OpenAtLemmas
 pub mod PartingLemmas
+pub mod PathLemmas
 pub mod PlaceLemmas
 pub mod ShortLemmas
 pub mod SiftingLemmas

@@ -80,6 +80,11 @@ pub record IsToldOpen (T : Recording) (labels : List (Option ℕ)) (i : ℕ) : T
   pub throughout : IsOpenThroughout T labels i
   pub unclaimed : (j t l : ℕ) → IsKept T j → IsAct T j (Flushes t l) → origin_of labels j t ≡ origin_of labels i (throughout.is_open.1).thread → ¬ IsClaimed T l
 
+-- Open at a store, as it is told of a call path alone: so is each kept flush of the path, but not each one of the place. Paths are numbers
+-- of whole labels, in the form of `labels`.
+abbrev pub IsToldOnPath : Recording → List (Option ℕ) → List (Option ℕ) → ℕ → Type 0
+IsToldOnPath T labels paths i = IsToldOpen T paths i × (¬ IsOpenThroughout T labels i)
+
 -- Event i is this store by thread t.
 abbrev pub IsStoreOf : Recording → ℕ → Written → ℕ → Type 0
 IsStoreOf T t w i = event T i ≡ Some (record { thread = t; op = Store w })

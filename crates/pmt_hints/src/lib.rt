@@ -20,8 +20,8 @@ mod sifted;
 pub mod split_word;
 pub mod stored_after;
 
-pub use crate::hint::{Hint, HintKind, hints_of};
-pub use crate::open_at::{open_at_store, told_open};
+pub use crate::hint::{Hint, HintKind, hints_of, path_hints_of};
+pub use crate::open_at::{open_at_store, told_on_paths, told_open};
 pub use crate::short_runs::one_line_short;
 pub use crate::split_word::split_words;
 pub use crate::stored_after::stored_after_flush;

@@ -1,12 +1,12 @@
 //! Flushes that their thread has not fenced when it stores to another line.
 
-ghost use Rattle.std.specs.Prelude.{◌≡◌, ◌<◌, ◌||◌, ℕ, length, not, filter, IfOk, OnOk};
+ghost use Rattle.std.specs.Prelude.{◌≡◌, ◌<◌, ◌||◌, ℕ, true, length, not, filter, IfOk, OnOk};
 ghost use Rattle.pmt_model.specs.Traces.{act_of, event};
 ghost use Rattle.pmt_model.specs.Analyses.{IsVerdicts};
 ghost use Rattle.pmt_model.specs.Keeping.{IsKeep};
 ghost use Rattle.pmt_model.specs.Selections.{IsRising};
 ghost use Rattle.pmt_flags.specs.Flags.{is_kept_at};
-ghost use Rattle.pmt_hints.specs.Hints.{AreThose, IsOpenAtStore, IsOpenFlush, IsOpenThroughout, IsToldOpen};
+ghost use Rattle.pmt_hints.specs.Hints.{AreThose, IsOpenAtStore, IsOpenFlush, IsOpenThroughout, IsToldOnPath, IsToldOpen};
 ghost use Rattle.pmt_hints.specs.Flagging.{AreFlags};
 ghost use Rattle.pmt_hints.specs.Parting.{AreParted};
 ghost use Rattle.pmt_hints.specs.Sifting.{AreSifted};
@@ -53,6 +53,7 @@ pub fn open_at_store(
 ///
 /// # Errors
 /// Where memory was refused.
+#[inline(always)]
 pub fn told_open(
     alloc: Global,
     trace: &Trace,
@@ -69,7 +70,49 @@ pub fn told_open(
     Ok(selection_of(told))
 }
 
+/// Those of these flushes that are told of a call path alone: it is told of each that is kept of their path, though not all that are kept of
+/// their place are open at a store. `paths` are the numbers of the whole labels of the events, in the form of `labels`, which tell of
+/// the places. `verdicts` are those of the trace.
+///
+/// It takes what `told_open` takes, and where there is such a path, that once more; nothing if each path is a place.
+///
+/// # Errors
+/// Where memory was refused.
+#[inline(never)]
+pub fn told_on_paths(
+    alloc: Global,
+    trace: &Trace,
+    kept: &Selection,
+    verdicts: &[Verdict],
+    labels: &[Option<u64>],
+    paths: &[Option<u64>],
+) -> Result<Selection, OutOfMemory>
+    requires kept { IsKeep trace.now kept.now }
+    requires verdicts { IsVerdicts trace.now verdicts.now }
+    ensures { IfOk result (AreThose (IsToldOnPath trace.now labels.now paths.now)) }
+{
+    if are_same(labels, paths) {
+        return Ok(selection_of(Vec::new(alloc)));
+    }
+    let told = told_open(alloc, trace, kept, verdicts, paths)?;
+    if told.is_empty() {
+        return Ok(told);
+    }
+    let whole = open_throughout(alloc, trace, kept, labels)?;
+    let closed = closed_places(alloc, trace, labels, whole.numbers())?;
+    let partly = told_numbers(alloc, trace, labels, told.numbers(), &closed)?;
+    Ok(selection_of(partly))
+}
+
+// Whether each path is a place.
+fn are_same(labels: &[Option<u64>], paths: &[Option<u64>]) -> bool
+    ensures { result ≡ true → labels.now ≡ paths.now }
+{
+    labels == paths
+}
+
 // The flushes at whose place each flush that is kept is open at a store.
+#[inline(always)]
 fn open_throughout(
     alloc: Global,
     trace: &Trace,
@@ -117,6 +160,7 @@ fn parted_flushes(alloc: Global, trace: &Trace, numbers: &[u64]) -> Result<Parte
 }
 
 // Open flushes among the events with these numbers, and the places of others.
+#[inline(always)]
 fn sifted_flushes(
     alloc: Global,
     trace: &Trace,

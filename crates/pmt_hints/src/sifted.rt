@@ -24,6 +24,7 @@ pub(crate) struct Sifted {
 
 // The flushes among the events with these numbers, those of a place up to its first one that is not open; none where it takes more than a
 // few looks at each event to tell them apart. After that one, none of the place is looked at.
+#[inline(always)]
 pub(crate) fn near_sifted(
     alloc: Global,
     trace: &Trace,
