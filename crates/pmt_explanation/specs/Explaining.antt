@@ -12,6 +12,7 @@ use Rattle.pmt_causes.specs.Inside.{AreInside}
 use Rattle.pmt_causes.specs.Late.{AreWaited}
 use Rattle.pmt_causes.specs.LostCauses.{lost_item}
 use Rattle.pmt_causes.specs.Tables.{AreLabelRows, AreThreadRows}
+use Rattle.pmt_fates.specs.Paths.{AreLeftPaths}
 use Rattle.pmt_fates.specs.Places.{ArePlaces}
 use Rattle.pmt_analysis.specs.Analysing.{Analysed}
 use Rattle.pmt_explanation.specs.declared.explaining.Explanation.{Explanation}
@@ -39,7 +40,8 @@ pub record IsExplanation (a : Analysed) (labels : Labels) (o : Options) (x : Exp
   pub label_numbers : AreLabelNumbers labels (length a.trace.events) x.label_numbers.items
   pub frames : AreFrameNumbers labels (length a.trace.events) x.frames.items
   pub places : ArePlaces a.trace x.frames.items x.stores.items (map event_of x.dropped.items) x.places.items
-  pub hints : AreHints a.trace labels x.frames.items o.choice x.hints.items
+  pub left_paths : AreLeftPaths a.trace x.frames.items x.label_numbers.items x.stores.items (map event_of x.dropped.items) x.places.items x.left_paths.items
+  pub hints : AreHints a.trace labels x.frames.items x.label_numbers.items o.choice x.hints.items
   pub causes : AreFailureGroups a.trace x.frames.items x.asked_failing.items x.causes.items
   pub counts : AreInside a.trace x.frames.items x.label_numbers.items (take x.limit x.causes.items) x.counts.items
   pub failures : All (IsShown a.trace) x.failures.items
@@ -63,8 +65,9 @@ pub record IsExplanation (a : Analysed) (labels : Labels) (o : Options) (x : Exp
 pub record AreParts (a : Analysed) (labels : Labels) (o : Options) (p : Parts) : Type 0 where
   pub label_numbers : AreLabelNumbers labels (length a.trace.events) p.label_numbers.items
   pub frames : AreFrameNumbers labels (length a.trace.events) p.frames.items
-  pub places : ArePlaces a.trace p.frames.items p.lost.stores.items (map event_of p.found.dropped.items) p.found.places.items
-  pub hints : AreHints a.trace labels p.frames.items o.choice p.found.hints.items
+  pub places : ArePlaces a.trace p.frames.items p.lost.stores.items (map event_of p.found.dropped.items) p.found.table.places.items
+  pub left_paths : AreLeftPaths a.trace p.frames.items p.label_numbers.items p.lost.stores.items (map event_of p.found.dropped.items) p.found.table.places.items p.found.table.left_paths.items
+  pub hints : AreHints a.trace labels p.frames.items p.label_numbers.items o.choice p.found.hints.items
   pub found : AreFound a.trace a.verdicts labels p.label_numbers.items p.frames.items o p.found
   pub stores : p.lost.stores.items ≡ told_stores a.trace labels o.ignored a.findings
   pub lost : AreLostGroups a.trace (asked_numbers a.trace labels o.choice kinds.NeverPersisted p.lost.stores.items) p.lost.groups.items

@@ -1,8 +1,8 @@
 -- The hints that are asked for.
 use Rattle.std.specs.Prelude.{◌≡◌, ℕ, ◌++◌, Bool, true, false, List, [], Option}
 use Rattle.pmt_model.specs.Traces.{Recording}
-use Rattle.pmt_hints.specs.Hints.{AreThose, IsOneLineShort, IsSplitWord, IsStoredAfterFlush, IsToldOpen}
-use Rattle.pmt_hints.specs.Placing.{AreHintsOf}
+use Rattle.pmt_hints.specs.Hints.{AreThose, IsOneLineShort, IsSplitWord, IsStoredAfterFlush, IsToldOnPath, IsToldOpen}
+use Rattle.pmt_hints.specs.Placing.{AreHintsOf, ArePathHintsOf}
 use Rattle.pmt_hints.specs.declared.hint.Hint.{Hint}
 use Rattle.pmt_hints.specs.declared.hint.HintKind.{HintKind}
 use Rattle.pmt_hints.specs.declared.hint.HintKind.TheVariants.{OneLineShort, OpenAtStore, SplitWord, StoredAfterFlush}
@@ -26,26 +26,36 @@ pub record AreStoreHints (T : Recording) (labels : Labels) (frames : List (Optio
   pub are_after : AreHintsAsked T labels frames c StoredAfterFlush (IsStoredAfterFlush T) stored_after
   pub whole : hints ≡ split_words ++ stored_after
 
--- Those of flushes, alike.
-pub record AreFlushHints (T : Recording) (labels : Labels) (frames : List (Option ℕ)) (c : Choice) (hints : List Hint) : Type 0 where
+-- Those of flushes that are open at a store: of places, and then of paths alone. A path is a whole label.
+pub record AreOpenHints (T : Recording) (labels : Labels) (frames paths : List (Option ℕ)) (c : Choice) (hints : List Hint) : Type 0 where
+  pub of_places : List Hint
+  pub of_paths : List Hint
+  pub numbers : List ℕ
+  pub are_placed : AreHintsAsked T labels frames c OpenAtStore (IsToldOpen T frames) of_places
+  pub those : AreThose (IsToldOnPath T frames paths) numbers
+  pub told : ArePathHintsOf T frames paths OpenAtStore (asked_numbers T labels c kinds.Hint numbers) of_paths
+  pub whole : hints ≡ of_places ++ of_paths
+
+-- Those of flushes: first those that are one line short.
+pub record AreFlushHints (T : Recording) (labels : Labels) (frames paths : List (Option ℕ)) (c : Choice) (hints : List Hint) : Type 0 where
   pub short_runs : List Hint
   pub open_flushes : List Hint
   pub are_short : AreHintsAsked T labels frames c OneLineShort (IsOneLineShort T frames) short_runs
-  pub are_open : AreHintsAsked T labels frames c OpenAtStore (IsToldOpen T frames) open_flushes
+  pub are_open : AreOpenHints T labels frames paths c open_flushes
   pub whole : hints ≡ short_runs ++ open_flushes
 
 -- The hints of each kind: those of stores before those of flushes.
-pub record AreAllHints (T : Recording) (labels : Labels) (frames : List (Option ℕ)) (c : Choice) (hints : List Hint) : Type 0 where
+pub record AreAllHints (T : Recording) (labels : Labels) (frames paths : List (Option ℕ)) (c : Choice) (hints : List Hint) : Type 0 where
   pub stores : List Hint
   pub flushes : List Hint
   pub are_stores : AreStoreHints T labels frames c stores
-  pub are_flushes : AreFlushHints T labels frames c flushes
+  pub are_flushes : AreFlushHints T labels frames paths c flushes
   pub whole : hints ≡ stores ++ flushes
 
-abbrev pub AreHintsIf : Bool → Recording → Labels → List (Option ℕ) → Choice → List Hint → Type 0
-AreHintsIf true T labels frames c hints = AreAllHints T labels frames c hints
-AreHintsIf false T labels frames c hints = hints ≡ []
+abbrev pub AreHintsIf : Bool → Recording → Labels → List (Option ℕ) → List (Option ℕ) → Choice → List Hint → Type 0
+AreHintsIf true T labels frames paths c hints = AreAllHints T labels frames paths c hints
+AreHintsIf false T labels frames paths c hints = hints ≡ []
 
 -- All hints, if they are asked for.
-abbrev pub AreHints : Recording → Labels → List (Option ℕ) → Choice → List Hint → Type 0
-AreHints T labels frames c hints = AreHintsIf (is_kind_chosen c kinds.Hint) T labels frames c hints
+abbrev pub AreHints : Recording → Labels → List (Option ℕ) → List (Option ℕ) → Choice → List Hint → Type 0
+AreHints T labels frames paths c hints = AreHintsIf (is_kind_chosen c kinds.Hint) T labels frames paths c hints

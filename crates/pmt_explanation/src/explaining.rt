@@ -38,6 +38,8 @@ pub struct Explanation {
     pub frames: Vec<Option<u64>>,
     /// What each place of the source has in the trace: each innermost frame by its number, and each thread that has events without label.
     pub places: Vec<PlaceRow>,
+    /// Those call paths of which one fence leaves each store unsafe, though not each of their place: whole labels by their numbers.
+    pub left_paths: Vec<PlaceRow>,
     /// The hints that are asked for, by kind and place.
     pub hints: Vec<Hint>,
     /// Those of `asked_failing`, by cause and place.
@@ -170,7 +172,8 @@ fn explained(analysis: Analysis, limit: usize, parts: Parts) -> Explanation
         waited: found.effects.waited,
         threads: found.effects.threads,
         labelled: found.effects.labelled,
-        places: found.places,
+        places: found.table.places,
+        left_paths: found.table.left_paths,
         hints: found.hints,
         overwritten: lost.overwritten,
         ignored_overwritten: lost.ignored_pairs,

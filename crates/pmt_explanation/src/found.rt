@@ -1,6 +1,7 @@
 //! What an explanation has by from which place on each store is safe.
 ghost use Rattle.std.specs.Prelude.{IfOk, map};
 ghost use Rattle.pmt_explain.specs.Dropping.{event_of};
+ghost use Rattle.pmt_fates.specs.Paths.{AreLeftPaths};
 ghost use Rattle.pmt_fates.specs.Places.{ArePlaces};
 ghost use Rattle.pmt_explanation.specs.Finding.{AreFound};
 ghost use Rattle.pmt_explanation.specs.Hinting.{AreHints};
@@ -11,7 +12,7 @@ use crate::hinting::hints_asked;
 use pmt_analysis::Analysis;
 use pmt_asked::{Labels, Options};
 use pmt_explain::{Dropped, EventEffects, effects};
-use pmt_fates::{PlaceRow, place_table};
+use pmt_fates::{PlaceTable, place_table};
 use pmt_hints::Hint;
 use pmt_model::OutOfMemory;
 use std::alloc::Global;
@@ -26,7 +27,7 @@ pub(crate) struct Found {
     /// What flushes and fences do, and for whom.
     pub(crate) effects: Effects,
     /// What each place has.
-    pub(crate) places: Vec<PlaceRow>,
+    pub(crate) table: PlaceTable,
     /// The hints that are asked for.
     pub(crate) hints: Vec<Hint>,
 }
@@ -43,8 +44,9 @@ pub(crate) fn found_of(
     options: &Options,
 ) -> Result<Found, OutOfMemory>
     ensures found { IfOk result (AreFound analysis.now.trace analysis.now.verdicts labels.now numbers.now frames.now options.now) }
-    ensures places { IfOk result (λ found. ArePlaces analysis.now.trace frames.now told.now (map event_of found.dropped.items) found.places.items) }
-    ensures hints { IfOk result (λ found. AreHints analysis.now.trace labels.now frames.now options.now.choice found.hints.items) }
+    ensures places { IfOk result (λ found. ArePlaces analysis.now.trace frames.now told.now (map event_of found.dropped.items) found.table.places.items) }
+    ensures paths { IfOk result (λ found. AreLeftPaths analysis.now.trace frames.now numbers.now told.now (map event_of found.dropped.items) found.table.places.items found.table.left_paths.items) }
+    ensures hints { IfOk result (λ found. AreHints analysis.now.trace labels.now frames.now numbers.now options.now.choice found.hints.items) }
 {
     let EventEffects { dropped, safe } = effects(alloc, analysis.trace())?;
     let failed = failed_of(
@@ -65,11 +67,12 @@ pub(crate) fn found_of(
         frames,
         options,
     )?;
-    let places = place_table(
+    let table = place_table(
         alloc,
         &safe,
         effects.waited.as_slice(),
         frames,
+        numbers,
         told,
         dropped.as_slice(),
     )?;
@@ -81,13 +84,14 @@ pub(crate) fn found_of(
         waited,
         labels,
         frames,
+        numbers,
         &options.choice,
     )?;
     Ok(Found {
         dropped,
         failed,
         effects,
-        places,
+        table,
         hints,
     })
 }

@@ -1,9 +1,9 @@
 //! The hints that are asked for.
 ghost use Rattle.std.specs.Prelude.{◌≡◌, IfOk};
 ghost use Rattle.pmt_causes.specs.Late.{AreWaited};
-ghost use Rattle.pmt_hints.specs.Placing.{AreHintsOf};
+ghost use Rattle.pmt_hints.specs.Placing.{AreHintsOf, ArePathHintsOf};
 ghost use Rattle.pmt_explanation.specs.Asking.{asked_numbers as numbers_asked};
-ghost use Rattle.pmt_explanation.specs.Hinting.{AreAllHints, AreFlushHints, AreHints, AreStoreHints};
+ghost use Rattle.pmt_explanation.specs.Hinting.{AreAllHints, AreFlushHints, AreHints, AreOpenHints, AreStoreHints};
 ghost use Rattle.pmt_asked.specs.declared.choosing.Kind.TheVariants as kinds;
 
 use crate::asking::asked_numbers;
@@ -11,13 +11,14 @@ use pmt_analysis::Analysis;
 use pmt_asked::{Choice, Kind, Labels, is_asked};
 use pmt_explain::SafePlaces;
 use pmt_hints::{
-    Hint, HintKind, hints_of, one_line_short, split_words, stored_after_flush, told_open,
+    Hint, HintKind, hints_of, one_line_short, path_hints_of, split_words, stored_after_flush,
+    told_on_paths, told_open,
 };
 use pmt_model::{OutOfMemory, Selection, Trace};
 use std::alloc::Global;
 
 // The hints of the trace that was analysed, if these are the safe places of its stores, its events wait for so many fences, and they have
-// these numbers of innermost frames. The trace is looked at only if hints are asked for.
+// these numbers of innermost frames and of whole labels. The trace is looked at only if hints are asked for.
 pub(crate) fn hints_asked(
     alloc: Global,
     analysis: &Analysis,
@@ -25,16 +26,17 @@ pub(crate) fn hints_asked(
     waited: &[u64],
     labels: &Labels,
     frames: &[Option<u64>],
+    paths: &[Option<u64>],
     choice: &Choice,
 ) -> Result<Vec<Hint>, OutOfMemory>
     requires same { safe.now.trace.now ≡ analysis.now.trace }
     requires waited { AreWaited safe.now.trace.now waited.now }
-    ensures { IfOk result (λ hints. AreHints analysis.now.trace labels.now frames.now choice.now hints.items) }
+    ensures { IfOk result (λ hints. AreHints analysis.now.trace labels.now frames.now paths.now choice.now hints.items) }
 {
     if !is_asked(choice, Kind::Hint) {
         return Ok(Vec::new(alloc));
     }
-    all_hints(alloc, analysis, safe, waited, labels, frames, choice)
+    all_hints(alloc, analysis, safe, waited, labels, frames, paths, choice)
 }
 
 // The hints of each kind: first those of stores, and then those of flushes.
@@ -45,14 +47,15 @@ fn all_hints(
     waited: &[u64],
     labels: &Labels,
     frames: &[Option<u64>],
+    paths: &[Option<u64>],
     choice: &Choice,
 ) -> Result<Vec<Hint>, OutOfMemory>
     requires same { safe.now.trace.now ≡ analysis.now.trace }
     requires waited { AreWaited safe.now.trace.now waited.now }
-    ensures { IfOk result (λ hints. AreAllHints safe.now.trace.now labels.now frames.now choice.now hints.items) }
+    ensures { IfOk result (λ hints. AreAllHints safe.now.trace.now labels.now frames.now paths.now choice.now hints.items) }
 {
     let mut hints = store_hints(alloc, safe, waited, labels, frames, choice)?;
-    let more = flush_hints(alloc, analysis, safe, waited, labels, frames, choice)?;
+    let more = flush_hints(alloc, analysis, safe, waited, labels, frames, paths, choice)?;
     hints.extend_from_slice(more.as_slice())?;
     Ok(hints)
 }
@@ -88,20 +91,43 @@ fn flush_hints(
     waited: &[u64],
     labels: &Labels,
     frames: &[Option<u64>],
+    paths: &[Option<u64>],
     choice: &Choice,
 ) -> Result<Vec<Hint>, OutOfMemory>
     requires same { safe.now.trace.now ≡ analysis.now.trace }
     requires waited { AreWaited safe.now.trace.now waited.now }
-    ensures { IfOk result (λ hints. AreFlushHints safe.now.trace.now labels.now frames.now choice.now hints.items) }
+    ensures { IfOk result (λ hints. AreFlushHints safe.now.trace.now labels.now frames.now paths.now choice.now hints.items) }
 {
     let trace = safe.trace();
     let short = one_line_short(alloc, safe, waited, frames)?;
     let kind = HintKind::OneLineShort;
     let mut hints = hints_at(alloc, trace, labels, frames, choice, kind, &short)?;
+    let more = open_hints(alloc, analysis, trace, labels, frames, paths, choice)?;
+    hints.extend_from_slice(more.as_slice())?;
+    Ok(hints)
+}
+
+// Those of flushes that are open at a store: first those of places, and then those of paths.
+fn open_hints(
+    alloc: Global,
+    analysis: &Analysis,
+    trace: &Trace,
+    labels: &Labels,
+    frames: &[Option<u64>],
+    paths: &[Option<u64>],
+    choice: &Choice,
+) -> Result<Vec<Hint>, OutOfMemory>
+    requires { trace.now ≡ analysis.now.trace }
+    ensures { IfOk result (λ hints. AreOpenHints trace.now labels.now frames.now paths.now choice.now hints.items) }
+{
     let kept = analysis.selection();
-    let unfenced = told_open(alloc, trace, kept, analysis.verdicts(), frames)?;
+    let verdicts = analysis.verdicts();
     let kind = HintKind::OpenAtStore;
-    let more = hints_at(alloc, trace, labels, frames, choice, kind, &unfenced)?;
+    let unfenced = told_open(alloc, trace, kept, verdicts, frames)?;
+    let mut hints = hints_at(alloc, trace, labels, frames, choice, kind, &unfenced)?;
+    let partly = told_on_paths(alloc, trace, kept, verdicts, frames, paths)?;
+    let asked = asked_numbers(alloc, trace, labels, choice, Kind::Hint, partly.numbers())?;
+    let more = path_hints_of(alloc, trace, frames, paths, kind, asked.as_slice())?;
     hints.extend_from_slice(more.as_slice())?;
     Ok(hints)
 }

@@ -1,5 +1,6 @@
 pub mod Fates
 pub mod Marks
+pub mod Paths
 pub mod Places
 pub mod Rows
 pub mod Saved

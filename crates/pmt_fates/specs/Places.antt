@@ -132,3 +132,11 @@ pub record AddUp (T : Recording) (rows : List PlaceRow) : Type 0 where
   pub stores : sum_by (λ (r : PlaceRow). r.stores) rows ≡ ops_with T is_store
   pub flushes : sum_by (λ (r : PlaceRow). r.flushes) rows ≡ ops_with T is_flush
   pub fences : sum_by (λ (r : PlaceRow). r.fences) rows ≡ ops_with T is_fence
+
+-- Of each store that one fence leaves unsafe this is what a crash keeps.
+abbrev pub AreSaved : Recording → List Fate → (ℕ → Option SavedBefore) → Type 0
+AreSaved T fates saved = (i : ℕ) → is_same fate.Left (fate_at fates i) ≡ true → TellsSaved T i (saved i)
+
+-- These are the rows of the places, if this becomes of the events, and a crash keeps this without a store.
+abbrev pub ArePlacesBy : Recording → List (Option ℕ) → List Fate → (ℕ → Option SavedBefore) → List PlaceRow → Type 0
+ArePlacesBy T labels fates saved rows = (told dropped : List ℕ) → AreFates T told dropped fates → AreSaved T fates saved → ArePlaces T labels told dropped rows

@@ -7,6 +7,7 @@
 mod fate;
 mod marking;
 mod own_fences;
+mod paths;
 pub mod place_row;
 pub mod places;
 mod rows;
@@ -15,6 +16,6 @@ pub mod standing;
 mod tally;
 
 pub use crate::place_row::PlaceRow;
-pub use crate::places::place_table;
+pub use crate::places::{PlaceTable, place_table};
 pub use crate::saved_before::SavedBefore;
 pub use crate::standing::{Standing, standing_of};

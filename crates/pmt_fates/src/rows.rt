@@ -21,6 +21,7 @@ const NEAR: usize = 4;
 
 // A row for each place of the trace in the order of their first events, where this becomes of each event, and where these are the safe
 // places.
+#[inline(always)]
 pub(crate) fn rows_of(
     alloc: Global,
     trace: &Trace,

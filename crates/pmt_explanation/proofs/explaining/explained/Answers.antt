@@ -17,6 +17,7 @@ returns-clause-explained c = λ labels o p same.
       label_numbers = p.label_numbers;
       frames = p.frames;
       places = p.places;
+      left_paths = p.left_paths;
       hints = p.hints;
       causes = p.found.causes;
       counts = subst (λ k. AreInside T parts.frames.items parts.label_numbers.items (take k failed.causes.items) failed.counts.items) (sym same) p.found.counts;

@@ -15,6 +15,7 @@ returns c =
       label_numbers = search rules;
       frames = search rules;
       places = search rules;
+      left_paths = search rules;
       hints = search rules;
       found = subst (λ ns. AreFound a.trace a.verdicts c.args.labels.now ns c.in_ok-frames.frames.items c.args.options.now c.in_ok-found.found) c.as_slice-numbers.ensures.value
           (subst (λ fs. AreFound a.trace a.verdicts c.args.labels.now c.as_slice-numbers.result.now fs c.args.options.now c.in_ok-found.found) c.as_slice-2.ensures.value c.in_ok-found.ensures.found);

@@ -12,7 +12,7 @@ returns-clause-found c =
     let U = c.in_ok-dropped.field-0.safe.trace.now in
     let is : c.in_ok-dropped.field-0.safe.trace.now ≡ c.args.analysis.now.trace = search rules in
     let all : AreDropped c.args.analysis.now.trace dropped.items = search rules in
-    subst (λ T. AreFound T c.args.analysis.now.verdicts c.args.labels.now c.args.numbers.now c.args.frames.now c.args.options.now (record { dropped = dropped; failed = c.in_ok-failed.failed; effects = c.in_ok-effects.effects; places = c.in_ok-places.places; hints = c.in_ok-hints.hints })) is
+    subst (λ T. AreFound T c.args.analysis.now.verdicts c.args.labels.now c.args.numbers.now c.args.frames.now c.args.options.now (record { dropped = dropped; failed = c.in_ok-failed.failed; effects = c.in_ok-effects.effects; table = c.in_ok-table.table; hints = c.in_ok-hints.hints })) is
     (record {
       failing = c.in_ok-failed.ensures.failing ∙ ap failing_events c.verdicts.ensures.value;
       asked_failing = c.in_ok-failed.ensures.asked;

@@ -1,0 +1,83 @@
+//! Call paths whose stores are saved one fence late, in places that save others sooner or later.
+
+ghost use Rattle.std.specs.Prelude.{◌≡◌, filter, IfOk};
+ghost use Rattle.std.specs.List.{list_any};
+ghost use Rattle.pmt_model.specs.Traces.{event};
+ghost use Rattle.pmt_fates.specs.Paths.{is_left as is_left_in, is_left_alone as is_left_alone_in, is_left_at as is_left_at_in, is_partly_left as is_partly_left_in, may_differ as may_differ_in};
+ghost use Rattle.pmt_fates.specs.Places.{origin_in};
+
+use crate::place_row::PlaceRow;
+use pmt_causes::{Origin, origin_of};
+use pmt_model::{OutOfMemory, Trace};
+use std::alloc::Global;
+
+// How many stores of a path are no chance.
+const LEAST: u64 = 3;
+
+// Whether there are paths, and one of the places has a part that they may tell apart.
+pub(crate) fn may_differ(paths: &[Option<u64>], places: &[PlaceRow]) -> bool
+    ensures { result ≡ may_differ_in paths.now places.now }
+{
+    !paths.is_empty() && is_any_partly_left(places)
+}
+
+// Whether one fence leaves a part of the stores of one of the places unsafe.
+fn is_any_partly_left(places: &[PlaceRow]) -> bool
+    ensures { result ≡ list_any is_partly_left_in places.now }
+{
+    places.iter().any(|row| is_partly_left(row))
+}
+
+// Of these rows of paths those of which one fence leaves each store unsafe, of three or more, but not each one of their place.
+pub(crate) fn left_alone(
+    alloc: Global,
+    trace: &Trace,
+    labels: &[Option<u64>],
+    places: &[PlaceRow],
+    rows: &[PlaceRow],
+) -> Result<Vec<PlaceRow>, OutOfMemory>
+    ensures { IfOk result (λ found. found.items ≡ filter (is_left_alone_in trace.now labels.now places.now) rows.now) }
+{
+    rows.iter()
+        .filter(|row| is_left_alone(trace, labels, places, *row))
+        .copied()
+        .collect(alloc)
+}
+
+// Whether this is the row of such a path.
+fn is_left_alone(trace: &Trace, labels: &[Option<u64>], places: &[PlaceRow], row: &PlaceRow) -> bool
+    ensures { result ≡ is_left_alone_in trace.now labels.now places.now row.now }
+{
+    is_left(row) && LEAST <= row.left && !is_left_at(places, place_of(trace, labels, row.first))
+}
+
+// Whether one fence of its thread leaves each store of the place unsafe, and the next one saves it.
+fn is_left(row: &PlaceRow) -> bool
+    ensures { result ≡ is_left_in row.now }
+{
+    0 < row.left && row.left == row.in_time && row.lost == 0 && row.late == 0
+}
+
+// Whether that is so of a part of them.
+fn is_partly_left(row: &PlaceRow) -> bool
+    ensures { result ≡ is_partly_left_in row.now }
+{
+    0 < row.left && !is_left(row)
+}
+
+// Whether it is so of all stores of this place, by its row.
+fn is_left_at(places: &[PlaceRow], place: Origin) -> bool
+    ensures { result ≡ is_left_at_in places.now place }
+{
+    places.iter().any(|row| row.place == place && is_left(row))
+}
+
+// The place of the event with this number.
+fn place_of(trace: &Trace, labels: &[Option<u64>], number: u64) -> Origin
+    ensures { result ≡ origin_in labels.now number (event trace.now number) }
+{
+    match trace.get(number) {
+        Some(event) => origin_of(labels, number, event.thread),
+        None => Origin::Thread(0),
+    }
+}
