@@ -67,15 +67,20 @@ function ownerOf(trace, number) {
   return label === null ? { label: null, thread: trace.thread[number] } : { label, thread: null };
 }
 
-// The place of the source: the innermost frame of the label, without its callers.
+// The innermost frame of a label, without its callers.
+function innermost(label) {
+  return label === null ? null : label.split(' < ', 1)[0];
+}
+
+// The place of the source.
 function placeOf(trace, number) {
   const { label, thread } = ownerOf(trace, number);
-  return { label: label === null ? null : label.split(' < ', 1)[0], thread };
+  return { label: innermost(label), thread };
 }
 
 // The same of an event as explain tells it, whose label is not cut.
 function originOf({ label, thread }) {
-  return label === null ? { label, thread } : { label: label.split(' < ', 1)[0], thread: null };
+  return label === null ? { label, thread } : { label: innermost(label), thread: null };
 }
 
 function causeWords(entry) {
@@ -111,7 +116,7 @@ const COMMON = {
   }),
   hint: (trace, entry) => ({
     words: HINTS[entry.hint]?.row ?? entry.hint,
-    owner: { label: entry.label, thread: entry.thread },
+    owner: { label: entry.path ?? entry.label, thread: entry.thread },
     count: entry.count,
   }),
   overwritten: (trace, entry) => ({

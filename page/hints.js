@@ -35,16 +35,22 @@ const HINTS = {
   },
 };
 
-// Places each of whose stores is saved one fence late, and that have no other hint; where explain tells of them, and the page has all hints.
+// Places each of whose stores is saved one fence late, then call paths alone, where their place has no other hint; where explain tells of them,
+// and the page has all hints.
 function leftPlaces(explained, { asked, more }) {
   if (!tellsAll(asked, 'hint') || (more?.hint ?? 0) > 0) return [];
   const hinted = new Set(explained.filter((entry) => entry.kind === 'hint').map(placeKey));
-  const isLeft = (entry) => entry.kind === 'place' && entry.never_persisted + entry.late === 0 && entry.left > 0 && entry.left === entry.in_time;
-  return explained.filter((entry) => isLeft(entry) && !hinted.has(placeKey(entry))).map((entry) => (
-    {
-      kind: 'hint', hint: 'one_fence_late', label: entry.label, thread: entry.thread, count: entry.left, first: entry.first_left, saved: entry.saved_before,
-    }
-  ));
+  const isLeft = (entry) => entry.never_persisted + entry.late === 0 && entry.left > 0 && entry.left === entry.in_time;
+  const places = explained.filter((entry) => entry.kind === 'place' && isLeft(entry)).map((entry) => leftOf(entry, entry.label, null));
+  const paths = explained.filter((entry) => entry.kind === 'path').map((entry) => leftOf(entry, innermost(entry.label), entry.label));
+  return [...places, ...paths].filter((entry) => !hinted.has(placeKey(entry)));
+}
+
+// The hint at a place, or at a path of it alone.
+function leftOf({ thread, left, first_left: first, saved_before: saved }, label, path) {
+  return {
+    kind: 'hint', hint: 'one_fence_late', label, path, thread, count: left, first, saved,
+  };
 }
 
 // Whether another event of the thread goes with a hint's first one: the other part of a word, the flush, or the store.
@@ -142,7 +148,8 @@ function shownAt(trace, { kind, hint, first }, other) {
   return kind === 'late' && fence !== 0 ? trace.nextFence(thread, fence) : fence;
 }
 
-function ownerNodes({ label, thread }) {
+function ownerNodes({ label, path, thread }) {
+  if (path) return [foreign(path)];
   return label === null ? [`thread ${thread}`] : [foreign(label)];
 }
 
@@ -163,17 +170,26 @@ function lateTold(trace, entry) {
   };
 }
 
+// What a crash right after the store at which a flush is open can lose: the last store that the flush covers, if it stands near.
+function lostNodes(trace, { hint, first: { event } }, other) {
+  const covered = hint === 'open_at_store' && other !== 0 ? lastStoreBefore(trace, event) : 0;
+  if (covered === 0 || event - covered > HINT_NEAR) return [];
+  return [`a crash after event ${other} can keep that and lose event ${covered}: `, ...eventNodes(trace, covered)];
+}
+
 function hintTold(trace, entry) {
   const other = otherOf(trace, entry);
+  const lost = lostNodes(trace, entry, other);
   const hint = HINTS[entry.hint];
   return {
     headline: hint?.told(entry) ?? `${entry.hint}: ${count(entry.count, 'time')}`,
     why: ['No rule forbids it, and most often it is a slip. It does not count for the status.'],
     items: [
-      ...item('place', ...ownerNodes(entry)),
+      ...item(entry.path ? 'path' : 'place', ...ownerNodes(entry)),
       ...item(entry.count === 1 ? 'event' : 'first', ...eventNodes(trace, entry.first.event)),
       ...(other === 0 ? [] : item(hint.other, ...eventNodes(trace, other))),
       ...(entry.saved ? item('before', ...savedNodes(trace, entry)) : []),
+      ...(lost.length > 0 ? item('before', ...lost) : []),
     ],
   };
 }

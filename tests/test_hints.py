@@ -1,9 +1,10 @@
-"""What `explain` hints at: the JSON and the texts of small random traces of records that are flushed a line short, or not, against hinted.py,
-and hints by hand."""
+"""What `explain` hints at: the JSON and the texts of small random traces against hinted.py, of records that are flushed a line short, or not, and
+of a function whose callers save what it stores in ways of their own; and hints by hand."""
 import json
 import random
 import subprocess
 
+from called import WAYS, round_of, rounds
 from checks import Checks
 from explained import Explained, judged
 from explained_text import wrong_text
@@ -11,6 +12,7 @@ from machine import Trace, spelled, text_of
 from program import find
 
 TRACES = 300
+CALLS = 150
 HEADER = "pmtrace 2 64"
 # A record of 16 bytes from the last word of one line on, of which one line is flushed.
 SHORT = ("store 0 0x1038 01", "store 0 0x1040 02", "clwb 0 0x1038", "sfence 0")
@@ -53,6 +55,27 @@ def random_records(choose):
     return f"pmtrace 2 {size}", Trace(size, [event for event, _ in events]), labels
 
 
+def random_calls(choose):
+    """The header, a trace of rounds by two threads, and labels. Most callers have one way."""
+    size, events = 64, []
+    ways = {caller: choose.choice(("right", "right", "unfenced", "unfenced", "late", "late", "claimed", "vouched")) for caller in ("a.c", "b.c", "c.c")}
+    for index in range(choose.randrange(3, 11)):
+        caller = choose.choice(tuple(ways))
+        way = choose.choice(tuple(WAYS)) if choose.random() < 0.05 else ways[caller]
+        label = choose.choice(("", f" < save {caller}:6")) if choose.random() < 0.1 else f" < save {caller}:6 < main m.c:2"
+        events += round_of(way, choose.choice((0, 0, 0, 1)), 0x10000 + 128 * choose.choice((index, index, index, 0)), label, caller)
+    labels = {number: label for number, (_, label) in enumerate(events, 1) if choose.random() < 0.98}
+    return f"pmtrace 2 {size}", Trace(size, [read_event(event) for event, _ in events]), labels
+
+
+def read_event(text):
+    """The event of a line, in the form of machine.py."""
+    word, thread, *rest = text.split()
+    fields = [int(rest[0], 16)] if rest else []
+    more = [bytes.fromhex(rest[1])] if word == "store" else [int(rest[1])] if word == "isPersist" else []
+    return (word, int(thread), *fields, *more)
+
+
 def asked_words(choose, trace):
     """Which findings are asked for, and the words for that."""
     if choose.random() < 0.5:
@@ -67,9 +90,9 @@ def hints_of(text):
     return [entry for entry in map(json.loads, text.splitlines()) if entry["kind"] == "hint"]
 
 
-def compare(program, folder, choose, found):
+def compare(program, folder, choose, found, random_trace=random_records):
     """What is wrong with the answer to one random trace, if anything, and that trace; its hints are added to those found."""
-    head, trace, labels = random_records(choose)
+    head, trace, labels = random_trace(choose)
     asked, words = asked_words(choose, trace)
     file, names = folder / "trace", folder / "labels"
     file.write_bytes(text_of([head, *map(spelled, trace.events)]))
@@ -78,7 +101,7 @@ def compare(program, folder, choose, found):
     words += ["--labels", names] * bool(labels)
     run = lambda *more: subprocess.run([program, "explain", *words, *more, file], capture_output=True, timeout=120).stdout
     told = run("--json", "--limit", "100")
-    found += [(entry["hint"], bool(labels)) for entry in hints_of(told)]
+    found += [(entry["hint"], bool(labels)) for entry in hints_of(told)] + ["path"] * told.count(b'"kind":"path"') + ["on a path"] * told.count(b'"path":"')
     wrong = judged(explained, told, 100) or wrong_text(explained, run("--limit", "all"))
     return wrong, f"{' '.join(map(str, words))}\n{file.read_text()}"
 
@@ -112,6 +135,47 @@ class Hints(Checks):
             wrong, trace = compare(find(), folder, choose, found)
             self.expect(f"records {number}", not wrong, f"{wrong}\nof {trace}")
         self.expect("many are one line short, with and without labels", all(found.count(("one_line_short", is_labelled)) > 9 for is_labelled in (False, True)), found)
+
+    def test_random_calls(self):
+        choose, folder, found = random.Random(51), self.new_folder(), []
+        for number in range(CALLS):
+            wrong, trace = compare(find(), folder, choose, found, random_calls)
+            self.expect(f"calls {number}", not wrong, f"{wrong}\nof {trace}")
+        self.expect("many are told of one path", all(found.count(what) > 9 for what in ("path", "on a path")), found)
+
+    def expect_paths(self, what, ways, wanted, *words, kind="open_at_store"):
+        """Of these rounds what is told of paths alone: of each the path, the first event and how many they are."""
+        events, labels = zip(*rounds(ways))
+        told, text = self.told(events, labels, *words)
+        entries = [json.loads(line) for line in told.splitlines()]
+        found = [(entry["path"], entry["first"]["event"], entry["count"]) for entry in entries if entry["kind"] == "hint" and entry["hint"] == kind and entry["path"]]
+        found += [(entry["label"], entry["first_left"]["event"], entry["left"]) for entry in entries if entry["kind"] == "path"]
+        self.expect_equal(what, found, wanted)
+        return text
+
+    def test_paths(self):
+        """A flush or a store in a function that callers share."""
+        right, bad, late = [("right", "a.c")] * 2, [("unfenced", "b.c")] * 3, [("late", "b.c")] * 3
+        text = self.expect_paths("a caller that does not fence", right + bad, [("log.c:31 fill < save b.c:6 < main m.c:2", 14, 3)])
+        wanted = """hint: log.c:31 fill < save b.c:6 < main m.c:2: 3 times (of 5 at this place) a flush is unfenced at a
+       store that a crash can keep alone; first: event 14, store event 15 (b.c:7 save)
+  before: a crash after event 15 can keep that and lose event 13: event 13 (line 14, thread 0) at
+          log.c:30 fill < save b.c:6 < main m.c:2: store 0 0x10100 01
+"""
+        self.expect("in words", wanted in text, text)
+        self.expect_paths("two rounds alone", right + bad[:2], [])
+        self.expect_paths("one round of it fences", right + bad + [("right", "b.c")], [])
+        self.expect_paths("all callers do so: it is told of the place", bad + [("unfenced", "a.c")], [])
+        self.expect_paths("one whose records are claimed", right + [("vouched", "b.c")] * 3, [])
+        self.expect_paths("a claim of another caller", [("claimed", "a.c")] + bad, [("log.c:31 fill < save b.c:6 < main m.c:2", 9, 3)])
+        text = self.expect_paths("one that saves them a fence late", right + late, [("log.c:30 fill < save b.c:6 < main m.c:2", 13, 3)])
+        wanted = """hint: log.c:30 fill < save b.c:6 < main m.c:2: 3 stores (of 5 at this place) are saved one fence
+       late: a crash right after the fence before can lose them and keep what that saves; first:
+       event 13
+  before: a crash after event 16"""
+        self.expect("in words", wanted in text, text)
+        self.expect_paths("two rounds alone", right + late[:2], [])
+        self.expect_paths("all callers do so: it is told of the place", late + [("late", "a.c")], [])
 
     def test_one_line_short(self):
         text = self.expect_short("a lost rest", SHORT, [("log.c:40 flush", 3, 1)], LABELS)

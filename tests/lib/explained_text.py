@@ -380,7 +380,7 @@ def mark_lines(explained):
 
 def found_nothing(explained):
     """Whether something is asked for that no finding meets."""
-    found = (explained.causes, explained.never_persisted(), explained.dropped(), explained.overwritten(), explained.unwritten(), grouped.late(explained), hinted.hints(explained), hinted.left(explained))
+    found = (explained.causes, explained.never_persisted(), explained.dropped(), explained.overwritten(), explained.unwritten(), grouped.late(explained), hinted.hints(explained), hinted.path_hints(explained), hinted.left(explained))
     return explained.asked != NOTHING and not any(found)
 
 
@@ -431,7 +431,7 @@ def wrong_screen(explained, told):
         "overwritten": explained.overwritten(),
         "left unsafe": [] if explained.is_whole() else grouped.late(explained),
         "places": list(by_place.heads(explained)),
-        "hint": [*hinted.hints(explained), *hinted.left(explained)],
+        "hint": [*hinted.hints(explained), *hinted.path_hints(explained), *hinted.left(explained)],
     }
     by_places = [line for line in below(lines, OVERWRITTEN_PLACES) if not line.startswith("... ")]
     if by_places != overwritten_places(explained)[: len(by_places)] or by_places and not explained.labels:

@@ -1,12 +1,13 @@
-"""What `explain` hints at, by the definitions: four sets of events, their groups by kind and place, and places by what becomes of their stores.
+"""What `explain` hints at, by the definitions: four sets of events, their groups by kind and place, one also by call path, and places and paths by
+what becomes of their stores.
 
 What a run can reach, and so what is kept, is that of machine.py. Places are those of placed.py.
 """
 import functools
 
-from grouped import fences_waited, grouped, safe_place
+from grouped import ANY_FLUSH, fences_waited, grouped, safe_place
 from machine import FENCES, FLUSHES, is_kept, verdict
-from placed import CALLER, name_of, place, rows, saved_before
+from placed import CALLER, LEAST, is_left, left_paths, name_of, path, place, rows, saved_before
 
 HEADING = "hints: no rule forbids these, but most are slips; they do not change the exit status:"
 WORDS = {
@@ -99,13 +100,13 @@ def store_past(trace, number):
     return stores[0] if stores else None
 
 
-@functools.lru_cache(maxsize=1)
-def kept_flushes(explained):
-    """The flushes that are kept, by place."""
+@functools.lru_cache(maxsize=2)
+def kept_flushes(explained, key_of=place):
+    """The flushes that are kept, by place, or by another key."""
     found = {}
     for number in explained.trace.numbers:
         if explained.trace.event(number)[0] in FLUSHES and is_kept(explained.trace, number):
-            found.setdefault(place(explained, number), []).append(number)
+            found.setdefault(key_of(explained, number), []).append(number)
     return found
 
 
@@ -117,12 +118,22 @@ def claimed_lines(explained):
     return {byte // trace.size for number in claims for byte in explained.bytes_of(number)}
 
 
-def store_elsewhere(explained, number):
+def are_open(explained, flushes):
+    """Whether each of the flushes is unfenced when its thread stores to another line."""
+    return all(store_past(explained.trace, flush) for flush in flushes)
+
+
+def store_elsewhere(explained, number, key_of=place):
     """Open at a store: a flush that is kept, and that its thread has not fenced when it stores to another line. It is told where that is so of
-    each kept flush of its place, and none of these is of a line that an assertion which passes claims."""
-    flushes, trace = kept_flushes(explained).get(place(explained, number), []), explained.trace
-    is_told = number in flushes and all(store_past(trace, flush) and trace.line(flush) not in claimed_lines(explained) for flush in flushes)
+    each kept flush of its place, or path, and none of these is of a line that an assertion which passes claims."""
+    flushes, trace = kept_flushes(explained, key_of).get(key_of(explained, number), []), explained.trace
+    is_told = number in flushes and are_open(explained, flushes) and all(trace.line(flush) not in claimed_lines(explained) for flush in flushes)
     return store_past(trace, number) if is_told else None
+
+
+def is_told_on_path(explained, number):
+    """Whether that is told of the flush's path alone: it is not so of each kept flush of its place."""
+    return bool(store_elsewhere(explained, number, path)) and not are_open(explained, kept_flushes(explained)[place(explained, number)])
 
 
 SETS = {"split_word": half_before, "stored_after_flush": flush_before, "one_line_short": missed_before, "open_at_store": store_elsewhere}
@@ -138,10 +149,21 @@ def hints(explained):
     return found
 
 
+@functools.lru_cache(maxsize=1)
+def path_hints(explained):
+    """Of each path of which three events or more are open at a store, and that are told of the path alone, its label and these events."""
+    events = [number for number in explained.trace.numbers if explained.is_asked("hint", number) and is_told_on_path(explained, number)]
+    return [(key[1], numbers) for key, numbers in grouped((path(explained, number), number) for number in events) if len(numbers) >= LEAST]
+
+
 def entries(explained):
     """What the JSON has of them."""
     for kind, (origin, name), numbers in hints(explained):
-        yield {"kind": "hint", "hint": kind, "count": len(numbers), "first": explained.event(numbers[0]), "label": None, "thread": None, origin: name}
+        own = {"label": None, "thread": None, "path": None, origin: name}
+        yield {"kind": "hint", "hint": kind, "count": len(numbers), "first": explained.event(numbers[0]), **own}
+    for label, numbers in path_hints(explained):
+        own = {"label": label.partition(CALLER)[0], "thread": None, "path": label}
+        yield {"kind": "hint", "hint": "open_at_store", "count": len(numbers), "first": explained.event(numbers[0]), **own}
 
 
 # In words
@@ -166,26 +188,44 @@ def fix(explained, kind, number):
 @functools.lru_cache(maxsize=1)
 def left(explained):
     """The places without another hint that lose and delay no store, and each of whose stores one fence of its thread leaves unsafe, if hints
-    at all places are asked for."""
-    asks_all = all(value is None for name, value in explained.asked.items() if name != "only") and explained.asked["only"] in (None, "hint")
-    hinted = {key for _, key, _ in hints(explained)}
-    places = [(key, row) for key, row in rows(explained) if key not in hinted and not row["never_persisted"] and not row["late"]]
-    return [(key, row) for key, row in places if asks_all and 0 < row["left"] == row["in_time"]]
+    at all places are asked for; then the paths of which that is so alone. Of each its name, how many stores its place has, and its row."""
+    if any(value is not None for name, value in explained.asked.items() if name != "only") or explained.asked["only"] not in (None, "hint"):
+        return []
+    hinted = {key for _, key, _ in hints(explained)} | {place(explained, numbers[0]) for _, numbers in path_hints(explained)}
+    stores = {key: row["stores"] for key, row in rows(explained)}
+    places = [(name_of(key), None, row) for key, row in rows(explained) if key not in hinted and is_left(row)]
+    paths = [(key[1], place(explained, row["first"]), row) for key, row in left_paths(explained)]
+    return places + [(name, stores[key], row) for name, key, row in paths if key not in hinted]
+
+
+def of_in_words(of):
+    return f" (of {of} at this place)" if of else ""
+
+
+def in_words(explained, number):
+    """The event as a row names it."""
+    event = explained.event(number)
+    at = f" at {event['label']}" if event["label"] else ""
+    return f"event {number} (line {event['line']}, thread {event['thread']}){at}: {event['words']}"
+
+
+def loss(explained, flush):
+    """What a crash loses at the store at which the flush is open: the last store that the flush covers."""
+    trace, kept = explained.trace, store_past(explained.trace, flush)
+    lost = [number for number in range(1, flush) if trace.event(number)[0] == "store" and trace.line(number) == trace.line(flush)][-1]
+    return f"  before: a crash after event {kept} can keep that and lose event {lost}: {in_words(explained, lost)}"
 
 
 def left_lines(explained):
-    """Two lines for each such place, and two more where a crash keeps a store without the first one."""
-    for key, row in left(explained):
+    """Two lines for each such place or path, and two more where a crash keeps a store without the first one."""
+    for name, of, row in left(explained):
         count, number = row["left"], row["first_left"]
-        stores, them = ("1 store is", "it") if count == 1 else (f"{count} stores are", "them")
-        yield f"hint: {name_of(key)}: {stores} saved one fence late: a crash right after the fence before can lose {them} and keep what that saves; first: event {number}"
+        stores, them = ("1 store is", "it") if count == 1 else (f"{count} stores{of_in_words(of)} are", "them")
+        yield f"hint: {name}: {stores} saved one fence late: a crash right after the fence before can lose {them} and keep what that saves; first: event {number}"
         saved = saved_before(explained, number)
         if saved:
             fence, kept = saved
-            event = explained.event(kept)
-            at = f" at {event['label']}" if event["label"] else ""
-            where = f"event {kept} (line {event['line']}, thread {event['thread']}){at}: {event['words']}"
-            yield f"  before: a crash after event {fence} keeps this store and can lose event {number}: {where}"
+            yield f"  before: a crash after event {fence} keeps this store and can lose event {number}: {in_words(explained, kept)}"
         if saved and number < kept:
             line, thread = explained.address(explained.trace.line(number)), explained.trace.event(number)[1]
             flush = f"Flush cache line {line} by thread {thread} after {named(explained, number)}, and fence"
@@ -198,9 +238,20 @@ def left_lines(explained):
 
 def lines(explained):
     """The lines of each hint."""
-    for kind, key, numbers in hints(explained):
+    told = [(kind, name_of(key), numbers, 0) for kind, key, numbers in hints(explained)]
+    for label, numbers in path_hints(explained):
+        of = sum(place(explained, flush) == place(explained, numbers[0]) for flush in kept_of_any_kind(explained))
+        told.append(("open_at_store", label, numbers, of))
+    for kind, name, numbers, of in told:
         times = "1 time" if len(numbers) == 1 else f"{len(numbers)} times"
-        other = f"{OTHERS[kind]} {named(explained, SETS[kind](explained, numbers[0]))}"
-        yield f"hint: {name_of(key)}: {times} {WORDS[kind]}; first: event {numbers[0]}, {other}"
+        other = f"{OTHERS[kind]} {named(explained, SETS[kind](explained, numbers[0]) or store_past(explained.trace, numbers[0]))}"
+        yield f"hint: {name}: {times}{of_in_words(of)} {WORDS[kind]}; first: event {numbers[0]}, {other}"
+        if kind == "open_at_store":
+            yield loss(explained, numbers[0])
         yield f"  fix:    {fix(explained, kind, numbers[0])}"
     yield from left_lines(explained)
+
+
+def kept_of_any_kind(explained):
+    """The flushes that are kept, also those that wait for no fence."""
+    return [number for number in explained.trace.numbers if explained.trace.event(number)[0] in ANY_FLUSH and is_kept(explained.trace, number)]

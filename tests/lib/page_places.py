@@ -1,7 +1,7 @@
 """The rows of a page, compared with the text and the JSON of `explain`: causes, places, hints and overwritten stores, with their counts, in
 their order, and what is told of each.
 
-The traces are the examples, random ones with labels, and one with a hint of each kind.
+The traces are the examples, random ones with labels, one with a hint of each kind, and one with hints of call paths.
 """
 import json
 import pathlib
@@ -9,6 +9,7 @@ import random
 import re
 
 from broken import joined
+from called import rounds
 from crowded import random_trace
 from machine import spelled, text_of
 from page_walk import examples
@@ -210,6 +211,8 @@ def traces(folder):
         head, trace = random_trace(choose)
         named = [(number, choose.choice(LABELS)) for number in trace.numbers]
         yield written(folder, f"random {index}", text_of([head, *map(spelled, trace.events)]).decode(), named)
+    events, labels = zip(*rounds([(way, f"{way}.c") for way in ("right", "unfenced", "late") for _ in range(3)]))
+    yield written(folder, "called", "\n".join(["pmtrace 1", *events, ""]), list(enumerate(labels, 1)))
     events, labels = zip(*(line.split("|") for line in HINTED.splitlines()))
     yield written(folder, "hinted", "\n".join(["pmtrace 1", *events, ""]), list(enumerate(labels, 1)))
 

@@ -47,7 +47,7 @@ FILTERS = [
 
 
 def entries_of(blocks):
-    """What the page goes through: late stores are told by place, and places that are saved one fence late are hints."""
+    """What the page goes through: late stores are told by place, and places and paths that are saved one fence late are hints."""
     found = [entry for entry in blocks["explained"] if entry["kind"] in KINDS and entry["kind"] != "late"]
     hinted = {(entry["label"], entry["thread"]) for entry in found if entry["kind"] == "hint"}
     for place in (entry for entry in blocks["explained"] if entry["kind"] == "place"):
@@ -55,6 +55,9 @@ def entries_of(blocks):
             found.append({"kind": "late", "count": place["late"], "first": place["first_late"]})
         elif place["left"] and place["left"] == place["in_time"] and not place["never_persisted"] and (place["label"], place["thread"]) not in hinted:
             found.append({"kind": "hint", "hint": "one_fence_late", "count": place["left"], "first": place["first_left"]})
+    for path in (entry for entry in blocks["explained"] if entry["kind"] == "path"):
+        if (path["label"].partition(" < ")[0], None) not in hinted:
+            found.append({"kind": "hint", "hint": "one_fence_late", "count": path["left"], "first": path["first_left"]})
     return found
 
 

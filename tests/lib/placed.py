@@ -14,12 +14,19 @@ COUNTS = ("stores", "never_persisted", "ignored", "late", "in_time", "left", "fl
 LABELLED = "places: what became of the stores of each line of source; those that lose or delay a part first:"
 THREADS = "places: what became of the stores of each thread; with --labels FILE a place is a line of source:"
 MOST = 8
+LEAST = 3  # of so many events of a path it is no chance that all have something
 
 
 def place(explained, number):
     """The innermost frame of the event's label, or without a label its thread."""
     label = explained.labels.get(number)
     return ("thread", explained.trace.event(number)[1]) if label is None else ("label", label.partition(CALLER)[0])
+
+
+def path(explained, number):
+    """The call path of the event: its whole label, or without a label its thread."""
+    label = explained.labels.get(number)
+    return ("thread", explained.trace.event(number)[1]) if label is None else ("label", label)
 
 
 def fates(explained, lost, number):
@@ -55,14 +62,31 @@ def standing(row):
 @functools.lru_cache(maxsize=1)
 def rows(explained):
     """Each place with what it has, in the order in which they are told."""
+    return rows_by(explained, place)
+
+
+def rows_by(explained, key_of):
+    """The rows by another key."""
     lost, found = set(explained.lost_stores()), {}
     for number in explained.trace.numbers:
-        row = found.setdefault(place(explained, number), {**dict.fromkeys(COUNTS, 0), "first": number, "first_never_persisted": None, "first_late": None, "first_left": None})
+        row = found.setdefault(key_of(explained, number), {**dict.fromkeys(COUNTS, 0), "first": number, "first_never_persisted": None, "first_late": None, "first_left": None})
         for fate in fates(explained, lost, number):
             row[fate] += 1
             if f"first_{fate}" in row and row[f"first_{fate}"] is None:
                 row[f"first_{fate}"] = number
     return sorted(found.items(), key=lambda item: (standing(item[1]), item[1]["first"]))
+
+
+def is_left(row):
+    """Whether one fence of its thread leaves each store of the row unsafe, and the next one saves it."""
+    return 0 < row["left"] == row["in_time"] and not row["never_persisted"] and not row["late"]
+
+
+@functools.lru_cache(maxsize=1)
+def left_paths(explained):
+    """The rows of the paths of three stores or more of which that is so of each, but not of each store of their place."""
+    places = dict(rows(explained))
+    return [(key, row) for key, row in rows_by(explained, path) if is_left(row) and row["left"] >= LEAST and not is_left(places[place(explained, row["first"])])]
 
 
 def saved_before(explained, number):
@@ -80,12 +104,12 @@ def saved_entry(explained, number):
     return saved and {"place": saved[0], "store": explained.event(saved[1])}
 
 
-def entries(explained):
-    """What the JSON has of them."""
-    for (kind, name), row in rows(explained):
+def entries_of(explained, what, found):
+    """What the JSON has of these rows of places or paths."""
+    for (kind, name), row in found:
         firsts = {member: row[member] and explained.event(row[member]) for member in ("first", "first_never_persisted", "first_late", "first_left")}
         saved = {"saved_before": saved_entry(explained, row["first_left"])}
-        yield {**row, **firsts, **saved, "kind": "place", "label": None, "thread": None, kind: name}
+        yield {**row, **firsts, **saved, "kind": what, "label": None, "thread": None, kind: name}
 
 
 def name_of(key):

@@ -18,6 +18,9 @@ pushed-4 s s1 s2 s3 s4 a b c d e f g h = push-on s s3 s4 (a ++ b ++ c) d (pushed
 pub pushed-5 : (s s1 s2 s3 s4 s5 a b c d e : List ℕ) → s1 ≡ s ++ a → s2 ≡ s1 ++ b → s3 ≡ s2 ++ c → s4 ≡ s3 ++ d → s5 ≡ s4 ++ e → s5 ≡ s ++ (a ++ b ++ c ++ d ++ e)
 pushed-5 s s1 s2 s3 s4 s5 a b c d e f g h i j = push-on s s4 s5 (a ++ b ++ c ++ d) e (pushed-4 s s1 s2 s3 s4 a b c d f g h i) j
 
+pub pushed-6 : (s s1 s2 s3 s4 s5 s6 a b c d k m : List ℕ) → s1 ≡ s ++ a → s2 ≡ s1 ++ b → s3 ≡ s2 ++ c → s4 ≡ s3 ++ d → s5 ≡ s4 ++ k → s6 ≡ s5 ++ m → s6 ≡ s ++ (a ++ b ++ c ++ d ++ k ++ m)
+pushed-6 s s1 s2 s3 s4 s5 s6 a b c d k m e f g h i j = push-on s s5 s6 (a ++ b ++ c ++ d ++ k) m (pushed-5 s s1 s2 s3 s4 s5 a b c d k e f g h i) j
+
 pub pushed-8 : (s s1 s2 s3 s4 s5 s6 s7 s8 a b c d k m n o : List ℕ) →
     s1 ≡ s ++ a → s2 ≡ s1 ++ b → s3 ≡ s2 ++ c → s4 ≡ s3 ++ d → s5 ≡ s4 ++ k → s6 ≡ s5 ++ m → s7 ≡ s6 ++ n → s8 ≡ s7 ++ o →
     s8 ≡ s ++ (a ++ b ++ c ++ d ++ k ++ m ++ n ++ o)

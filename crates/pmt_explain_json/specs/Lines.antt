@@ -26,6 +26,7 @@ more_data x = object_of
     ∷ (codes "late", count_data (length x.late.items - x.limit))
     ∷ (codes "never_persisted", count_data (length x.lost.items - x.limit))
     ∷ (codes "overwritten", count_data (length x.overwritten.items - x.limit))
+    ∷ (codes "path", count_data (length x.left_paths.items - x.limit))
     ∷ (codes "place", count_data (length x.places.items - x.limit))
     ∷ (codes "thread", count_data (length x.threads.items - x.limit))
     ∷ (codes "unwritten", count_data (length x.unwritten.items - x.limit))

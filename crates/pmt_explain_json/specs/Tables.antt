@@ -1,5 +1,5 @@
--- Places, hints, late stores, and what threads and labels have, as JSON.
-use Rattle.std.specs.Prelude.{ℕ, List, [], ◌∷◌, ◌++◌, length, take, Option, None, Some, codes}
+-- Places, paths, hints, late stores, and what threads and labels have, as JSON.
+use Rattle.std.specs.Prelude.{true, false, ℕ, List, [], ◌∷◌, ◌++◌, length, take, Option, None, Some, codes}
 use Rattle.std.specs.List.{flat_map}
 use Rattle.serde_json.specs.Data.{Data, string}
 use Rattle.pmt_model.specs.Traces.{Recording}
@@ -67,10 +67,11 @@ thread_line r = json_line (thread_row_data r)
 abbrev pub label_line : Labels → Row ℕ → List ℕ
 label_line labels r = json_line (label_row_data labels r)
 
--- The places, the hints, the late stores, the threads and the labels: of each kind at most as many as the limit says, the first ones.
+-- The places, the paths, the hints, the late stores, the threads and the labels: of each kind at most as many as the limit says, the first ones.
 unfoldable pub table_lines : Explanation → Labels → List ℕ
 table_lines x labels =
-    flat_map (place_line x.analysis.trace labels) (take x.limit x.places.items)
+    flat_map (place_line x.analysis.trace labels false) (take x.limit x.places.items)
+    ++ flat_map (place_line x.analysis.trace labels true) (take x.limit x.left_paths.items)
     ++ flat_map (hint_line x.analysis.trace labels) (take x.limit x.hints.items)
     ++ flat_map (late_line x.analysis.trace labels) (take x.limit x.late.items)
     ++ flat_map thread_line (take x.limit x.threads.items)

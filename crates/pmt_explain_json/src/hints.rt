@@ -1,12 +1,14 @@
 //! Hints as JSON.
 ghost use Rattle.std.specs.Prelude.{◌≡◌, ◌++◌, IfOk, OnOk};
 ghost use Rattle.std.specs.List.{flat_map};
+ghost use Rattle.serde_json.specs.Data.{string};
 ghost use Rattle.serde_json.specs.View.{view};
-ghost use Rattle.pmt_explain_json.specs.Hints.{hint_data, hint_line, hint_name as name_in};
+ghost use Rattle.pmt_explain_json.specs.Parts.{or_null};
+ghost use Rattle.pmt_explain_json.specs.Hints.{hint_data, hint_line, hint_name as name_in, path_label};
 
 use crate::lines::push_value;
 use crate::objects::object_made;
-use crate::parts::event_value;
+use crate::parts::{event_value, label_value};
 use crate::places::{label_or_null, thread_or_null};
 use pmt_asked::Labels;
 use pmt_hints::{Hint, HintKind};
@@ -44,7 +46,7 @@ fn push_hint(
     push_value(alloc, text, &value)
 }
 
-// The events of one kind of hint that come from one place.
+// The events of one kind of hint that come from one place, or from one path.
 fn hint_value(
     alloc: Global,
     trace: &Trace,
@@ -57,15 +59,27 @@ fn hint_value(
     let name = Value::try_from_str(alloc, hint_name(hint.kind));
     let kind = Value::try_from_str(alloc, "hint");
     let label = label_or_null(alloc, labels, hint.place);
+    let path = path_or_null(alloc, labels, hint.path);
     let fields = vec![in alloc;
         ("count", Ok(Value::from(hint.count))),
         ("first", first),
         ("hint", name),
         ("kind", kind),
         ("label", label),
+        ("path", path),
         ("thread", Ok(thread_or_null(hint.place))),
     ]?;
     object_made(alloc, fields)
+}
+
+// The label that the path is, if there is one.
+fn path_or_null(alloc: Global, labels: &Labels, path: Option<u64>) -> Result<Value, OutOfMemory>
+    ensures { IfOk result (λ v. view v ≡ or_null string (path_label labels.now path)) }
+{
+    match path {
+        Some(number) => label_value(alloc, labels, number),
+        None => Ok(Value::Null),
+    }
 }
 
 // The name of the kind of hint.

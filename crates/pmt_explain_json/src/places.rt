@@ -1,14 +1,14 @@
-//! What becomes of each place of the source, as JSON.
+//! What becomes of each place of the source, and of paths, as JSON.
 ghost use Rattle.std.specs.Prelude.{◌≡◌, ◌++◌, IfOk, OnOk};
 ghost use Rattle.std.specs.List.{flat_map};
 ghost use Rattle.serde_json.specs.Data.{string};
 ghost use Rattle.serde_json.specs.View.{view};
 ghost use Rattle.pmt_explain_json.specs.Parts.{count_data, or_null};
-ghost use Rattle.pmt_explain_json.specs.Places.{place_data, place_label, place_line, place_thread, saved_data};
+ghost use Rattle.pmt_explain_json.specs.Places.{place_data, place_label, place_line, place_thread, row_kind as kind_in, row_label as label_in, saved_data};
 
 use crate::lines::push_value;
 use crate::objects::{object_made, object_value};
-use crate::parts::{event_or_null, event_value, frame_value};
+use crate::parts::{event_or_null, event_value, frame_value, label_value};
 use pmt_asked::Labels;
 use pmt_causes::Origin;
 use pmt_fates::{PlaceRow, SavedBefore};
@@ -16,51 +16,54 @@ use pmt_model::{OutOfMemory, Trace};
 use serde_json::Value;
 use std::alloc::Global;
 
-// Adds the rows of the places.
+// Adds the rows of the places, or of paths, whose labels are whole.
 pub(crate) fn push_places(
     alloc: Global,
     text: &mut Vec<u8>,
     trace: &Trace,
     labels: &Labels,
+    whole: bool,
     rows: &[PlaceRow],
 ) -> Result<(), OutOfMemory>
-    ensures { OnOk result (text.new.items ≡ text.old.items ++ flat_map (place_line trace.now labels.now) rows.now) }
+    ensures { OnOk result (text.new.items ≡ text.old.items ++ flat_map (place_line trace.now labels.now whole) rows.now) }
 {
     for row in rows {
-        push_place(alloc, text, trace, labels, row)?;
+        push_place(alloc, text, trace, labels, whole, row)?;
     }
     Ok(())
 }
 
-// Adds the row of the place.
+// Adds the row of the place or path.
 fn push_place(
     alloc: Global,
     text: &mut Vec<u8>,
     trace: &Trace,
     labels: &Labels,
+    whole: bool,
     row: &PlaceRow,
 ) -> Result<(), OutOfMemory>
-    ensures { OnOk result (text.new.items ≡ text.old.items ++ place_line trace.now labels.now row.now) }
+    ensures { OnOk result (text.new.items ≡ text.old.items ++ place_line trace.now labels.now whole row.now) }
 {
-    let value = place_value(alloc, trace, labels, row)?;
+    let value = place_value(alloc, trace, labels, whole, row)?;
     push_value(alloc, text, &value)
 }
 
-// What the place has.
+// What the place or path has.
 fn place_value(
     alloc: Global,
     trace: &Trace,
     labels: &Labels,
+    whole: bool,
     row: &PlaceRow,
 ) -> Result<Value, OutOfMemory>
-    ensures { IfOk result (λ v. view v ≡ place_data trace.now labels.now row.now) }
+    ensures { IfOk result (λ v. view v ≡ place_data trace.now labels.now whole row.now) }
 {
     let first = event_value(alloc, trace, labels, row.first);
     let first_late = event_or_null(alloc, trace, labels, row.first_late);
     let first_left = event_or_null(alloc, trace, labels, row.first_left);
     let first_lost = event_or_null(alloc, trace, labels, row.first_lost);
-    let kind = Value::try_from_str(alloc, "place");
-    let label = label_or_null(alloc, labels, row.place);
+    let kind = Value::try_from_str(alloc, row_kind(whole));
+    let label = row_label(alloc, labels, whole, row.place);
     let saved = saved_or_null(alloc, trace, labels, row.saved_before);
     let fields = vec![in alloc;
         ("fences", Ok(Value::from(row.fences))),
@@ -83,6 +86,31 @@ fn place_value(
         ("thread", Ok(thread_or_null(row.place))),
     ]?;
     object_made(alloc, fields)
+}
+
+// The kind of the row.
+fn row_kind(whole: bool) -> &'static str
+    ensures { result.now ≡ kind_in whole }
+{
+    if whole { "path" } else { "place" }
+}
+
+// The label of the row, if its events have one: the innermost frame of a place, or the whole label of a path.
+fn row_label(
+    alloc: Global,
+    labels: &Labels,
+    whole: bool,
+    place: Origin,
+) -> Result<Value, OutOfMemory>
+    ensures { IfOk result (λ v. view v ≡ or_null string (label_in labels.now whole place)) }
+{
+    if !whole {
+        return label_or_null(alloc, labels, place);
+    }
+    match place {
+        Origin::Label(number) => label_value(alloc, labels, number),
+        Origin::Thread(_) => Ok(Value::Null),
+    }
 }
 
 // What a crash keeps without the place's first store that one fence leaves unsafe, if it keeps any.

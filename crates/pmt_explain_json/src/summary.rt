@@ -99,6 +99,10 @@ pub(crate) fn more_value(alloc: Global, explanation: &Explanation) -> Result<Val
             Value::from(explanation.overwritten.len().saturating_sub(limit))
         ),
         (
+            "path",
+            Value::from(explanation.left_paths.len().saturating_sub(limit))
+        ),
+        (
             "place",
             Value::from(explanation.places.len().saturating_sub(limit))
         ),

@@ -1,4 +1,4 @@
-//! Places, hints, late stores, and what threads and labels have, as JSON.
+//! Places, paths, hints, late stores, and what threads and labels have, as JSON.
 ghost use Rattle.std.specs.Prelude.{◌≡◌, ◌++◌, IfOk, OnOk};
 ghost use Rattle.std.specs.List.{flat_map};
 ghost use Rattle.serde_json.specs.Data.{string};
@@ -18,7 +18,7 @@ use pmt_model::{OutOfMemory, Trace};
 use serde_json::Value;
 use std::alloc::Global;
 
-// Adds the rows of the places, the hints, the late stores, and the rows of the threads and of the labels.
+// Adds the rows of the places and of the paths, the hints, the late stores, and the rows of the threads and of the labels.
 pub(crate) fn push_tables(
     alloc: Global,
     text: &mut Vec<u8>,
@@ -30,11 +30,13 @@ pub(crate) fn push_tables(
     let trace = explanation.analysis.trace();
     let limit = explanation.limit;
     let places = first(explanation.places.as_slice(), limit);
+    let paths = first(explanation.left_paths.as_slice(), limit);
     let hints = first(explanation.hints.as_slice(), limit);
     let late = first(explanation.late.as_slice(), limit);
     let threads = first(explanation.threads.as_slice(), limit);
     let labelled = first(explanation.labelled.as_slice(), limit);
-    push_places(alloc, text, trace, labels, places)?;
+    push_places(alloc, text, trace, labels, false, places)?;
+    push_places(alloc, text, trace, labels, true, paths)?;
     push_hints(alloc, text, trace, labels, hints)?;
     push_late_groups(alloc, text, trace, labels, late)?;
     push_thread_rows(alloc, text, threads)?;

@@ -3,17 +3,18 @@
 use crate::left::{add_left, count_left};
 use pmt_explanation::first;
 use pmt_hints::{Hint, HintKind};
+use pmt_model::{Op, Trace, line_of};
 use pmt_pen::Pen;
 use pmt_telling::{
-    HEAD, Hinting, Section, Telling, hint_line, hint_partner, line_of_store, push_hint_words,
-    push_own_flush, push_place, push_wrapped,
+    HEAD, Hinting, NEAR, SOURCE, Section, Telling, hint_line, hint_partner, line_of_store,
+    push_event, push_hint_words, push_own_flush, push_place, push_wrapped,
 };
 
 const HEADING: &str =
     "hints: no rule forbids these, but most are slips; they do not change the exit status:\n";
 
-/// Hints. On a screen with other kinds of findings they are the first one of each kind, but for the one that the first failed assertion
-/// tells.
+/// Hints. On a screen with other kinds of findings they are the first one of each kind, of places and of paths alone, but for the one that
+/// the first failed assertion tells.
 pub fn hints_section(told: &Telling<'_>, hinting: &Hinting) -> Section {
     let hints = told.explanation.hints.as_slice();
     let mut section = Section::new(
@@ -30,15 +31,16 @@ pub fn hints_section(told: &Telling<'_>, hinting: &Hinting) -> Section {
     } else {
         None
     };
-    let mut before: Option<HintKind> = None;
+    let mut before: Option<(HintKind, bool)> = None;
     let shown = first(hints, if is_brief { hints.len() } else { limit });
     for (index, hint) in shown.iter().enumerate() {
-        if (!is_brief || before != Some(hint.kind)) && told_before != Some(index) {
+        let kind = Some((hint.kind, hint.path.is_some()));
+        if (!is_brief || before != kind) && told_before != Some(index) {
             let mut pen = Pen::new(told.alloc);
             push_hint(&mut pen, told, hint);
             section.add(pen);
         }
-        before = Some(hint.kind);
+        before = kind;
     }
     add_left(&mut section, told, is_brief);
     section
@@ -50,17 +52,64 @@ fn first_told(told: &Telling<'_>, hinting: &Hinting) -> Option<usize> {
     hinting.hint_of(told, shown.failure.lost.store, shown.cause)
 }
 
-// Adds the hint, the first event and the one that it goes with, and what to do.
+// Adds the hint, the first event and the one that it goes with, what a crash between them and a fence loses, and what to do.
 fn push_hint(pen: &mut Pen, told: &Telling<'_>, hint: &Hint) {
     let mut head = Pen::new(pen.alloc());
     push_hint_words(&mut head, told, hint);
     head.fill("; first: event #", &[hint.first]);
-    if let Some(other) = hint_partner(told.trace, hint) {
+    let partner = hint_partner(told.trace, hint);
+    if let Some(other) = partner {
         head.put(other_words(hint.kind));
         push_place(&mut head, told, other);
     }
     push_wrapped(pen, &head, HEAD);
+    if let Some(other) = partner {
+        push_loss(pen, told, hint, other);
+    }
     push_fix(pen, told, hint);
+}
+
+// Adds what a crash right after the other event loses, if the flush is not fenced then and that store stands near.
+fn push_loss(pen: &mut Pen, told: &Telling<'_>, hint: &Hint, other: u64) {
+    if hint.kind != HintKind::OpenAtStore {
+        return;
+    }
+    let Some(store) = store_flushed(told.trace, hint.first) else {
+        return;
+    };
+    let mut before = Pen::new(pen.alloc());
+    before.fill(
+        "  before: a crash after event # can keep that and lose event #: ",
+        &[other, store],
+    );
+    push_event(&mut before, told, store);
+    push_wrapped(pen, &before, SOURCE);
+}
+
+// The last store that the flush covers, if it stands near.
+fn store_flushed(trace: &Trace, flush: u64) -> Option<u64> {
+    let Some(event) = trace.get(flush) else {
+        return None;
+    };
+    let line = hint_line(trace, event.op);
+    for number in (flush.saturating_sub(NEAR)..flush).rev() {
+        if is_store_to(trace, number, line) {
+            return Some(number);
+        }
+    }
+    None
+}
+
+// Whether the event is a store to the line.
+fn is_store_to(trace: &Trace, number: u64, line: Option<u64>) -> bool {
+    let Some(event) = trace.get(number) else {
+        return false;
+    };
+    let op = event.op;
+    match op {
+        Op::Store(store) => Some(line_of(trace.format(), store.addr())) == line,
+        _ => false,
+    }
 }
 
 // How the event that the first one goes with is told.

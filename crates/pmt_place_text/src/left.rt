@@ -1,12 +1,12 @@
-//! Places each of whose stores is saved one fence late, in words.
+//! Places, and paths alone, each of whose stores is saved one fence late, in words.
 
 use pmt_asked::{Choice, Kind};
 use pmt_causes::Origin;
 use pmt_fates::{PlaceRow, SavedBefore};
 use pmt_pen::Pen;
 use pmt_telling::{
-    HEAD, SOURCE, Section, Telling, line_address, line_of_store, push_count, push_event,
-    push_own_flush, push_place, push_place_name, push_wrapped,
+    HEAD, SOURCE, Section, Telling, line_address, line_of_store, place_of, push_count, push_event,
+    push_of, push_own_flush, push_path, push_place, push_place_name, push_wrapped,
 };
 
 const ONE_LATE: &str =
@@ -15,30 +15,40 @@ const ONE_LATE: &str =
 const LATE: &str =
     " are saved one fence late: a crash right after the fence before can lose them and keep what that saves";
 
-// How many places are hinted at so, if hints at all places are asked for.
+// How many places and paths are hinted at so, if hints at all places are asked for.
 pub(crate) fn count_left(told: &Telling<'_>) -> usize {
     if !asks_all_places(told.screen.choice) {
         return 0;
     }
-    let rows = told.explanation.places.as_slice();
-    rows.iter().filter(|row| is_left(told, row)).count()
+    let places = told.explanation.places.as_slice();
+    let paths = told.explanation.left_paths.as_slice();
+    let count = places.iter().filter(|row| is_left(told, row)).count();
+    count.saturating_add(paths.iter().filter(|row| is_left_path(told, row)).count())
 }
 
-// Adds a hint for each such place, as many as the limit says; or one alone, of the place with most such stores.
+// Adds a hint for each such place, and then for each such path, as many as the limit says; or one alone, of the place with most such stores,
+// and one of such a path.
 pub(crate) fn add_left(section: &mut Section, told: &Telling<'_>, is_brief: bool) {
     if count_left(told) == 0 {
         return;
     }
+    let places = told.explanation.places.as_slice();
+    let paths = told.explanation.left_paths.as_slice();
     if is_brief {
-        if let Some(row) = most_left(told) {
-            add_row(section, told, &row);
-        }
+        add_most(section, told, places, false);
+        add_most(section, told, paths, true);
         return;
     }
     let mut added = 0usize;
-    for row in told.explanation.places.as_slice() {
+    for row in places {
         if is_left(told, row) && added < told.explanation.limit {
-            add_row(section, told, row);
+            add_row(section, told, row, false);
+            added = added.saturating_add(1);
+        }
+    }
+    for row in paths {
+        if is_left_path(told, row) && added < told.explanation.limit {
+            add_row(section, told, row, true);
             added = added.saturating_add(1);
         }
     }
@@ -60,37 +70,56 @@ fn is_left(told: &Telling<'_>, row: &PlaceRow) -> bool {
     is_late && !has_hint(told, row.place)
 }
 
+// Whether there is no hint at the place of the path, of which each store is left so, but not each one of the place.
+fn is_left_path(told: &Telling<'_>, row: &PlaceRow) -> bool {
+    !has_hint(told, place_of(told, row.first))
+}
+
 // Whether there is another hint at the place.
 fn has_hint(told: &Telling<'_>, place: Origin) -> bool {
     let hints = told.explanation.hints.as_slice();
     hints.iter().any(|hint| hint.place == place)
 }
 
-// The place with most such stores, the first one of several.
-fn most_left(told: &Telling<'_>) -> Option<PlaceRow> {
+// Adds the hint at the place, or path, with most such stores, the first one of several.
+fn add_most(section: &mut Section, told: &Telling<'_>, rows: &[PlaceRow], is_path: bool) {
     let mut most: Option<PlaceRow> = None;
-    for row in told.explanation.places.as_slice() {
+    for row in rows {
         let least = match most {
             Some(other) => other.left,
             None => 0,
         };
-        if row.left > least && is_left(told, row) {
+        let is_told = if is_path {
+            is_left_path(told, row)
+        } else {
+            is_left(told, row)
+        };
+        if row.left > least && is_told {
             most = Some(*row);
         }
     }
-    most
+    if let Some(row) = most {
+        add_row(section, told, &row, is_path);
+    }
 }
 
-// Adds the hint at the place: how many stores, why it matters, the first one, what a crash keeps without it, and what to do.
-fn add_row(section: &mut Section, told: &Telling<'_>, row: &PlaceRow) {
+// Adds the hint at the place, or path: how many stores, why it matters, the first one, what a crash keeps without it, and what to do.
+fn add_row(section: &mut Section, told: &Telling<'_>, row: &PlaceRow, is_path: bool) {
     let Some(store) = row.first_left else {
         return;
     };
     let mut head = Pen::new(told.alloc);
     head.put("hint: ");
-    push_place_name(&mut head, told, row.place);
+    if is_path {
+        push_path(&mut head, told, row.first);
+    } else {
+        push_place_name(&mut head, told, row.place);
+    }
     head.put(": ");
     push_count(&mut head, row.left, "store");
+    if is_path {
+        push_of(&mut head, stores_at(told, place_of(told, row.first)));
+    }
     head.put(if row.left == 1 { ONE_LATE } else { LATE });
     head.fill("; first: event #", &[store]);
     let mut pen = Pen::new(told.alloc);
@@ -99,6 +128,16 @@ fn add_row(section: &mut Section, told: &Telling<'_>, row: &PlaceRow) {
         push_remedy(&mut pen, told, event.thread, store, row.saved_before);
     }
     section.add(pen);
+}
+
+// How many stores the place makes.
+fn stores_at(told: &Telling<'_>, place: Origin) -> u64 {
+    for row in told.explanation.places.as_slice() {
+        if row.place == place {
+            return row.stores;
+        }
+    }
+    0
 }
 
 // Adds what a crash keeps without this store by the thread, if it is known, and what to do.

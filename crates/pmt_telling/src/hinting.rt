@@ -1,6 +1,6 @@
 //! Hints in words, and which of them tells of a store that a failed assertion loses.
 
-use crate::parts::{NEAR, place_of, push_count, push_place_name};
+use crate::parts::{NEAR, place_of, push_count, push_of, push_path, push_place_name};
 use crate::telling::{Telling, line_of_store};
 use pmt_causes::Origin;
 use pmt_hints::{Hint, HintKind};
@@ -118,10 +118,26 @@ fn rank_of(told: &Telling<'_>, index: usize) -> usize {
 /// Adds the hint: where, how often, and what.
 pub fn push_hint_words(pen: &mut Pen, told: &Telling<'_>, hint: &Hint) {
     pen.put("hint: ");
-    push_place_name(pen, told, hint.place);
+    match hint.path {
+        Some(path) => push_path(pen, told, path),
+        None => push_place_name(pen, told, hint.place),
+    }
     pen.put(": ");
     push_count(pen, hint.count, "time");
+    if hint.path.is_some() {
+        push_of(pen, kept_flushes(told, hint.place));
+    }
     pen.put(words_of(hint.kind));
+}
+
+// How many flushes of the place are kept.
+fn kept_flushes(told: &Telling<'_>, place: Origin) -> u64 {
+    for row in told.explanation.places.as_slice() {
+        if row.place == place {
+            return row.flushes.saturating_sub(row.idle_flushes);
+        }
+    }
+    0
 }
 
 // What happens, and why it matters.

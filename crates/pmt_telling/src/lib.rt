@@ -17,8 +17,8 @@ pub use crate::hinting::{Hinting, hint_line, hint_partner, hinting_of, push_hint
 pub use crate::missing::{flushed_instead, push_early, push_instead};
 pub use crate::parts::{
     NEAR, is_unflushed, next_fence, place_of, plural, push_cause, push_count, push_event,
-    push_frame, push_label, push_mend, push_named, push_own_flush, push_place, push_place_name,
-    push_words,
+    push_frame, push_label, push_mend, push_named, push_of, push_own_flush, push_path, push_place,
+    push_place_name, push_words,
 };
 pub use crate::rows::{
     HEAD, WIDTH, push_broken, push_column, push_cut, push_line, push_spaces, push_wrapped, width_of,

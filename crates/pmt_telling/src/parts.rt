@@ -111,6 +111,18 @@ pub fn push_place_name(pen: &mut Pen, told: &Telling<'_>, place: Origin) {
     }
 }
 
+/// Adds what the path is called: the whole label of the event.
+pub fn push_path(pen: &mut Pen, told: &Telling<'_>, number: u64) {
+    if let Some(label) = told.labels.get(number) {
+        pen.put(label.as_str());
+    }
+}
+
+/// Adds of how many at its place the path has some.
+pub fn push_of(pen: &mut Pen, count: u64) {
+    pen.fill(" (of # at this place)", &[count]);
+}
+
 /// Adds why the store is not safe by then, with the fence of another thread that came in the place of the one that is wanted.
 pub fn push_cause(pen: &mut Pen, told: &Telling<'_>, cause: Cause, line: u64) {
     let mut why = Pen::new(pen.alloc());

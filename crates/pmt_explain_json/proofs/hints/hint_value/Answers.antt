@@ -9,9 +9,9 @@ pub returns : goal.returns
 returns c =
     let named = subst (λ s. IfOk c.try_from_str-name.result (λ v. view v ≡ string s)) c.hint_name.ensures c.try_from_str-name.ensures in
     object-made c.object_made.result _ _
-    (_ ∷ _ ∷ _ ∷ _ ∷ _ ∷ _ ∷ [])
+    (_ ∷ _ ∷ _ ∷ _ ∷ _ ∷ _ ∷ _ ∷ [])
     (hint_data c.args.trace.now c.args.labels.now c.args.hint.now)
     c.object_made.ensures c.in_ok-fields.ensures.items
     (c.from.ensures also c.event_value-first.ensures also named also c.try_from_str-kind.ensures
-    also c.label_or_null-label.ensures also c.thread_or_null.ensures also _)
+    also c.label_or_null-label.ensures also c.path_or_null-path.ensures also c.thread_or_null.ensures also _)
     (λ d e. e)

@@ -4,4 +4,4 @@ use Rattle.pmt_explain_json.proofs.places.push_places.Goals as goal
 
 pub loop-row-preserved : goal.loop-row-preserved
 loop-row-preserved c =
-    lines-pushed (place_line c.args.trace.now c.args.labels.now) c.args.rows.now c.loop-row.row-index _ _ _ _ c.loop-row-test.true c.loop-row.invariant c.in_ok-push_place.ensures
+    lines-pushed (place_line c.args.trace.now c.args.labels.now c.args.whole) c.args.rows.now c.loop-row.row-index _ _ _ _ c.loop-row-test.true c.loop-row.invariant c.in_ok-push_place.ensures

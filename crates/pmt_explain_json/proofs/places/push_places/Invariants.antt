@@ -5,4 +5,4 @@ use Rattle.pmt_explain_json.proofs.places.push_places.Given as goal
 
 abbrev pub invariant-loop-row : goal.invariant-loop-row
 invariant-loop-row l =
-    l.text.items ++ flat_map (place_line l.trace l.labels) (drop l.row-index l.rows) ≡ l.initial.text.items ++ flat_map (place_line l.trace l.labels) l.rows
+    l.text.items ++ flat_map (place_line l.trace l.labels l.whole) (drop l.row-index l.rows) ≡ l.initial.text.items ++ flat_map (place_line l.trace l.labels l.whole) l.rows
