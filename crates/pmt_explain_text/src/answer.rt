@@ -3,6 +3,7 @@
 use crate::summary::late_stores;
 use pmt_explanation::Summary;
 use pmt_pen::Pen;
+use pmt_place_text::has_hints;
 use pmt_telling::{Telling, push_wrapped, tells_all};
 
 // Adds whether a crash can lose what is claimed, or at the end what was stored. Nothing if a part is asked for, or nothing was stored, or
@@ -108,7 +109,8 @@ fn push_claims(pen: &mut Pen, assertions: u64, empty: u64) {
     }
 }
 
-// Adds that the stores, which one of these names, are safe by the end, but for those that are ignored, and how many are so late.
+// Adds that the stores, which one of these names, are safe by the end, but for those that are ignored, how many are so late, and whether
+// there are hints.
 fn push_stores(pen: &mut Pen, told: &Telling<'_>, counts: &Summary, one: &str, many: &str) {
     if counts.stores == 1 {
         pen.put(one);
@@ -128,5 +130,8 @@ fn push_stores(pen: &mut Pen, told: &Telling<'_>, counts: &Summary, one: &str, m
     let late = late_stores(told);
     if late > 0 {
         pen.fill(", # of them late", &[late]);
+    }
+    if has_hints(told) {
+        pen.put("; hints say what a crash before that may break");
     }
 }

@@ -46,6 +46,11 @@ pub fn hints_section(told: &Telling<'_>, hinting: &Hinting) -> Section {
     section
 }
 
+/// Whether something is hinted at.
+pub fn has_hints(told: &Telling<'_>) -> bool {
+    !told.explanation.hints.is_empty() || count_left(told) > 0
+}
+
 // The hint that the first failed assertion tells, if it does.
 fn first_told(told: &Telling<'_>, hinting: &Hinting) -> Option<usize> {
     let shown = told.explanation.failures.first()?;

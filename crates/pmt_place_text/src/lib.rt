@@ -18,7 +18,7 @@ mod wanted;
 
 pub use crate::claims::{Claims, claims_wanted};
 pub use crate::guesses::guesses_section;
-pub use crate::hints::hints_section;
+pub use crate::hints::{has_hints, hints_section};
 pub use crate::late::late_section;
 pub use crate::lost::lost_section;
 pub use crate::marks::marks_section;
