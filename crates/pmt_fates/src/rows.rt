@@ -49,6 +49,7 @@ pub(crate) fn rows_of(
 
 // Where the row of the place stands, which is made if it is not there: the event with this number is then its first one. The row at `last`
 // is looked at first, since mostly the next place is the same.
+#[inline(always)]
 fn find(
     rows: &mut Vec<PlaceRow>,
     places: &mut IndexMap<Origin, usize>,

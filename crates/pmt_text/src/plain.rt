@@ -38,13 +38,26 @@ fn add_whole(store: SpelledStore, trace: &mut Trace) -> Result<bool, OutOfMemory
     }
 }
 
-// The same, of fewer bytes, which are copied by a call. It is one of its own, so that the others keep their values in registers.
+// The same, of fewer bytes, which are copied by a call. It is one of its own and takes the store part by part, so that the others keep
+// their values in registers.
 #[inline(never)]
-fn add_short(store: SpelledStore, trace: &mut Trace) -> Result<bool, OutOfMemory>
-    requires few { store.len ≤ 8 }
+fn add_short(
+    thread: u8,
+    addr: u64,
+    number: u64,
+    len: usize,
+    trace: &mut Trace,
+) -> Result<bool, OutOfMemory>
+    requires few { len ≤ 8 }
     requires room { length trace.old.events < event_limit }
-    ensures { IfOk result (λ added. AddsStore store added trace.old trace.new) }
+    ensures { IfOk result (λ added. AddsStore (record { thread = thread; addr = addr; number = number; len = len }) added trace.old trace.new) }
 {
+    let store = SpelledStore {
+        thread,
+        addr,
+        number,
+        len,
+    };
     match store.event() {
         Some(event) => add(event, trace),
         None => Ok(false),
@@ -67,7 +80,13 @@ fn add_store<'a>(
         return Ok(None);
     };
     if store.len != 8 {
-        return match add_short(store, trace)? {
+        let SpelledStore {
+            thread,
+            addr,
+            number,
+            len,
+        } = store;
+        return match add_short(thread, addr, number, len, trace)? {
             true => Ok(Some(rest)),
             false => Ok(None),
         };
