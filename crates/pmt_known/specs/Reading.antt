@@ -1,8 +1,7 @@
 -- What is read of the lines of a trace under way.
-use Rattle.std.specs.Prelude.{ℕ, ◌+◌, ◌*◌, Option, MatchOption}
+use Rattle.std.specs.Prelude.{ℕ, ◌+◌, ◌*◌}
 use Rattle.pmt_model.specs.Traces.{Recording, history, lines_of}
-use Rattle.pmt_places.specs.declared.block.Block.{Block}
-use Rattle.pmt_places.specs.Places.{AreNeighbours, AreUnplaced, IsPlaceOf}
+use Rattle.pmt_places.specs.Places.{IsPlaceOf}
 use Rattle.pmt_words.specs.Written.{last_number}
 use Rattle.pmt_known.specs.declared.known.Known.{Known}
 use Rattle.pmt_known.specs.Known.{IsKnownOf}
@@ -11,10 +10,6 @@ use Rattle.pmt_known.specs.Known.{IsKnownOf}
 pub record IsLineAt (T : Recording) (n l place : ℕ) (k : Known) : Type 0 where
   pub known : IsKnownOf T n k
   pub at : IsPlaceOf l place (lines_of (history T n))
-
--- The block tells the places of those lines that give this number by a division by 8. Without a block none of them has a place.
-abbrev pub IsBlockOf : Recording → ℕ → ℕ → Option Block → Type 0
-IsBlockOf T n number found = MatchOption found (AreUnplaced number (lines_of (history T n))) (λ block. AreNeighbours block number (lines_of (history T n)))
 
 -- The number of the last store to byte o of line l among the first n events, or 0.
 abbrev pub last_in_line : Recording → ℕ → ℕ → ℕ → ℕ

@@ -1,16 +1,16 @@
 //! What is known of lines and of stores, to be read.
-ghost use Rattle.std.specs.Prelude.{◌≡◌, ℕ, ◌^◌, ◌<◌, ◌≤◌, ◌⊎◌, length, max, option_copied, slice_index};
-ghost use Rattle.pmt_model.specs.Traces.{Recording, history};
+ghost use Rattle.std.specs.Prelude.{◌≡◌, ℕ, ◌^◌, ◌<◌, ◌≤◌, ◌⊎◌, length, max, slice_index, IfSome};
+ghost use Rattle.pmt_model.specs.Traces.{Recording, history, lines_of};
+ghost use Rattle.pmt_places.specs.Places.{IsFound};
 ghost use Rattle.pmt_rows.specs.Known.{row_after};
 ghost use Rattle.pmt_safety.specs.Safety.{safe_store_at};
 ghost use Rattle.pmt_words.specs.Lasts.{IsLeastAbove, IsNewest};
 ghost use Rattle.pmt_known.specs.Known.{IsKnownOf};
-ghost use Rattle.pmt_known.specs.Reading.{IsBlockOf, IsLineAt, last_in_line};
+ghost use Rattle.pmt_known.specs.Reading.{IsLineAt, last_in_line};
 
 use crate::known::Known;
 use crate::line_words::part_of_word;
 use pmt_model::Format;
-use pmt_places::Block;
 use pmt_rows::Row;
 
 impl Known {
@@ -22,12 +22,13 @@ impl Known {
         self.format
     }
 
-    /// The block of the eight lines that give this number by a division by 8, by which each of them is found; none where no event has
-    /// stored or flushed any of them.
-    pub fn neighbours(&self, number: u64) -> Option<&Block>
-        ensures { (T : Recording) (n : ℕ) → IsKnownOf T n self.now → IsBlockOf T n number (option_copied result) }
+    /// The place of the line, if some event has stored or flushed it.
+    #[inline(always)]
+    pub fn find(&self, line: u64) -> Option<usize>
+        ensures small { IfSome result (λ place. place < 2 ^ 32) }
+        ensures found { (T : Recording) (n : ℕ) → IsKnownOf T n self.now → IsFound line (lines_of (history T n)) result }
     {
-        self.rows.places().neighbours(number)
+        self.rows.places().find(line)
     }
 
     /// The row of the line at this place.

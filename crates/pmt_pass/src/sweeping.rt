@@ -35,7 +35,7 @@ pub struct Swept {
 }
 
 /// The findings and verdicts of the trace, all that is kept of it, how many lines it stores or flushes, and the place from which each
-/// store is safe: one pass forward over the events. It takes at most one look-up for each store and flush, 5 bytes an event, and some 70
+/// store is safe: one pass forward over the events. It takes at most one look-up for each store and flush, 5 bytes an event, and some 80
 /// bytes a line of 64 bytes.
 ///
 /// # Errors

@@ -1,13 +1,14 @@
 -- Elements of a list by their places.
-use Rattle.std.proofs.Common.{◌≡◌, ◌≢◌, ℕ, zero, suc, ◌<◌, ◌⊎◌, inl, inr, Bool, true, false, List, [], ◌∷◌, ◌++◌, length, get_or, set, map, Some, refl, sym, ap, ◌∙◌, arith}
-use Rattle.std.specs.Prelude.{◌==◌, ◌||◌, nat_eq, position, slice_get}
+use Rattle.std.proofs.Common.{◌≡◌, ◌≢◌, ℕ, zero, suc, ◌<◌, ◌⊎◌, inl, inr, Bool, true, false, List, [], ◌∷◌, ◌++◌, length, get_or, set, map, Option, Some, None, refl, sym, ap, ◌∙◌, arith}
+use Rattle.std.specs.Prelude.{◌==◌, ◌||◌, nat_eq, position, slice_get, is_some}
 use Rattle.std.specs.List.{list_any, IsDistinct}
-use Rattle.std.proofs.lemmas.Bool.{cases_eq, cases_order, eq-eqb, ne_eqb, eqb-true, or_parts}
+use Rattle.std.proofs.lemmas.Bool.{cases_eq, cases_order, eq-eqb, ne_eqb, eqb-true, or_parts, both_ways}
 use Rattle.std.proofs.lemmas.Bool.Decides.{Decides-eqb}
 use Rattle.std.proofs.lemmas.Map.Made.{AllPairs-from_IsDistinct}
 use Rattle.std.proofs.lemmas.List.Quantifiers.{position-Some}
 use Rattle.std.proofs.lemmas.Option.{get_or_from_slice_get, slice_get-get_or, slice_get_within, same_Some}
 use Rattle.pmt_model.specs.Traces.{has_line}
+use Rattle.pmt_places.specs.Places.{IsFound}
 
 -- no element of a list without doubles has two places
 pub one-place : (xs : List ℕ) (x p q : ℕ) → IsDistinct nat_eq xs → slice_get xs p ≡ Some x → slice_get xs q ≡ Some x → p ≡ q
@@ -45,6 +46,11 @@ pub key-at : (xs : List ℕ) (x p : ℕ) → Some p ≡ position (nat_eq x) xs �
 key-at xs x p is =
     let there = position-Some (nat_eq x) xs p 0 (sym is) in
     slice_get-get_or xs p 0 there.0 ∙ ap Some (sym (eqb-true x (get_or xs p 0) there.1))
+
+-- where a key that is looked up stands
+pub found-at : (xs : List ℕ) (x : ℕ) (o : Option ℕ) → o ≡ position (nat_eq x) xs → is_some o ≡ list_any (nat_eq x) xs → IsFound x xs o
+found-at xs x None is any = λ place there. both_ways (list_any (nat_eq x) xs) (sym any) (among xs x place there)
+found-at xs x (Some p) is any = key-at xs x p is
 
 -- one more element
 

@@ -3,8 +3,6 @@
 //! The definitions stand in `specs/`.
 #![tactic(auto)]
 
-pub mod block;
 pub mod line_places;
 
-pub use crate::block::Block;
 pub use crate::line_places::LinePlaces;

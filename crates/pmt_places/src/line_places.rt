@@ -1,36 +1,30 @@
-//! The places of lines, found by blocks of neighbours.
-ghost use Rattle.std.specs.Prelude.{◌≡◌, ◌<◌, ◌^◌, [], not, length, MatchOption, IfOk, OnOk, OnErr, nat_eq};
+//! The places of lines.
+ghost use Rattle.std.specs.Prelude.{◌≡◌, ◌<◌, ◌^◌, [], not, length, IfOk, IfSome, OnOk, OnErr, nat_eq};
 ghost use Rattle.std.specs.List.{IsDistinct, list_any};
 ghost use Rattle.indexmap.specs.IndexSet.{insert_key};
-ghost use Rattle.pmt_places.specs.Places.{AreNeighbours, AreUnplaced, IsPlaceOf};
+ghost use Rattle.pmt_places.specs.Places.{IsFound, IsPlaceOf};
 
-use crate::block::{Block, put, reach};
 use indexmap::IndexSet;
 use pmt_model::OutOfMemory;
-use std::alloc::Global;
+use std::alloc::{AllocError, Global};
 use std::marker::Model;
 
-/// Lines, each with a place: that of its first appearance. Lines that follow one another share a look-up, by blocks of 8: seven to eight
-/// bytes a line where all eight are there, some 60 bytes where one is alone, and 8 for the line itself.
+/// Lines, each with a place: that of its first appearance. A line takes 16 bytes, and some 6 to 11 more of the index.
 #[derive(Drop)]
 pub struct LinePlaces {
-    // The numbers of the blocks in which lines stand, and the blocks.
-    numbers: IndexSet<u64>,
-    blocks: Vec<Block>,
-    lines: Vec<u64>,
-    // The block that was found last: mostly the next line is of the same. Nothing is promised of it.
-    last: usize,
+    lines: IndexSet<u64>,
+    // By the lowest bits of lines the places that were found last: mostly the next line is one of these. Nothing is promised of them.
+    recent: [u32; 256],
 }
 
 impl Model for LinePlaces {
-    ghost use Rattle.std.specs.Prelude.{ℕ, List};
-    ghost use Rattle.pmt_places.specs.Places.{AreBlocks};
+    ghost use Rattle.std.specs.Prelude.{ℕ, ◌^◌, ◌<◌, List, length};
 
     ghost Value = { List ℕ };
 
-    ghost view = { λ p. p.lines.items };
+    ghost view = { λ p. p.lines.keys };
 
-    ghost invariant = { λ p. AreBlocks p.numbers.keys p.blocks.items p.lines.items };
+    ghost invariant = { λ p. length p.lines.keys < 2 ^ 32 };
 }
 
 impl LinePlaces {
@@ -39,10 +33,8 @@ impl LinePlaces {
         ensures { result ≡ [] }
     {
         LinePlaces {
-            numbers: IndexSet::new(alloc),
-            blocks: Vec::new(alloc),
-            lines: Vec::new(alloc),
-            last: 0,
+            lines: IndexSet::new(alloc),
+            recent: [0; 256],
         }
     }
 
@@ -60,6 +52,19 @@ impl LinePlaces {
         self.lines.as_slice()
     }
 
+    /// The place of the line, if it is one of those that were found last. It takes no look-up.
+    #[inline(always)]
+    pub fn recent(&self, line: u64) -> Option<usize>
+        ensures place { IfSome result (λ place. IsPlaceOf line place self.now) }
+        ensures small { IfSome result (λ place. place < 2 ^ 32) }
+    {
+        let place = self.recent[line as usize % 256] as usize;
+        match self.lines.as_slice().get(place) {
+            Some(known) if *known == line => Some(place),
+            _ => None,
+        }
+    }
+
     /// The place of the line, below 2^32, which it gets if it has none yet, and whether it is new.
     ///
     /// # Errors
@@ -73,23 +78,25 @@ impl LinePlaces {
         ensures unique { OnOk result (IsDistinct nat_eq self.new) }
         ensures same { OnErr result (self.new ≡ self.old) }
     {
-        let number = line / 8;
-        let at = reach(&mut self.numbers, &mut self.blocks, self.last, number)?;
-        self.last = at;
-        if let Some(place) = self.blocks[at].place(line) {
-            return Ok((place, false));
+        if self.lines.len() >= u32::MAX as usize {
+            return Err(AllocError);
         }
-        let place = put(&mut self.blocks, &mut self.lines, at, line)?;
-        Ok((place, true))
+        let Ok((place, is_new)) = self.lines.insert_full(line) else {
+            return Err(AllocError);
+        };
+        self.recent[line as usize % 256] = place as u32;
+        Ok((place, is_new))
     }
 
-    /// The block with this number, of the eight lines whose numbers are it by a division by 8; none where none of these has a place.
-    pub fn neighbours(&self, number: u64) -> Option<&Block>
-        ensures { MatchOption result (AreUnplaced number self.now) (λ block. AreNeighbours block.now number self.now) }
+    /// The place of the line, if it has one.
+    #[inline(always)]
+    pub fn find(&self, line: u64) -> Option<usize>
+        ensures found { IsFound line self.now result }
+        ensures small { IfSome result (λ place. place < 2 ^ 32) }
     {
-        match self.numbers.get_index_of(&number) {
-            Some(at) => Some(&self.blocks[at]),
-            None => None,
+        match self.recent(line) {
+            Some(place) => Some(place),
+            None => self.lines.get_index_of(&line),
         }
     }
 }

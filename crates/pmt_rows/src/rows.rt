@@ -27,13 +27,11 @@ const EMPTY: Row = Row {
 };
 
 /// The lines of a trace under way, each with a place, that of its first appearance, and a row. A line has a place before an act on it is
-/// told; an act takes at most one look-up, and none where the line is that of the one before.
+/// told; an act takes at most one look-up, and none where the line is one of those found last.
 #[derive(Drop)]
 pub struct Rows {
     places: LinePlaces,
     rows: Vec<Row>,
-    // The place that was asked for last. Nothing is promised of it.
-    last: u32,
 }
 
 impl Rows {
@@ -44,7 +42,6 @@ impl Rows {
         Rows {
             places: LinePlaces::new(alloc),
             rows: Vec::new(alloc),
-            last: 0,
         }
     }
 
@@ -73,14 +70,10 @@ impl Rows {
         ensures known { OnOk result ((lines : List ℕ) (h : List Act) (safe : ℕ → ℕ) → IsKnownWith lines h safe self.old → IsKnownWith (with_line line lines) h safe self.new) }
         ensures kept { OnErr result ((lines : List ℕ) (h : List Act) (safe : ℕ → ℕ) → IsKnownWith lines h safe self.old → IsKnownWith lines h safe self.new) }
     {
-        let last = self.last as usize;
-        match self.places.lines().get(last) {
-            Some(known) if *known == line => return Ok(last),
-            _ => {}
+        match self.places.recent(line) {
+            Some(place) => Ok(place),
+            None => self.look_up(line),
         }
-        let place = self.look_up(line)?;
-        self.last = place as u32;
-        Ok(place)
     }
 
     // The same, by a look-up.

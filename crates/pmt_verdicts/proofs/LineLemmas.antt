@@ -23,7 +23,7 @@ use Rattle.pmt_known.proofs.WordsLemmas.{byte-le_last}
 use Rattle.pmt_known.proofs.ReadingLemmas.{some-bytes}
 use Rattle.pmt_verdicts.specs.declared.placed.Placed.{Placed}
 use Rattle.pmt_verdicts.specs.Lines.{EachIn, IsAtLine, IsLineBefore, IsLineSafe}
-use Rattle.pmt_verdicts.specs.Placed.{AreLinesOf}
+use Rattle.pmt_verdicts.specs.Placed.{IsLineOf}
 
 -- ---- Lines without stores to the range
 
@@ -154,21 +154,11 @@ bare-safe T n l A bare b own here = omega (arith, bare b own here)
 
 -- ---- A line with its place
 
-pub at-line : (T : Recording) (n : ℕ) (A : Span) (s : Spanned) (at : Placed) (k : Known) → AreLinesOf T n A s at.line (at.line + 1) k → IsPlaceOf at.line at.place (lines_of (history T n)) → at.place < 2 ^ 32 → IsAtLine T n A s at k
-at-line T n A s at k are here small = record {
-  spanned = are.spanned;
-  from = are.first;
-  to = omega (arith, are.last);
-  line = record { known = are.known; at = here };
+pub at-line : (T : Recording) (n : ℕ) (A : Span) (s : Spanned) (at : Placed) (k : Known) → IsLineOf T n A s at.line k → IsPlaceOf at.line at.place (lines_of (history T n)) → at.place < 2 ^ 32 → IsAtLine T n A s at k
+at-line T n A s at k is here small = record {
+  spanned = is.spanned;
+  from = is.first;
+  to = is.last;
+  line = record { known = is.known; at = here };
   small = small;
-}
-
--- of lines that the range meets some are some
-pub lines-part : (T : Recording) (n : ℕ) (A : Span) (s : Spanned) (from stop low high : ℕ) (k : Known) → AreLinesOf T n A s from stop k → from ≤ low → low ≤ high → high ≤ stop → AreLinesOf T n A s low high k
-lines-part T n A s from stop low high k are lower order higher = record {
-  known = are.known;
-  spanned = are.spanned;
-  first = omega (arith, are.first, lower);
-  order = order;
-  last = omega (arith, are.last, higher);
 }

@@ -1,17 +1,16 @@
 //! What an order of two ranges asks of their lines.
-ghost use Rattle.std.specs.Prelude.{◌≡◌, ℕ, ◌+◌, ◌/◌, ◌^◌, ◌<◌, ◌↔◌, true, option_copied};
+ghost use Rattle.std.specs.Prelude.{◌≡◌, ℕ, ◌+◌, ◌^◌, ◌<◌, ◌↔◌, true};
 ghost use Rattle.pmt_model.specs.Traces.{Recording};
 ghost use Rattle.pmt_model.specs.Values.{Span};
 ghost use Rattle.pmt_spans.specs.Spans.{IsSpanned};
 ghost use Rattle.pmt_known.specs.Known.{IsKnownOf};
-ghost use Rattle.pmt_known.specs.Reading.{IsBlockOf, IsLineAt};
+ghost use Rattle.pmt_known.specs.Reading.{IsLineAt};
 ghost use Rattle.pmt_verdicts.specs.Lines.{AreSafeFrom, AreSafeFromBelow, IsAtLine, IsLineBefore, IsLineOrdered, IsNewestIn, IsToldFrom};
-ghost use Rattle.pmt_verdicts.specs.Placed.{AreLinesOf, IsInBlock};
+ghost use Rattle.pmt_verdicts.specs.Placed.{IsLineOf};
 
 use crate::latest::Latest;
-use crate::placed::{Placed, block_end, place_in};
+use crate::placed::Placed;
 use pmt_known::Known;
-use pmt_places::Block;
 use pmt_spans::Spanned;
 
 // Of the lines of the range the places from which their last stores are safe: the latest one, and the latest one of the other lines.
@@ -20,37 +19,20 @@ pub(crate) fn latest_of(known: &Known, lines: &Spanned) -> Latest
     requires { (T : Recording) × (n : ℕ) × (A : Span) × IsKnownOf T n known.now × IsSpanned T.format A lines.now }
     ensures { (T : Recording) (n : ℕ) (A : Span) → IsKnownOf T n known.now → IsSpanned T.format A lines.now → AreSafeFrom T n known.now.links A result }
 {
-    let end = lines.last + 1;
     let mut latest = Latest::none();
-    let mut line = lines.first;
-    while line < end {
-        let stop = block_end(line, end);
-        add_block(&mut latest, known, lines, line, stop);
-        line = stop;
+    for line in lines.first..lines.last + 1 {
+        add_placed(&mut latest, known, lines, line);
     }
     latest
 }
 
-// Some more lines, which are of one block: it is looked up once.
-#[inline(always)]
-fn add_block(latest: &mut Latest, known: &Known, lines: &Spanned, from: u64, stop: u64)
-    requires block { IsInBlock from stop }
-    requires lines { (T : Recording) × (n : ℕ) × (A : Span) × AreLinesOf T n A lines.now from stop known.now }
-    ensures { (T : Recording) (n : ℕ) (A : Span) → AreLinesOf T n A lines.now from stop known.now → AreSafeFromBelow T n known.now.links A from latest.old → AreSafeFromBelow T n known.now.links A stop latest.new }
-{
-    let block = known.neighbours(from / 8);
-    for line in from..stop {
-        add_placed(latest, known, lines, block, line);
-    }
-}
-
 // One more line, if it has a place.
 #[inline(always)]
-fn add_placed(latest: &mut Latest, known: &Known, lines: &Spanned, block: Option<&Block>, line: u64)
-    requires { (T : Recording) × (n : ℕ) × (A : Span) × AreLinesOf T n A lines.now line (line + 1) known.now × IsBlockOf T n (line / 8) (option_copied block) }
-    ensures { (T : Recording) (n : ℕ) (A : Span) → AreLinesOf T n A lines.now line (line + 1) known.now → IsBlockOf T n (line / 8) (option_copied block.entry) → AreSafeFromBelow T n known.now.links A line latest.old → AreSafeFromBelow T n known.now.links A (line + 1) latest.new }
+fn add_placed(latest: &mut Latest, known: &Known, lines: &Spanned, line: u64)
+    requires { (T : Recording) × (n : ℕ) × (A : Span) × IsLineOf T n A lines.now line known.now }
+    ensures { (T : Recording) (n : ℕ) (A : Span) → IsLineOf T n A lines.now line known.now → AreSafeFromBelow T n known.now.links A line latest.old → AreSafeFromBelow T n known.now.links A (line + 1) latest.new }
 {
-    if let Some(place) = place_in(block, line) {
+    if let Some(place) = known.find(line) {
         add_line(latest, known, lines, &Placed { line, place });
     }
 }

@@ -1,17 +1,15 @@
 //! Whether a range is persisted.
-ghost use Rattle.std.specs.Prelude.{◌≡◌, ℕ, ◌+◌, ◌/◌, ◌<◌, ◌≤◌, ◌↔◌, true, option_copied};
+ghost use Rattle.std.specs.Prelude.{◌≡◌, ℕ, ◌≤◌, ◌↔◌, true};
 ghost use Rattle.pmt_model.specs.Assertions.{PersistPasses};
 ghost use Rattle.pmt_model.specs.Traces.{Recording, history};
 ghost use Rattle.pmt_model.specs.Values.{Span};
 ghost use Rattle.pmt_known.specs.Known.{IsKnownOf};
-ghost use Rattle.pmt_known.specs.Reading.{IsBlockOf};
 ghost use Rattle.pmt_verdicts.specs.Lines.{IsAtLine, IsLineSafe};
-ghost use Rattle.pmt_verdicts.specs.Placed.{AreLinesOf, IsInBlock};
+ghost use Rattle.pmt_verdicts.specs.Placed.{IsLineOf};
 
-use crate::placed::{Placed, block_end, place_in};
+use crate::placed::Placed;
 use pmt_known::Known;
 use pmt_model::Range;
-use pmt_places::Block;
 use pmt_spans::Spanned;
 
 /// Whether `isPersist` of this range passes after the events so far. It takes one step a line that has no store beyond its last safe one,
@@ -22,47 +20,27 @@ pub fn is_persisted(known: &Known, range: Range) -> bool
     ensures { (T : Recording) (n : ℕ) → IsKnownOf T n known.now → (result ≡ true) ↔ PersistPasses (history T n) range }
 {
     let lines = Spanned::new(known.format(), range);
-    let end = lines.last + 1;
-    let mut line = lines.first;
-    while line < end {
-        let stop = block_end(line, end);
-        if !is_block_persisted(known, &lines, line, stop) {
-            return false;
-        }
-        line = stop;
-    }
-    true
-}
-
-// Whether the bytes of the range in these lines are persisted, which are of one block: it is looked up once.
-#[inline(always)]
-fn is_block_persisted(known: &Known, lines: &Spanned, from: u64, stop: u64) -> bool
-    requires block { IsInBlock from stop }
-    requires lines { (T : Recording) × (n : ℕ) × (A : Span) × AreLinesOf T n A lines.now from stop known.now }
-    ensures { (T : Recording) (n : ℕ) (A : Span) → AreLinesOf T n A lines.now from stop known.now → (result ≡ true) ↔ ((l : ℕ) → from ≤ l → l < stop → IsLineSafe T n A l) }
-{
-    let block = known.neighbours(from / 8);
-    for line in from..stop {
-        if !is_placed_persisted(known, lines, block, line) {
+    for line in lines.first..lines.last + 1 {
+        if !is_placed_persisted(known, &lines, line) {
             return false;
         }
     }
     true
 }
 
-// Whether those in a line are, if it has a place.
+// Whether the bytes of the range in this line are persisted.
 #[inline(always)]
-fn is_placed_persisted(known: &Known, lines: &Spanned, block: Option<&Block>, line: u64) -> bool
-    requires { (T : Recording) × (n : ℕ) × (A : Span) × AreLinesOf T n A lines.now line (line + 1) known.now × IsBlockOf T n (line / 8) (option_copied block) }
-    ensures { (T : Recording) (n : ℕ) (A : Span) → AreLinesOf T n A lines.now line (line + 1) known.now → IsBlockOf T n (line / 8) (option_copied block.entry) → (result ≡ true) ↔ IsLineSafe T n A line }
+fn is_placed_persisted(known: &Known, lines: &Spanned, line: u64) -> bool
+    requires { (T : Recording) × (n : ℕ) × (A : Span) × IsLineOf T n A lines.now line known.now }
+    ensures { (T : Recording) (n : ℕ) (A : Span) → IsLineOf T n A lines.now line known.now → (result ≡ true) ↔ IsLineSafe T n A line }
 {
-    match place_in(block, line) {
+    match known.find(line) {
         Some(place) => is_line_persisted(known, lines, &Placed { line, place }),
         None => true,
     }
 }
 
-// Whether the bytes of the range in this line are persisted.
+// The same of a line that has a place.
 #[inline(always)]
 fn is_line_persisted(known: &Known, lines: &Spanned, at: &Placed) -> bool
     requires { (T : Recording) × (n : ℕ) × (A : Span) × IsAtLine T n A lines.now at.now known.now }

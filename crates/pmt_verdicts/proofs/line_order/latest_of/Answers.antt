@@ -4,4 +4,4 @@ use Rattle.pmt_verdicts.proofs.line_order.latest_of.Goals as goal
 
 pub returns : goal.returns
 returns c = λ T n A known spanned.
-    from-all T n c.args.known.now.links A c.loop-line.line c.args.lines.now c.loop-line.latest spanned (omega (arith, c.loop-line-test.false)) (c.loop-line.invariant.safe T n A known spanned)
+    from-all T n c.args.known.now.links A c.loop-line.line c.args.lines.now c.loop-line.latest spanned (omega (arith, c.loop-line-test.false)) (c.loop-line.invariant T n A known spanned)

@@ -1,4 +1,4 @@
-use Rattle.std.proofs.Common.{ℕ, ◌-◌, ◌≤◌}
+use Rattle.std.proofs.Common.{ℕ}
 use Rattle.pmt_model.specs.Traces.{Recording}
 use Rattle.pmt_model.specs.Values.{Span}
 use Rattle.pmt_spans.specs.Spans.{IsSpanned}
@@ -7,10 +7,4 @@ use Rattle.pmt_verdicts.specs.Lines.{AreSafeFromBelow}
 use Rattle.pmt_verdicts.proofs.line_order.latest_of.Given as goal
 
 abbrev pub invariant-loop-line : goal.invariant-loop-line
-invariant-loop-line l = record {
-  first : l.lines.first ≤ l.line;
-  safe : (T : Recording) (n : ℕ) (A : Span) → IsKnownOf T n l.known → IsSpanned T.format A l.lines → AreSafeFromBelow T n l.known.links A l.line l.latest;
-}
-
-abbrev pub decreases-loop-line : goal.decreases-loop-line
-decreases-loop-line l = l.end - l.line
+invariant-loop-line l = (T : Recording) (n : ℕ) (A : Span) → IsKnownOf T n l.known → IsSpanned T.format A l.lines → AreSafeFromBelow T n l.known.links A l.line l.latest

@@ -4,10 +4,10 @@ use Rattle.pmt_verdicts.proofs.OrderLemmas.{bare-ordered}
 use Rattle.pmt_verdicts.proofs.order.is_placed_ordered.Goals as goal
 
 pub returns-in-Some : goal.returns-in-Some
-returns-in-Some c = λ T n A B are spanned is block.
-    c.is_line_ordered.ensures T n A B (at-line T n B c.args.second.now _ c.args.known.now are (c.in-Some.ensures.found T n block) c.in-Some.ensures.small) spanned is
+returns-in-Some c = λ T n A B are spanned is.
+    c.is_line_ordered.ensures T n A B (at-line T n B c.args.second.now _ c.args.known.now are (c.in-Some.ensures.found T n are.known) c.in-Some.ensures.small) spanned is
 
 pub returns-in-None : goal.returns-in-None
-returns-in-None c = λ T n A B are spanned is block.
+returns-in-None c = λ T n A B are spanned is.
     let k = c.args.known.now in
-    (λ told. bare-ordered T n c.args.line k.links A B (bare-unplaced T n c.args.line B k are.known (c.in-None.ensures.found T n block)), λ ordered. refl)
+    (λ told. bare-ordered T n c.args.line k.links A B (bare-unplaced T n c.args.line B k are.known (c.in-None.ensures.found T n are.known)), λ ordered. refl)
