@@ -8,6 +8,7 @@ use Rattle.std.proofs.lemmas.List.{get_or-map, get_or-set_same, length-map, map-
 use Rattle.std.proofs.lemmas.Map.Made.{AllPairs-from_IsDistinct}
 use Rattle.std.proofs.lemmas.Option.{get_or_from_slice_get, slice_get_within, same_Some}
 use Rattle.indexmap.specs.IndexSet.{insert_key}
+use Rattle.pmt_places.specs.Places.{IsFound, IsPlaceOf}
 use Rattle.pmt_explain.specs.declared.numbers.Numbered.{Numbered}
 use Rattle.pmt_explain.specs.Numbers.{Numbers, number_in, number_at, line_in, IsTable, Puts, Reaches}
 
@@ -52,12 +53,6 @@ number-none (r ∷ rows) l none = let e = ne_eqb r.line l (λ same. none zero (a
 
 pub at-within : (rows : Numbers) (l p : ℕ) → IsAt l p rows → p < length rows
 at-within rows l p at = omega (arith, slice_get_within (map line_in rows) p l at, length-map rows line_in)
-
--- the row at a place tells its line
-pub at-row : (rows : Numbers) (p : ℕ) (r : Numbered) → slice_get rows p ≡ Some r → IsAt r.line p rows
-at-row [] p r is = absurd (cc)
-at-row (x ∷ rows) zero r is = ap (λ (y : Numbered). Some y.line) (same_Some x r is)
-at-row (x ∷ rows) (suc p) r is = at-row rows p r is
 
 set-same : (ks : List ℕ) (p l : ℕ) → slice_get ks p ≡ Some l → set ks p l ≡ ks
 set-same [] p l at = absurd (cc)
@@ -175,9 +170,17 @@ module _ (lines : List ℕ) (rows : Numbers) (l other p : ℕ) (is_new : Bool) (
       others true k apart = number-more rows l other k apart
       others false k apart = refl
 
+-- where a line stands among the lines, it stands among the rows
+pub at-place : (lines : List ℕ) (rows : Numbers) (l p : ℕ) → IsTable lines rows → IsPlaceOf l p lines → IsAt l p rows
+at-place lines rows l p table at = ap (λ ls. slice_get ls p) (sym table.same) ∙ at
+
+-- a line that is found nowhere has no number
+pub number-unfound : (lines : List ℕ) (rows : Numbers) (l : ℕ) → IsTable lines rows → IsFound l lines None → number_in rows l ≡ None
+number-unfound lines rows l table none = number-none rows l (λ p at. none p (ap (λ ls. slice_get ls p) table.same ∙ at))
+
 -- a line that stands there already
-pub reaches-known : (lines : List ℕ) (rows : Numbers) (l other p : ℕ) (r : Numbered) → IsTable lines rows → slice_get rows p ≡ Some r → r.line ≡ l → Reaches l other p rows rows
-reaches-known lines rows l other p r table is same =
-    let at : IsAt l p rows = at-row rows p r is ∙ ap Some same in
-    let some = number-read rows l p r (apart lines rows table) at in
+pub reaches-known : (lines : List ℕ) (rows : Numbers) (l other p : ℕ) → IsTable lines rows → IsPlaceOf l p lines → Reaches l other p rows rows
+reaches-known lines rows l other p table there =
+    let at : IsAt l p rows = at-place lines rows l p table there in
+    let some = number-read rows l p (record { line = l; number = other }) (apart lines rows table) at in
     record { here = at; number = some ∙ ap (λ (o : Option ℕ). Some (unwrap_or o other)) (sym some); others = λ k apart. refl }

@@ -185,7 +185,7 @@ impl Ahead {
     fn over_store(&self, line: u64) -> Following
         ensures { (T : Recording) (n : ℕ) (w : Written) → IsAct T (suc n) (Stores line w) → IsAhead T (suc n) self.now → IsStored T line (suc n) result }
     {
-        match self.completed.get(line, 0) {
+        match self.completed.get(line) {
             None => none(self.past),
             Some(place) => Following {
                 fence: self.past,

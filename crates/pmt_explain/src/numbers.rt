@@ -1,11 +1,10 @@
 //! Numbers of lines.
 
-ghost use Rattle.std.specs.Prelude.{◌≡◌, ◌≢◌, ℕ, Some, [], map, min, IfOk, OnOk};
-ghost use Rattle.pmt_live.specs.Places.{IsFound};
-ghost use Rattle.pmt_explain.specs.Numbers.{line_in, number_at, number_in, Puts, Reaches};
+ghost use Rattle.std.specs.Prelude.{◌≡◌, ◌≢◌, ℕ, Some, [], min, IfOk, OnOk};
+ghost use Rattle.pmt_explain.specs.Numbers.{number_at, number_in, Puts, Reaches};
 
-use pmt_live::LinePlaces;
 use pmt_model::OutOfMemory;
+use pmt_places::LinePlaces;
 use std::alloc::Global;
 use std::marker::Model;
 
@@ -22,8 +21,6 @@ pub(crate) struct Numbers {
     lines: LinePlaces,
     // each of these lines with its number
     rows: Vec<Numbered>,
-    // The place that was reached last: mostly the next line is the same. Nothing is promised of it.
-    last: usize,
 }
 
 impl Model for Numbers {
@@ -46,31 +43,14 @@ impl Numbers {
         Numbers {
             lines: LinePlaces::new(alloc),
             rows: Vec::new(alloc),
-            last: 0,
         }
     }
 
-    // Where the line stands, if it does. It is looked up where its block isn't the one at `block`.
-    fn find(&self, line: u64, block: usize) -> Option<usize>
-        ensures { IsFound line (map line_in self.now) result }
-    {
-        match self.rows.get(self.last) {
-            Some(row) if row.line == line => return Some(self.last),
-            _ => {}
-        }
-        self.lines.find(line, block)
-    }
-
-    // Where the block of the line and its seven neighbours stands, if it does. Nothing is promised of it.
-    pub(crate) fn block(&self, line: u64) -> usize {
-        self.lines.block(line).unwrap_or(0)
-    }
-
-    // The number of the line, if it has one. It is looked up where its block isn't the one at `block`.
-    pub(crate) fn get(&self, line: u64, block: usize) -> Option<u64>
+    // The number of the line, if it has one.
+    pub(crate) fn get(&self, line: u64) -> Option<u64>
         ensures { result ≡ number_in self.now line }
     {
-        match self.find(line, block) {
+        match self.lines.find(line) {
             None => None,
             Some(place) => Some(self.rows[place].number),
         }
@@ -80,13 +60,10 @@ impl Numbers {
     fn reach(&mut self, line: u64, other: u64) -> Result<usize, OutOfMemory>
         ensures { IfOk result (λ place. Reaches line other place self.old self.new) }
     {
-        match self.rows.get(self.last) {
-            Some(row) if row.line == line => return Ok(self.last),
-            _ => {}
+        match self.lines.recent(line) {
+            Some(place) => Ok(place),
+            None => self.insert(line, other),
         }
-        let place = self.insert(line, other)?;
-        self.last = place;
-        Ok(place)
     }
 
     // The same, by a look-up.

@@ -129,18 +129,14 @@ impl LastWriters {
     {
         let low = range.addr().get();
         let high = low + range.len();
-        let mut block = self.table.places.block(low / 64);
         let mut first = None;
         for near in low / 64..(high - 1) / 64 + 1 {
-            if near % 8 == 0 {
-                block = self.table.places.block(near);
-            }
-            first = self.first_near(trace, safe, wanted, low, high, near, block, first);
+            first = self.first_near(trace, safe, wanted, low, high, near, first);
         }
         first
     }
 
-    // The first one so far, with the 64 bytes of this number. Their block is looked up where it isn't the one at `block`.
+    // The first one so far, with the 64 bytes of this number.
     fn first_near(
         &self,
         trace: &Trace,
@@ -149,14 +145,13 @@ impl LastWriters {
         low: u64,
         high: u64,
         near: u64,
-        block: usize,
         first: Option<ByteStore>,
     ) -> Option<ByteStore>
         requires safe { AreSafePlaces trace.now safe.now }
         requires within { IsWithin trace.now wanted }
         ensures { (i : ℕ) (A : Span) → A.addr ≡ low → A.addr + A.len ≡ high → Knows trace.now i A self.now → IsFirstIn trace.now i A (Wants trace.now wanted) (λ b. b / 64 < near) first → IsFirstIn trace.now i A (Wants trace.now wanted) (λ b. b / 64 < near + 1) result }
     {
-        match self.table.places.get(near, block) {
+        match self.table.places.get(near) {
             None => first,
             Some(at) => match self.table.runs.get(at as usize) {
                 None => first,
