@@ -7,10 +7,10 @@ use Rattle.pmt_model.specs.Traces.{Recording, act, has_line}
 use Rattle.pmt_model.specs.Pushing.{with_event}
 use Rattle.pmt_laws.proofs.Histories.{front-le-count}
 use Rattle.pmt_live.specs.declared.live.LiveLines.{LiveLines}
-use Rattle.pmt_live.specs.Places.{IsFound}
+use Rattle.pmt_places.specs.Places.{IsFound}
 use Rattle.pmt_live.specs.Live.{IsLiveWith}
-use Rattle.pmt_live.proofs.BlockLemmas.{told-absent}
-use Rattle.pmt_live.proofs.ListLemmas.{list_any-has_line}
+use Rattle.pmt_places.proofs.ListLemmas.{list_any-has_line}
+use Rattle.pmt_live.proofs.PlaceLemmas.{not-among}
 use Rattle.pmt_book.specs.Ends.{whole_history}
 use Rattle.pmt_book.proofs.HistoryLemmas.{whole_history-with_event}
 
@@ -34,6 +34,6 @@ keep-event T e a new lines live is is_act known =
 -- a line without a place has no stores, and its front is 0
 pub no-stores : (T : Recording) (l : ℕ) (live : LiveLines) → Keep T live → IsFound l live.lines None → (count l (whole_history T) ≡ 0) × (front l (whole_history T) ≡ 0)
 no-stores T l live keep none =
-    let absent : has_line l live.lines ≡ false = sym (list_any-has_line l live.lines) ∙ told-absent live.lines l none in
+    let absent : has_line l live.lines ≡ false = sym (list_any-has_line l live.lines) ∙ not-among live.lines l none in
     let counts : count l (whole_history T) ≡ 0 = keep.others l absent in
     (counts, omega (arith, counts, front-le-count l (whole_history T)))

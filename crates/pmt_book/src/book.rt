@@ -112,7 +112,7 @@ impl Book {
     pub fn front(&self, line: u64) -> u64
         ensures { result ≡ last_front self.now line }
     {
-        match self.lines.find(line, 0) {
+        match self.lines.find(line) {
             Some(place) => self.lines.front(place) as u64,
             None => 0,
         }
@@ -122,7 +122,7 @@ impl Book {
     pub fn count(&self, line: u64) -> u64
         ensures { result ≡ last_count self.now line }
     {
-        match self.lines.find(line, 0) {
+        match self.lines.find(line) {
             Some(place) => self.lines.count(place) as u64,
             None => 0,
         }

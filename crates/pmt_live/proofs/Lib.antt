@@ -1,5 +1,4 @@
-pub mod ListLemmas
-pub mod BlockLemmas
+pub mod PlaceLemmas
 pub mod OpenLemmas
 pub mod LiveLemmas
 pub mod FencingLemmas

@@ -15,9 +15,9 @@ use Rattle.pmt_laws.proofs.Histories.{front-le-count}
 use Rattle.pmt_live.specs.declared.open.OpenFlush.{OpenFlush}
 use Rattle.pmt_live.specs.declared.live.LineRow.{LineRow}
 use Rattle.pmt_live.specs.declared.live.LiveLines.{LiveLines}
-use Rattle.pmt_live.specs.Places.{IsPlaceOf}
+use Rattle.pmt_places.specs.Places.{IsPlaceOf}
 use Rattle.pmt_live.specs.Live.{row_after, list_at, flushed, IsLiveWith}
-use Rattle.pmt_live.proofs.ListLemmas.{among, map-set_one, list_any-has_line, has_line-less}
+use Rattle.pmt_places.proofs.ListLemmas.{among, map-set_one, list_any-has_line, has_line-less}
 use Rattle.pmt_live.proofs.OpenLemmas.{flushed-more, within-more, lists-flush, each-flush, lists-back, each-back}
 
 abbrev row_with : ℕ → ℕ → LineRow
@@ -56,6 +56,12 @@ live-same lines h live new lines_same rows_same lists is = record {
 
 line-has : (l p : ℕ) (lines : List ℕ) → IsPlaceOf l p lines → has_line l lines ≡ true
 line-has l p lines at = sym (list_any-has_line l lines) ∙ among lines l p at
+
+pub live-there : (lines : List ℕ) (h : List Act) (l p : ℕ) (live new : LiveLines) → IsPlaceOf l p live.lines → new.lines ≡ live.lines → new.rows.items ≡ live.rows.items → new.open_flushes ≡ live.open_flushes →
+    IsLiveWith lines h live → IsLiveWith (with_line l lines) h new
+live-there lines h l p live new at lines_same rows lists is =
+    let has : has_line l lines ≡ true = line-has l p lines (subst (IsPlaceOf l p) is.placed at) in
+    rw has (live-same lines h live new lines_same rows (λ t. ap (list_at t) lists) is)
 
 pub live-known : (lines : List ℕ) (h : List Act) (l : ℕ) (live new : LiveLines) → false ≡ Rattle.std.specs.Prelude.not (list_any (nat_eq l) live.lines) → new.lines ≡ insert_key nat_eq live.lines l →
     new.rows.items ≡ live.rows.items → new.open_flushes ≡ live.open_flushes → IsLiveWith lines h live → IsLiveWith (with_line l lines) h new

@@ -3,12 +3,9 @@
 //! The definitions stand in `specs/`.
 #![tactic(auto)]
 
-mod block;
 mod fencing;
-pub mod line_places;
 pub mod live;
 pub mod open;
 
-pub use crate::line_places::LinePlaces;
 pub use crate::live::LiveLines;
 pub use crate::open::OpenFlush;

@@ -1,17 +1,18 @@
 //! The lines of a trace under way.
-ghost use Rattle.std.specs.Prelude.{◌≡◌, ◌^◌, ◌/◌, ℕ, suc, ◌<◌, List, [], ◌∷◌, None, length, nat_lt, IfOk, OnOk, OnErr};
+ghost use Rattle.std.specs.Prelude.{◌≡◌, ◌^◌, ℕ, suc, ◌<◌, List, [], ◌∷◌, length, nat_eq, nat_lt, IfOk, OnOk, OnErr};
+ghost use Rattle.std.specs.List.{IsDistinct};
 ghost use Rattle.pmt_model.specs.Machine.{Act, Stores, Flushes, Clflushes, Fences, count as count_in};
 ghost use Rattle.pmt_model.specs.Fronts.{front as front_in};
 ghost use Rattle.pmt_model.specs.Traces.{Recording, IsAct, history, with_line};
 ghost use Rattle.pmt_model.specs.Values.{Written};
 ghost use Rattle.pmt_live.specs.Live.{IsLive, IsLiveWith, IsKnown, HasRoom, Keeps, list_at};
 ghost use Rattle.pmt_live.specs.Fencing.{DecidesFence};
-ghost use Rattle.pmt_live.specs.Places.{IsFound, IsPlaceOf};
+ghost use Rattle.pmt_places.specs.Places.{IsFound, IsPlaceOf};
 
 use crate::fencing::decide;
-use crate::line_places::LinePlaces;
 use crate::open::{OpenFlush, OpenFlushes};
 use pmt_model::OutOfMemory;
+use pmt_places::LinePlaces;
 use std::alloc::Global;
 
 /// The number of stores to a line, and its front.
@@ -22,7 +23,8 @@ pub(crate) struct LineRow {
 }
 
 /// The lines of a trace under way, each with its count and its front, and the flushes of each thread since its last fence. It is told of
-/// each act when it comes; an assertion changes nothing. A line has a place before an act on it is told, and an act takes one look-up.
+/// each act when it comes; an assertion changes nothing. A line has a place before an act on it is told; an act takes at most one look-up,
+/// and none where the line is one of those found last.
 #[derive(Drop)]
 pub struct LiveLines {
     lines: LinePlaces,
@@ -62,6 +64,19 @@ impl LiveLines {
         ensures live { OnOk result ((lines : List ℕ) (h : List Act) → IsLiveWith lines h self.old → IsLiveWith (with_line line lines) h self.new) }
         ensures kept { OnErr result (Keeps self.old self.new) }
     {
+        match self.lines.recent(line) {
+            Some(place) => Ok(place),
+            None => self.look_up(line),
+        }
+    }
+
+    // The same, by a look-up.
+    fn look_up(&mut self, line: u64) -> Result<usize, OutOfMemory>
+        ensures here { IfOk result (λ place. IsPlaceOf line place self.new.lines) }
+        ensures small { IfOk result (λ place. place < 2 ^ 32) }
+        ensures live { OnOk result ((lines : List ℕ) (h : List Act) → IsLiveWith lines h self.old → IsLiveWith (with_line line lines) h self.new) }
+        ensures kept { OnErr result (Keeps self.old self.new) }
+    {
         self.rows.reserve(1)?;
         let (place, is_new) = self.lines.insert(line)?;
         if is_new {
@@ -70,18 +85,11 @@ impl LiveLines {
         Ok(place)
     }
 
-    /// Where the block of the line stands, in which its seven neighbours are too; none where none of these has a place.
-    pub fn block(&self, line: u64) -> Option<usize>
-        ensures { result ≡ None → (l place : ℕ) → l / 8 ≡ line / 8 → IsPlaceOf l place self.now.lines → ⊥ }
-    {
-        self.lines.block(line)
-    }
-
-    /// The place of the line, if it has one. It is looked up only where its block isn't the one at `block`.
-    pub fn find(&self, line: u64, block: usize) -> Option<usize>
+    /// The place of the line, if it has one.
+    pub fn find(&self, line: u64) -> Option<usize>
         ensures { IsFound line self.now.lines result }
     {
-        self.lines.find(line, block)
+        self.lines.find(line)
     }
 
     /// How many stores there are to the line at this place.
@@ -188,10 +196,21 @@ impl LiveLines {
     {
         let alloc = *self.rows.allocator();
         Ok(LiveLines {
-            lines: self.lines.copy()?,
+            lines: copied(&self.lines, alloc)?,
             rows: self.rows.as_slice().to_vec(alloc)?,
             open_flushes: self.open_flushes.copy()?,
             decided: self.decided().to_vec(alloc)?,
         })
     }
+}
+
+// The same lines, each at the same place.
+fn copied(places: &LinePlaces, alloc: Global) -> Result<LinePlaces, OutOfMemory>
+    ensures { IfOk result (λ copy. IsDistinct nat_eq places.now → copy ≡ places.now) }
+{
+    let mut copy = LinePlaces::new(alloc);
+    for line in places.lines() {
+        copy.insert(*line)?;
+    }
+    Ok(copy)
 }

@@ -1,0 +1,11 @@
+use Rattle.std.proofs.Common.{◌≡◌, sym, ap, subst, ◌∙◌, rules}
+use Rattle.std.specs.Prelude.{nat_eq}
+use Rattle.std.specs.List.{IsDistinct}
+use Rattle.pmt_live.specs.Live.{list_at}
+use Rattle.pmt_live.proofs.LiveLemmas.{live-same}
+use Rattle.pmt_live.proofs.live.LiveLines.copy.Goals as goal
+
+pub returns-clause-live : goal.returns-clause-live
+returns-clause-live c = λ lines h is.
+    live-same lines h c.args.self.now _ (c.in_ok-copied.ensures (subst (IsDistinct nat_eq) (sym is.placed) is.once))
+    (c.in_ok-to_vec.ensures.items_if_clones_equal (λ y same. search rules) ∙ c.as_slice.ensures.value) (λ t. ap (list_at t) c.in_ok-copy.ensures) is
