@@ -1,12 +1,11 @@
 -- What is told of the events of a trace, one event more.
-use Rattle.std.proofs.Common.{◌≡◌, ℕ, zero, suc, ◌+◌, ◌<◌, ◌≤◌, ◌⊎◌, inl, inr, length, get_or, Bool, true, false, ◌||◌, List, [], ◌∷◌, ◌++◌, Option, Some, None, refl, sym, ap, ◌∙◌, arith, true≢false}
+use Rattle.std.proofs.Common.{◌≡◌, ℕ, zero, suc, ◌+◌, ◌<◌, ◌≤◌, inl, inr, length, get_or, Bool, true, false, ◌||◌, List, [], ◌∷◌, ◌++◌, Option, Some, None, refl, sym, ap, subst, ◌∙◌, arith, true≢false}
 use Rattle.std.specs.Prelude.{is_some, if◌then◌else◌, slice_get}
 use Rattle.std.specs.Option.{option_to_list}
 use Rattle.std.specs.List.{list_any, cons_option, filter_map, range_with_len}
-use Rattle.std.proofs.lemmas.Bool.{cases_lt}
-use Rattle.std.proofs.lemmas.List.{append-nil}
+use Rattle.std.proofs.lemmas.Bool.{cases_lt, or_left, or_right}
 use Rattle.std.proofs.lemmas.List.Elements.{filter_map-append}
-use Rattle.std.proofs.lemmas.Option.{same_Some, slice_get-get_or}
+use Rattle.std.proofs.lemmas.Option.{slice_get-get_or, slice_get_cases}
 use Rattle.pmt_model.specs.Values.{Layout, Span}
 use Rattle.pmt_model.specs.declared.event.Event.{Event}
 use Rattle.pmt_model.specs.declared.event.Op.{Op}
@@ -16,8 +15,9 @@ use Rattle.pmt_model.specs.Traces.{Recording, act_of, event, history}
 use Rattle.pmt_model.specs.Assertions.{last_store}
 use Rattle.pmt_laws.proofs.Histories.{history-suc}
 use Rattle.pmt_explain.specs.LastStores.{written_by}
+use Rattle.pmt_failures.specs.declared.unwritten.Noted.{Noted}
 use Rattle.pmt_failures.specs.declared.unwritten.Unwritten.{Unwritten}
-use Rattle.pmt_failures.specs.Unwriting.{is_claim, is_written, unless_written, entry_of, op_unwritten, event_unwritten, unwritten_at, unwritten_among}
+use Rattle.pmt_failures.specs.Unwriting.{AreNoted, has_byte, is_written, unless_written, entry_of, op_unwritten, event_unwritten, unwritten_at, unwritten_among}
 
 -- ---- The bytes that are written, one event more
 
@@ -58,10 +58,10 @@ told-after p q i Mfence h = refl
 told-after p q i (IsPersist r) h = ap (λ (o : Option Span). entry_of i o None) (unless-same q p h r)
 told-after p q i (IsOrderedBefore r s) h = ap (λ (o : Option Span). entry_of i o (unless_written q s)) (unless-same q p h r) ∙ ap (λ (o : Option Span). entry_of i (unless_written p r) o) (unless-same q p h s)
 
-pub told-at : (T : Recording) (n : ℕ) (e : Event) (p : ℕ → Bool) → event T (suc n) ≡ Some e → ((b : ℕ) → p b ≡ is_written (history T n) b) → unwritten_at T (suc n) ≡ op_unwritten p (suc n) e.op
-told-at T n e p is h =
+told-at : (T : Recording) (n : ℕ) (e : Event) → event T (suc n) ≡ Some e → unwritten_at T (suc n) ≡ op_unwritten (is_written (history T n)) (suc n) e.op
+told-at T n e is =
     ap (λ (o : Option Event). event_unwritten (is_written (history T (suc n))) (suc n) o) is
-    ∙ told-after p (is_written (history T (suc n))) (suc n) e.op (λ b. written-next T n e is b ∙ ap (λ (t : Bool). written_by e.op b || t) (sym (h b)))
+    ∙ told-after (is_written (history T n)) (is_written (history T (suc n))) (suc n) e.op (written-next T n e is)
 
 -- ---- The list, one event more
 
@@ -73,19 +73,19 @@ told-one : (f : ℕ → Option Unwritten) (i : ℕ) (o : Option Unwritten) → f
 told-one f i None e = ap (λ (o : Option Unwritten). cons_option o []) e
 told-one f i (Some u) e = ap (λ (o : Option Unwritten). cons_option o []) e
 
-pub among-next : (T : Recording) (n : ℕ) (o : Option Unwritten) → unwritten_at T (suc n) ≡ o → unwritten_among T (suc n) ≡ unwritten_among T n ++ option_to_list o
+among-next : (T : Recording) (n : ℕ) (o : Option Unwritten) → unwritten_at T (suc n) ≡ o → unwritten_among T (suc n) ≡ unwritten_among T n ++ option_to_list o
 among-next T n o e =
     let place : 1 + n ≡ suc n = omega arith in
     ap (λ (ks : List ℕ). filter_map (unwritten_at T) ks) (range-more 1 n ∙ ap (λ (k : ℕ). range_with_len 1 n ++ k ∷ []) place)
     ∙ filter_map-append (unwritten_at T) (range_with_len 1 n) (suc n ∷ [])
     ∙ ap (λ (us : List Unwritten). unwritten_among T n ++ us) (told-one (unwritten_at T) (suc n) o e)
 
-pub found-next : (T : Recording) (n : ℕ) (e : Event) (p : ℕ → Bool) (old new : List Unwritten) → event T (suc n) ≡ Some e → ((b : ℕ) → p b ≡ is_written (history T n) b) →
-    old ≡ unwritten_among T n → new ≡ old ++ option_to_list (op_unwritten p (n + 1) e.op) → new ≡ unwritten_among T (n + 1)
-found-next T n e p old new is same before more =
+pub found-next : (T : Recording) (n : ℕ) (e : Event) (old new : List Unwritten) → event T (suc n) ≡ Some e →
+    old ≡ unwritten_among T n → new ≡ old ++ option_to_list (op_unwritten (is_written (history T n)) (n + 1) e.op) → new ≡ unwritten_among T (n + 1)
+found-next T n e old new is before more =
     let place : n + 1 ≡ suc n = omega arith in
-    let entry : Option Unwritten = op_unwritten p (n + 1) e.op in
-    let here : unwritten_at T (suc n) ≡ entry = told-at T n e p is same ∙ sym (ap (λ (i : ℕ). op_unwritten p i e.op) place) in
+    let entry : Option Unwritten = op_unwritten (is_written (history T n)) (n + 1) e.op in
+    let here : unwritten_at T (suc n) ≡ entry = told-at T n e is ∙ sym (ap (λ (i : ℕ). op_unwritten (is_written (history T n)) i e.op) place) in
     more ∙ ap (λ (us : List Unwritten). us ++ option_to_list entry) before ∙ sym (ap (unwritten_among T) place ∙ among-next T n entry here)
 
 pub bytes-next : (T : Recording) (n : ℕ) (e : Event) (old new : ℕ → Bool) → event T (suc n) ≡ Some e → ((b : ℕ) → old b ≡ is_written (history T n) b) →
@@ -97,38 +97,45 @@ bytes-next T n e old new is before more b =
 pub event-is : (T : Recording) (es : List Event) (i : ℕ) (e : Event) → es ≡ T.events → i < length es → e ≡ get_or es i e → event T (suc i) ≡ Some e
 event-is T es i e events within is = ap (λ xs. slice_get xs i) (sym events) ∙ slice_get-get_or es i e within ∙ ap Some (sym is)
 
--- ---- Events that are no assertions
+-- ---- Bytes that stay written
 
-silent : (p : ℕ → Bool) (i : ℕ) (op : Op) → is_claim op ≡ false → op_unwritten p i op ≡ None
-silent p i (Store w) quiet = refl
-silent p i (Clwb a) quiet = refl
-silent p i (ClflushOpt a) quiet = refl
-silent p i (Clflush a) quiet = refl
-silent p i Sfence quiet = refl
-silent p i Mfence quiet = refl
-silent p i (IsPersist r) quiet = absurd (true≢false quiet)
-silent p i (IsOrderedBefore r s) quiet = absurd (true≢false quiet)
-
-silent-at : (T : Recording) (k : ℕ) → ((e : Event) → slice_get T.events k ≡ Some e → is_claim e.op ≡ false) → unwritten_at T (suc k) ≡ None
-silent-at T k quiet = go (slice_get T.events k) refl
+pub any-weaker : (p q : ℕ → Bool) → ((b : ℕ) → p b ≡ true → q b ≡ true) → (bs : List ℕ) → list_any p bs ≡ true → list_any q bs ≡ true
+any-weaker p q h [] some = absurd (true≢false (sym some))
+any-weaker p q h (b ∷ bs) some = go (p b) refl (any-weaker p q h bs)
   where
-    go : (o : Option Event) → slice_get T.events k ≡ o → unwritten_at T (suc k) ≡ None
-    go None is = ap (λ (o : Option Event). event_unwritten (is_written (history T (suc k))) (suc k) o) is
-    go (Some e) is = ap (λ (o : Option Event). event_unwritten (is_written (history T (suc k))) (suc k) o) is ∙ silent (is_written (history T (suc k))) (suc k) e.op (quiet e is)
+    go : (t : Bool) → p b ≡ t → (list_any p bs ≡ true → list_any q bs ≡ true) → (q b || list_any q bs) ≡ true
+    go true is rest = or_left (q b) (list_any q bs) (h b is)
+    go false is rest = or_right (q b) (list_any q bs) (rest (sym (ap (λ (t : Bool). t || list_any p bs) is) ∙ some))
 
-pub silent-more : (es : List Event) (i : ℕ) (e : Event) → slice_get es i ≡ Some e → is_claim e.op ≡ false → ((k : ℕ) (x : Event) → suc i ≤ k → slice_get es k ≡ Some x → is_claim x.op ≡ false) →
-    (k : ℕ) (x : Event) → i ≤ k → slice_get es k ≡ Some x → is_claim x.op ≡ false
-silent-more es i e here quiet rest k x from is = go (cases_lt i k)
-  where
-    go : (i < k) ⊎ (k ≤ i) → is_claim x.op ≡ false
-    go (inl later) = rest k x later is
-    go (inr upto) =
-        let place : k ≡ i = omega arith in
-        let same : x ≡ e = same_Some x e (sym is ∙ ap (slice_get es) place ∙ here) in
-        ap (λ (y : Event). is_claim y.op) same ∙ quiet
+stays-next : (T : Recording) (n : ℕ) → n < length T.events → (b : ℕ) → is_written (history T n) b ≡ true → is_written (history T (suc n)) b ≡ true
+stays-next T n within b known = elim (slice_get_cases T.events n).1 [
+  | inl (e, below, at, same) ↦ written-next T n e at b ∙ or_right (written_by e.op b) (is_written (history T n) b) known
+  | inr (past, none) ↦ absurd (omega (arith, past, within))
+]
 
-pub silent-rest : (T : Recording) (n m : ℕ) → ((k : ℕ) (e : Event) → n ≤ k → slice_get T.events k ≡ Some e → is_claim e.op ≡ false) → unwritten_among T (n + m) ≡ unwritten_among T n
-silent-rest T n zero quiet = let same : n + 0 ≡ n = omega arith in ap (unwritten_among T) same
-silent-rest T n (suc m) quiet =
-    let next : n + suc m ≡ suc (n + m) = omega arith in
-    ap (unwritten_among T) next ∙ among-next T (n + m) None (silent-at T (n + m) (λ e is. quiet (n + m) e (omega arith) is)) ∙ append-nil (unwritten_among T (n + m)) ∙ silent-rest T n m quiet
+pub written-stays : (T : Recording) (m n : ℕ) → m ≤ n → n ≤ length T.events → (b : ℕ) → is_written (history T m) b ≡ true → is_written (history T n) b ≡ true
+written-stays T m zero order within b known = let e : m ≡ 0 = omega arith in subst (λ (k : ℕ). is_written (history T k) b ≡ true) e known
+written-stays T m (suc n) order within b known = elim (cases_lt n m) [
+  | inl past ↦ let e : m ≡ suc n = omega arith in subst (λ (k : ℕ). is_written (history T k) b ≡ true) e known
+  | inr upto ↦ stays-next T n (omega arith) b (written-stays T m n upto (omega arith) b known)
+]
+
+-- a store before the place
+pub written-before : (T : Recording) (k n : ℕ) (e : Event) (bs : List ℕ) → event T (suc k) ≡ Some e → k < n → n ≤ length T.events → list_any (written_by e.op) bs ≡ true →
+    list_any (is_written (history T n)) bs ≡ true
+written-before T k n e bs is before within some =
+    any-weaker (written_by e.op) (is_written (history T n))
+    (λ b writes. written-stays T (suc k) n (omega arith) within b (written-next T k e is b ∙ or_left (written_by e.op b) (is_written (history T k) b) writes)) bs some
+
+-- a byte that is noted
+pub noted-before : (T : Recording) (n : ℕ) (noted : Noted) (bs : List ℕ) → AreNoted T n noted → n ≤ length T.events → list_any (has_byte noted.bytes) bs ≡ true → list_any (is_written (history T n)) bs ≡ true
+noted-before T n noted bs are within some =
+    any-weaker (has_byte noted.bytes) (is_written (history T n)) (λ b has. written-stays T noted.count n are.within within b (sym (are.bytes b) ∙ has)) bs some
+
+-- a range with a written byte is not told
+pub none-told : (p : ℕ → Bool) (r : Span) → list_any p (range_with_len r.addr r.len) ≡ true → None ≡ unless_written p r
+none-told p r some = sym (ap (λ (t : Bool). if t then None else Some r) some)
+
+-- by what is noted up to the place
+pub told-same : (T : Recording) (n : ℕ) (noted : Noted) (r : Span) → AreNoted T n noted → noted.count ≡ n → unless_written (has_byte noted.bytes) r ≡ unless_written (is_written (history T n)) r
+told-same T n noted r are all = unless-same (has_byte noted.bytes) (is_written (history T n)) (λ b. are.bytes b ∙ ap (λ (k : ℕ). is_written (history T k) b) all) r

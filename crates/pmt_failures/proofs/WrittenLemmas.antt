@@ -28,6 +28,14 @@ pub any-none : (p : ℕ → Bool) (a n : ℕ) → ((b : ℕ) → a ≤ b → b <
 any-none p a zero h = refl
 any-none p a (suc n) h = or_from (p a) (list_any p (range_with_len (a + 1) n)) (h a (omega arith) (omega arith)) (any-none p (a + 1) n (λ b from below. h b (omega arith) (omega arith)))
 
+-- a store and a range that meet
+pub meets-any : (w : Written) (a n : ℕ) → 1 ≤ length w.bytes → 1 ≤ n → w.addr < a + n → a < w.addr + length w.bytes → list_any (writes w) (range_with_len a n) ≡ true
+meets-any w a n some wide before after =
+    let b : ℕ = max w.addr a in
+    let from : w.addr ≤ max w.addr a = omega arith in
+    let inside : max w.addr a - w.addr < length w.bytes = omega arith in
+    any-at (writes w) a n b (omega arith) (omega arith) (and_from (nat_le w.addr b) (nat_lt (b - w.addr) (length w.bytes)) (le-leb w.addr b from) (lt-ltb (b - w.addr) (length w.bytes) inside))
+
 -- ---- The bits of one block
 
 pub shifted : (k : ℕ) → k ≤ 64 → 1 * 2 ^ k % 340282366920938463463374607431768211456 ≡ 2 ^ k

@@ -1,5 +1,5 @@
 -- Assertions on bytes that no store has written.
-use Rattle.std.specs.Prelude.{ℕ, ◌/◌, ◌%◌, ◌||◌, nat_eq, if◌then◌else◌, Bool, false, true, List, length, Option, None, Some, is_some, unwrap_or}
+use Rattle.std.specs.Prelude.{◌≡◌, ◌≤◌, ℕ, ◌/◌, ◌%◌, ◌||◌, nat_eq, if◌then◌else◌, Bool, List, length, Option, None, Some, is_some, unwrap_or}
 use Rattle.std.specs.List.{list_any, filter_map, range_with_len}
 use Rattle.std.specs.HashMap.{get}
 use Rattle.std.specs.Int.{bit_at}
@@ -10,6 +10,7 @@ use Rattle.pmt_model.specs.declared.event.Op.TheVariants.{Store, Clwb, ClflushOp
 use Rattle.pmt_model.specs.Machine.{Act}
 use Rattle.pmt_model.specs.Traces.{Recording, event, history}
 use Rattle.pmt_model.specs.Assertions.{last_store}
+use Rattle.pmt_failures.specs.declared.unwritten.Noted.{Noted}
 use Rattle.pmt_failures.specs.declared.unwritten.Unwritten.{Unwritten}
 use Rattle.pmt_failures.specs.declared.written.WrittenBytes.{WrittenBytes}
 
@@ -17,49 +18,24 @@ use Rattle.pmt_failures.specs.declared.written.WrittenBytes.{WrittenBytes}
 abbrev pub is_written : List Act → ℕ → Bool
 is_written history b = is_some (last_store b history)
 
-abbrev pub is_claim : Op → Bool
-is_claim (Store w) = false
-is_claim (Clwb a) = false
-is_claim (ClflushOpt a) = false
-is_claim (Clflush a) = false
-is_claim Sfence = false
-is_claim Mfence = false
-is_claim (IsPersist r) = true
-is_claim (IsOrderedBefore r q) = true
-
 -- The range, if none of its bytes is written.
 abbrev pub unless_written : (ℕ → Bool) → Span → Option Span
 unless_written written r = if list_any written (range_with_len r.addr r.len) then None else Some r
-
--- The range of the assertion, or its first one, if none of its bytes is written.
-abbrev pub first_unwritten : (ℕ → Bool) → Op → Option Span
-first_unwritten written (Store w) = None
-first_unwritten written (Clwb a) = None
-first_unwritten written (ClflushOpt a) = None
-first_unwritten written (Clflush a) = None
-first_unwritten written Sfence = None
-first_unwritten written Mfence = None
-first_unwritten written (IsPersist r) = unless_written written r
-first_unwritten written (IsOrderedBefore r q) = unless_written written r
-
--- The second range of an isOrderedBefore, if none of its bytes is written.
-abbrev pub second_unwritten : (ℕ → Bool) → Op → Option Span
-second_unwritten written (Store w) = None
-second_unwritten written (Clwb a) = None
-second_unwritten written (ClflushOpt a) = None
-second_unwritten written (Clflush a) = None
-second_unwritten written Sfence = None
-second_unwritten written Mfence = None
-second_unwritten written (IsPersist r) = None
-second_unwritten written (IsOrderedBefore r q) = unless_written written q
 
 -- What is told of event i where these are its ranges without a written byte.
 abbrev pub entry_of : ℕ → Option Span → Option Span → Option Unwritten
 entry_of i first second = if is_some first || is_some second then Some (record { event = i; first = first; second = second }) else None
 
--- What is told of the op at event i.
+-- What is told of the op at event i: the range of an assertion, or each of its two, if none of its bytes is written.
 abbrev pub op_unwritten : (ℕ → Bool) → ℕ → Op → Option Unwritten
-op_unwritten written i op = entry_of i (first_unwritten written op) (second_unwritten written op)
+op_unwritten written i (Store w) = None
+op_unwritten written i (Clwb a) = None
+op_unwritten written i (ClflushOpt a) = None
+op_unwritten written i (Clflush a) = None
+op_unwritten written i Sfence = None
+op_unwritten written i Mfence = None
+op_unwritten written i (IsPersist r) = entry_of i (unless_written written r) None
+op_unwritten written i (IsOrderedBefore r q) = entry_of i (unless_written written r) (unless_written written q)
 
 abbrev pub event_unwritten : (ℕ → Bool) → ℕ → Option Event → Option Unwritten
 event_unwritten written i None = None
@@ -86,3 +62,8 @@ bits_of written n = unwrap_or (get nat_eq written.blocks n) 0
 -- The byte is one of those that were written.
 abbrev pub has_byte : WrittenBytes → ℕ → Bool
 has_byte written b = nat_eq (bit_at (bits_of written (b / 64)) (b % 64)) 1
+
+-- Those of the first `noted.count` events are noted, and these are among the first n.
+pub record AreNoted (T : Recording) (n : ℕ) (noted : Noted) : Type 0 where
+  pub within : noted.count ≤ n
+  pub bytes : (b : ℕ) → has_byte noted.bytes b ≡ is_written (history T noted.count) b

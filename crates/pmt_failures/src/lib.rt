@@ -5,6 +5,7 @@
 
 pub mod failures;
 pub mod mending;
+mod near;
 pub mod unwritten;
 mod written;
 

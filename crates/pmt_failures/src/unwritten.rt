@@ -1,10 +1,13 @@
 //! Assertions on bytes that no store has written.
-ghost use Rattle.std.specs.Prelude.{◌≡◌, ◌≤◌, ◌++◌, ℕ, false, length, slice_get, Some, IfOk, OnOk};
+ghost use Rattle.std.specs.Prelude.{◌≡◌, ◌+◌, ◌<◌, ◌++◌, None, true, length, IfOk, IsTrue, OnOk};
+ghost use Rattle.std.specs.List.{list_any, range_with_len};
 ghost use Rattle.std.specs.Option.{option_to_list};
-ghost use Rattle.pmt_failures.specs.Unwriting.{is_claim as op_claims, entry_of as entry_in, first_unwritten as first_in, has_byte, op_unwritten, second_unwritten as second_in, unless_written as unless_in, unwritten_of};
+ghost use Rattle.pmt_model.specs.Traces.{history};
+ghost use Rattle.pmt_failures.specs.Unwriting.{AreNoted, entry_of as entry_in, has_byte, is_written, op_unwritten, unless_written as unless_in, unwritten_of};
 
+use crate::near::is_written_near;
 use crate::written::WrittenBytes;
-use pmt_model::{Event, Op, OutOfMemory, Range, Trace};
+use pmt_model::{Op, OutOfMemory, Range, Trace};
 use std::alloc::Global;
 
 /// An assertion of which no store has written a byte of a range by then: that range demands nothing.
@@ -18,8 +21,15 @@ pub struct Unwritten {
     pub second: Option<Range>,
 }
 
-/// The assertions that speak of a range none of whose bytes is written by then, by rising event number. No event after the last
-/// assertion is looked at twice.
+// The bytes that the first `count` events write.
+#[derive(Drop)]
+pub(crate) struct Noted {
+    bytes: WrittenBytes,
+    count: usize,
+}
+
+/// The assertions that speak of a range none of whose bytes is written by then, by rising event number. The stores are noted only up
+/// to the last assertion that has a range which none of the few events before it writes.
 ///
 /// # Errors
 /// Where memory was refused.
@@ -27,53 +37,85 @@ pub fn unwritten_assertions(alloc: Global, trace: &Trace) -> Result<Vec<Unwritte
     ensures { IfOk result (λ found. found.items ≡ unwritten_of trace.now) }
 {
     let mut found = Vec::new(alloc);
-    let mut written = WrittenBytes::new(alloc);
+    let mut noted = Noted {
+        bytes: WrittenBytes::new(alloc),
+        count: 0,
+    };
     let events = trace.events();
-    for index in 0..claims_end(events) {
+    for index in 0..events.len() {
         let event = events[index];
-        note_assertion(&mut found, &written, index as u64 + 1, &event.op)?;
-        written.note(event.op)?;
+        note_op(
+            &mut found,
+            &mut noted,
+            trace,
+            index,
+            index as u64 + 1,
+            event.op,
+        )?;
     }
     Ok(found)
 }
 
-// How many events there are up to the last assertion.
-fn claims_end(events: &[Event]) -> usize
-    ensures within { result ≤ length events.now }
-    ensures rest { (k : ℕ) (e : Event) → result ≤ k → slice_get events.now k ≡ Some e → op_claims e.op ≡ false }
-{
-    for index in (0..events.len()).rev() {
-        let event = events[index];
-        if is_claim(event.op) {
-            return index + 1;
-        }
-    }
-    0
-}
-
-// Whether the op is an assertion.
-fn is_claim(op: Op) -> bool
-    ensures { result ≡ op_claims op }
+// Adds what is told of the op with this number, before which so many events stand.
+fn note_op(
+    found: &mut Vec<Unwritten>,
+    noted: &mut Noted,
+    trace: &Trace,
+    count: usize,
+    number: u64,
+    op: Op,
+) -> Result<(), OutOfMemory>
+    requires noted { AreNoted trace.now count noted.old }
+    requires within { count < length trace.now.events }
+    ensures found { OnOk result (found.new.items ≡ found.old.items ++ option_to_list (op_unwritten (is_written (history trace.now count)) number op)) }
+    ensures noted { OnOk result (AreNoted trace.now count noted.new) }
 {
     match op {
-        Op::IsPersist(_) | Op::IsOrderedBefore(_, _) => true,
+        Op::IsPersist(range) => note_persist(found, noted, trace, count, number, range),
+        Op::IsOrderedBefore(first, second) => {
+            note_order(found, noted, trace, count, number, first, second)
+        }
         Op::Store(_) | Op::Clwb(_) | Op::ClflushOpt(_) | Op::Clflush(_) | Op::Sfence | Op::Mfence =>
-            false,
+            Ok(()),
     }
 }
 
-// Adds what is told of the op at this event, where these bytes are written.
-fn note_assertion(
+// Adds what is told of an isPersist with this number on this range, before which so many events stand.
+fn note_persist(
     found: &mut Vec<Unwritten>,
-    written: &WrittenBytes,
-    event: u64,
-    op: &Op,
+    noted: &mut Noted,
+    trace: &Trace,
+    count: usize,
+    number: u64,
+    range: Range,
 ) -> Result<(), OutOfMemory>
-    ensures { OnOk result (found.new.items ≡ found.old.items ++ option_to_list (op_unwritten (has_byte written.now) event op.now)) }
+    requires noted { AreNoted trace.now count noted.old }
+    requires within { count < length trace.now.events }
+    ensures found { OnOk result (found.new.items ≡ found.old.items ++ option_to_list (entry_in number (unless_in (is_written (history trace.now count)) range) None)) }
+    ensures noted { OnOk result (AreNoted trace.now count noted.new) }
 {
-    let first = first_unwritten(written, *op);
-    let second = second_unwritten(written, *op);
-    push_entry(found, event, first, second)
+    let first = unless_written(noted, trace, count, range)?;
+    push_entry(found, number, first, None)
+}
+
+// Adds what is told of an isOrderedBefore with this number on these ranges, before which so many events stand.
+fn note_order(
+    found: &mut Vec<Unwritten>,
+    noted: &mut Noted,
+    trace: &Trace,
+    count: usize,
+    number: u64,
+    first: Range,
+    second: Range,
+) -> Result<(), OutOfMemory>
+    requires noted { AreNoted trace.now count noted.old }
+    requires within { count < length trace.now.events }
+    ensures found { OnOk result (found.new.items ≡ found.old.items ++ option_to_list (entry_in number (unless_in (is_written (history trace.now count)) first) (unless_in (is_written (history trace.now count)) second))) }
+    ensures noted { OnOk result (AreNoted trace.now count noted.new) }
+{
+    let first = unless_written(noted, trace, count, first)?;
+    let second = unless_written(noted, trace, count, second)?;
+    push_entry(found, number, first, second)
 }
 
 // Adds what is told of the event, if one of these ranges is told.
@@ -95,41 +137,53 @@ fn push_entry(
     Ok(())
 }
 
-// The range of the assertion, or its first one, unless one of its bytes is written.
-fn first_unwritten(written: &WrittenBytes, op: Op) -> Option<Range>
-    ensures { result ≡ first_in (has_byte written.now) op }
+// The range, unless one of the first `count` events writes a byte of it.
+fn unless_written(
+    noted: &mut Noted,
+    trace: &Trace,
+    count: usize,
+    range: Range,
+) -> Result<Option<Range>, OutOfMemory>
+    requires noted { AreNoted trace.now count noted.old }
+    requires within { count < length trace.now.events }
+    ensures told { IfOk result (λ o. o ≡ unless_in (is_written (history trace.now count)) range) }
+    ensures noted { OnOk result (AreNoted trace.now count noted.new) }
 {
-    match op {
-        Op::IsPersist(range) => unless_written(written, range),
-        Op::IsOrderedBefore(first, _) => unless_written(written, first),
-        Op::Store(_) | Op::Clwb(_) | Op::ClflushOpt(_) | Op::Clflush(_) | Op::Sfence | Op::Mfence =>
-            None,
+    if is_noted(noted, range) {
+        return Ok(None);
     }
+    if is_written_near(trace, count, range) {
+        return Ok(None);
+    }
+    note_until(noted, trace, count)?;
+    if noted.bytes.has_any(range) {
+        return Ok(None);
+    }
+    Ok(Some(range))
 }
 
-// The second range of an isOrderedBefore, unless one of its bytes is written.
-fn second_unwritten(written: &WrittenBytes, op: Op) -> Option<Range>
-    ensures { result ≡ second_in (has_byte written.now) op }
+// Whether a byte of the range is known to be written.
+fn is_noted(noted: &Noted, range: Range) -> bool
+    ensures { IsTrue result → list_any (has_byte noted.now.bytes) (range_with_len range.addr range.len) ≡ true }
 {
-    match op {
-        Op::IsOrderedBefore(_, second) => unless_written(written, second),
-        Op::IsPersist(_)
-        | Op::Store(_)
-        | Op::Clwb(_)
-        | Op::ClflushOpt(_)
-        | Op::Clflush(_)
-        | Op::Sfence
-        | Op::Mfence => None,
+    if noted.count == 0 {
+        return false;
     }
+    noted.bytes.has_any(range)
 }
 
-// The range, unless one of its bytes is written.
-fn unless_written(written: &WrittenBytes, range: Range) -> Option<Range>
-    ensures { result ≡ unless_in (has_byte written.now) range }
+// Notes what more of the first `count` events write.
+fn note_until(noted: &mut Noted, trace: &Trace, count: usize) -> Result<(), OutOfMemory>
+    requires noted { AreNoted trace.now count noted.old }
+    requires within { count < length trace.now.events }
+    ensures noted { OnOk result (AreNoted trace.now count noted.new) }
+    ensures all { OnOk result (noted.new.count ≡ count) }
 {
-    if written.has_any(range) {
-        None
-    } else {
-        Some(range)
+    let events = trace.events();
+    for index in noted.count..count {
+        let event = events[index];
+        noted.bytes.note(event.op)?;
     }
+    noted.count = count;
+    Ok(())
 }
