@@ -12,7 +12,6 @@ use Rattle.pmt_explain.specs.declared.lost_grouping.Key.{Key}
 use Rattle.pmt_explain.specs.declared.lost_grouping.Key.TheVariants.{Flush, Line}
 use Rattle.pmt_explain.specs.declared.lost_grouping.Places.{Places}
 use Rattle.pmt_explain.specs.Grouping.{Picks, AreGroups, Adds}
-use Rattle.pmt_explain.specs.Numbers.{number_in}
 
 -- Event i is a store to line l, and this is why it is not safe at the trace's end.
 pub record IsLostFor (T : Recording) (l : ℕ) (c : Cause) (i : ℕ) : Type 0 where
@@ -55,7 +54,7 @@ group_key g = key_for g.line g.cause
 -- Where the group with this key stands.
 abbrev pub place_in : Places → Key → Option ℕ
 place_in places (Flush flush) = get nat_eq places.unfenced flush
-place_in places (Line line) = number_in places.unflushed line
+place_in places (Line line) = get nat_eq places.unflushed line
 
 -- The group with the store of a group of one.
 abbrev pub with_store : LostGroup → LostGroup → LostGroup

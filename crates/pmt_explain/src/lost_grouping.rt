@@ -9,11 +9,13 @@ ghost use Rattle.pmt_explain.specs.LostGroups.{AreLostGroups, IsLostStore, IsLos
 use crate::at_end::causes_after;
 use crate::causing::cause as cause_at;
 use crate::lost::line_of_store;
-use crate::numbers::Numbers;
 use indexmap::IndexMap;
 use pmt_model::{OutOfMemory, Trace};
 use pmt_reasons::Cause;
 use std::alloc::Global;
+
+// For how many groups there is room from the start, if there are as many stores.
+const ROOM: usize = 1 << 16;
 
 /// Stores to one line that are never persisted for the same cause.
 #[derive(Clone, Copy, Debug, PartialEq, Eq)]
@@ -48,7 +50,7 @@ pub fn lost_groups(
     }
     let start = start_of(trace, stores);
     let causes = causes_for(alloc, trace, start, stores)?;
-    let mut groups = Vec::new(alloc);
+    let mut groups = Vec::with_capacity(alloc, stores.len().min(ROOM))?;
     add_by(alloc, trace, start, causes.as_slice(), stores, &mut groups)?;
     Ok(groups)
 }
@@ -66,7 +68,7 @@ fn add_by(
     requires groups { groups.old.items ≡ [] }
     ensures { OnOk result (AreLostGroups trace.now stores.now groups.new.items) }
 {
-    let mut places = Places::new(alloc);
+    let mut places = Places::with_room(alloc, stores.len().min(ROOM))?;
     add_all(trace, start, causes, stores, groups, &mut places)
 }
 
@@ -198,18 +200,20 @@ fn key_of(line: u64, cause: Cause) -> Key
 #[derive(Drop)]
 struct Places {
     unfenced: IndexMap<u64, usize>,
-    unflushed: Numbers,
+    unflushed: IndexMap<u64, usize>,
 }
 
 impl Places {
-    // Of no groups.
-    fn new(alloc: Global) -> Self
-        ensures { (k : Key) → place_in result k ≡ None }
+    // Of no groups, with room for so many of each kind.
+    fn with_room(alloc: Global, room: usize) -> Result<Self, OutOfMemory>
+        ensures { IfOk result (λ places. (k : Key) → place_in places k ≡ None) }
     {
-        Places {
-            unfenced: IndexMap::new(alloc),
-            unflushed: Numbers::new(alloc),
-        }
+        let unfenced = IndexMap::with_capacity(alloc, room)?;
+        let unflushed = IndexMap::with_capacity(alloc, room)?;
+        Ok(Places {
+            unfenced,
+            unflushed,
+        })
     }
 
     // Where the group with this key stands, which is the next place if there was none yet.
@@ -219,25 +223,22 @@ impl Places {
         ensures others { OnOk result ((k : Key) → (key ≡ k → ⊥) → place_in self.new k ≡ place_in self.old k) }
     {
         match key {
-            Key::Flush(flush) => self.reach_flush(flush, next),
-            Key::Line(line) => {
-                let place = self.unflushed.keep(line, next as u64)?;
-                Ok(place as usize)
-            }
+            Key::Flush(flush) => reach_in(&mut self.unfenced, flush, next),
+            Key::Line(line) => reach_in(&mut self.unflushed, line, next),
         }
     }
+}
 
-    // The same of the group of a flush.
-    fn reach_flush(&mut self, flush: u64, next: usize) -> Result<usize, OutOfMemory>
-        ensures place { IfOk result (λ place. place ≡ unwrap_or (get nat_eq self.old.unfenced flush) next) }
-        ensures here { IfOk result (λ place. get nat_eq self.new.unfenced flush ≡ Some place) }
-        ensures others { OnOk result ((k : ℕ) → (flush ≡ k → ⊥) → get nat_eq self.new.unfenced k ≡ get nat_eq self.old.unfenced k) }
-        ensures unflushed { OnOk result (self.new.unflushed ≡ self.old.unflushed) }
-    {
-        if let Some(place) = self.unfenced.get(&flush).copied() {
-            return Ok(place);
-        }
-        self.unfenced.insert(flush, next)?;
-        Ok(next)
-    }
+// Where the number stands, which is the next place if it stood nowhere yet.
+fn reach_in(
+    places: &mut IndexMap<u64, usize>,
+    number: u64,
+    next: usize,
+) -> Result<usize, OutOfMemory>
+    ensures place { IfOk result (λ place. place ≡ unwrap_or (get nat_eq places.old number) next) }
+    ensures here { IfOk result (λ place. get nat_eq places.new number ≡ Some place) }
+    ensures others { OnOk result ((k : ℕ) → (number ≡ k → ⊥) → get nat_eq places.new k ≡ get nat_eq places.old k) }
+{
+    let place = places.entry(number)?.or_insert(next);
+    Ok(*place)
 }
