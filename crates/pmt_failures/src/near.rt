@@ -10,11 +10,18 @@ use pmt_model::{Op, Range, Trace};
 // How many events are looked at.
 const NEAR: usize = 32;
 
-/// Whether one of the few last of the first `count` events is seen to write a byte of the range.
-pub(crate) fn is_written_near(trace: &Trace, count: usize, range: Range) -> bool
+// From how many events on it takes less time to look at a few of them than to note what they write.
+const FEW: usize = 64;
+
+/// Whether one of the few last of the first `count` events is seen to write a byte of the range. None is looked at where all but a few
+/// of them, `noted`, are noted already.
+pub(crate) fn is_written_near(trace: &Trace, noted: usize, count: usize, range: Range) -> bool
     requires { count ≤ length trace.now.events }
     ensures { IsTrue result → list_any (is_written (history trace.now count)) (range_with_len range.addr range.len) ≡ true }
 {
+    if count.saturating_sub(noted) < FEW {
+        return false;
+    }
     let events = trace.events();
     for index in (count.saturating_sub(NEAR)..count).rev() {
         let event = events[index];

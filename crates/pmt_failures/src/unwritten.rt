@@ -1,9 +1,8 @@
 //! Assertions on bytes that no store has written.
-ghost use Rattle.std.specs.Prelude.{◌≡◌, ◌+◌, ◌<◌, ◌++◌, None, true, length, IfOk, IsTrue, OnOk};
-ghost use Rattle.std.specs.List.{list_any, range_with_len};
+ghost use Rattle.std.specs.Prelude.{◌≡◌, ◌<◌, ◌++◌, None, length, IfOk, OnOk};
 ghost use Rattle.std.specs.Option.{option_to_list};
 ghost use Rattle.pmt_model.specs.Traces.{history};
-ghost use Rattle.pmt_failures.specs.Unwriting.{AreNoted, entry_of as entry_in, has_byte, is_written, op_unwritten, unless_written as unless_in, unwritten_of};
+ghost use Rattle.pmt_failures.specs.Unwriting.{AreNoted, entry_of as entry_in, is_written, op_unwritten, unless_written as unless_in, unwritten_of};
 
 use crate::near::is_written_near;
 use crate::written::WrittenBytes;
@@ -29,7 +28,7 @@ pub(crate) struct Noted {
 }
 
 /// The assertions that speak of a range none of whose bytes is written by then, by rising event number. The stores are noted only up
-/// to the last assertion that has a range which none of the few events before it writes.
+/// to the last assertion that has a range which none of the few events before it writes, and a few events more.
 ///
 /// # Errors
 /// Where memory was refused.
@@ -149,10 +148,7 @@ fn unless_written(
     ensures told { IfOk result (λ o. o ≡ unless_in (is_written (history trace.now count)) range) }
     ensures noted { OnOk result (AreNoted trace.now count noted.new) }
 {
-    if is_noted(noted, range) {
-        return Ok(None);
-    }
-    if is_written_near(trace, count, range) {
+    if is_written_near(trace, noted.count, count, range) {
         return Ok(None);
     }
     note_until(noted, trace, count)?;
@@ -160,16 +156,6 @@ fn unless_written(
         return Ok(None);
     }
     Ok(Some(range))
-}
-
-// Whether a byte of the range is known to be written.
-fn is_noted(noted: &Noted, range: Range) -> bool
-    ensures { IsTrue result → list_any (has_byte noted.now.bytes) (range_with_len range.addr range.len) ≡ true }
-{
-    if noted.count == 0 {
-        return false;
-    }
-    noted.bytes.has_any(range)
 }
 
 // Notes what more of the first `count` events write.

@@ -6,13 +6,6 @@ use Rattle.pmt_model.specs.Traces.{history}
 use Rattle.pmt_failures.specs.Unwriting.{is_written}
 use Rattle.pmt_failures.proofs.unwritten.unless_written.Goals as goal
 
-pub returns-then-is_noted-clause-told : goal.returns-then-is_noted-clause-told
-returns-then-is_noted-clause-told c =
-    let T = c.args.trace.now in
-    let r = c.args.range in
-    let n = c.args.count in
-    none-told (is_written (history T n)) r (noted-before T n c.args.noted.now (range_with_len r.addr r.len) c.requires.noted (omega (arith, c.requires.within)) (c.is_noted.ensures c.if-is_noted.true))
-
 pub returns-then-is_written_near-clause-told : goal.returns-then-is_written_near-clause-told
 returns-then-is_written_near-clause-told c = none-told (is_written (history c.args.trace.now c.args.count)) c.args.range (c.is_written_near.ensures c.if-is_written_near.true)
 
