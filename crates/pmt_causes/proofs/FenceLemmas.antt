@@ -167,3 +167,28 @@ noted-in items fs t i o old new within is more fence =
 pub fence-op : (o : Op) → (o ≡ Sfence) ⊎ (o ≡ Mfence) → is_fence o ≡ true
 fence-op o (inl e) = rw e refl
 fence-op o (inr e) = rw e refl
+
+-- how many fences of each thread came so far
+pub passed-now : (T : Recording) (t n number : ℕ) (list : List ℕ) → number ≡ suc n → suc n ≤ length T.events → AreFencesBy T t (length T.events) list →
+    count_by (λ k. nat_le k number) list ≡ counted (is_fence_of T t) (suc n)
+passed-now T t n number list same within x =
+    let upto : min (suc n) (length T.events) ≡ suc n = omega arith in
+    ap (λ (j : ℕ). count_by (λ k. nat_le k j) list) same ∙ x.each (suc n) ∙ ap (counted (is_fence_of T t)) upto
+
+pub passed-own : (T : Recording) (n number : ℕ) (e : Event) (list : List ℕ) (from : ℕ) → number ≡ suc n → slice_get T.events n ≡ Some e → suc n ≤ length T.events →
+    AreFencesBy T e.thread (length T.events) list → from ≡ counted (is_fence_of T e.thread) n → count_by (λ k. nat_le k number) list ≡ from + (if is_fence e.op then 1 else 0)
+passed-own T n number e list from same is within x value =
+    let fence : is_fence_of T e.thread (suc n) ≡ is_fence e.op = rw is (rw (eq-eqb e.thread e.thread refl) refl) in
+    passed-now T e.thread n number list same within x
+    ∙ ap (λ (b : Bool). counted (is_fence_of T e.thread) n + (if b then 1 else 0)) fence
+    ∙ ap (λ (m : ℕ). m + (if is_fence e.op then 1 else 0)) (sym value)
+
+pub passed-next : (T : Recording) (n : ℕ) (e : Event) (passed : List ℕ) (from u d : ℕ) → slice_get T.events n ≡ Some e → e.thread < length passed → from ≡ counted (is_fence_of T e.thread) (suc n) →
+    ((t d : ℕ) → t < 256 → get_or passed t d ≡ counted (is_fence_of T t) n) → u < 256 → get_or (set passed e.thread from) u d ≡ counted (is_fence_of T u) (suc n)
+passed-next T n e passed from u d is inside value before within = elim (cases_eq e.thread u) [
+  | inl same ↦ subst (λ (v : ℕ). get_or (set passed e.thread from) v d ≡ counted (is_fence_of T v) (suc n)) same (get_or-set_same passed e.thread from d inside ∙ value)
+  | inr apart ↦
+      let no_fence : is_fence_of T u (suc n) ≡ false = rw is (rw (ne_eqb e.thread u apart) refl) in
+      let more : counted (is_fence_of T u) (suc n) ≡ counted (is_fence_of T u) n = rw no_fence (omega arith) in
+      get_or-set_other passed e.thread u from d (λ e. apart (sym e)) ∙ before u d within ∙ sym more
+]

@@ -1,17 +1,17 @@
 -- The waits of all events, and the keys of late stores.
-use Rattle.std.proofs.Common.{◌≡◌, ◌≢◌, ℕ, suc, ◌<◌, ◌⊎◌, inl, inr, true, List, length, get_or, set, get_or-set_same, get_or-set_other, Some, refl, sym, ap, subst, ◌∙◌, arith}
+use Rattle.std.proofs.Common.{◌≡◌, ◌≢◌, ℕ, zero, suc, ◌<◌, ◌≤◌, ◌⊎◌, inl, inr, true, List, length, get_or, set, get_or-set_same, get_or-set_other, Some, refl, sym, ap, subst, ◌∙◌, arith}
 use Rattle.std.specs.Prelude.{Option, slice_get, slice_index}
 use Rattle.std.proofs.lemmas.Bool.{cases_eq, eqb-true, false≢true}
 use Rattle.std.proofs.lemmas.List.{length-set}
 use Rattle.std.proofs.lemmas.Option.{slice_get-get_or, get_or_from_slice_get, slice_get_within}
 use Rattle.pmt_model.specs.declared.event.Event.{Event}
 use Rattle.pmt_model.specs.Values.{Layout}
-use Rattle.pmt_model.specs.Traces.{Recording}
+use Rattle.pmt_model.specs.Traces.{Recording, event}
 use Rattle.pmt_causes.specs.declared.grouping.Keyed.{Keyed}
 use Rattle.pmt_causes.specs.declared.late.LateSpot.{LateSpot}
 use Rattle.pmt_causes.specs.declared.late.LateSpot.TheVariants.{Label, Line}
 use Rattle.pmt_causes.specs.contracts.late.LateSpotPartialEq.TheImpl as spot_eq
-use Rattle.pmt_causes.specs.Late.{IsWaited, late_items, spot_of, spot_of_op, with_spot}
+use Rattle.pmt_causes.specs.Late.{IsWaited, late_items, spot_of, spot_of_event, spot_of_op, with_spot}
 use Rattle.pmt_causes.specs.Labels.{label_of}
 
 -- spots that their test takes for the same are the same
@@ -44,3 +44,11 @@ pub items-next : (T : Recording) (labels : List (Option ℕ)) (waited : List ℕ
 items-next T labels waited n number e f x items new same format is value noted before =
     let spot : spot_of T labels waited (suc n) ≡ spot_of_op T.format (label_of labels (suc n)) (slice_index waited n) e.op = rw is refl in
     noted ∙ rw (same, format, value, before) (ap (λ s. with_spot (suc n) s (late_items T labels waited n)) (sym spot))
+
+-- the items of the first events do not see a wait of a later one
+pub items-set : (T : Recording) (labels : List (Option ℕ)) (waited : List ℕ) (i x n : ℕ) → n ≤ i → late_items T labels (set waited i x) n ≡ late_items T labels waited n
+items-set T labels waited i x zero le = refl
+items-set T labels waited i x (suc n) le =
+    let read : slice_index (set waited i x) n ≡ slice_index waited n = get_or-set_other waited i n x 0 (λ e. omega (arith, e, le)) in
+    ap (λ (m : ℕ). with_spot (suc n) (spot_of_event T.format (label_of labels (suc n)) m (event T (suc n))) (late_items T labels (set waited i x) n)) read
+    ∙ ap (λ (items : List (Keyed LateSpot)). with_spot (suc n) (spot_of T labels waited (suc n)) items) (items-set T labels waited i x n (omega arith))

@@ -1,12 +1,12 @@
 //! Stores that are saved late.
 
-ghost use Rattle.std.specs.Prelude.{◌≡◌, ◌<◌, ◌∷◌, [], ◌++◌, length, map, replicate, nat_le, IfOk, IsTrue, OnOk};
+ghost use Rattle.std.specs.Prelude.{◌≡◌, ◌+◌, ◌<◌, if◌then◌else◌, ◌∷◌, [], ◌++◌, length, map, replicate, nat_le, IfOk, IsTrue, OnOk};
 ghost use Rattle.std.specs.List.{count_by};
 ghost use Rattle.std.specs.List.Sorted.{IsNonDecreasingBy};
 ghost use Rattle.pmt_explain.specs.Saving.{AreSafePlaces};
 ghost use Rattle.pmt_causes.specs.Fences.{AreFences, list_by, wait_of, with_fence};
 ghost use Rattle.pmt_causes.specs.Labels.{label_of as label_in};
-ghost use Rattle.pmt_causes.specs.Late.{AreLateItems, AreWaited, late_items as late_items_in, late_spot as late_spot_in, spot_of_op as spot_of_op_in, with_spot};
+ghost use Rattle.pmt_causes.specs.Late.{AreLateItems, AreWaited, is_fence, late_spot as late_spot_in, spot_of_op as spot_of_op_in, with_spot};
 
 use crate::grouping::Keyed;
 use crate::labels::label_of;
@@ -26,26 +26,6 @@ pub enum LateSpot {
     Line(u64),
 }
 
-// Of each event for how many fences it waits, where these are the safe places. It takes two looks at each event, and at each store a few
-// looks at the fences of its thread, or a search in them.
-fn fences_waited(alloc: Global, trace: &Trace, safe: &[u64]) -> Result<Vec<u64>, OutOfMemory>
-    requires { AreSafePlaces trace.now safe.now }
-    ensures { IfOk result (λ list. AreWaited trace.now list.items) }
-{
-    let fences = all_fences(alloc, trace)?;
-    let events = trace.events();
-    let mut waited = vec![in alloc; 0; events.len()]?;
-    // of each thread how many of its fences came by its last store so far
-    let mut passed = [0; 256];
-    for index in 0..events.len() {
-        let event = events[index];
-        let list = list_of(&fences, event.thread);
-        let from = &mut passed[event.thread as usize];
-        waited[index] = fences_of(list, from, event.op, index as u64 + 1, safe[index]);
-    }
-    Ok(waited)
-}
-
 /// Stores that are saved late: their own thread made two fences or more before they were safe.
 #[derive(Drop)]
 pub struct LateStores {
@@ -59,7 +39,7 @@ pub struct LateStores {
 
 /// The late stores of the trace of these places, and for how many fences each of its stores waits.
 ///
-/// It takes three looks at each event, and at each store a few looks at the fences of its thread, or a search in them.
+/// It takes two looks at each event, and at each store a few looks at the fences of its thread, or a search in them.
 ///
 /// # Errors
 /// Where memory was refused.
@@ -72,8 +52,39 @@ pub fn late_stores(
     ensures items { IfOk result (λ late. AreLateItems safe.now.trace.now labels.now late.items.items) }
 {
     let trace = safe.trace();
-    let waited = fences_waited(alloc, trace, safe.places())?;
-    let items = late_items(alloc, trace, labels, waited.as_slice())?;
+    let fences = all_fences(alloc, trace)?;
+    late_by(alloc, trace, labels, &fences, safe.places())
+}
+
+// The late stores, and for how many fences each event waits, where these are the fences of all threads and the safe places.
+fn late_by(
+    alloc: Global,
+    trace: &Trace,
+    labels: &[Option<u64>],
+    fences: &Vec<Vec<u64>>,
+    safe: &[u64],
+) -> Result<LateStores, OutOfMemory>
+    requires fences { AreFences trace.now (length trace.now.events) (map (λ list. list.items) fences.now.items) }
+    requires safe { AreSafePlaces trace.now safe.now }
+    ensures waited { IfOk result (λ late. AreWaited trace.now late.waited.items) }
+    ensures items { IfOk result (λ late. AreLateItems trace.now labels.now late.items.items) }
+{
+    let format = trace.format();
+    let events = trace.events();
+    let mut waited = vec![in alloc; 0; events.len()]?;
+    let mut items = Vec::new(alloc);
+    // of each thread how many of its fences came so far
+    let mut passed = [0; 256];
+    for index in 0..events.len() {
+        let event = events[index];
+        let number = index as u64 + 1;
+        let list = list_of(fences, event.thread);
+        let from = &mut passed[event.thread as usize];
+        let count = fences_of(list, from, event.op, number, safe[index]);
+        waited[index] = count;
+        let spot = spot_of(format, labels, number, count, event.op);
+        push_spot(&mut items, number, spot)?;
+    }
     Ok(LateStores { waited, items })
 }
 
@@ -139,41 +150,54 @@ fn list_of(fences: &Vec<Vec<u64>>, thread: u8) -> &[u64]
     fences[thread as usize].as_slice()
 }
 
-// How many of these fences of its thread come after the op with this number and before its safe place, if it is a store. The search
-// begins at the fence `from`, and moves it to the first one after the store.
-fn fences_of(fences: &[u64], from: &mut usize, op: Op, number: u64, safe: u64) -> u64
-    requires { IsNonDecreasingBy (λ k. k) fences.now }
-    ensures { result ≡ wait_of fences.now op number safe }
+// How many of these fences of its thread come after the op with this number and before its safe place, if it is a store. `passed` of them
+// come before it, and after the call by it.
+fn fences_of(fences: &[u64], passed: &mut usize, op: Op, number: u64, safe: u64) -> u64
+    requires order { IsNonDecreasingBy (λ k. k) fences.now }
+    requires passed { count_by (λ k. nat_le k number) fences.now ≡ passed.old + (if is_fence op then 1 else 0) }
+    ensures wait { result ≡ wait_of fences.now op number safe }
+    ensures passed { passed.new ≡ count_by (λ k. nat_le k number) fences.now }
 {
     match op {
         Op::Store(_) => {
             let last = safe.saturating_sub(1);
-            let before = fences_by(fences, *from, number);
-            *from = before;
-            fences_by(fences, before, last).saturating_sub(before) as u64
+            fences_by(fences, *passed, last).saturating_sub(*passed) as u64
+        }
+        Op::Sfence | Op::Mfence => {
+            *passed = one_more(*passed, fences.len());
+            0
         }
         Op::Clwb(_)
         | Op::ClflushOpt(_)
         | Op::Clflush(_)
-        | Op::Sfence
-        | Op::Mfence
         | Op::IsPersist(_)
         | Op::IsOrderedBefore(_, _) => 0,
     }
 }
 
-// How many of these fences, whose numbers rise, come by the place. It looks for the last of them from `from` on, and then at the end.
+// One more, if there are more.
+fn one_more(passed: usize, all: usize) -> usize
+    ensures { passed < all → result ≡ passed + 1 }
+{
+    if passed < all { passed + 1 } else { passed }
+}
+
+// How many of these fences, whose numbers rise, come by the place. It looks for the last of them at `from`, at the end, and then from
+// `from` on.
 fn fences_by(fences: &[u64], from: usize, place: u64) -> usize
     requires { IsNonDecreasingBy (λ k. k) fences.now }
     ensures { result ≡ count_by (λ k. nat_le k place) fences.now }
 {
+    if are_by(fences, from, place) {
+        return from;
+    }
+    if are_by(fences, fences.len(), place) {
+        return fences.len();
+    }
     for count in from..from.saturating_add(NEAR) {
         if are_by(fences, count, place) {
             return count;
         }
-    }
-    if are_by(fences, fences.len(), place) {
-        return fences.len();
     }
     fences.partition_point(|fence| *fence <= place)
 }
@@ -193,27 +217,6 @@ fn are_by(fences: &[u64], count: usize, place: u64) -> bool
         return false;
     }
     true
-}
-
-// The late stores with their spots, by the fences for which each event waited.
-fn late_items(
-    alloc: Global,
-    trace: &Trace,
-    labels: &[Option<u64>],
-    waited: &[u64],
-) -> Result<Vec<Keyed<LateSpot>>, OutOfMemory>
-    requires { length waited.now ≡ length trace.now.events }
-    ensures { IfOk result (λ items. items.items ≡ late_items_in trace.now labels.now waited.now (length trace.now.events)) }
-{
-    let events = trace.events();
-    let mut items = Vec::new(alloc);
-    for index in 0..events.len() {
-        let number = index as u64 + 1;
-        let event = events[index];
-        let spot = spot_of(trace.format(), labels, number, waited[index], event.op);
-        push_spot(&mut items, number, spot)?;
-    }
-    Ok(items)
 }
 
 // The spot of the op with this number, which waited for so many fences, if it is a late store.
