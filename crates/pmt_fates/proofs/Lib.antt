@@ -5,4 +5,5 @@ pub mod PathLemmas
 pub mod PlaceLemmas
 pub mod RowGroupLemmas
 pub mod RowLemmas
+pub mod RowPlaceLemmas
 pub mod SaverLemmas

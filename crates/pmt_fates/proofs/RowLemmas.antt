@@ -116,10 +116,6 @@ module _ (fates : List Fate) (saved : ℕ → Option SavedBefore) where
     places = record { found = λ k p e. let never : None ≡ Some p = sym (none k) ∙ e in cc; placed = λ k p e. absurd (none-some k e) };
   }
 
-  -- each row stands where its place is told
-  pub far-placed : (xs : List (Keyed Origin)) (rows : List PlaceRow) (find : Origin → Option ℕ) (p : ℕ) (r : PlaceRow) → AreSoFar xs rows find → slice_get rows p ≡ Some r → find r.place ≡ Some p
-  far-placed xs rows find p r s at = s.places.placed r.place p (slice_get-map place_of rows p ∙ ap (option_map place_of) at)
-
   -- a row that is found is in the list
   pub finds-within : (xs : List (Keyed Origin)) (rows all : List PlaceRow) (old new : Origin → Option ℕ) (k : Origin) (number p : ℕ) → Finds k number rows old all new p → AreSoFar xs rows old → p < length all
   finds-within xs rows all old new k number p (IsThere there is kept) s = rw is (places-within place_of rows old k p s.places there)

@@ -1,13 +1,16 @@
 -- The rows of all places, event by event.
-use Rattle.std.specs.Prelude.{◌≡◌, ℕ, Bool, List, [], ◌∷◌, ◌++◌, length, map, Option, None, Some, slice_get}
+use Rattle.std.specs.Prelude.{◌≡◌, ℕ, zero, suc, Bool, List, [], ◌∷◌, ◌++◌, length, map, nat_eq, Option, None, Some, slice_index_or, unwrap_or}
+use Rattle.std.specs.HashMap.{get}
 use Rattle.std.specs.List.Sorted.{IsPermutation}
 use Rattle.pmt_causes.specs.contracts.failure_keys.OriginPartialEq.TheImpl as origin_eq
 use Rattle.pmt_causes.specs.declared.failure_keys.Origin.{Origin}
+use Rattle.pmt_causes.specs.declared.failure_keys.Origin.TheVariants.{Label, Thread}
 use Rattle.pmt_causes.specs.declared.grouping.Group.{Group}
 use Rattle.pmt_causes.specs.declared.grouping.Keyed.{Keyed}
 use Rattle.pmt_causes.specs.Groups.{AreGrouped}
 use Rattle.pmt_fates.specs.declared.fate.Fate.{Fate}
 use Rattle.pmt_fates.specs.declared.place_row.PlaceRow.{PlaceRow}
+use Rattle.pmt_fates.specs.declared.row_places.RowPlaces.{RowPlaces}
 use Rattle.pmt_fates.specs.declared.saved_before.SavedBefore.{SavedBefore}
 use Rattle.pmt_fates.specs.Places.{row_in}
 use Rattle.pmt_fates.specs.Tallies.{row_at}
@@ -16,9 +19,21 @@ use Rattle.pmt_fates.specs.Tallies.{row_at}
 abbrev pub same_place : Origin → Origin → Bool
 same_place = (origin_eq.ghosts).eq
 
--- The row of the place stands here.
-abbrev pub IsAt : List PlaceRow → Origin → ℕ → Type 0
-IsAt rows k p = (r : PlaceRow) × (slice_get rows p ≡ Some r) × (r.place ≡ k)
+-- One more than where the row of label l stands, or 0; the same of a place.
+abbrev pub label_number : RowPlaces → ℕ → ℕ
+label_number places l = slice_index_or places.labels.items l (unwrap_or (get nat_eq places.rest l) 0)
+
+abbrev pub place_number : RowPlaces → Origin → ℕ
+place_number places (Label l) = label_number places l
+place_number places (Thread t) = slice_index_or places.threads t 0
+
+-- Where the row of the place stands.
+abbrev pub before : ℕ → Option ℕ
+before zero = None
+before (suc k) = Some k
+
+abbrev pub row_place : RowPlaces → Origin → Option ℕ
+row_place places p = before (place_number places p)
 
 -- The row of place k stands at p, where `old` told the rows by their places: it was there, or is the new last one, whose first event has
 -- this number.

@@ -38,6 +38,7 @@ pub(crate) enum Fate {
 
 // What becomes of each event, where these stores are told as never persisted, these events are dropped, and each event waits for so many
 // fences.
+#[inline(never)]
 pub(crate) fn fates_of(
     alloc: Global,
     trace: &Trace,

@@ -10,6 +10,7 @@ mod own_fences;
 mod paths;
 pub mod place_row;
 pub mod places;
+mod row_places;
 mod rows;
 pub mod saved_before;
 pub mod standing;

@@ -1,9 +1,8 @@
-use Rattle.indexmap.specs.IndexMap.{get}
 use Rattle.pmt_fates.specs.Places.{place_items}
-use Rattle.pmt_fates.specs.Rows.{same_place}
+use Rattle.pmt_fates.specs.Rows.{row_place}
 use Rattle.pmt_fates.specs.Savers.{saved_by}
 use Rattle.pmt_fates.proofs.RowLemmas.{AreSoFar}
 use Rattle.pmt_fates.proofs.rows.rows_of.Given as goal
 
 abbrev pub invariant-loop-index : goal.invariant-loop-index
-invariant-loop-index l = AreSoFar l.fates (saved_by l.safe l.savings) (place_items l.trace l.labels l.index) l.rows.items (get same_place l.places)
+invariant-loop-index l = AreSoFar l.fates (saved_by l.safe l.savings) (place_items l.trace l.labels l.index) l.rows.items (row_place l.places)
