@@ -1,13 +1,14 @@
 -- Words that two stores split.
-use Rattle.std.proofs.Common.{◌≡◌, ◌≢◌, ℕ, suc, ◌+◌, ◌-◌, ◌%◌, ◌<◌, ◌≤◌, ◌⊎◌, inl, inr, Bool, true, false, List, length, Option, None, Some, refl, sym, ap, subst, ◌∙◌, arith}
-use Rattle.std.specs.Prelude.{◌↔◌, ◌==◌, ◌&&◌, ◌||◌, nat_le}
-use Rattle.std.proofs.lemmas.Bool.{and_parts, cases_lt, cases_eq, eq-eqb, eqb-true, ne_eqb, le-leb, leb-true, false≢true}
+use Rattle.std.proofs.Common.{◌≡◌, ◌≢◌, ℕ, zero, suc, ◌+◌, ◌-◌, ◌%◌, ◌^◌, ◌<◌, ◌≤◌, ◌⊎◌, inl, inr, Bool, true, false, List, [], ◌∷◌, length, Option, None, Some, refl, sym, ap, subst, ◌∙◌, arith}
+use Rattle.std.specs.Prelude.{◌↔◌, ◌==◌, ◌&&◌, ◌||◌, nat_le, slice_get}
+use Rattle.std.specs.List.{AllByRecursion}
+use Rattle.std.proofs.lemmas.Bool.{and_parts, cases_lt, cases_eq, eq-eqb, eqb-true, ne_eqb, le-leb, leb-true, lt-ltb, or_left, or_right, false≢true}
 use Rattle.std.proofs.lemmas.Option.{none-some, same_Some}
 use Rattle.pmt_model.specs.declared.event.Event.{Event}
 use Rattle.pmt_model.specs.declared.event.Op.{Op}
 use Rattle.pmt_model.specs.declared.event.Op.TheVariants.{Store, Clwb, ClflushOpt, Clflush, Sfence, Mfence, IsPersist, IsOrderedBefore}
-use Rattle.pmt_model.specs.Values.{Layout, Written}
-use Rattle.pmt_model.specs.Traces.{Recording, event}
+use Rattle.pmt_model.specs.Values.{IsStore, Layout, Written}
+use Rattle.pmt_model.specs.Traces.{IsEventIn, IsOp, IsTrace, Recording, event}
 use Rattle.pmt_laws.proofs.Histories.{event-within}
 use Rattle.pmt_causes.specs.declared.failure_keys.Origin.{Origin}
 use Rattle.pmt_causes.specs.declared.failure_keys.Origin.TheVariants.{Label, Thread}
@@ -15,9 +16,10 @@ use Rattle.pmt_causes.specs.contracts.failure_keys.OriginPartialEq.TheImpl as or
 use Rattle.pmt_causes.specs.FailureKeys.{origin_of}
 use Rattle.pmt_causes.proofs.ExactFailures.{origin-exact}
 use Rattle.pmt_hints.specs.declared.per_thread.PerThread.{PerThread}
+use Rattle.pmt_hints.specs.declared.split_word.Part.{Part}
 use Rattle.pmt_hints.specs.Hints.{IsSplitWord, IsStoreOf, Joins}
 use Rattle.pmt_hints.specs.Numbers.{of_thread}
-use Rattle.pmt_hints.specs.Splitting.{event_part, is_same_place, joins, op_part, part, split_parts, split_so, store_of_thread}
+use Rattle.pmt_hints.specs.Splitting.{begins_or_ends, event_part, is_same_place, joins, may_join, op_part, part, split_parts, split_so, store_of_thread}
 use Rattle.pmt_hints.proofs.StepLemmas.{Decides, IsLast, last-none, last-step}
 
 -- event k is a store by thread t
@@ -75,6 +77,63 @@ either-told : (a b : Bool) → ((a || b) ≡ true) ↔ ((a ≡ true) ⊎ (b ≡ 
 either-told true b = (λ _. inl refl, λ _. refl)
 either-told false true = (λ _. inr refl, λ _. refl)
 either-told false false = (λ so. absurd (false≢true so), λ h. elim h [ inl e ↦ e | inr e ↦ e ])
+
+-- a part that has 8 bytes, or neither begins nor ends a line, joins no store
+joins-off : (f : Layout) (w : Written) (b : Part) → IsStore w → may_join f b ≡ false → (joins f (part w) b || joins f b (part w)) ≡ false
+joins-off f w b is off = go (joins f (part w) b || joins f b (part w)) refl
+  where
+    on : b.len < 8 → begins_or_ends f b ≡ true → may_join f b ≡ true
+    on short at = rw (lt-ltb b.len 8 short, at) refl
+
+    begins : joins f (part w) b ≡ true → may_join f b ≡ true
+    begins so =
+        let outer = and_parts (w.addr + length w.bytes == b.addr && nat_le (length w.bytes + b.len) 8) (b.addr % f.line_size == 0) so in
+        let inner = and_parts (w.addr + length w.bytes == b.addr) (nat_le (length w.bytes + b.len) 8) outer.0 in
+        let word = leb-true (length w.bytes + b.len) 8 inner.1 in
+        on (omega (arith, word, is.some)) (or_left (b.addr % f.line_size == 0) ((b.addr + b.len) % 2 ^ 64 % f.line_size == 0) outer.1)
+
+    ends : joins f b (part w) ≡ true → may_join f b ≡ true
+    ends so =
+        let outer = and_parts (b.addr + b.len == w.addr && nat_le (b.len + length w.bytes) 8) (w.addr % f.line_size == 0) so in
+        let inner = and_parts (b.addr + b.len == w.addr) (nat_le (b.len + length w.bytes) 8) outer.0 in
+        let word = leb-true (b.len + length w.bytes) 8 inner.1 in
+        let follows : b.addr + b.len ≡ w.addr = eqb-true (b.addr + b.len) w.addr inner.0 in
+        let whole : (b.addr + b.len) % 2 ^ 64 ≡ w.addr = omega (arith, follows, is.address) in
+        on (omega (arith, word, is.some))
+        (or_right (b.addr % f.line_size == 0) ((b.addr + b.len) % 2 ^ 64 % f.line_size == 0) (ap (λ n. n % f.line_size == 0) whole ∙ outer.1))
+
+    go : (t : Bool) → (joins f (part w) b || joins f b (part w)) ≡ t → (joins f (part w) b || joins f b (part w)) ≡ false
+    go false e = e
+    go true e = elim ((either-told (joins f (part w) b) (joins f b (part w))).0 e) [
+      | inl first ↦ absurd (false≢true (sym off ∙ begins first))
+      | inr second ↦ absurd (false≢true (sym off ∙ ends second))
+    ]
+
+each-at : {X : Type 0} (P : X → Type 0) (xs : List X) (n : ℕ) (x : X) → AllByRecursion P xs → slice_get xs n ≡ Some x → P x
+each-at P [] n x h at = absurd (none-some x at)
+each-at P (y ∷ xs) zero x h at = subst P (same_Some y x at) h.0
+each-at P (y ∷ xs) (suc n) x h at = each-at P xs n x h.1 at
+
+event-op : (T : Recording) (j : ℕ) (e : Event) → IsTrace T → event T j ≡ Some e → IsOp e.op
+event-op T zero e trace at = absurd (none-some e at)
+event-op T (suc k) e trace at = (each-at (IsEventIn T.format) T.events k e trace.each at).event.op
+
+pub never-split : (T : Recording) (labels : List (Option ℕ)) (j t i : ℕ) (o : Op) (b : Part) → IsTrace T → op_part o ≡ Some b → may_join T.format b ≡ false → split_so T labels j t o i ≡ false
+never-split T labels j t i o b trace is off = rw is (by_event (event T j) refl)
+  where
+    by_op : (p : Op) → IsOp p → split_parts T.format labels j t i (Some b) (op_part p) ≡ false
+    by_op (Store w) store = rw (joins-off T.format w b store off) refl
+    by_op (Clwb a) x = refl
+    by_op (ClflushOpt a) x = refl
+    by_op (Clflush a) x = refl
+    by_op Sfence x = refl
+    by_op Mfence x = refl
+    by_op (IsPersist r) x = refl
+    by_op (IsOrderedBefore r q) x = refl
+
+    by_event : (e : Option Event) → event T j ≡ e → split_parts T.format labels j t i (Some b) (event_part e) ≡ false
+    by_event None at = refl
+    by_event (Some e) at = by_op e.op (event-op T j e trace at)
 
 -- by the last store of the thread
 pub split-told : (T : Recording) (labels : List (Option ℕ)) (n j number t : ℕ) (stores : PerThread) (o : Op) (b : Bool) → number ≡ suc n → event T (suc n) ≡ Some (record { thread = t; op = o }) → t < 256 → j ≡ of_thread stores t →

@@ -1,5 +1,5 @@
 -- Whether a store goes on with the word that the one before it began.
-use Rattle.std.specs.Prelude.{ℕ, ◌+◌, ◌%◌, ◌==◌, ◌&&◌, ◌||◌, Bool, false, if◌then◌else◌, nat_le, List, length, Option, None, Some}
+use Rattle.std.specs.Prelude.{ℕ, ◌+◌, ◌%◌, ◌^◌, ◌==◌, ◌&&◌, ◌||◌, Bool, false, if◌then◌else◌, nat_le, nat_lt, List, length, Option, None, Some}
 use Rattle.pmt_model.specs.declared.event.Event.{Event}
 use Rattle.pmt_model.specs.declared.event.Op.{Op}
 use Rattle.pmt_model.specs.declared.event.Op.TheVariants.{Store, Clwb, ClflushOpt, Clflush, Sfence, Mfence, IsPersist, IsOrderedBefore}
@@ -41,6 +41,13 @@ event_part (Some e) = op_part e.op
 -- The second part's bytes follow those of the first one, at most 8 together, and begin a line.
 abbrev pub joins : Layout → Part → Part → Bool
 joins f a b = a.addr + a.len == b.addr && nat_le (a.len + b.len) 8 && b.addr % f.line_size == 0
+
+-- The part begins or ends a line; and it may be one of two that join.
+abbrev pub begins_or_ends : Layout → Part → Bool
+begins_or_ends f a = a.addr % f.line_size == 0 || (a.addr + a.len) % 2 ^ 64 % f.line_size == 0
+
+abbrev pub may_join : Layout → Part → Bool
+may_join f a = nat_lt a.len 8 && begins_or_ends f a
 
 -- Events j and i of thread t come from one place.
 abbrev pub is_same_place : List (Option ℕ) → ℕ → ℕ → ℕ → Bool

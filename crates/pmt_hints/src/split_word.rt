@@ -3,7 +3,7 @@
 ghost use Rattle.std.specs.Prelude.{◌≡◌, ◌<◌, ◌+◌, ◌%◌, ◌==◌, ◌&&◌, ◌||◌, ℕ, length, nat_le, IfOk};
 ghost use Rattle.pmt_model.specs.Traces.{event};
 ghost use Rattle.pmt_hints.specs.Hints.{AreThose, IsSplitWord};
-ghost use Rattle.pmt_hints.specs.Splitting.{event_part, is_same_place, joins as joins_in, op_part, split_so, store_of_thread};
+ghost use Rattle.pmt_hints.specs.Splitting.{begins_or_ends, event_part, is_same_place, joins as joins_in, may_join as may_join_in, op_part, split_so, store_of_thread};
 ghost use Rattle.pmt_hints.specs.Numbers.{of_thread};
 
 use crate::numbers::{push_if, selection_of};
@@ -61,6 +61,7 @@ fn split_numbers(
 }
 
 // Whether the op with this number by the thread is a store whose bytes join those of its store at `earlier`, from the same place.
+#[inline(always)]
 fn is_split(
     trace: &Trace,
     labels: &[Option<u64>],
@@ -75,10 +76,30 @@ fn is_split(
     let Some(second) = part_of(op) else {
         return false;
     };
+    if !may_join(trace.format(), &second) {
+        return false;
+    }
     let Some(first) = part_at(trace, earlier) else {
         return false;
     };
     is_joined(trace.format(), &first, &second) && is_one_place(labels, earlier, number, thread)
+}
+
+// Whether it has less than 8 bytes, and begins or ends a line: no other one joins a store.
+#[inline(always)]
+fn may_join(format: Format, part: &Part) -> bool
+    ensures { result ≡ may_join_in format part.now }
+{
+    part.len < 8 && is_at_end(format, part)
+}
+
+// Whether it begins or ends a line.
+#[inline(always)]
+fn is_at_end(format: Format, part: &Part) -> bool
+    ensures { result ≡ begins_or_ends format part.now }
+{
+    part.addr % format.line_size() == 0
+        || part.addr.wrapping_add(part.len) % format.line_size() == 0
 }
 
 // The bytes of the event with this number, if it is a store.
