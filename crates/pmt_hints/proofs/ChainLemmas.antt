@@ -1,13 +1,12 @@
 -- The open flushes of a thread, each with the one before it.
-use Rattle.std.proofs.Common.{◌≡◌, ◌≢◌, ℕ, suc, ◌+◌, ◌<◌, ◌≤◌, ◌⊎◌, inl, inr, true, false, List, [], ◌∷◌, ◌++◌, length, length-append, Some, refl, sym, ap, subst, ◌∙◌, arith}
+use Rattle.std.proofs.Common.{◌≡◌, ◌≢◌, ℕ, suc, ◌+◌, ◌<◌, ◌≤◌, ◌⊎◌, inl, inr, true, false, List, length, set, get_or, get_or-set_other, get_or-set_same, Some, refl, sym, ap, subst, ◌∙◌, arith}
 use Rattle.std.specs.Prelude.{◌↔◌, nat_lt, slice_get}
 use Rattle.std.proofs.lemmas.Bool.{cases_lt, cases_eq, eq-eqb, ne_eqb, lt-ltb, false≢true}
-use Rattle.std.proofs.lemmas.Option.{none-some, same_Some, slice_get_within}
+use Rattle.std.proofs.lemmas.Option.{get_or_from_slice_get, same_Some, slice_get-get_or}
 use Rattle.pmt_model.specs.declared.event.Event.{Event}
 use Rattle.pmt_model.specs.Machine.{Act, Stores, Flushes, Clflushes, Fences, Asserts}
 use Rattle.pmt_model.specs.Traces.{Recording, IsAct, act, event}
 use Rattle.pmt_laws.proofs.Histories.{act-unique, act-within}
-use Rattle.pmt_explain.proofs.GroupingLemmas.{get-before, get-last}
 use Rattle.pmt_hints.specs.declared.per_thread.PerThread.{PerThread}
 use Rattle.pmt_hints.specs.Hints.{FencesBetween, IsStoredAfterFlush}
 use Rattle.pmt_hints.specs.Near.{AreEarlier, HasOpenFlush, IsLastOpen, flushes_so}
@@ -80,12 +79,12 @@ open-none T flushes all = λ t small. subst (IsLastOpen T t 1) (sym (all t small
 })
 
 -- the list of those before each flush, with one event more
-pub earlier-none : (T : Recording) (earlier : List ℕ) → earlier ≡ [] → AreEarlier T earlier
-earlier-none T earlier none = rw none (λ k x t l at flush. absurd (none-some x at))
+pub earlier-none : (T : Recording) (earlier : List ℕ) → AreEarlier T 0 earlier
+earlier-none T earlier = λ k x t l below at flush. absurd (omega (arith, below))
 
-pub earlier-up : (T : Recording) (n x : ℕ) (e : Event) (flushes : PerThread) (old new : List ℕ) → length old ≡ n → event T (suc n) ≡ Some e → e.thread < 256 → x ≡ of_thread flushes e.thread → new ≡ old ++ x ∷ [] → OpenUpTo T n flushes →
-    AreEarlier T old → AreEarlier T new
-earlier-up T n x e flushes old new size here small value made o all = rw made (λ k y t l at flush. go k y t l at flush (cases_lt k n))
+pub earlier-up : (T : Recording) (n x : ℕ) (e : Event) (flushes : PerThread) (old : List ℕ) → n < length old → event T (suc n) ≡ Some e → e.thread < 256 → x ≡ of_thread flushes e.thread → OpenUpTo T n flushes →
+    AreEarlier T n old → AreEarlier T (n + 1) (set old n x)
+earlier-up T n x e flushes old within here small value o all = λ k y t l below at flush. go k y t l below at flush (cases_eq k n)
   where
     own : (t l : ℕ) → IsAct T (suc n) (Flushes t l) → IsLastOpen T t (suc n) x
     own t l (d, at, is) =
@@ -93,12 +92,13 @@ earlier-up T n x e flushes old new size here small value made o all = rw made (�
         let thread : t ≡ e.thread = flush-thread T.format e.thread e.op t l (ap (act T.format) (sym same) ∙ is) in
         subst (IsLastOpen T t (suc n)) (sym value) (subst (λ u. IsLastOpen T u (suc n) (of_thread flushes e.thread)) (sym thread) (o e.thread small))
 
-    go : (k y t l : ℕ) → slice_get (old ++ x ∷ []) k ≡ Some y → IsAct T (suc k) (Flushes t l) → (k < n) ⊎ (n ≤ k) → IsLastOpen T t (suc k) y
-    go k y t l at flush (inl early) = all k y t l (sym (get-before old x k (omega (arith, early, size))) ∙ at) flush
-    go k y t l at flush (inr from) =
-        let here : k ≡ length old = omega (arith, from, size, slice_get_within (old ++ x ∷ []) k y at, length-append old (x ∷ [])) in
-        let same : x ≡ y = same_Some x y (sym (get-last old x) ∙ ap (slice_get (old ++ x ∷ [])) (sym here) ∙ at) in
-        subst (IsLastOpen T t (suc k)) same (subst (λ m. IsAct T (suc m) (Flushes t l) → IsLastOpen T t (suc m) x) (sym (here ∙ size)) (own t l) flush)
+    go : (k y t l : ℕ) → k < n + 1 → slice_get (set old n x) k ≡ Some y → IsAct T (suc k) (Flushes t l) → (k ≡ n) ⊎ (k ≢ n) → IsLastOpen T t (suc k) y
+    go k y t l below at flush (inl e) =
+        let found : x ≡ y = sym (get_or-set_same old n x x within) ∙ ap (λ m. get_or (set old n x) m x) (sym e) ∙ get_or_from_slice_get (set old n x) k y x at in
+        subst (IsLastOpen T t (suc k)) found (subst (λ m. IsAct T (suc m) (Flushes t l) → IsLastOpen T t (suc m) x) (sym e) (own t l) flush)
+    go k y t l below at flush (inr apart) =
+        let value : get_or (set old n x) k x ≡ y = get_or_from_slice_get (set old n x) k y x at in
+        all k y t l (omega (arith, below, apart)) (slice_get-get_or old k x (omega (arith, below, within)) ∙ ap Some (sym (get_or-set_other old n k x x apart) ∙ value)) flush
 
 -- a thread with no open flush stores nothing after one
 pub none-open : (T : Recording) (n : ℕ) (e : Event) (flushes : PerThread) → event T (suc n) ≡ Some e → e.thread < 256 → OpenUpTo T n flushes → nat_lt 0 (of_thread flushes e.thread) ≡ false → ¬ IsStoredAfterFlush T (suc n)
@@ -144,8 +144,8 @@ reached-found T t l i x a some is found r = go (cases_eq m l)
     go (inl same) = (λ _. (x, subst (λ k. IsAct T x (Flushes t k)) same (r.is_open some).1, r.before, (r.is_open some).2), λ _. refl)
     go (inr apart) = absurd (false≢true (sym (ne_eqb m l apart) ∙ sym (ap (λ b. flushes_so b l) own) ∙ found))
 
-pub reached-next : (T : Recording) (t l i k y : ℕ) (a : Act) (earlier : List ℕ) → IsAct T (suc k) a → flushes_so a l ≡ false → AreEarlier T earlier → slice_get earlier k ≡ Some y → IsReached T t l i (suc k) → IsReached T t l i y
-reached-next T t l i k y a earlier is other all at r = record {
+pub reached-next : (T : Recording) (t l i k y n : ℕ) (a : Act) (earlier : List ℕ) → IsAct T (suc k) a → flushes_so a l ≡ false → AreEarlier T n earlier → k < n → slice_get earlier k ≡ Some y → IsReached T t l i (suc k) → IsReached T t l i y
+reached-next T t l i k y n a earlier is other all below at r = record {
   before = omega (arith, o.before, r.before);
   is_open = λ some. ((o.is_open some).0, (o.is_open some).1, λ f. unfenced some f.0 f.1 f.2 f.3 (cases_lt f.0 (suc k)) (cases_eq f.0 (suc k)));
   none_after = λ j above below flush. after j above below flush (cases_lt j (suc k)) (cases_eq j (suc k));
@@ -161,7 +161,7 @@ reached-next T t l i k y a earlier is other all at r = record {
     flush_x = (r.is_open (omega arith)).1
 
     o : IsLastOpen T t x y
-    o = all k y t m at flush_x
+    o = all k y t m below at flush_x
 
     apart : m ≢ l
     apart same = false≢true (sym other ∙ ap (λ b. flushes_so b l) (act-unique T x a (Flushes t m) is flush_x) ∙ eq-eqb m l same)

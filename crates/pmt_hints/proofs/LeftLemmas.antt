@@ -1,7 +1,8 @@
 -- Stores that a fence of their thread leaves unsafe, and those that are never safe.
-use Rattle.std.proofs.Common.{◌≡◌, ℕ, zero, suc, ◌<◌, ◌≤◌, ◌⊎◌, inl, inr, Bool, true, false, List, length, Some, refl, sym, ap, ◌∙◌, arith}
+use Rattle.std.proofs.Common.{◌≡◌, ℕ, zero, suc, ◌<◌, ◌≤◌, ◌⊎◌, inl, inr, Bool, true, false, List, [], length, get_or, Some, refl, sym, ap, ◌∙◌, arith}
 use Rattle.std.specs.Prelude.{◌==◌, ◌&&◌, if◌then◌else◌, nat_le, nat_lt, slice_get}
 use Rattle.std.proofs.lemmas.Bool.{cases_lt, eq-eqb, le-leb, lt-leb, lt-ltb, true≢false}
+use Rattle.std.proofs.lemmas.Option.{slice_get-get_or}
 use Rattle.pmt_model.specs.declared.event.Op.{Op}
 use Rattle.pmt_model.specs.declared.event.Op.TheVariants.{Store, Clwb, ClflushOpt, Clflush, Sfence, Mfence, IsPersist, IsOrderedBefore}
 use Rattle.pmt_model.specs.Values.{Layout, Written}
@@ -16,10 +17,10 @@ use Rattle.pmt_explain.specs.Saving.{AreSafePlaces, IsSafePlace}
 use Rattle.pmt_causes.specs.Counted.{counted}
 use Rattle.pmt_causes.specs.Late.{AreWaited, fences_between, is_fence, is_fence_of}
 use Rattle.pmt_causes.proofs.CountedLemmas.{counted-mono}
-use Rattle.pmt_hints.specs.Hints.{IsStoredAfterFlush}
+use Rattle.pmt_hints.specs.Hints.{AreThose, IsStoredAfterFlush}
 use Rattle.pmt_hints.specs.Near.{left_unsafe}
 use Rattle.pmt_hints.proofs.GoingLemmas.{waits-told}
-use Rattle.pmt_hints.proofs.StoredAfterLemmas.{store-act}
+use Rattle.pmt_hints.proofs.StoredAfterLemmas.{store-act, stored-bound}
 
 abbrev one : Bool → ℕ
 one b = if b then 1 else 0
@@ -94,3 +95,17 @@ none-left T safe waited n s w are_safe are_waited at_s at_w off h = place.has (o
     cause : (s < i) ⊎ (i ≤ s) → (c : Cause) × IsCause T l s i c
     cause (inl later) = (Later, later)
     cause (inr from) = (Unflushed, (from, unflushed))
+
+-- where no store is left unsafe
+pub none-unsafe : (T : Recording) (safe waited : List ℕ) → AreSafePlaces T safe → AreWaited T waited → ((k w s : ℕ) → slice_get waited k ≡ Some w → slice_get safe k ≡ Some s → left_unsafe w s (length safe) ≡ false) → AreThose (IsStoredAfterFlush T) []
+none-unsafe T safe waited are_safe are_waited none = record { rising = tt; just = λ i. (λ h. absurd h, λ h. absurd (never i h)) }
+  where
+    never : (i : ℕ) → IsStoredAfterFlush T i → ⊥
+    never zero h = absurd (omega (arith, (stored-bound T zero h).0))
+    never (suc k) h =
+        let within : k < length T.events = omega (arith, (stored-bound T (suc k) h).1) in
+        let w = get_or waited k 0 in
+        let p = get_or safe k 0 in
+        let at_w : slice_get waited k ≡ Some w = slice_get-get_or waited k 0 (omega (arith, within, are_waited.size)) in
+        let at_s : slice_get safe k ≡ Some p = slice_get-get_or safe k 0 (omega (arith, within, are_safe.size)) in
+        none-left T safe waited k p w are_safe are_waited at_s at_w (sym (ap (left_unsafe w p) are_safe.size) ∙ none k w p at_w at_s) h

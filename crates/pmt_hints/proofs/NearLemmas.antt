@@ -9,7 +9,7 @@ use Rattle.pmt_model.specs.Traces.{Recording, IsAct, act, event}
 use Rattle.pmt_model.specs.Findings.{IsFlushOf, ByFlush, ByClflush}
 use Rattle.pmt_laws.proofs.Histories.{act-unique, act-within}
 use Rattle.pmt_hints.specs.Hints.{FencesBetween, IsOpenFlush, IsStoreBy, IsStoredAfterFlush}
-use Rattle.pmt_hints.specs.Near.{IsLeft, IsLeftOpen, IsPassed, StoresPast, after_by, flush_line, past_by, store_line}
+use Rattle.pmt_hints.specs.Near.{IsLeft, IsLeftOpen, IsPassed, StoresPast, after_by, flush_line, past_by, store_line, store_line_if}
 use Rattle.pmt_hints.proofs.StepLemmas.{no-flush}
 use Rattle.pmt_hints.proofs.StoredAfterLemmas.{fence-no_flush, flush-within, own-store, store-act}
 
@@ -246,3 +246,16 @@ told-store T n e a true b line here own none is told =
 told-store T n e a false b line here own none is told =
     let so : (b ≡ true) ↔ IsLeftOpen T e.thread (suc n) None = subst (λ m. (b ≡ true) ↔ IsLeftOpen T e.thread (suc n) m) is told in
     (λ x. absurd (so.0 x), λ h. absurd (none refl h))
+
+-- the line of a store, if it is so
+none-either : (b : Bool) (x : Option ℕ) → x ≡ (if b then x else x)
+none-either true x = refl
+none-either false x = refl
+
+pub line-so : (b : Bool) (a : Act) → store_line_if b a ≡ (if b then store_line a else None)
+line-so true (Stores l w) = refl
+line-so false (Stores l w) = refl
+line-so b (Flushes t l) = none-either b None
+line-so b (Clflushes l) = none-either b None
+line-so b (Fences t) = none-either b None
+line-so b Asserts = none-either b None

@@ -17,9 +17,9 @@ pub record IsLastOpen (T : Recording) (t i k : ℕ) : Type 0 where
   pub is_open : 0 < k → (l : ℕ) × IsAct T k (Flushes t l) × (¬ FencesBetween T t k i)
   pub none_after : (j l : ℕ) → k < j → j < i → IsAct T j (Flushes t l) → FencesBetween T t j i
 
--- Of each event that is a flush this is the last open flush by its thread before it, the first one being event 1.
-abbrev pub AreEarlier : Recording → List ℕ → Type 0
-AreEarlier T earlier = (k x t l : ℕ) → slice_get earlier k ≡ Some x → IsAct T (suc k) (Flushes t l) → IsLastOpen T t (suc k) x
+-- Of each of the first n events that is a flush this is the last open flush by its thread before it, the first one being event 1.
+abbrev pub AreEarlier : Recording → ℕ → List ℕ → Type 0
+AreEarlier T n earlier = (k x t l : ℕ) → k < n → slice_get earlier k ≡ Some x → IsAct T (suc k) (Flushes t l) → IsLastOpen T t (suc k) x
 
 -- Each flush of line l after event i comes after a fence by thread t.
 abbrev pub IsLeft : Recording → ℕ → ℕ → ℕ → Type 0
@@ -86,6 +86,14 @@ AreUpTo P n numbers = IsRising 0 numbers × ((i : ℕ) → Has numbers i ↔ ((i
 -- its safe place.
 abbrev pub left_unsafe : ℕ → ℕ → ℕ → Bool
 left_unsafe waited safe events = nat_le 1 waited || nat_lt events safe
+
+-- The line of an act, if it is a store and so.
+abbrev pub store_line_if : Bool → Act → Option ℕ
+store_line_if is_so (Stores l w) = if is_so then Some l else None
+store_line_if is_so (Flushes t l) = None
+store_line_if is_so (Clflushes l) = None
+store_line_if is_so (Fences t) = None
+store_line_if is_so Asserts = None
 
 -- The number, if it is told.
 abbrev pub if_told : Bool → ℕ → List ℕ

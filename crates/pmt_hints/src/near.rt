@@ -13,16 +13,16 @@ const LOOKS: usize = 8;
 
 const FIRST_LOOKS: usize = 4096;
 
-// How many looks are left at the event at this index, if so many were taken before.
-fn looks_left(index: usize, taken: usize) -> usize {
+// How many looks are left in a trace with so many events, if so many were taken before.
+fn looks_left(events: usize, taken: usize) -> usize {
     FIRST_LOOKS
-        .saturating_add(index.saturating_mul(LOOKS))
+        .saturating_add(events.saturating_mul(LOOKS))
         .saturating_sub(taken)
 }
 
 // Whether the thread has flushed the line before the event at this index and not fenced since; none where the looks that are
 // left do not tell. `taken` is how many were taken. It looks at the thread's open flushes alone: `flushes` has the last one before the
-// event, and `earlier` of each of them the one before it.
+// event, and `earlier` of each of them the one before it; what `earlier` has of the event and later ones is not looked at.
 #[inline(never)]
 pub(crate) fn is_flushed_since(
     trace: &Trace,
@@ -34,15 +34,15 @@ pub(crate) fn is_flushed_since(
     taken: &mut usize,
 ) -> Option<bool>
     requires within { index ≤ length trace.now.events }
-    requires size { length earlier.now ≡ index }
+    requires size { index ≤ length earlier.now }
     requires flushes { IsLastOpen trace.now thread (suc index) (of_thread flushes.now thread) }
-    requires earlier { AreEarlier trace.now earlier.now }
+    requires earlier { AreEarlier trace.now index earlier.now }
     ensures { IfSome result (λ b. (b ≡ true) ↔ HasOpenFlush trace.now thread line (suc index)) }
 {
     let format = trace.format();
     let events = trace.events();
     let mut flush = flushes.get(thread);
-    for _ in 0..looks_left(index, *taken) {
+    for _ in 0..looks_left(events.len(), *taken) {
         if flush == 0 {
             return Some(false);
         }
@@ -90,7 +90,7 @@ pub(crate) fn is_left_after(
     let events = trace.events();
     let high = events
         .len()
-        .min(index.saturating_add(looks_left(index, *taken)));
+        .min(index.saturating_add(looks_left(events.len(), *taken)));
     for step in index + 1..high {
         let event = events[step];
         let told = told_after(format, thread, line, event.thread, event.op);
@@ -142,7 +142,7 @@ pub(crate) fn stores_past(
     let events = trace.events();
     let high = events
         .len()
-        .min(index.saturating_add(looks_left(index, *taken)));
+        .min(index.saturating_add(looks_left(events.len(), *taken)));
     for step in index + 1..high {
         let event = events[step];
         let told = told_past(format, thread, line, event.thread, event.op);

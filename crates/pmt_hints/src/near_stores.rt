@@ -1,11 +1,11 @@
 //! Stores that come after their flush, where all that tells of them stands near.
 
-ghost use Rattle.std.specs.Prelude.{◌≡◌, ◌<◌, ◌&&◌, ◌↔◌, suc, None, true, length, if◌then◌else◌, IfOk, IfSome};
+ghost use Rattle.std.specs.Prelude.{◌≡◌, ◌<◌, ◌≤◌, ◌&&◌, ◌↔◌, suc, None, Some, true, length, nat_lt, if◌then◌else◌, slice_index_or, IfOk, IfSome};
 ghost use Rattle.pmt_model.specs.Traces.{act_of};
 ghost use Rattle.pmt_hints.specs.Hints.{AreThose, IsStoredAfterFlush};
 ghost use Rattle.pmt_explain.specs.Saving.{AreSafePlaces};
 ghost use Rattle.pmt_causes.specs.Late.{AreWaited};
-ghost use Rattle.pmt_hints.specs.Near.{AreEarlier, HasOpenFlush, IsLastOpen, IsLeft, IsLeftOpen, left_unsafe, store_line};
+ghost use Rattle.pmt_hints.specs.Near.{AreEarlier, HasOpenFlush, IsLastOpen, IsLeft, IsLeftOpen, left_unsafe, store_line_if};
 ghost use Rattle.pmt_hints.specs.Numbers.{of_thread};
 
 use crate::near::{is_flushed_since, is_left_after};
@@ -17,6 +17,7 @@ use std::alloc::Global;
 // The numbers of the stores to a line that their thread has flushed before and not fenced since, and of which no flush of the line
 // stands between the store and that thread's next fence; none where that takes more than a few looks at each event. Only a store that a
 // fence of its thread leaves unsafe can be one, or one that is never safe.
+#[inline(never)]
 pub(crate) fn near_stores(
     alloc: Global,
     trace: &Trace,
@@ -30,15 +31,14 @@ pub(crate) fn near_stores(
     let format = trace.format();
     let events = trace.events();
     let mut flushes = PerThread::new(0);
-    let mut earlier = Vec::with_capacity(alloc, events.len())?;
+    let mut earlier = vec![in alloc; 0; events.len()]?;
     let mut numbers = Vec::new(alloc);
     let mut taken = 0usize;
     for index in 0..events.len() {
         let event = events[index];
         let number = index as u64 + 1;
         let flush = flushes.get(event.thread);
-        let may = may_be_told(0 < flush, waited[index], places[index], events.len() as u64);
-        let line = stored_line(may, format, event.thread, event.op);
+        let line = line_to_judge(format, event.thread, event.op, flush, waited, places, index);
         let Some(is_told) = judged(
             trace,
             event.thread,
@@ -51,32 +51,60 @@ pub(crate) fn near_stores(
             return Ok(None);
         };
         push_if(&mut numbers, is_told, number)?;
-        earlier.push(flush)?;
+        earlier[index] = flush;
         flushes.note_open(format, event.thread, event.op, number);
     }
     Ok(Some(numbers))
 }
 
-// Whether a store of a trace with so many events may be told, if its thread has open flushes: a fence of its thread leaves it unsafe, or it
-// is never safe. It waits for so many fences, and this is its safe place.
+// Whether a store at this index may be told, if the last open flush of its thread is this, or 0.
 #[inline(always)]
-fn may_be_told(is_open: bool, waited: u64, safe: u64, events: u64) -> bool
-    ensures { result ≡ (is_open && left_unsafe waited safe events) }
+fn is_left_open(flush: u64, waited: &[u64], places: &[u64], index: usize) -> bool
+    requires waited { index < length waited.now }
+    requires places { index < length places.now }
+    ensures { result ≡ (nat_lt 0 flush && left_unsafe (slice_index_or waited.now index 0) (slice_index_or places.now index 0) (length places.now)) }
 {
-    is_open && (1 <= waited || events < safe)
+    0 < flush && is_left_unsafe(waited[index], places[index], places.len() as u64)
 }
 
-// The line of the op, if it is a store, and if it may be told.
+// The line, if it is so.
 #[inline(always)]
-fn stored_line(may: bool, format: Format, thread: u8, op: Op) -> Option<u64>
-    ensures value { result ≡ (if may then store_line (act_of format thread op) else None) }
+fn some_if(is_so: bool, line: u64) -> Option<u64>
+    ensures { result ≡ (if is_so then Some line else None) }
+{
+    if is_so { Some(line) } else { None }
+}
+
+// Whether a store of a trace with so many events waits for a fence that leaves it unsafe, or is never safe.
+#[inline(always)]
+pub(crate) fn is_left_unsafe(waited: u64, safe: u64, events: u64) -> bool
+    ensures { result ≡ left_unsafe waited safe events }
+{
+    1 <= waited || events < safe
+}
+
+// The line of the op at this index, if it is a store that may be told: its thread has open flushes, of which the last one is this, and a
+// fence of its thread leaves the store unsafe, or it is never safe.
+#[inline(always)]
+fn line_to_judge(
+    format: Format,
+    thread: u8,
+    op: Op,
+    flush: u64,
+    waited: &[u64],
+    places: &[u64],
+    index: usize,
+) -> Option<u64>
+    requires waited { index < length waited.now }
+    requires places { index < length places.now }
+    ensures value { result ≡ store_line_if (nat_lt 0 flush && left_unsafe (slice_index_or waited.now index 0) (slice_index_or places.now index 0) (length places.now)) (act_of format thread op) }
     ensures small { thread < 256 }
 {
-    if !may {
-        return None;
-    }
     match op {
-        Op::Store(store) => Some(line_of(format, store.addr())),
+        Op::Store(store) => {
+            let line = line_of(format, store.addr());
+            some_if(is_left_open(flush, waited, places, index), line)
+        }
         Op::Clwb(_)
         | Op::ClflushOpt(_)
         | Op::Clflush(_)
@@ -99,9 +127,9 @@ fn judged(
     taken: &mut usize,
 ) -> Option<bool>
     requires within { index < length trace.now.events }
-    requires size { length earlier.now ≡ index }
+    requires size { index ≤ length earlier.now }
     requires flushes { IsLastOpen trace.now thread (suc index) (of_thread flushes.now thread) }
-    requires earlier { AreEarlier trace.now earlier.now }
+    requires earlier { AreEarlier trace.now index earlier.now }
     ensures { IfSome result (λ b. (b ≡ true) ↔ IsLeftOpen trace.now thread (suc index) line) }
 {
     match line {
@@ -121,9 +149,9 @@ fn judged_line(
     taken: &mut usize,
 ) -> Option<bool>
     requires within { index < length trace.now.events }
-    requires size { length earlier.now ≡ index }
+    requires size { index ≤ length earlier.now }
     requires flushes { IsLastOpen trace.now thread (suc index) (of_thread flushes.now thread) }
-    requires earlier { AreEarlier trace.now earlier.now }
+    requires earlier { AreEarlier trace.now index earlier.now }
     ensures { IfSome result (λ b. (b ≡ true) ↔ (HasOpenFlush trace.now thread line (suc index) × IsLeft trace.now thread line (suc index))) }
 {
     match is_flushed_since(trace, thread, line, index, flushes, earlier, taken) {

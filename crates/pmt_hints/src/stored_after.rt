@@ -1,16 +1,17 @@
 //! Stores to a line that their thread has flushed before and not fenced since.
 
-ghost use Rattle.std.specs.Prelude.{◌≡◌, ◌<◌, ◌&&◌, ℕ, length, IfOk, OnOk};
+ghost use Rattle.std.specs.Prelude.{◌≡◌, ◌<◌, ◌&&◌, ℕ, Some, false, length, slice_get, IfOk, OnOk};
 ghost use Rattle.pmt_model.specs.Traces.{act_of};
 ghost use Rattle.pmt_causes.specs.Late.{AreWaited};
 ghost use Rattle.pmt_causes.specs.Numbers.{number_at};
 ghost use Rattle.pmt_causes.specs.Flushing.{next_before};
 ghost use Rattle.pmt_hints.specs.Hints.{AreThose, IsAfterOpenFlush, IsStoredAfterFlush};
 ghost use Rattle.pmt_hints.specs.Flagging.{AreFlags};
+ghost use Rattle.pmt_hints.specs.Near.{left_unsafe};
 ghost use Rattle.pmt_hints.specs.Stepping.{after_open, left_so};
 
 use crate::flushers::{LastFlushes, last_flush, note_flush};
-use crate::near_stores::near_stores;
+use crate::near_stores::{is_left_unsafe, near_stores};
 use crate::numbers::selection_of;
 use crate::per_thread::PerThread;
 use pmt_explain::SafePlaces;
@@ -27,10 +28,10 @@ type NextFlushes = HashMap<u64, u64>;
 ///
 /// `waited` is for how many fences each event of the trace of these places waits.
 ///
-/// It takes one look at each event, and keeps a number of it. At each store that a fence of its thread leaves unsafe, or that is never
-/// safe, it takes one more at each flush that the thread has not fenced, from the last one back to one of the store's line; if there is
-/// one, also at the events after the store, up to a flush of the line or a fence of the thread. Where these are more than 8 for each event
-/// so far and 4096 besides, it takes two at each event instead, each with one look-up.
+/// It takes one look at each event. If a fence of its thread leaves a store unsafe, or one is never safe, it takes another one at each event,
+/// and keeps a number of it. At each such store it takes one more at each flush that the thread has not fenced, from the last one back to one
+/// of the store's line; if there is one, also at the events after the store, up to a flush of the line or a fence of the thread. Where these
+/// are more than 8 for each event and 4096 besides, it takes two at each event instead, each with one look-up.
 ///
 /// # Errors
 /// Where memory was refused.
@@ -43,10 +44,27 @@ pub fn stored_after_flush(
     ensures { IfOk result (AreThose (IsStoredAfterFlush safe.now.trace.now)) }
 {
     let trace = safe.trace();
+    if !is_any_left(waited, safe.places()) {
+        return Ok(selection_of(Vec::new(alloc)));
+    }
     match near_stores(alloc, trace, safe.places(), waited)? {
         Some(numbers) => Ok(selection_of(numbers)),
         None => all_stores(alloc, trace),
     }
+}
+
+// Whether a fence of its thread leaves a store unsafe, or one is never safe.
+fn is_any_left(waited: &[u64], places: &[u64]) -> bool
+    requires { length waited.now ≡ length places.now }
+    ensures { result ≡ false → (k w s : ℕ) → slice_get waited.now k ≡ Some w → slice_get places.now k ≡ Some s → left_unsafe w s (length places.now) ≡ false }
+{
+    let events = places.len() as u64;
+    for index in 0..waited.len() {
+        if is_left_unsafe(waited[index], places[index], events) {
+            return true;
+        }
+    }
+    false
 }
 
 // The same, however far away what tells of them stands.

@@ -38,5 +38,5 @@ loop-preserved c =
     let at : event T (suc k) ≡ Some e = ap (λ xs. slice_get xs k) (sym c.events-events.ensures.value) ∙ slice_get-get_or es k e within ∙ ap Some (sym c.index-events-last.is) in
     let own : act T.format e ≡ a = ap (λ g. act_of g e.thread e.op) (sym c.format-format.ensures.value) in
     let reached : IsReached T c.args.thread c.args.line (suc c.args.index) (suc k) = subst (IsReached T c.args.thread c.args.line (suc c.args.index)) (sym number) c.loop.invariant in
-    reached-next T c.args.thread c.args.line (suc c.args.index) k (get_or c.args.earlier.now k 0) a c.args.earlier.now (e, at, own) (sym c.is_flush_of.ensures ∙ c.if-is_flush_of.false) c.requires.earlier
+    reached-next T c.args.thread c.args.line (suc c.args.index) k (get_or c.args.earlier.now k 0) c.args.index a c.args.earlier.now (e, at, own) (sym c.is_flush_of.ensures ∙ c.if-is_flush_of.false) c.requires.earlier below
     (slice_get-get_or c.args.earlier.now k 0 (omega (arith, below, c.requires.size))) reached

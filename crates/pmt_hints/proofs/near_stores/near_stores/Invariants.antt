@@ -7,7 +7,7 @@ use Rattle.pmt_hints.proofs.near_stores.near_stores.Given as goal
 abbrev pub invariant-loop-index : goal.invariant-loop-index
 invariant-loop-index l = record {
   flushes : OpenUpTo l.trace l.index l.flushes;
-  size : length l.earlier.items ≡ l.index;
-  earlier : AreEarlier l.trace l.earlier.items;
+  size : length l.earlier.items ≡ length l.trace.events;
+  earlier : AreEarlier l.trace l.index l.earlier.items;
   numbers : AreUpTo (IsStoredAfterFlush l.trace) l.index l.numbers.items;
 }
