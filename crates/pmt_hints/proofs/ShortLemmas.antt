@@ -1,7 +1,7 @@
 -- Flushes that are one line short.
-use Rattle.std.proofs.Common.{◌≡◌, ◌≢◌, ℕ, zero, suc, ◌<◌, ◌≤◌, ◌⊎◌, inl, inr, Bool, true, false, List, [], length, get_or, Option, Some, refl, sym, ap, subst, ◌∙◌, arith}
-use Rattle.std.specs.Prelude.{◌↔◌, ◌&&◌, nat_lt, nat_le, slice_get}
-use Rattle.std.proofs.lemmas.Bool.{cases_lt, lt-ltb, le-ltb, le-leb, lt-leb, false≢true}
+use Rattle.std.proofs.Common.{◌≡◌, ◌≢◌, ℕ, zero, suc, ◌<◌, ◌≤◌, ◌⊎◌, inl, inr, Bool, true, false, List, [], length, get_or, Option, None, Some, refl, sym, ap, subst, ◌∙◌, arith}
+use Rattle.std.specs.Prelude.{◌↔◌, ◌==◌, ◌&&◌, if◌then◌else◌, nat_lt, nat_le, slice_get}
+use Rattle.std.proofs.lemmas.Bool.{cases_eq, cases_lt, cond_both, eq-eqb, ne_eqb, lt-ltb, le-ltb, le-leb, lt-leb, false≢true}
 use Rattle.std.proofs.lemmas.Option.{slice_get-get_or}
 use Rattle.pmt_model.specs.Machine.{Act, Stores, Flushes, Clflushes, Fences, Asserts}
 use Rattle.pmt_model.specs.Traces.{Recording, IsAct}
@@ -9,7 +9,7 @@ use Rattle.pmt_laws.proofs.Histories.{act-unique, act-within}
 use Rattle.pmt_explain.specs.Saving.{AreSafePlaces}
 use Rattle.pmt_causes.specs.Late.{AreWaited}
 use Rattle.pmt_hints.specs.declared.per_thread.PerThread.{PerThread}
-use Rattle.pmt_hints.specs.GoingOn.{IsRest, GoesFurther, is_lost_or_late, short_so}
+use Rattle.pmt_hints.specs.GoingOn.{IsRest, GoesFurther, is_line_short, is_lost_or_late, last_by, line_by, line_if, short_so}
 use Rattle.pmt_hints.specs.Hints.{AreThose, FencesBetween, GoesOn, IsLostOrLate, IsOneLineShort, IsStoreBy}
 use Rattle.pmt_hints.specs.Numbers.{LastFlushes, flush_at, of_thread}
 use Rattle.pmt_hints.proofs.GoingLemmas.{LinesUpTo, late-told}
@@ -112,6 +112,44 @@ short-told T labels n fences rests further b u (Flushes t l) is small by tells f
           still_open = open_still x below;
           ends = λ k on before. upto k on before (cases_lt z k);
         }
+
+-- by the last store of the thread that goes on from any line
+pub short-by : (fences lasts : PerThread) (rests further : LastFlushes) (t l : ℕ) → flush_at rests t l ≤ of_thread lasts t →
+    (nat_lt (of_thread fences t) (of_thread lasts t) && is_line_short fences rests further t l) ≡ is_line_short fences rests further t l
+short-by fences lasts rests further t l upto = go (cases_lt (of_thread fences t) (of_thread lasts t))
+  where
+    go : (of_thread fences t < of_thread lasts t) ⊎ (of_thread lasts t ≤ of_thread fences t) →
+        (nat_lt (of_thread fences t) (of_thread lasts t) && is_line_short fences rests further t l) ≡ is_line_short fences rests further t l
+    go (inl below) = rw (lt-ltb (of_thread fences t) (of_thread lasts t) below) refl
+    go (inr past) = rw (le-ltb (of_thread fences t) (of_thread lasts t) past, le-ltb (of_thread fences t) (flush_at rests t l) (omega (arith, upto, past))) refl
+
+-- what goes on and is missed comes no later than the last one of the thread that goes on
+pub lasts-up : (Q : ℕ → ℕ → ℕ → Type 0) (n number u : ℕ) (missed : Bool) (line : Option ℕ) (rests new : LastFlushes) (lasts more : PerThread) → number ≡ suc n → LinesUpTo Q n rests →
+    ((t l : ℕ) → flush_at new t l ≡ line_by (line_if missed line) u number t l (flush_at rests t l)) → ((t : ℕ) → t < 256 → of_thread more t ≡ last_by line u number t (of_thread lasts t)) →
+    ((t l : ℕ) → t < 256 → flush_at rests t l ≤ of_thread lasts t) → (t l : ℕ) → t < 256 → flush_at new t l ≤ of_thread more t
+lasts-up Q n number u missed line rests new lasts more same upto noted last bound t l small = rw (noted t l, last t small) (go missed line)
+  where
+    x : ℕ
+    x = flush_at rests t l
+
+    within : x ≤ n
+    within = (upto t l).within
+
+    one : (k : ℕ) → (if u == t && k == l then number else x) ≤ (if u == t then number else of_thread lasts t)
+    one k = own (cases_eq u t)
+      where
+        own : (u ≡ t) ⊎ (u ≢ t) → (if u == t && k == l then number else x) ≤ (if u == t then number else of_thread lasts t)
+        own (inl e) = rw (eq-eqb u t e) (cond_both (k == l) number x (λ z. z ≤ number) (λ _. omega arith) (λ _. omega (arith, within, same)))
+        own (inr apart) = rw (ne_eqb u t apart) (bound t l small)
+
+    off : (k : ℕ) → x ≤ (if u == t then number else of_thread lasts t)
+    off k = cond_both (u == t) number (of_thread lasts t) (λ z. x ≤ z) (λ _. omega (arith, within, same)) (λ _. bound t l small)
+
+    go : (missed : Bool) (line : Option ℕ) → line_by (line_if missed line) u number t l x ≤ last_by line u number t (of_thread lasts t)
+    go true None = bound t l small
+    go false None = bound t l small
+    go true (Some k) = one k
+    go false (Some k) = off k
 
 -- what is told is an event of the trace
 pub short-bound : (T : Recording) (labels : List (Option ℕ)) (i : ℕ) → IsOneLineShort T labels i → (1 ≤ i) × (i ≤ length T.events)

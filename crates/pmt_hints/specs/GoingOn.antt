@@ -51,6 +51,11 @@ abbrev pub line_by : Option ℕ → ℕ → ℕ → ℕ → ℕ → ℕ → ℕ
 line_by None u number t l old = old
 line_by (Some k) u number t l old = if u == t && k == l then number else old
 
+-- The number of thread t, alike, for all lines.
+abbrev pub last_by : Option ℕ → ℕ → ℕ → ℕ → ℕ → ℕ
+last_by None u number t old = old
+last_by (Some k) u number t old = if u == t then number else old
+
 -- A store of a trace with so many events is lost or late: it waits for so many fences, and this is its safe place.
 abbrev pub is_lost_or_late : ℕ → ℕ → ℕ → Bool
 is_lost_or_late waited safe events = nat_le 2 waited || nat_le 1 waited && nat_lt events safe
@@ -63,10 +68,14 @@ IsRest T labels t l i = GoesOn T labels t l i × IsLostOrLate T t (suc l) i
 abbrev pub GoesFurther : Recording → List (Option ℕ) → ℕ → ℕ → ℕ → Type 0
 GoesFurther T labels t l i = GoesOn T labels t (suc l) i
 
--- By the last fences, and of each line the last of these two, before it: the act is a flush, and one line short.
+-- By the last fences, and of each line the last of these two: a flush of line l by thread t is one line short.
+abbrev pub is_line_short : PerThread → LastFlushes → LastFlushes → ℕ → ℕ → Bool
+is_line_short fences rests further t l = nat_lt (of_thread fences t) (flush_at rests t l) && nat_le (flush_at further t l) (of_thread fences t)
+
+-- The same of an act.
 abbrev pub short_so : PerThread → LastFlushes → LastFlushes → Act → Bool
 short_so fences rests further (Stores l w) = false
-short_so fences rests further (Flushes t l) = nat_lt (of_thread fences t) (flush_at rests t l) && nat_le (flush_at further t l) (of_thread fences t)
+short_so fences rests further (Flushes t l) = is_line_short fences rests further t l
 short_so fences rests further (Clflushes l) = false
 short_so fences rests further (Fences t) = false
 short_so fences rests further Asserts = false

@@ -32,8 +32,8 @@ loop-index-preserved c =
     record {
       stores = any-stores-up T i _ e a c.loop-index.stores c.note_store.new.self (omega arith) at own c.note_store.ensures c.loop-index.invariant.stores;
       none = no-rest T labels i e.thread c.rest_left-line.result (sym c.is_some.ensures ∙ c.if-is_some.false)
-          (rest-tells T labels c.args.places.now c.args.waited.now i e.thread (get_or c.args.places.now i 0) (get_or c.args.waited.now i 0) _ c.is_lost_or_late-is_missed.result line c.rest_left-line.result c.requires.places c.requires.waited safe waits long
-          c.is_lost_or_late-is_missed.ensures c.rest_left-line.ensures.value left)
+          (rest-tells T labels c.args.places.now c.args.waited.now i e.thread (get_or c.args.places.now i 0) (get_or c.args.waited.now i 0) _ c.is_missed-missed.result line c.rest_left-line.result c.requires.places c.requires.waited safe waits c.requires.places.size
+          c.is_missed-missed.ensures c.rest_left-line.ensures.value left)
           c.loop-index.invariant.none;
     }
 

@@ -1,14 +1,15 @@
-use Rattle.std.proofs.Common.{◌≡◌, suc, length, get_or, Some, ap, sym, subst, ◌∙◌, arith}
+use Rattle.std.proofs.Common.{◌≡◌, suc, ◌+◌, length, get_or, Some, ap, sym, subst, ◌∙◌, arith}
 use Rattle.std.specs.Prelude.{slice_get}
 use Rattle.std.proofs.lemmas.Option.{slice_get-get_or}
 use Rattle.pmt_model.specs.Traces.{act, act_of, event}
-use Rattle.pmt_hints.specs.GoingOn.{GoesFurther, IsRest}
+use Rattle.pmt_hints.specs.GoingOn.{GoesFurther, IsRest, line_by}
 use Rattle.pmt_hints.specs.Hints.{GoesOn, IsOneLineShort}
 use Rattle.pmt_hints.specs.Near.{AreUpTo}
+use Rattle.pmt_hints.specs.Numbers.{flush_at}
 use Rattle.pmt_hints.proofs.GoingLemmas.{Tells, any-stores-none, any-stores-up, before-tells, left-tells, lines-none, lines-up, rest-tells}
 use Rattle.pmt_hints.proofs.NumberLemmas.{upto-more, upto-none, upto-those}
 use Rattle.pmt_hints.proofs.OpenAtLemmas.{flush-thread}
-use Rattle.pmt_hints.proofs.ShortLemmas.{short-bound, short-told}
+use Rattle.pmt_hints.proofs.ShortLemmas.{lasts-up, short-bound, short-told}
 use Rattle.pmt_hints.proofs.StoredAfterLemmas.{fences-none, fences-up}
 use Rattle.pmt_hints.proofs.short_runs.short_numbers.Goals as goal
 
@@ -20,6 +21,7 @@ loop-index-init c =
     record {
       fences = fences-none T c.new-fences.result c.new-fences.ensures;
       stores = any-stores-none T c.new-stores.result c.new-stores.ensures;
+      bound = λ t k small. rw (c.new-rests.ensures.empty) (omega arith);
       rests = lines-none (IsRest T labels) c.new-rests.result c.new-rests.ensures.empty;
       further = lines-none (GoesFurther T labels) c.new-further.result c.new-further.ensures.empty;
       numbers = subst (AreUpTo P 0) (sym c.new-numbers.ensures.items) (upto-none P (λ i p. (short-bound T labels i p).0));
@@ -33,6 +35,7 @@ loop-index-preserved c =
     let i = c.loop-index.index in
     let e = c.index-events-index.result in
     let a = act_of c.format-format.result e.thread e.op in
+    let number = i + 1 in
     let long : length c.events-events.result.now ≡ length T.events = ap (λ xs. length xs) c.events-events.ensures.value in
     let at : event T (suc i) ≡ Some e = ap (λ xs. slice_get xs i) (sym c.events-events.ensures.value) ∙ slice_get-get_or es i e (omega arith) ∙ ap Some (sym c.index-events-index.is) in
     let own : act T.format e ≡ a = ap (λ g. act_of g e.thread e.op) (sym c.format-format.ensures.value) in
@@ -44,9 +47,11 @@ loop-index-preserved c =
     record {
       fences = fences-up T i _ a c.loop-index.fences c.note_fence.new.self (omega arith) (e, at, own) c.note_fence.ensures c.loop-index.invariant.fences;
       stores = any-stores-up T i _ e a c.loop-index.stores c.note_store.new.self (omega arith) at own c.note_store.ensures c.loop-index.invariant.stores;
+      bound = lasts-up (IsRest T labels) i _ e.thread c.is_missed-missed.result c.line_left-line.result c.loop-index.rests c.note_line.new.lines c.loop-index.lasts c.note_last.new.lasts (omega arith) c.loop-index.invariant.rests
+          (λ t k. c.in_ok-note_line.ensures t k ∙ ap (λ o. line_by o e.thread number t k (flush_at c.loop-index.rests t k)) c.line_if.ensures) c.note_last.ensures c.loop-index.invariant.bound;
       rests = lines-up (IsRest T labels) i _ e.thread _ c.loop-index.rests c.note_line.new.lines (omega arith)
-          (rest-tells T labels c.args.places.now c.args.waited.now i e.thread (get_or c.args.places.now i 0) (get_or c.args.waited.now i 0) _ c.is_lost_or_late-is_missed.result c.line_left-line.result _ c.requires.places c.requires.waited safe waits long
-          c.is_lost_or_late-is_missed.ensures c.line_if.ensures left)
+          (rest-tells T labels c.args.places.now c.args.waited.now i e.thread (get_or c.args.places.now i 0) (get_or c.args.waited.now i 0) _ c.is_missed-missed.result c.line_left-line.result _ c.requires.places c.requires.waited safe waits c.requires.places.size
+          c.is_missed-missed.ensures c.line_if.ensures left)
           c.in_ok-note_line.ensures c.loop-index.invariant.rests;
       further = lines-up (GoesFurther T labels) i _ e.thread _ c.loop-index.further c.note_line-in-loop-index.new.lines (omega arith) (before-tells T labels e.thread (suc i) c.line_left-line.result _ c.line_before.ensures left)
           c.in_ok-note_line-2.ensures c.loop-index.invariant.further;
