@@ -47,8 +47,8 @@ pub fn open_at_store(
 /// passes has a byte. `labels` are the numbers of the labels of the events, in order; an event past their end has none. A place is a label,
 /// or without one a thread. `verdicts` are those of the trace.
 ///
-/// It takes one look at each event that is kept, and a few at each flush among them up to the first of its place that is not open. Where
-/// these do not tell, it takes one at each event. A label that is above the number of `labels` takes a look-up at each of its flushes. If
+/// It takes one look at each event, and a few at each flush that is kept up to the first of its place that is not open. Where these do not
+/// tell, it takes two at each event. A label that is above the number of `labels` takes a look-up at each of its flushes. If
 /// there is such a place, it takes one at each of its flushes, and at each line of an assertion that passes.
 ///
 /// # Errors

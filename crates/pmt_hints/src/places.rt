@@ -3,7 +3,7 @@
 ghost use Rattle.std.specs.Prelude.{◌≡◌, ◌||◌, ◌==◌, ℕ, false, nat_eq, replicate, unwrap_or, IfOk, OnOk};
 ghost use Rattle.std.specs.HashMap.{get};
 ghost use Rattle.pmt_model.specs.Traces.{event};
-ghost use Rattle.pmt_hints.specs.Telling.{has_label as has_label_in, has_place, is_place, place_of as place_in};
+ghost use Rattle.pmt_hints.specs.Telling.{has_label as has_label_in, has_place, is_place, op_place as op_place_in, place_of as place_in};
 ghost use Rattle.pmt_causes.specs.declared.failure_keys.Origin.{Origin};
 
 use pmt_causes::{Origin, origin_of};
@@ -19,8 +19,16 @@ pub(crate) fn flush_place(trace: &Trace, labels: &[Option<u64>], number: u64) ->
     let Some(event) = trace.get(number) else {
         return None;
     };
-    match event.op {
-        Op::Clwb(_) | Op::ClflushOpt(_) => Some(origin_of(labels, number, event.thread)),
+    op_place(labels, number, event.thread, event.op)
+}
+
+// The place of the op with this number, if it is a flush.
+#[inline(always)]
+pub(crate) fn op_place(labels: &[Option<u64>], number: u64, thread: u8, op: Op) -> Option<Origin>
+    ensures { result ≡ op_place_in labels.now number thread op }
+{
+    match op {
+        Op::Clwb(_) | Op::ClflushOpt(_) => Some(origin_of(labels, number, thread)),
         Op::Store(_)
         | Op::Clflush(_)
         | Op::Sfence
