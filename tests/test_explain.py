@@ -186,6 +186,10 @@ COUNTED_ANSWER = [
     "Nothing that is claimed can be lost: no crash that the model allows violates the assertion, and each",
     "of the 3 stores is safe by the end of the trace, but for 2 that are ignored.",
 ]
+# A word in two lines that a place loses, which is hinted at, a place that it does not concern, and their labels.
+HINTED = "pmtrace 1\nstore 0 0x103c 01020304\nstore 0 0x1040 05060708\nstore 0 0x9000 01\nclwb 0 0x9000\nsfence 0\nisPersist 0 0x9000 1\nstore 0 0x7000 01\n"
+HINTED_LABELS = "1 rec.c:5 put\n2 rec.c:5 put\n3 log.c:1 add\n7 stats.c:12 bump\n"
+HINTED_GUESS = GUESS.replace("(2 stores)", "(1 store)")
 
 
 # Claims with marks in one line of 256 bytes, and what is told of them if lines have 64 bytes, and 32.
@@ -304,6 +308,10 @@ class Explain(Checks):
         done = self.explain("--labels", "l", *shlex.split(GUESS.partition(" leave it out by ")[2]), "t", folder=folder)
         lines = done.stdout.decode().splitlines()
         self.expect_equal("with the options of the guess", (done.returncode, lines[:2]), (0, COUNTED_ANSWER))
+        (folder / "t").write_text(HINTED)
+        (folder / "l").write_text(HINTED_LABELS)
+        lines = joined(self.explain("--labels", "l", "t", folder=folder).stdout.decode().splitlines())
+        self.expect("no place that is hinted at", HINTED_GUESS in lines, "\n".join(lines))
 
     def test_marks(self):
         """A mark that ends with its cache line is in one, and lines have the size that the trace says; the answers are written by hand."""

@@ -403,8 +403,8 @@ def wrong_text(explained, told):
             return f"{heading} wanted {wanted}, in\n{told.decode()}"
     if below(lines, hinted.HEADING) != list(hinted.lines(explained)):
         return f"hints: wanted {list(hinted.lines(explained))}, in\n{told.decode()}"
-    if [line for line in lines if line.startswith("guess: ")] != by_place.guess_lines(explained):
-        return f"the guess: wanted {by_place.guess_lines(explained)}, in\n{told.decode()}"
+    if [line for line in lines if line.startswith("guess: ")] != by_place.guess_lines(explained, hinted.hinted_places(explained)):
+        return f"the guess: wanted {by_place.guess_lines(explained, hinted.hinted_places(explained))}, in\n{told.decode()}"
     wrong = wrong_late(explained, lines) or wrong_places(explained, lines) or wrong_answer(explained, lines)
     if wrong:
         return wrong

@@ -166,6 +166,11 @@ def entries(explained):
         yield {"kind": "hint", "hint": "open_at_store", "count": len(numbers), "first": explained.event(numbers[0]), **own}
 
 
+def hinted_places(explained):
+    """The places at which something is hinted, but for those that are saved one fence late."""
+    return {key for _, key, _ in hints(explained)} | {place(explained, numbers[0]) for _, numbers in path_hints(explained)}
+
+
 # In words
 
 
@@ -191,7 +196,7 @@ def left(explained):
     at all places are asked for; then the paths of which that is so alone. Of each its name, how many stores its place has, and its row."""
     if any(value is not None for name, value in explained.asked.items() if name != "only") or explained.asked["only"] not in (None, "hint"):
         return []
-    hinted = {key for _, key, _ in hints(explained)} | {place(explained, numbers[0]) for _, numbers in path_hints(explained)}
+    hinted = hinted_places(explained)
     stores = {key: row["stores"] for key, row in rows(explained)}
     places = [(name_of(key), None, row) for key, row in rows(explained) if key not in hinted and is_left(row)]
     paths = [(key[1], place(explained, row["first"]), row) for key, row in left_paths(explained)]

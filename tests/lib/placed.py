@@ -200,9 +200,9 @@ def spoken_of(explained):
             yield trace.line(number) + 1
 
 
-def guess_lines(explained):
-    """The line that guesses at places which lose all that they store, to lines of which nothing else speaks. Nothing is guessed of a trace
-    without a flush or without an assertion."""
+def guess_lines(explained, hinted):
+    """The line that guesses at places which lose all that they store, to lines of which nothing else speaks, and of which these places, which are
+    hinted at, are none. Nothing is guessed of a trace without a flush or without an assertion."""
     trace = explained.trace
     words = {trace.event(number)[0] for number in trace.numbers}
     if not explained.is_whole() or not words.intersection(ANY_FLUSH) or not words.intersection(("isPersist", "isOrderedBefore")):
@@ -211,7 +211,7 @@ def guess_lines(explained):
     lost = [store for store in explained.lost_stores() if not explained.is_ignored(store)]
     loud = {*spoken_of(explained), *(trace.line(store) for store in lost if place(explained, store) not in losing)}
     out = {place(explained, store) for store in lost if trace.line(store) in loud}
-    quiet = [key for key in losing if key not in out]
+    quiet = [key for key in losing if key not in out and key not in hinted]
     if not quiet:
         return []
     named = [name for kind, name in quiet if kind == "label" and name and not name.startswith("-")]

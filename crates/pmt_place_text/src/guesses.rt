@@ -16,12 +16,12 @@ use std::collections::HashMap;
 // The most places that are named, and the most options.
 const NAMED: usize = 8;
 
-// The places that lose all that they store, by whether the program speaks of a line of theirs.
+// The places that lose all that they store, by whether the program speaks of a line of theirs, or a hint of them.
 type Places = HashMap<Origin, bool>;
 
 /// The places that lose all that they store, to lines of which the program speaks nowhere, in one line: neither they nor the lines before
-/// them are flushed, no assertion names them, and no other place loses a store to them. Nothing is guessed where a trace has no flush or
-/// no assertion, since a program that never speaks says nothing by that.
+/// them are flushed, no assertion names them, and no other place loses a store to them; no hint is told of such a place. Nothing is guessed
+/// where a trace has no flush or no assertion, since a program that never speaks says nothing by that.
 pub fn guesses_section(told: &Telling<'_>, claims: &Claims) -> Section {
     let mut section = Section::new(
         told.alloc,
@@ -54,8 +54,11 @@ fn add_guess(
     for store in told.explanation.stores.as_slice() {
         let line = line_of_store(told.trace, *store);
         if is_spoken_of(told.trace, claims, &others, line) {
-            note_spoken_of(told, &mut places, *store)?;
+            note_spoken_of(&mut places, place_of(told, *store))?;
         }
+    }
+    for hint in told.explanation.hints.iter() {
+        note_spoken_of(&mut places, hint.place)?;
     }
     let rows = told.explanation.places.as_slice();
     if rows.iter().any(|row| is_quiet(&places, row.place)) {
@@ -100,9 +103,8 @@ fn is_spoken_of(trace: &Trace, claims: &Claims, others: &HashMap<u64, bool>, lin
     claims.is_flushed(line) || others.contains_key(&line) || claims.is_claimed(trace, line)
 }
 
-// Notes that the program speaks of a line of the store's place.
-fn note_spoken_of(told: &Telling<'_>, places: &mut Places, store: u64) -> Result<(), OutOfMemory> {
-    let place = place_of(told, store);
+// Notes that the program, or a hint, speaks of the place.
+fn note_spoken_of(places: &mut Places, place: Origin) -> Result<(), OutOfMemory> {
     if places.contains_key(&place) {
         places.insert(place, true)?;
     }
