@@ -192,6 +192,24 @@ HINTED_LABELS = "1 rec.c:5 put\n2 rec.c:5 put\n3 log.c:1 add\n7 stats.c:12 bump\
 HINTED_GUESS = GUESS.replace("(2 stores)", "(1 store)")
 
 
+# Twelve places that lose a store each, all but the last of which save another one: what a screen has of them.
+CROWD = "".join(f"store 0 {at:#x} 01\nclwb 0 {at:#x}\nsfence 0\nstore 0 {at + 64:#x} 01\n" for at in range(0x1000, 0x2800, 0x200))
+CROWD_LABELS = "".join(f"{number} x.c:{number // 4} f\n" for number in range(4, 52) if number % 4 < 2)
+CROWDED = [
+    *(f"error: x.c:{number} f: 2 stores: 1 never persisted, 0 saved late, 1 in time" for number in range(1, 11)),
+    "... 2 more: 2 stores never persisted (1 at x.c:11 f), 0 saved late (--limit all)",
+]
+
+# A function that one of its callers saves by a fence of its own, its labels, and what is told of its callers.
+CALLED = "pmtrace 1\n" + "".join(f"store 0 {at:#x} 01\nclwb 0 {at:#x}\nsfence 0\nstore 0 {at + 64:#x} 01\n" for at in (0x1000, 0x2000))
+CALLED_LABELS = "1 x.c:1 f < good a.c:2\n4 x.c:1 f < bad b.c:2\n5 x.c:1 f < good a.c:2\n8 x.c:1 f\n"
+CALLERS = """\
+  stored: at x.c:1 f < bad b.c:2
+  caller: 1 never persisted, 0 saved late, 0 in time: bad b.c:2
+  caller: 1 never persisted, 0 saved late, 0 in time: none
+  caller: 0 never persisted, 0 saved late, 2 in time: good a.c:2
+  fix:    """
+
 # Claims with marks in one line of 256 bytes, and what is told of them if lines have 64 bytes, and 32.
 MARKS = (
     "isOrderedBefore 0 0x1000 8 0x1030 32\nisOrderedBefore 0 0x1000 8 0x1030 17\nisOrderedBefore 1 0x1000 8 0x1030 16\n"
@@ -312,6 +330,19 @@ class Explain(Checks):
         (folder / "l").write_text(HINTED_LABELS)
         lines = joined(self.explain("--labels", "l", "t", folder=folder).stdout.decode().splitlines())
         self.expect("no place that is hinted at", HINTED_GUESS in lines, "\n".join(lines))
+
+    def test_places_of_a_screen(self):
+        """A line for each place, how many stores the others lose, and what is told of callers."""
+        folder = self.new_folder()
+        (folder / "t").write_text(f"pmtrace 1\n{CROWD}")
+        (folder / "l").write_text(CROWD_LABELS)
+        lines = self.explain("--labels", "l", "t", folder=folder).stdout.decode().splitlines()
+        told = [line for line in lines if line.startswith("error: ") or line.startswith("... 2 more: ") and "persisted" in line]
+        self.expect("a line for each place", told == CROWDED and len(lines) <= SCREEN, "\n".join(lines))
+        (folder / "t").write_text(CALLED)
+        (folder / "l").write_text(CALLED_LABELS)
+        text = self.explain("--labels", "l", "t", folder=folder).stdout.decode()
+        self.expect("callers", CALLERS in text, text)
 
     def test_marks(self):
         """A mark that ends with its cache line is in one, and lines have the size that the trace says; the answers are written by hand."""

@@ -109,7 +109,7 @@ class Source(Checks):
     def test_instead(self):
         """So has the flush that comes instead of one of the store, but for a line that the story has already; in that of a store it is a row."""
         start = "pmtrace 1\nstore 0 0x1000 01\nclwb 0 0x2000\nsfence 0\n"
-        told = "event 2 (line 3, thread 0) at put.c:{} put: clwb 0 0x2000\n"
+        told = "event 2 (line 3, thread 0) at put.c:{} put: clwb 0 0x2000;\n       it does nothing\n"
         self.write(f"{start}isPersist 0 0x1000 1\n", ["put.c:3 put", "put.c:4 put", "put.c:5 put", "put.c:6 check"])
         text = self.text()
         self.expect("below a story", told.format(4) + "       4 | flush( slot);\n  fix: " in text, text)
@@ -118,7 +118,7 @@ class Source(Checks):
         self.expect("once in a story", told.format(3) + "  fix: " in text, text)
         self.write(start, ["put.c:3 put", "put.c:4", "put.c:5 put"])
         text = self.text()
-        self.expect("below a place", "  put.c:4      clwb 0x2000      another cache line\n       4 | flush( slot);\n    3  put.c:5 put " in text, text)
+        self.expect("below a place", "  put.c:4      clwb 0x2000      another cache line; does nothing\n       4 | flush( slot);\n    3  put.c:5 put " in text, text)
 
     def test_nothing_else(self):
         """Without the lines of source, the text is that without --source."""

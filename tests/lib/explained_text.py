@@ -294,15 +294,15 @@ def wrong_places(explained, lines):
     told = below(lines, heading)
     starts = [at for at, line in enumerate(told) if PLACE.match(line)]
     entries = [told[start:end] for start, end in zip(starts, [*starts[1:], len(told)])]
-    if [entry[0] for entry in entries] != [head for head, _ in wanted]:
+    if [entry[0] for entry in entries] != [head for head, *_ in wanted]:
         return f"places: wanted {wanted}, in {told}"
-    for entry, (_, store) in zip(entries, wanted):
+    for entry, (_, store, callers) in zip(entries, wanted):
         if store is None:
             if len(entry) > 1 and not entry[1].startswith("... "):
                 return f"a place that an assertion tells of: {entry}"
             continue
-        story = [*store_rows(explained, store), *early_lines(explained, store)]
-        if len(story) > MOST_ROWS or entry[1 : len(story) + 1] != story:
+        story = [*store_rows(explained, store), *(cut(line, WIDTH) for line in callers), *early_lines(explained, store)]
+        if len(story) > MOST_ROWS + len(callers) or entry[1 : len(story) + 1] != story:
             return f"the story of a place: wanted {story}, in {entry}"
         draw = f"  draw:   pmtrim draw --line {explained.address(explained.trace.line(store))} "
         order = [ORDER] if explained.trace.is_safe(store, explained.end) else []
@@ -310,6 +310,52 @@ def wrong_places(explained, lines):
         if names != ["  fix:    ", *order, "  draw:   "] or not entry[-1].startswith(draw) or not entry[-1].endswith(f" > event{store}.svg"):
             return f"a place: wanted what mends it, and {draw}, in {entry}"
     return None
+
+
+MORE = re.compile(r"\.\.\. (\d+) (?:more: (.*)|of these in full) \(--limit all\)$")
+
+
+def wrong_places_of_screen(explained, lines):
+    """What is wrong with the entries of places on a screen: first ones in full, and then their first lines alone; and how many are left."""
+    wanted, rests = list(by_place.heads(explained)), list(by_place.rests(explained))
+    told = below(lines, by_place.LABELLED if explained.labels else by_place.THREADS)
+    if not told:
+        is_told = not wanted or any(f"places that lose or delay stores: {rests[0][0]}, {rests[0][1]}" in line for line in lines)
+        return None if is_told else f"no places: wanted {rests[0]}"
+    starts = [at for at, line in enumerate(told) if PLACE.match(line)]
+    shown, more = len(starts), MORE.match(told[-1])
+    entries = [told[start:end] for start, end in zip(starts, [*starts[1:], len(told) - bool(more)])]
+    short = 0
+    for entry, (head, store, _) in zip(entries, wanted):
+        is_short = store is not None and len(entry) == 1
+        if entry[0] != (head.removesuffix(by_place.ONE_OF_THEM) if is_short else head) or short and not is_short and store is not None:
+            return f"places of a screen: wanted {wanted}, in {told}"
+        short += is_short
+    left = rests[shown] if shown < len(rests) else (short, None)
+    found = (int(more[1]), more[2]) if more else (0, None)
+    return None if found == left else f"what is left of places: wanted {left}, in {told}"
+
+
+def brief_hints(explained):
+    """The first lines of the hints that a screen has room for first, in order: those of paths, then those of places, by kind."""
+    told = list(hinted.lines(explained))
+    heads = [line for line in told if line.startswith("hint: ")]
+    kinds = [*((kind, None) for kind, *_ in hinted.hints(explained)), *(("open_at_store", "path") for _ in hinted.path_hints(explained))]
+    left = hinted.left(explained)
+    kinds += [("left", of and "path") for _, of, _ in left]
+    sizes = [0] * (len(kinds) - len(left)) + [-row["left"] for *_, row in left]
+    for wanted in (("open_at_store", "path"), ("left", "path"), *((kind, None) for kind in ("open_at_store", "stored_after_flush", "one_line_short", "left", "split_word"))):
+        found = [(size, at) for at, (kind, size) in enumerate(zip(kinds, sizes)) if kind == wanted]
+        yield from [heads[min(found)[1]]] if found else []
+
+
+def wrong_hints_of_screen(explained, lines):
+    """What is wrong with the hints of a screen: they are the first ones, but for one that a failed assertion tells."""
+    told = [line for line in below(lines, hinted.HEADING) if line.startswith("hint: ")]
+    wanted = list(brief_hints(explained))
+    rests = [wanted, *([*wanted[:at], *wanted[at + 1 :]] for at in range(len(wanted)) if explained.causes)]
+    is_right = explained.asked["only"] is not None or any(told == rest[: len(told)] for rest in rests)
+    return None if is_right else f"hints of a screen: wanted {wanted}, in {told}"
 
 
 def errors_of(lines):
@@ -439,4 +485,5 @@ def wrong_screen(explained, told):
     for name, entries in found.items():
         if entries and not any(name in line or name == "assertion" and line.startswith("error: a crash can ") for line in lines[lines.index(LEGEND) :]):
             return f"nothing of what {name}:\n{told.decode()}"
-    return wrong_answer(explained, lines)
+    wrong = wrong_places_of_screen(explained, lines) or wrong_hints_of_screen(explained, lines)
+    return f"{wrong}\nin\n{told.decode()}" if wrong else wrong_answer(explained, lines)

@@ -13,6 +13,7 @@ CALLER = " < "
 COUNTS = ("stores", "never_persisted", "ignored", "late", "in_time", "left", "flushes", "flushes_dropped", "fences", "fences_dropped")
 LABELLED = "places: what became of the stores of each line of source; those that lose or delay a part first:"
 THREADS = "places: what became of the stores of each thread; with --labels FILE a place is a line of source:"
+ONE_OF_THEM = "; one of them:"
 MOST = 8
 LEAST = 3  # of so many events of a path it is no chance that all have something
 
@@ -166,9 +167,53 @@ def retold(explained):
     return told
 
 
+def fates_in_words(lost, late, in_time):
+    return f"{lost} never persisted, {late} saved late, {in_time} in time"
+
+
+def caller_lines(explained, key):
+    """Of a place that loses or delays a part of its stores, none of which is ignored, what becomes of those of each call path, if one saves all in
+    time: most lost first, then most late. Of more than three paths the others than the first two are one line."""
+    row, lost, paths = dict(rows(explained))[key], set(explained.lost_stores()), {}
+    if key[0] == "thread" or row["ignored"] or standing(row)[0] > 1:
+        return
+    for number in explained.trace.numbers:
+        if explained.trace.event(number)[0] == "store" and place(explained, number) == key:
+            late = number not in lost and fences_waited(explained.trace, number) >= 2
+            counts = paths.setdefault(explained.labels[number], [0, 0, 0])
+            counts[0 if number in lost else 1 if late else 2] += 1
+    share = lambda counts: tuple(-(count * 1_000_000 // sum(counts)) for count in counts[:2])
+    told = sorted(paths.items(), key=lambda item: share(item[1]))
+    if any(told[-1][1][:2]):
+        return
+    few = 2 if len(told) > 3 else 3
+    found = [(label.partition(CALLER)[2] if CALLER in label else "none", counts) for label, counts in told[:few]]
+    if told[few:]:
+        found.append((f"{len(told) - few} others", [sum(counts) for counts in zip(*(counts for _, counts in told[few:]))]))
+    for name, counts in found:
+        yield f"  caller: {fates_in_words(*counts)}: {name}"
+
+
 def heads(explained):
-    """Of each place that loses or delays stores the line that tells it, and the store whose story stands below; none where a failed assertion tells of
-    it. Places that lose all to one line which nothing flushes are told once."""
+    """Of each place that loses or delays stores the line that tells it, the store whose story stands below, none where a failed assertion tells of
+    it, and what becomes of the stores by caller. Places that lose all to one line which nothing flushes are told once."""
+    for line, store, keys in entries_by_place(explained):
+        yield line, store, [] if store is None or len(keys) > 1 else list(caller_lines(explained, keys[0]))
+
+
+def rests(explained):
+    """How many places have no room on a screen, and what is told of them, by the number of entries that have room."""
+    told, counts = [keys for _, _, keys in entries_by_place(explained)], dict(rows(explained))
+    for shown in range(len(told)):
+        left = [counts[key] for keys in told[shown:] for key in keys]
+        first, most = max(((keys[0], counts[keys[0]]["never_persisted"]) for keys in told[shown:]), key=lambda pair: pair[1])
+        lost, late = (sum(row[name] for row in left) for name in ("never_persisted", "late"))
+        at = f" ({most} at {name_of(first)})" if most else ""
+        yield len(told) - shown, f"{stores_in_words(lost)} never persisted{at}, {late} saved late"
+
+
+def entries_by_place(explained):
+    """Of each entry of places its line, its store and its places."""
     if not explained.is_whole():
         return
     lines, told_lines = shared_lines(explained), set()
@@ -177,17 +222,17 @@ def heads(explained):
             if lines[key] not in told_lines:
                 told_lines.add(lines[key])
                 sharing = [(other, found) for other, found in rows(explained) if lines.get(other) == lines[key]]
-                yield shared_head(explained, lines[key], sharing), row["first_never_persisted"]
+                yield shared_head(explained, lines[key], sharing), row["first_never_persisted"], [other for other, _ in sharing]
         elif standing(row)[0] < 4:
             lost, late = row["never_persisted"], row["late"]
             ignored = f", {row['ignored']} ignored" if row["ignored"] else ""
             kind = "error" if lost else "warning" if late < row["stores"] - row["ignored"] else "note"
-            told = f"{kind}: {name_of(key)}: {stores_in_words(row['stores'])}: {lost} never persisted, {late} saved late, {row['in_time']} in time{ignored}"
+            told = f"{kind}: {name_of(key)}: {stores_in_words(row['stores'])}: {fates_in_words(lost, late, row['in_time'])}{ignored}"
             if key in retold(explained):
                 failure = retold(explained)[key]
-                yield f"{told}; why: --failure {failure}", None
+                yield f"{told}; why: --failure {failure}", None, [key]
             else:
-                yield told + ("; one of them:" if (lost or late) > 1 else ""), row["first_never_persisted"] or row["first_late"]
+                yield told + (ONE_OF_THEM if (lost or late) > 1 else ""), row["first_never_persisted"] or row["first_late"], [key]
 
 
 def spoken_of(explained):

@@ -88,6 +88,8 @@ TEXT = {
     "what makes a late store safe": (lambda lines: below_place(lines, "safe only from here on"), None),
     "the flush that is missing": (lambda lines: first_at(lines, "--  no flush of cache line "), None),
     "the fence that is missing": (lambda lines: first_at(lines, "--  flushed by event "), raised(r"(?<=event )\d+")),
+    "what becomes of the stores of a caller": (lambda lines: first_at(lines, "  caller: "), raised(r"\d+")),
+    "a flush that does nothing": (lambda lines: below_place(lines, "; does nothing"), lambda line: line.replace("; does nothing", "")),
     "what mends a place": (lambda lines: below_place(lines, "  fix:    "), None),
     "the picture of a place": (lambda lines: below_place(lines, "  draw:   "), raised(r"(?<=event)\d+(?=\.svg)")),
     "a thread's row": (lambda lines: below_at(lines, THREADS, 2), raised(r"\d+(?=  thread)")),

@@ -6,7 +6,7 @@ import re
 import hinted
 from explained import failure_is_mended, with_events
 from grouped import fences_waited
-from machine import FENCES, FLUSHES
+from machine import FENCES, FLUSHES, is_kept
 from placed import name_of, place as place_at
 
 ANY_FLUSH = ("clflush", *FLUSHES)
@@ -165,13 +165,23 @@ def store_note(explained, store, event):
         return SAVES
     after = range(store + 1, end + 1)
     if event == first(after, lambda at: trace.event(at)[0] in FENCES and trace.event(at)[1] == trace.event(store)[1]):
-        return f"does not save event {store}"
+        return f"does not save event {store}{'' if is_kept(trace, event) else '; does nothing'}"
     if trace.event(event)[0] in FENCES:
         return NO_HELP
     line = trace.line(store)
     if trace.line(event) != line:
-        return ELSEWHERE
+        return ELSEWHERE + idle_note(explained, event)
     return FIRST_FLUSH if event == first(after, lambda at: trace.is_flush_of(at, line, ANY_FLUSH)) else SAVING_FLUSH
+
+
+def idle_note(explained, flush):
+    """That a flush does nothing, with how many of those at its line of source."""
+    trace = explained.trace
+    if is_kept(trace, flush):
+        return ""
+    own = [at for at in trace.numbers if trace.event(at)[0] in ANY_FLUSH and place_at(explained, at) == place_at(explained, flush)]
+    count = f" ({sum(not is_kept(trace, at) for at in own)} of {len(own)})" if flush in explained.labels and len(own) > 1 else ""
+    return f"; does nothing{count}"
 
 
 def store_rows(explained, store):
@@ -262,7 +272,8 @@ def instead(explained, store):
     fence = first(own, lambda at: trace.event(at)[0] in FENCES)
     flushes = [at for at in own if fence is not None and at < fence and trace.event(at)[0] in ANY_FLUSH]
     if flushes and not any(trace.line(at) == trace.line(store) for at in flushes):
-        yield f"the flush before its next fence is {named(explained, flushes[-1])}"
+        idle = "" if is_kept(trace, flushes[-1]) else "; it does nothing"
+        yield f"the flush before its next fence is {named(explained, flushes[-1])}{idle}"
 
 
 def asides(explained, number):

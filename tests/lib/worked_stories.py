@@ -18,12 +18,12 @@ sfence 1|b.c:3
 """,
         """note: a.c:1 f: 1 store: 0 never persisted, 1 saved late, 0 in time
      1  a.c:1 f    store 0 0x1000 01  late: left unsafe by 2 fences
-     2  flush.c:5  clwb 0 0x2000      another cache line
-     3  flush.c:5  clwb 0 0x2040      another cache line
-     4  flush.c:5  clwb 0 0x2080      another cache line
+     2  flush.c:5  clwb 0 0x2000      another cache line; does nothing (7 of 7)
+     3  flush.c:5  clwb 0 0x2040      another cache line; does nothing (7 of 7)
+     4  flush.c:5  clwb 0 0x2080      another cache line; does nothing (7 of 7)
                    ... 2 more flushes of other cache lines
-     7  flush.c:5  clwb 0 0x2140      another cache line
-     8  flush.c:6  sfence 0           does not save event 1
+     7  flush.c:5  clwb 0 0x2140      another cache line; does nothing (7 of 7)
+     8  flush.c:6  sfence 0           does not save event 1; does nothing
      9  b.c:2      clwb 1 0x1000      by thread 1: the first flush of its line
     10  flush.c:6  sfence 0           does not complete that flush
     12  b.c:3      sfence 1           by thread 1: safe only from here on
@@ -42,9 +42,9 @@ sfence 0|a.c:3
 """,
         """error: a.c:1: 2 stores: 2 never persisted, 0 saved late, 0 in time; one of them:
     1  a.c:1  store 0 0x...000 01  never persisted
-    3  a.c:2  clwb 0 0x...040      another cache line
+    3  a.c:2  clwb 0 0x...040      another cache line; does nothing
     4  b.c:1  clwb 1 0x...000      by thread 1: the first flush of its line
-    5  a.c:3  sfence 0             does not save event 1
+    5  a.c:3  sfence 0             does not save event 1; does nothing
        -----  flushed by event 4, but no fence of thread 1 follows
   fix:    Fence by thread 1 after event 4 (b.c:1).
 """,
@@ -53,7 +53,7 @@ sfence 0|a.c:3
         "store 0 0x1000 01|a.c:1\nclwb 1 0x1040|b.c:1\nsfence 1|b.c:2\nclwb 0 0x2000|a.c:2\n",
         """error: a.c:1: 1 store: 1 never persisted, 0 saved late, 0 in time
     1  a.c:1  store 0x1000 01  never persisted
-    4  a.c:2  clwb 0x2000      another cache line
+    4  a.c:2  clwb 0x2000      another cache line; does nothing
        -----  no flush of cache line 0x1000 follows
   fix:    Flush cache line 0x1000 after event 1 (a.c:1), and fence by the thread that flushes it.
 """,

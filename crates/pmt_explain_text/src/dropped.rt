@@ -16,7 +16,7 @@ pub(crate) fn dropped_section(told: &Telling<'_>) -> Section {
         "note: flushes and fences that do nothing, most first:\n",
         groups.len(),
         "places of flushes and fences that do nothing",
-        "--only dropped --limit all",
+        "--only dropped",
     );
     for group in first(groups, told.explanation.limit) {
         let mut pen = Pen::new(told.alloc);

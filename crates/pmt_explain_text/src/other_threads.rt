@@ -19,7 +19,7 @@ pub(crate) fn other_threads_section(told: &Telling<'_>) -> Section {
         "note: fences that complete nothing while flushes of another thread wait, most first:\n",
         chosen.len(),
         "places of fences that complete nothing",
-        "--only dropped --limit all",
+        "--only dropped",
     );
     if is_refused {
         section.refuse();

@@ -21,7 +21,7 @@ pub(crate) fn overwritten_section(told: &Telling<'_>) -> Section {
         "note: stores overwritten before any flush of their cache line, those with other bytes first:\n",
         groups.len(),
         "cache lines with overwritten stores",
-        "--only overwritten --limit all",
+        "--only overwritten",
     );
     match order_of(told.alloc, groups) {
         Ok(order) => add_first(&mut section, told, order.as_slice()),

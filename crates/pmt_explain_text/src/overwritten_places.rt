@@ -33,7 +33,7 @@ pub(crate) fn places_section_of(told: &Telling<'_>) -> Section {
         HEADING,
         0,
         "places of overwritten stores",
-        "--only overwritten --limit all",
+        "--only overwritten",
     );
     match sums_of(told) {
         Ok(sums) => {

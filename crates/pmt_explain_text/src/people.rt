@@ -45,13 +45,13 @@ pub fn text(
         lost_section(&told),
         other_threads_section(&told),
         hints_section(&told, &hinting),
-        dropped_section(&told),
-        overwritten_section(&told),
-        late_section(&told),
         unwritten_section(&told),
+        dropped_section(&told),
+        late_section(&told),
         marks_section(&told),
-        threads_section(&told),
-        labels_section(&told),
+        overwritten_section(&told).aside(),
+        threads_section(&told).aside(),
+        labels_section(&told).aside(),
         sources_section(&told),
     ]?;
     let mut pen = Pen::new(alloc);

@@ -23,7 +23,7 @@ pub(crate) fn threads_section(told: &Telling<'_>) -> Section {
         &all[..0]
     };
     let count = rows.iter().filter(|row| row.dropped > 0).count();
-    let mut section = Section::new(told.alloc, THREADS, count, "threads", "--limit all");
+    let mut section = Section::new(told.alloc, THREADS, count, "table rows of threads", "");
     let mut added = 0usize;
     for row in rows {
         if row.dropped > 0 && added < told.explanation.limit {
@@ -53,8 +53,8 @@ pub(crate) fn labels_section(told: &Telling<'_>) -> Section {
         told.alloc,
         LABELS,
         rows.len(),
-        "source places",
-        "--limit all",
+        "table rows of source places",
+        "",
     );
     for row in first(rows, told.explanation.limit) {
         let mut pen = Pen::new(told.alloc);

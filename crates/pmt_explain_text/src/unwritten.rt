@@ -13,7 +13,7 @@ pub(crate) fn unwritten_section(told: &Telling<'_>) -> Section {
         "warning: assertions on bytes that no store has written by then, which check nothing there:\n",
         found.len(),
         "assertions on bytes that were never stored",
-        "--only unwritten --limit all",
+        "--only unwritten",
     );
     for assertion in first(found, told.explanation.limit) {
         let mut pen = Pen::new(told.alloc);

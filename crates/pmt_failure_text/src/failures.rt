@@ -33,7 +33,7 @@ pub fn failures_section(told: &Telling<'_>, hinting: &Hinting) -> Section {
         },
         causes.len(),
         "causes of failed assertions",
-        "--only failure --limit all",
+        "--only failure",
     );
     let counts = told.explanation.counts.as_slice();
     for index in 0..failures.len() {

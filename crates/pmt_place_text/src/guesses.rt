@@ -23,13 +23,7 @@ type Places = HashMap<Origin, bool>;
 /// them are flushed, no assertion names them, and no other place loses a store to them; no hint is told of such a place. Nothing is guessed
 /// where a trace has no flush or no assertion, since a program that never speaks says nothing by that.
 pub fn guesses_section(told: &Telling<'_>, claims: &Claims) -> Section {
-    let mut section = Section::new(
-        told.alloc,
-        "",
-        0,
-        "guesses at what could be ignored",
-        "--limit all",
-    );
+    let mut section = Section::new(told.alloc, "", 0, "guesses at what to ignore", "");
     if tells_all(told.screen.choice) && add_guess(&mut section, told, claims).is_err() {
         section.refuse();
     }

@@ -1,6 +1,6 @@
 //! What no rule forbids and mostly is a slip, in words.
 
-use crate::left::{add_left, count_left};
+use crate::left::{add_left, add_most_left_path, add_most_left_place, count_left};
 use pmt_explanation::first;
 use pmt_hints::{Hint, HintKind};
 use pmt_model::{Op, Trace, line_of};
@@ -14,7 +14,7 @@ const HEADING: &str =
     "hints: no rule forbids these, but most are slips; they do not change the exit status:\n";
 
 /// Hints. On a screen with other kinds of findings they are the first one of each kind, of places and of paths alone, but for the one that
-/// the first failed assertion tells.
+/// the first failed assertion tells: those of paths first.
 pub fn hints_section(told: &Telling<'_>, hinting: &Hinting) -> Section {
     let hints = told.explanation.hints.as_slice();
     let mut section = Section::new(
@@ -22,28 +22,46 @@ pub fn hints_section(told: &Telling<'_>, hinting: &Hinting) -> Section {
         HEADING,
         hints.len().saturating_add(count_left(told)),
         "hints",
-        "--only hint --limit all",
+        "--only hint",
     );
-    let is_brief = told.screen.rows.is_some() && told.screen.choice.only.is_none();
-    let limit = told.explanation.limit;
-    let told_before = if is_brief {
-        first_told(told, hinting)
-    } else {
-        None
-    };
-    let mut before: Option<(HintKind, bool)> = None;
-    let shown = first(hints, if is_brief { hints.len() } else { limit });
-    for (index, hint) in shown.iter().enumerate() {
-        let kind = Some((hint.kind, hint.path.is_some()));
-        if (!is_brief || before != kind) && told_before != Some(index) {
-            let mut pen = Pen::new(told.alloc);
-            push_hint(&mut pen, told, hint);
-            section.add(pen);
-        }
-        before = kind;
+    if told.screen.rows.is_some() && told.screen.choice.only.is_none() {
+        add_brief(&mut section, told, first_told(told, hinting));
+        return section;
     }
-    add_left(&mut section, told, is_brief);
+    for hint in first(hints, told.explanation.limit) {
+        add_hint(&mut section, told, hint);
+    }
+    add_left(&mut section, told);
     section
+}
+
+// Adds the first hint of each kind, what tells most first, but for the one with this index.
+fn add_brief(section: &mut Section, told: &Telling<'_>, without: Option<usize>) {
+    add_first(section, told, HintKind::OpenAtStore, true, without);
+    add_most_left_path(section, told);
+    add_first(section, told, HintKind::OpenAtStore, false, without);
+    add_first(section, told, HintKind::StoredAfterFlush, false, without);
+    add_first(section, told, HintKind::OneLineShort, false, without);
+    add_most_left_place(section, told);
+    add_first(section, told, HintKind::SplitWord, false, without);
+}
+
+// Adds the first hint of this kind of a path alone, or of a place, but for the one with this index.
+fn add_first(
+    section: &mut Section,
+    told: &Telling<'_>,
+    kind: HintKind,
+    is_path: bool,
+    without: Option<usize>,
+) {
+    for (index, hint) in told.explanation.hints.iter().enumerate() {
+        if hint.kind == kind && hint.path.is_some() == is_path {
+            if without != Some(index) {
+                add_hint(section, told, hint);
+            }
+            return;
+        }
+    }
 }
 
 /// Whether something is hinted at.
@@ -57,21 +75,35 @@ fn first_told(told: &Telling<'_>, hinting: &Hinting) -> Option<usize> {
     hinting.hint_of(told, shown.failure.lost.store, shown.cause)
 }
 
+// Adds an entry for the hint, with its first line for a short form.
+fn add_hint(section: &mut Section, told: &Telling<'_>, hint: &Hint) {
+    let partner = hint_partner(told.trace, hint);
+    let mut short = Pen::new(told.alloc);
+    push_hint_head(&mut short, told, hint, partner);
+    let mut pen = Pen::new(told.alloc);
+    push_hint(&mut pen, told, hint, partner);
+    section.add_with_short(pen, short);
+}
+
 // Adds the hint, the first event and the one that it goes with, what a crash between them and a fence loses, and what to do.
-fn push_hint(pen: &mut Pen, told: &Telling<'_>, hint: &Hint) {
+fn push_hint(pen: &mut Pen, told: &Telling<'_>, hint: &Hint, partner: Option<u64>) {
+    push_hint_head(pen, told, hint, partner);
+    if let Some(other) = partner {
+        push_loss(pen, told, hint, other);
+    }
+    push_fix(pen, told, hint);
+}
+
+// Adds the hint, the first event and the one that it goes with.
+fn push_hint_head(pen: &mut Pen, told: &Telling<'_>, hint: &Hint, partner: Option<u64>) {
     let mut head = Pen::new(pen.alloc());
     push_hint_words(&mut head, told, hint);
     head.fill("; first: event #", &[hint.first]);
-    let partner = hint_partner(told.trace, hint);
     if let Some(other) = partner {
         head.put(other_words(hint.kind));
         push_place(&mut head, told, other);
     }
     push_wrapped(pen, &head, HEAD);
-    if let Some(other) = partner {
-        push_loss(pen, told, hint, other);
-    }
-    push_fix(pen, told, hint);
 }
 
 // Adds what a crash right after the other event loses, if the flush is not fenced then and that store stands near.

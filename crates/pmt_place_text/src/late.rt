@@ -23,7 +23,7 @@ pub fn late_section(told: &Telling<'_>) -> Section {
         "note: stores that two fences or more of their own thread left unsafe, most first:\n",
         groups.len(),
         "places of stores that are left unsafe",
-        "--only late --limit all",
+        "--only late",
     );
     for group in first(groups, told.explanation.limit) {
         let mut pen = Pen::new(told.alloc);

@@ -26,19 +26,13 @@ pub(crate) fn count_left(told: &Telling<'_>) -> usize {
     count.saturating_add(paths.iter().filter(|row| is_left_path(told, row)).count())
 }
 
-// Adds a hint for each such place, and then for each such path, as many as the limit says; or one alone, of the place with most such stores,
-// and one of such a path.
-pub(crate) fn add_left(section: &mut Section, told: &Telling<'_>, is_brief: bool) {
+// Adds a hint for each such place, and then for each such path, as many as the limit says.
+pub(crate) fn add_left(section: &mut Section, told: &Telling<'_>) {
     if count_left(told) == 0 {
         return;
     }
     let places = told.explanation.places.as_slice();
     let paths = told.explanation.left_paths.as_slice();
-    if is_brief {
-        add_most(section, told, places, false);
-        add_most(section, told, paths, true);
-        return;
-    }
     let mut added = 0usize;
     for row in places {
         if is_left(told, row) && added < told.explanation.limit {
@@ -79,6 +73,20 @@ fn is_left_path(told: &Telling<'_>, row: &PlaceRow) -> bool {
 fn has_hint(told: &Telling<'_>, place: Origin) -> bool {
     let hints = told.explanation.hints.as_slice();
     hints.iter().any(|hint| hint.place == place)
+}
+
+// Adds the hint at the place with most such stores, the first one of several, if hints at all places are asked for.
+pub(crate) fn add_most_left_place(section: &mut Section, told: &Telling<'_>) {
+    if asks_all_places(told.screen.choice) {
+        add_most(section, told, told.explanation.places.as_slice(), false);
+    }
+}
+
+// Adds the hint at the path with most such stores, the first one of several, if hints at all places are asked for.
+pub(crate) fn add_most_left_path(section: &mut Section, told: &Telling<'_>) {
+    if asks_all_places(told.screen.choice) {
+        add_most(section, told, told.explanation.left_paths.as_slice(), true);
+    }
 }
 
 // Adds the hint at the place, or path, with most such stores, the first one of several.
@@ -122,12 +130,14 @@ fn add_row(section: &mut Section, told: &Telling<'_>, row: &PlaceRow, is_path: b
     }
     head.put(if row.left == 1 { ONE_LATE } else { LATE });
     head.fill("; first: event #", &[store]);
+    let mut short = Pen::new(told.alloc);
+    push_wrapped(&mut short, &head, HEAD);
     let mut pen = Pen::new(told.alloc);
     push_wrapped(&mut pen, &head, HEAD);
     if let Some(event) = told.trace.get(store) {
         push_remedy(&mut pen, told, event.thread, store, row.saved_before);
     }
-    section.add(pen);
+    section.add_with_short(pen, short);
 }
 
 // How many stores the place makes.

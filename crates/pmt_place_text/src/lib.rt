@@ -1,6 +1,7 @@
 //! What `pmtrim explain` writes of places of the source, of their stores, and of hints, for people.
 #![tactic(auto)]
 
+mod callers;
 mod claims;
 mod guesses;
 mod hints;
@@ -12,6 +13,7 @@ mod member_story;
 mod members;
 mod merging;
 mod places;
+mod rests;
 mod retold;
 mod sharing;
 mod wanted;

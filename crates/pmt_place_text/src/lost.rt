@@ -22,7 +22,7 @@ pub fn lost_section(told: &Telling<'_>) -> Section {
         "",
         causes.len(),
         "causes of stores that are never persisted",
-        "--only never_persisted --limit all",
+        "--only never_persisted",
     );
     for cause in first(causes, told.explanation.limit) {
         let mut pen = Pen::new(told.alloc);

@@ -28,7 +28,7 @@ pub fn marks_section(told: &Telling<'_>) -> Section {
         "",
         0,
         "notes on claims whose mark lies in several cache lines",
-        "--limit all",
+        "",
     );
     if tells_all(told.screen.choice) && add_note(&mut section, told).is_err() {
         section.refuse();

@@ -1,12 +1,14 @@
 //! The story of a store that is never persisted, or late: the few events that tell why, a row each.
 
 use pmt_asked::frame_of;
+use pmt_causes::Origin;
 use pmt_model::OutOfMemory;
 use pmt_pen::Pen;
 use pmt_slices::{StorePart, StoreStory, store_story_of};
 use pmt_telling::{
-    SOURCE, StoryColumns, StoryRow, Telling, line_address, line_of_store, push_story_break,
-    push_story_gap, push_story_row, push_wrapped, spelling_of, story_columns, story_row,
+    SOURCE, StoryColumns, StoryRow, Telling, does_nothing, line_address, line_of_store, place_of,
+    push_story_break, push_story_gap, push_story_row, push_wrapped, spelling_of, story_columns,
+    story_row,
 };
 
 // So many places are told with a story: each looks at all events after its store.
@@ -77,12 +79,37 @@ fn push_note(note: &mut Pen, told: &Telling<'_>, story: &StoreStory, store: u64,
                 note.put("never persisted");
             }
         }
-        StorePart::Other => note.put("another cache line"),
-        StorePart::OwnFence => note.fill("does not save event #", &[store]),
+        StorePart::Other => {
+            note.put("another cache line");
+            push_idle(note, told, number);
+        }
+        StorePart::OwnFence => {
+            note.fill("does not save event #", &[store]);
+            if does_nothing(told, number) {
+                note.put("; does nothing");
+            }
+        }
         StorePart::Flush => note.put("the first flush of its line"),
         StorePart::Cover => note.put("the flush that saves it"),
         StorePart::Fence => note.put("does not complete that flush"),
         StorePart::Saves => note.put("safe only from here on"),
+    }
+}
+
+// Adds that the flush does nothing, if so, and how many of those at its line of source do nothing.
+fn push_idle(note: &mut Pen, told: &Telling<'_>, flush: u64) {
+    if !does_nothing(told, flush) {
+        return;
+    }
+    note.put("; does nothing");
+    let place = place_of(told, flush);
+    if let Origin::Label(_) = place {
+        let rows = told.explanation.places.as_slice();
+        if let Some(row) = rows.iter().find(|row| row.place == place) {
+            if row.flushes > 1 {
+                note.fill(" (# of #)", &[row.idle_flushes, row.flushes]);
+            }
+        }
     }
 }
 

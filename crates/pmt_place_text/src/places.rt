@@ -1,11 +1,14 @@
 //! What becomes of the stores of each place, in words: of the places that lose or delay some.
 
+use crate::callers::{Callers, callers_of, push_callers};
 use crate::claims::Claims;
 use crate::member_story::{MOST_STORIES, push_store_story, waited_by};
 use crate::members::{Members, members_of};
+use crate::rests::{most_lost, rest_of, sum_of, sum_of_entry};
 use crate::retold::{Retold, retold_of};
 use crate::sharing::{Sharing, push_shared, sharing_of};
 use pmt_asked::Choice;
+use pmt_causes::Origin;
 use pmt_explanation::{Explanation, first};
 use pmt_failures::mend_for;
 use pmt_fates::{PlaceRow, Standing, standing_of};
@@ -39,8 +42,9 @@ pub fn places_section(told: &Telling<'_>, claims: &Claims) -> Section {
         heading,
         rows.len(),
         "places that lose or delay stores",
-        "--limit all",
-    );
+        "",
+    )
+    .shorts_first();
     if !rows.is_empty() && add_rows(&mut section, told, rows, claims).is_err() {
         section.refuse();
     }
@@ -60,10 +64,12 @@ fn add_rows(
         .filter(|number| !is_told(&sharing, rows, *number))
         .count();
     let retold = retold_of(told, rows, &members)?;
+    let callers = callers_of(told, rows)?;
     let beside = Beside {
         sharing,
         members,
         retold,
+        callers,
     };
     add_places(section, told, rows, &beside);
     Ok(())
@@ -96,24 +102,30 @@ fn is_troubled(row: &PlaceRow) -> bool {
     }
 }
 
-// What is known of places besides their rows: which share a line, why the first lost store of each is lost, and of which failed assertions
-// tell.
+// What is known of places besides their rows: which share a line, why the first lost store of each is lost, of which failed assertions
+// tell, and what becomes of the stores of each call path.
 #[derive(Drop)]
 struct Beside {
     sharing: Sharing,
     members: Members,
     retold: Retold,
+    callers: Callers,
 }
 
-// Adds an entry for each of these places that is not told with another one, as many as the limit says.
+// Adds an entry for each of these places that is not told with another one, as many as the limit says, each with its first line
+// for a short form; and on a screen what is told of those that are left.
 fn add_places(section: &mut Section, told: &Telling<'_>, rows: &[PlaceRow], beside: &Beside) {
     let most = most_stories(told);
+    let is_screen = told.screen.rows.is_some();
+    let mut left = sum_of(rows);
     let mut added = 0usize;
     let mut stories = 0usize;
+    let mut next = 0usize;
     for (number, row) in rows.iter().enumerate() {
         if added >= told.explanation.limit {
             break;
         }
+        next = number.saturating_add(1);
         if beside.sharing.is_told(row.place, number) {
             continue;
         }
@@ -123,7 +135,14 @@ fn add_places(section: &mut Section, told: &Telling<'_>, rows: &[PlaceRow], besi
         if push_place_entry(&mut pen, told, rows, row, beside, is_story) {
             stories = stories.saturating_add(1);
         }
-        section.add(pen);
+        if is_screen {
+            section.add_rest(rest_of(told, left, most_lost(rows, number, &beside.sharing)));
+            left = left.without(sum_of_entry(rows, row, &beside.sharing));
+        }
+        section.add_with_short(pen, short_of(told, rows, row, beside));
+    }
+    if is_screen {
+        section.add_rest(rest_of(told, left, most_lost(rows, next, &beside.sharing)));
     }
 }
 
@@ -145,26 +164,53 @@ fn push_place_entry(
     beside: &Beside,
     is_story: bool,
 ) -> bool {
-    if let Some(numbers) = beside.sharing.shared(row.place) {
-        let line = line_of_store(told.trace, row.first_lost.unwrap_or(0));
-        push_shared(pen, told, rows, numbers, line_address(told.trace, line));
-    } else {
-        let failure = beside.retold.event_of(told, row.place);
-        push_head(pen, told, row, failure);
-        if failure.is_some() {
-            return false;
-        }
+    if push_place_head(pen, told, rows, row, beside, true) {
+        return false;
     }
     if let Some(store) = row.first_lost {
-        push_lost(pen, told, &beside.members, store, is_story);
+        push_lost(pen, told, beside, row.place, store, is_story);
     } else if let Some(store) = row.first_late {
-        push_late(pen, told, store, is_story);
+        push_late(pen, told, beside, row.place, store, is_story);
     }
     true
 }
 
-// Adds how many stores the place has, and what becomes of them; and which failed assertion tells why, if one does.
-fn push_head(pen: &mut Pen, told: &Telling<'_>, row: &PlaceRow, failure: Option<u64>) {
+// Adds the place, or those that share its line, and what becomes of their stores, as the first line of an entry or the only one; whether a
+// failed assertion tells the rest.
+fn push_place_head(
+    pen: &mut Pen,
+    told: &Telling<'_>,
+    rows: &[PlaceRow],
+    row: &PlaceRow,
+    beside: &Beside,
+    is_first: bool,
+) -> bool {
+    if let Some(numbers) = beside.sharing.shared(row.place) {
+        let line = line_of_store(told.trace, row.first_lost.unwrap_or(0));
+        push_shared(pen, told, rows, numbers, line_address(told.trace, line));
+        return false;
+    }
+    let failure = beside.retold.event_of(told, row.place);
+    push_head(pen, told, row, failure, is_first);
+    failure.is_some()
+}
+
+// The short form of the entry.
+fn short_of(told: &Telling<'_>, rows: &[PlaceRow], row: &PlaceRow, beside: &Beside) -> Pen {
+    let mut pen = Pen::new(told.alloc);
+    let _is_retold = push_place_head(&mut pen, told, rows, row, beside, false);
+    pen
+}
+
+// Adds how many stores the place has, and what becomes of them; and which failed assertion tells why, if one does, or that one of them
+// follows.
+fn push_head(
+    pen: &mut Pen,
+    told: &Telling<'_>,
+    row: &PlaceRow,
+    failure: Option<u64>,
+    is_first: bool,
+) {
     let mut head = Pen::new(pen.alloc());
     head.put(match standing_of(row) {
         Standing::LosesSome | Standing::LosesAll => "error: ",
@@ -183,7 +229,7 @@ fn push_head(pen: &mut Pen, told: &Telling<'_>, row: &PlaceRow, failure: Option<
     }
     match failure {
         Some(event) => head.fill("; why: --failure #", &[event]),
-        None => head.put(if is_one_of_many(row) {
+        None => head.put(if is_first && is_one_of_many(row) {
             "; one of them:"
         } else {
             ""
@@ -202,13 +248,21 @@ fn is_one_of_many(row: &PlaceRow) -> bool {
 }
 
 // Adds the first store of a place that is never persisted: why, and what mends it.
-fn push_lost(pen: &mut Pen, told: &Telling<'_>, members: &Members, store: u64, is_story: bool) {
+fn push_lost(
+    pen: &mut Pen,
+    told: &Telling<'_>,
+    beside: &Beside,
+    place: Origin,
+    store: u64,
+    is_story: bool,
+) {
     if is_story {
         push_store_story(pen, told, store);
     } else {
         push_named(pen, told, "  store:  ", store);
     }
-    if let Some(group) = members.group_of(told, store) {
+    push_callers(pen, told, &beside.callers, place);
+    if let Some(group) = beside.members.group_of(told, store) {
         if !is_story {
             push_cause(pen, told, group.cause, group.line);
         }
@@ -228,7 +282,14 @@ fn push_lost(pen: &mut Pen, told: &Telling<'_>, members: &Members, store: u64, i
 }
 
 // Adds the first store of a place that is saved late: why, and what mends that.
-fn push_late(pen: &mut Pen, told: &Telling<'_>, store: u64, is_story: bool) {
+fn push_late(
+    pen: &mut Pen,
+    told: &Telling<'_>,
+    beside: &Beside,
+    place: Origin,
+    store: u64,
+    is_story: bool,
+) {
     if is_story {
         push_store_story(pen, told, store);
     } else {
@@ -238,6 +299,7 @@ fn push_late(pen: &mut Pen, told: &Telling<'_>, store: u64, is_story: bool) {
             &[waited_by(told, store)],
         );
     }
+    push_callers(pen, told, &beside.callers, place);
     push_early(pen, told, "  early:  ", store, SOURCE);
     let Some(event) = told.trace.get(store) else {
         return;

@@ -30,4 +30,6 @@ pub use crate::story_rows::{
     StoryColumns, StoryRow, push_story_break, push_story_gap, push_story_row, story_columns,
     story_row,
 };
-pub use crate::telling::{Screen, Telling, failure_of, line_address, line_of_store, tells_all};
+pub use crate::telling::{
+    Screen, Telling, does_nothing, failure_of, line_address, line_of_store, tells_all,
+};

@@ -2,7 +2,7 @@
 
 use crate::parts::{NEAR, push_event, push_place};
 use crate::rows::push_wrapped;
-use crate::telling::{Telling, line_of_store};
+use crate::telling::{Telling, does_nothing, line_of_store};
 use pmt_model::{Op, Trace, line_of};
 use pmt_pen::Pen;
 
@@ -72,6 +72,9 @@ pub fn push_instead(pen: &mut Pen, told: &Telling<'_>, name: &str, flush: u64, c
     line.put(name);
     line.put("the flush before its next fence is ");
     push_event(&mut line, told, flush);
+    if does_nothing(told, flush) {
+        line.put("; it does nothing");
+    }
     push_wrapped(pen, &line, columns);
 }
 

@@ -1,5 +1,6 @@
 //! Sections of a text, cut to the lines that a screen has.
 
+use crate::rows::{HEAD, push_wrapped};
 use pmt_pen::Pen;
 use std::alloc::Global;
 
@@ -10,16 +11,23 @@ pub struct Section {
     heading: &'static str,
     /// The first entries, each of whole lines.
     pub entries: Vec<String>,
+    // Where entries have short forms, which a screen shows first, those, in the same order; else nothing.
+    shorts: Vec<String>,
+    // For each number of shown entries what is told of those that are left; nothing where their number is enough.
+    rests: Vec<String>,
     // Whether memory was refused to one of them.
     is_refused: bool,
-    // How many of them are shown.
+    // How many entries a screen shows first, if it has room; none where all other sections come first.
+    firsts: usize,
+    // How many of them are shown, and how many of these first ones are not shown by their short forms.
     shown: usize,
+    whole: usize,
     /// How many entries there are, with those that are not here.
     pub total: usize,
     // What one of them is.
     what: &'static str,
-    // The words that show all of them.
-    words: &'static str,
+    // The option that chooses them alone; empty for none.
+    option: &'static str,
 }
 
 impl Section {
@@ -29,17 +37,33 @@ impl Section {
         heading: &'static str,
         total: usize,
         what: &'static str,
-        words: &'static str,
+        option: &'static str,
     ) -> Self {
         Section {
             heading,
             entries: Vec::new(alloc),
+            shorts: Vec::new(alloc),
+            rests: Vec::new(alloc),
             is_refused: false,
+            firsts: 1,
             shown: 0,
+            whole: 0,
             total,
             what,
-            words,
+            option,
         }
+    }
+
+    /// The same section, of which a screen shows all entries by their short forms first.
+    pub fn shorts_first(mut self) -> Self {
+        self.firsts = usize::MAX;
+        self
+    }
+
+    /// The same section, shown on a screen only where all others have what they want.
+    pub fn aside(mut self) -> Self {
+        self.firsts = 0;
+        self
     }
 
     /// Adds the entry. All are shown at first.
@@ -49,84 +73,174 @@ impl Section {
             Err(_) => self.is_refused = true,
         }
         self.shown = self.entries.len();
+        self.whole = self.shown;
+    }
+
+    /// Adds the entry with its short form; all entries of the section are added so.
+    pub fn add_with_short(&mut self, entry: Pen, short: Pen) {
+        self.add(entry);
+        match short.finish() {
+            Ok(short) => self.is_refused = self.shorts.push(short).is_err() || self.is_refused,
+            Err(_) => self.is_refused = true,
+        }
+    }
+
+    /// Adds what is told of the entries that are left where those that stand here by now are shown.
+    pub fn add_rest(&mut self, rest: Pen) {
+        match rest.finish() {
+            Ok(rest) => self.is_refused = self.rests.push(rest).is_err() || self.is_refused,
+            Err(_) => self.is_refused = true,
+        }
     }
 
     /// Notes that memory was refused to an entry.
     pub fn refuse(&mut self) {
         self.is_refused = true;
     }
+
+    // How many entries are not shown at all.
+    fn left(&self) -> usize {
+        self.total.saturating_sub(self.shown)
+    }
+
+    // What is told of the entries that are left, if something is.
+    fn rest(&self) -> Option<&str> {
+        match self.rests.get(self.shown) {
+            Some(rest) => Some(rest.as_str()),
+            None => None,
+        }
+    }
+
+    // How many entries are shown by a short form that says less.
+    fn shortened(&self) -> usize {
+        let entries = self.entries.iter().take(self.shown);
+        let pairs = entries.zip(self.shorts.iter()).skip(self.whole);
+        pairs
+            .filter(|(entry, short)| entry.len() > short.len())
+            .count()
+    }
 }
 
 /// Adds the sections, in at most so many lines with those that stand already; with no such number, all entries that they have.
-/// Sections of which no entry is shown stand last, a line each.
+/// Sections of which no entry is shown stand last, in a few lines.
 pub fn push_sections(pen: &mut Pen, sections: &mut [Section], rows: Option<usize>) {
     if let Some(rows) = rows {
         let used = lines_of(pen.as_str().as_bytes());
-        fit(sections, rows.saturating_sub(used));
+        fit(pen, sections, rows.saturating_sub(used));
     }
-    let mut is_shown = true;
-    for index in 0..sections.len() {
-        push_section(pen, &sections[index]);
-    }
-    for index in 0..sections.len() {
-        let section = &sections[index];
-        if section.shown == 0 && section.total > 0 {
-            if is_shown {
-                pen.put("\n");
-                is_shown = false;
-            }
-            push_left(pen, section);
-        }
-    }
+    push_all(pen, sections);
 }
 
-// Shows of each section what fits into so many lines: first one entry of each, and then as many as there is room for.
-fn fit(sections: &mut [Section], rows: usize) {
-    let mut used = 1usize;
+// Adds the sections as they are shown.
+fn push_all(pen: &mut Pen, sections: &[Section]) {
+    for section in sections {
+        push_section(pen, section);
+    }
+    push_unshown(pen, sections);
+}
+
+// What a screen shows next of a section.
+#[derive(Clone, Copy, PartialEq, Eq)]
+enum Step {
+    // One more entry, by its short form if it has one.
+    Entry,
+    // One more entry that has a short form, as a whole.
+    Whole,
+}
+
+// What sections show, one after the other.
+#[derive(Clone, Copy, PartialEq, Eq)]
+enum Turn {
+    // The first entries, one of them as a whole.
+    Firsts,
+    // All entries, those with short forms by these.
+    Entries,
+    // All entries as a whole.
+    Wholes,
+    // All entries of those that stand aside.
+    Asides,
+}
+
+// Shows of each section what fits into so many lines.
+fn fit(pen: &mut Pen, sections: &mut [Section], rows: usize) {
     for index in 0..sections.len() {
         sections[index].shown = 0;
-        used = used.saturating_add(cost(&sections[index], 0));
+        sections[index].whole = 0;
     }
-    for most in [1usize, usize::MAX] {
+    for turn in [Turn::Firsts, Turn::Entries, Turn::Wholes, Turn::Asides] {
         for index in 0..sections.len() {
-            let (count, more) = filled(&sections[index], most, rows.saturating_sub(used));
-            used = used.saturating_add(more);
-            sections[index].shown = count;
+            fill(pen, sections, index, turn, rows);
         }
     }
 }
 
-// How many entries of the section are shown, at most `most`, where there is room for so many lines more; and how many more lines that
-// takes.
-fn filled(section: &Section, most: usize, room: usize) -> (usize, usize) {
-    let least = cost(section, section.shown);
-    let mut count = section.shown;
-    for next in section.shown..section.entries.len().min(most) {
-        let more = next.saturating_add(1);
-        if cost(section, more) > least.saturating_add(room) {
+// Shows what fits of the section at this place in this turn.
+fn fill(pen: &mut Pen, sections: &mut [Section], index: usize, turn: Turn, rows: usize) {
+    let Some(section) = sections.get(index) else {
+        return;
+    };
+    for _ in section.shown..most_entries(section, turn) {
+        if !show(pen, sections, index, Step::Entry, rows) {
             break;
         }
-        count = more;
     }
-    (count, cost(section, count).saturating_sub(least))
+    let Some(section) = sections.get(index) else {
+        return;
+    };
+    for _ in section.whole..section.shown.min(most_wholes(turn)) {
+        if !show(pen, sections, index, Step::Whole, rows) {
+            break;
+        }
+    }
 }
 
-// How many lines the section takes with so many entries.
-fn cost(section: &Section, count: usize) -> usize {
-    if section.total == 0 {
-        return 0;
+// How many entries of the section are shown at most after this turn.
+fn most_entries(section: &Section, turn: Turn) -> usize {
+    let is_all = match turn {
+        Turn::Firsts => false,
+        Turn::Entries | Turn::Wholes => section.firsts > 0,
+        Turn::Asides => true,
+    };
+    let count = section.entries.len();
+    if is_all {
+        count
+    } else {
+        count.min(section.firsts)
     }
-    if count == 0 {
-        return 1;
+}
+
+// How many of those with short forms are shown as a whole at most after this turn.
+fn most_wholes(turn: Turn) -> usize {
+    match turn {
+        Turn::Firsts | Turn::Entries => 1,
+        Turn::Wholes | Turn::Asides => usize::MAX,
     }
-    let mut lines = lines_of(section.heading.as_bytes()).saturating_add(1);
-    for entry in section.entries.iter().take(count) {
-        lines = lines.saturating_add(lines_of(entry.as_bytes()));
+}
+
+// Shows more of the section at this place, if there is room for all in so many lines; whether there is.
+fn show(pen: &mut Pen, sections: &mut [Section], index: usize, step: Step, rows: usize) -> bool {
+    let Some(section) = sections.get_mut(index) else {
+        return false;
+    };
+    let shown = section.shown;
+    let whole = section.whole;
+    if step == Step::Entry {
+        section.shown = shown.saturating_add(1);
     }
-    if count < section.total {
-        lines = lines.saturating_add(1);
+    if step == Step::Whole || section.shorts.is_empty() {
+        section.whole = whole.saturating_add(1);
     }
-    lines
+    let mut all = Pen::new(pen.alloc());
+    push_all(&mut all, sections);
+    pen.share(&all);
+    let has_room = lines_of(all.as_str().as_bytes()) <= rows;
+    if let Some(section) = sections.get_mut(index) {
+        if !has_room {
+            section.shown = shown;
+            section.whole = whole;
+        }
+    }
+    has_room
 }
 
 /// How many lines the text has.
@@ -144,25 +258,67 @@ fn push_section(pen: &mut Pen, section: &Section) {
     }
     pen.put("\n");
     pen.put(section.heading);
-    for entry in section.entries.iter().take(section.shown) {
+    for entry in section.entries.iter().take(section.whole) {
         pen.put(entry.as_str());
     }
-    if section.shown < section.total {
-        push_left(pen, section);
+    for short in section
+        .shorts
+        .iter()
+        .take(section.shown)
+        .skip(section.whole)
+    {
+        pen.put(short.as_str());
     }
+    push_more(pen, section);
 }
 
-// Adds how many entries are left out.
-fn push_left(pen: &mut Pen, section: &Section) {
-    let left = section.total.saturating_sub(section.shown) as u64;
-    let form = if section.shown == 0 {
-        "... #: "
+// Adds how many entries of a section that is shown are left out, or else how many are shown by short forms alone.
+fn push_more(pen: &mut Pen, section: &Section) {
+    let left = section.left() as u64;
+    let shortened = section.shortened() as u64;
+    if left == 0 && shortened == 0 {
+        return;
+    }
+    let mut line = Pen::new(pen.alloc());
+    if left == 0 {
+        line.fill("... # of these in full (", &[shortened]);
     } else {
-        "... # more: "
-    };
-    pen.fill(form, &[left]);
-    pen.put(section.what);
-    pen.put(" (");
-    pen.put(section.words);
-    pen.put(")\n");
+        line.fill("... # more: ", &[left]);
+        line.put(section.rest().unwrap_or(section.what));
+        line.put(" (");
+    }
+    if !section.option.is_empty() {
+        line.put(section.option);
+        line.put(" ");
+    }
+    line.put("--limit all)");
+    push_wrapped(pen, &line, HEAD);
+}
+
+// Adds the sections of which no entry is shown: what their entries are, how many, and the option that chooses them.
+fn push_unshown(pen: &mut Pen, sections: &[Section]) {
+    let mut line = Pen::new(pen.alloc());
+    line.put("... not shown (--limit all): ");
+    let mut is_first = true;
+    for section in sections {
+        if section.shown == 0 && section.total > 0 {
+            line.put(if is_first { "" } else { "; " });
+            line.put(section.what);
+            line.fill(": #", &[section.total as u64]);
+            if let Some(rest) = section.rest() {
+                line.put(", ");
+                line.put(rest);
+            }
+            if !section.option.is_empty() {
+                line.put(" (");
+                line.put(section.option);
+                line.put(")");
+            }
+            is_first = false;
+        }
+    }
+    if !is_first {
+        pen.put("\n");
+        push_wrapped(pen, &line, HEAD);
+    }
 }

@@ -55,7 +55,7 @@ pub fn sources_section(told: &Telling<'_>) -> Section {
         "",
         notes.len(),
         "source files or lines that are not there",
-        "--limit all",
+        "",
     );
     for note in first(notes, told.explanation.limit) {
         let mut pen = Pen::new(told.alloc);

@@ -83,3 +83,11 @@ pub fn line_of_store(trace: &Trace, number: u64) -> u64 {
         | Op::IsOrderedBefore(_, _) => 0,
     }
 }
+
+/// Whether the event is a flush or a fence that does nothing.
+pub fn does_nothing(told: &Telling<'_>, number: u64) -> bool {
+    let dropped = told.explanation.dropped.as_slice();
+    dropped
+        .binary_search_by_key(&number, |entry| entry.event)
+        .is_ok()
+}
