@@ -3,8 +3,8 @@ use Rattle.pmt_model.specs.Keeping.{IsKeep}
 use Rattle.pmt_flags.specs.Flags.{marked_from}
 use Rattle.pmt_report.proofs.sweeping.swept_trace.Goals as goal
 
-pub new-requires : goal.new-requires
-new-requires c = record {
+pub new-analysis-requires : goal.new-analysis-requires
+new-analysis-requires c = record {
   touched = c.in_ok-lines.ensures.lines;
   found = c.in_ok-lines.ensures.findings;
   judged = c.in_ok-lines.ensures.verdicts;
