@@ -22,3 +22,4 @@ pub mod CrashLemmas
 pub mod CountingLemmas
 pub mod KeptLemmas
 pub mod KeepingLemmas
+pub mod SearchingLemmas

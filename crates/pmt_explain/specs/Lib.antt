@@ -19,3 +19,4 @@ pub mod Crashes
 pub mod Keepers
 pub mod Counting
 pub mod Kept
+pub mod Searching

@@ -1,41 +1,100 @@
 //! Why each dropped flush or fence is dropped.
 
-ghost use Rattle.std.specs.Prelude.{◌≡◌, IfOk, OnOk};
+ghost use Rattle.std.specs.Prelude.{◌≡◌, ◌+◌, ◌<◌, ◌^◌, if◌then◌else◌, IfOk, IfSome, OnOk};
+ghost use Rattle.pmt_model.specs.Keeping.{IsKeep};
 ghost use Rattle.pmt_explain.specs.Dropping.{AreDropped, with_listed};
 ghost use Rattle.pmt_explain.specs.Following.{AreFollowing};
 ghost use Rattle.pmt_explain.specs.Saving.{AreStored};
+ghost use Rattle.pmt_explain.specs.Searching.{has_at as stands_at};
 
 use crate::dropped_event::Dropped;
-use crate::following::{Following, all_coming};
+use crate::following::{Following, all_following};
 use crate::known::Known;
 use crate::saving::SafePlaces;
-use pmt_model::{OutOfMemory, Trace};
+use crate::searching::searched;
+use pmt_model::{OutOfMemory, Selection, Trace};
 use pmt_reasons::Reason;
 use std::alloc::Global;
 
-/// What is dropped of a trace, and from which place on each of its stores is safe.
-#[derive(Drop)]
-pub struct EventEffects<'a> {
-    /// The flushes, clflushes and fences that are dropped, by rising numbers, each with the reason why.
-    pub dropped: Vec<Dropped>,
-    /// What `SafePlaces::of` tells.
-    pub safe: SafePlaces<'a>,
-}
+// At so many events for each one so far may searches look, and at so many more.
+const LOOKS: u64 = 8;
 
-/// What is dropped of the trace, and its safe places. It goes over the events twice, with at most five look-ups for each.
+const MORE: u64 = 4096;
+
+/// The flushes, clflushes and fences of the trace that are dropped, by rising numbers, each with the reason why; `kept` has the events that
+/// are not dropped.
+///
+/// It looks at each event once, and for a dropped one at those around it. Where these get to more than some 8 an event, it goes over the
+/// events twice instead, with at most five look-ups for each.
 ///
 /// # Errors
 /// Where memory was refused.
-pub fn effects<'a>(alloc: Global, trace: &'a Trace) -> Result<EventEffects<'a>, OutOfMemory>
-    ensures dropped { IfOk result (λ found. AreDropped trace.now found.dropped.items) }
-    ensures safe { IfOk result (λ found. found.safe.trace.now ≡ trace.now) }
+pub fn dropped_events(
+    alloc: Global,
+    safe: &SafePlaces<'_>,
+    kept: &Selection,
+) -> Result<Vec<Dropped>, OutOfMemory>
+    requires { IsKeep safe.now.trace.now kept.now }
+    ensures { IfOk result (λ list. AreDropped safe.now.trace.now list.items) }
 {
-    let coming = all_coming(alloc, trace)?;
-    let dropped = dropped_before(alloc, trace, coming.following.as_slice())?;
-    Ok(EventEffects {
-        dropped,
-        safe: SafePlaces::new(trace, coming.safe),
-    })
+    match dropped_few(alloc, safe, kept.numbers())? {
+        Some(list) => Ok(list),
+        None => dropped_many(alloc, safe.trace()),
+    }
+}
+
+// Those that are dropped, by a search for each; none where that takes too many looks.
+fn dropped_few(
+    alloc: Global,
+    safe: &SafePlaces<'_>,
+    kept: &[u64],
+) -> Result<Option<Vec<Dropped>>, OutOfMemory>
+    requires { IsKeep safe.now.trace.now kept.now }
+    ensures { IfOk result (λ found. IfSome found (λ list. AreDropped safe.now.trace.now list.items)) }
+{
+    let events = safe.trace().events();
+    let mut list = Vec::new(alloc);
+    let mut place = 0;
+    let mut looks = 0;
+    for index in 0..events.len() {
+        let event = events[index];
+        let number = index as u64 + 1;
+        let is_kept = has_at(kept, place, number);
+        let told = searched(safe, event.thread, event.op, number, is_kept);
+        looks += told.looks;
+        if LOOKS * number + MORE < looks {
+            return Ok(None);
+        }
+        place = past(place, is_kept);
+        list_event(&mut list, number, told.reason)?;
+    }
+    Ok(Some(list))
+}
+
+// Whether the number stands in the list at the place.
+fn has_at(list: &[u64], place: usize, number: u64) -> bool
+    ensures { result ≡ stands_at list.now place number }
+{
+    match list.get(place) {
+        None => false,
+        Some(other) => *other == number,
+    }
+}
+
+// The next place, where the number stands at this one.
+fn past(place: usize, stands: bool) -> usize
+    requires { place < 2 ^ 63 }
+    ensures { result ≡ (if stands then place + 1 else place) }
+{
+    if stands { place + 1 } else { place }
+}
+
+// Those that are dropped, by a pass back over the events and one forward.
+fn dropped_many(alloc: Global, trace: &Trace) -> Result<Vec<Dropped>, OutOfMemory>
+    ensures { IfOk result (λ list. AreDropped trace.now list.items) }
+{
+    let following = all_following(alloc, trace)?;
+    dropped_before(alloc, trace, following.as_slice())
 }
 
 // The events that are dropped, where this is what comes after each flush and each store.

@@ -6,7 +6,7 @@ ghost use Rattle.pmt_model.specs.Values.{Written};
 ghost use Rattle.pmt_model.specs.Machine.{Stores, Flushes, Clflushes, Fences};
 ghost use Rattle.pmt_model.specs.Traces.{Recording, IsAct, act_of};
 ghost use Rattle.pmt_explain.specs.Following.{past_of, TellsFollowing, AreFollowing, IsAhead};
-ghost use Rattle.pmt_explain.specs.Saving.{AreSafePlaces, AreStored, IsStored, TellsStored};
+ghost use Rattle.pmt_explain.specs.Saving.{AreStored, IsStored, TellsStored};
 
 use crate::numbers::Numbers;
 use indexmap::IndexMap;
@@ -43,26 +43,15 @@ pub(crate) struct Ahead {
     completed: Numbers,
 }
 
-/// What comes after the events of a trace, in their order.
-#[derive(Drop)]
-pub(crate) struct Coming {
-    /// Of each flush and each store what comes after it; of another event any numbers.
-    pub(crate) following: Vec<Following>,
-    /// Of each store the first place from which on every run has it persisted; of another event any number.
-    pub(crate) safe: Vec<u64>,
-}
-
-// What comes after all events, by one look at each.
-pub(crate) fn all_coming(alloc: Global, trace: &Trace) -> Result<Coming, OutOfMemory>
-    ensures following { IfOk result (λ coming. AreFollowing trace.now coming.following.items) }
-    ensures stored { IfOk result (λ coming. AreStored trace.now coming.following.items) }
-    ensures safe { IfOk result (λ coming. AreSafePlaces trace.now coming.safe.items) }
+// What comes after each flush and each store, by one look at each event; of another event any numbers.
+pub(crate) fn all_following(alloc: Global, trace: &Trace) -> Result<Vec<Following>, OutOfMemory>
+    ensures following { IfOk result (λ list. AreFollowing trace.now list.items) }
+    ensures stored { IfOk result (λ list. AreStored trace.now list.items) }
 {
     let past = trace.len() as u64 + 1;
     let mut following = vec![in alloc; none(past); trace.len()]?;
-    let mut safe = vec![in alloc; past; trace.len()]?;
-    look_ahead(alloc, trace, &mut following, &mut safe)?;
-    Ok(Coming { following, safe })
+    look_ahead(alloc, trace, &mut following)?;
+    Ok(following)
 }
 
 // Notes what comes after all events.
@@ -70,16 +59,13 @@ fn look_ahead(
     alloc: Global,
     trace: &Trace,
     following: &mut Vec<Following>,
-    safe: &mut Vec<u64>,
 ) -> Result<(), OutOfMemory>
-    requires following { length following.old.items ≡ length trace.now.events }
-    requires safe { length safe.old.items ≡ length trace.now.events }
+    requires { length following.old.items ≡ length trace.now.events }
     ensures following { OnOk result (AreFollowing trace.now following.new.items) }
     ensures stored { OnOk result (AreStored trace.now following.new.items) }
-    ensures safe { OnOk result (AreSafePlaces trace.now safe.new.items) }
 {
     let mut ahead = Ahead::new(alloc, trace.len() as u64 + 1)?;
-    note_all(&mut ahead, trace, following, safe)
+    note_all(&mut ahead, trace, following)
 }
 
 // The same, one look at each, from what comes after the trace.
@@ -87,21 +73,17 @@ fn note_all(
     ahead: &mut Ahead,
     trace: &Trace,
     following: &mut Vec<Following>,
-    safe: &mut Vec<u64>,
 ) -> Result<(), OutOfMemory>
     requires ahead { IsAhead trace.now (length trace.now.events) ahead.old }
     requires following { length following.old.items ≡ length trace.now.events }
-    requires safe { length safe.old.items ≡ length trace.now.events }
     ensures following { OnOk result (AreFollowing trace.now following.new.items) }
     ensures stored { OnOk result (AreStored trace.now following.new.items) }
-    ensures safe { OnOk result (AreSafePlaces trace.now safe.new.items) }
 {
     let format = trace.format();
     let events = trace.events();
     for index in (0..events.len()).rev() {
         let event = events[index];
         let after = ahead.go_back(format, event.thread, event.op, index as u64 + 1)?;
-        safe[index] = after.completed;
         following[index] = after;
     }
     Ok(())

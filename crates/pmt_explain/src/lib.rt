@@ -3,6 +3,7 @@
 //! The definitions stand in `specs/`, and in those of pmt_reasons.
 #![tactic(auto)]
 
+mod acts;
 mod at_end;
 pub mod bytes;
 pub mod causing;
@@ -24,12 +25,13 @@ pub mod overwritten_grouping;
 mod run_table;
 mod runs;
 pub mod saving;
+mod searching;
 mod wanted;
 
 pub use crate::bytes::{CrashByte, StoredByte, crash_bytes};
 pub use crate::causing::cause;
 pub use crate::dropped_event::Dropped;
-pub use crate::dropping::{EventEffects, effects};
+pub use crate::dropping::dropped_events;
 pub use crate::failing::{failure, failure_by, ordered_failure, persist_failure};
 pub use crate::last_writers::LastWriters;
 pub use crate::lines::{LineCount, crash_lines};

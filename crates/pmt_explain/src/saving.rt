@@ -17,8 +17,8 @@ pub struct SafePlaces<'a> {
 }
 
 impl<'a> SafePlaces<'a> {
-    // These places of the stores of the trace.
-    pub(crate) fn new(trace: &'a Trace, places: Vec<u64>) -> Self
+    /// These places of the stores of the trace, as `safe_places` gives them.
+    pub fn new(trace: &'a Trace, places: Vec<u64>) -> Self
         requires { AreSafePlaces trace.now places.items }
         ensures { result.trace.now ≡ trace.now }
     {

@@ -4,11 +4,14 @@ ghost use Rattle.pmt_text.specs.Coming.{ComesWhole};
 ghost use Rattle.pmt_text.specs.Sources.{CountsReads};
 ghost use Rattle.pmt_taking.specs.Sourcing.{IsFaultOf, TellsTaken, told_by};
 ghost use Rattle.pmt_analysis.specs.Analysing.{IsAnalysed};
+ghost use Rattle.pmt_ending.specs.SafePlaces.{AreSafePlaces};
 ghost use Rattle.pmt_explanation.specs.Explaining.{IsExplanation};
 
+use crate::places::places_of;
 use pmt_asked::{Labels, Options};
 use pmt_explanation::{Explanation, explanation_of};
-use pmt_report::swept;
+use pmt_model::OutOfMemory;
+use pmt_report::{Placed, swept_places};
 use pmt_taking::TakeError;
 use pmt_text::EventSource;
 use std::alloc::Global;
@@ -32,7 +35,25 @@ pub fn explain<S: EventSource>(
     ensures told { TellsTaken (S.state source.old) result (S.state source.new) }
     ensures failures { CountsReads (S.failures source.old) (told_by result) (S.failures source.new) }
 {
-    let analysis = swept(alloc, source)?;
-    let explanation = explanation_of(alloc, analysis, labels, options)?;
+    let placed = swept_places(alloc, source)?;
+    let explanation = explained(alloc, placed, labels, options)?;
     Ok(explanation)
+}
+
+// The explanation of the trace that was analysed.
+fn explained(
+    alloc: Global,
+    placed: Placed,
+    labels: &Labels,
+    options: &Options,
+) -> Result<Explanation, OutOfMemory>
+    requires { AreSafePlaces placed.analysis.trace placed.safe }
+    ensures explained { IfOk result (IsExplanation placed.analysis labels.now options.now) }
+    ensures analysis { IfOk result (λ x. x.analysis ≡ placed.analysis) }
+    ensures limit { IfOk result (λ x. x.limit ≡ options.now.limit) }
+{
+    let Placed { analysis, safe } = placed;
+    let places = places_of(alloc, analysis.trace(), &safe)?;
+    drop(safe);
+    explanation_of(alloc, analysis, places, labels, options)
 }

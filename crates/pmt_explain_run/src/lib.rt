@@ -2,5 +2,6 @@
 #![tactic(auto)]
 
 pub mod explaining;
+mod places;
 
 pub use crate::explaining::explain;

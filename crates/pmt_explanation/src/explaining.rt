@@ -4,6 +4,7 @@ ghost use Rattle.pmt_explanation.specs.Asking.{asked_unwritten};
 ghost use Rattle.pmt_explanation.specs.Explaining.{AreParts, IsExplanation, has_failed as fails};
 ghost use Rattle.pmt_asked.specs.declared.options.Options.{Options};
 ghost use Rattle.pmt_asked.specs.declared.labels.Labels.{Labels};
+ghost use Rattle.pmt_explain.specs.Saving.{AreSafePlaces};
 ghost use Rattle.pmt_failures.specs.Unwriting.{unwritten_of};
 
 use crate::asking::asked_unwrittens;
@@ -14,7 +15,7 @@ use crate::numbering::label_numbers;
 use pmt_analysis::Analysis;
 use pmt_asked::{Choice, Labels, Options};
 use pmt_causes::{CauseCounts, DroppedKey, FailureKey, Group, LateSpot, LostKey, Row};
-use pmt_explain::{Dropped, LostGroup, OverwrittenGroup};
+use pmt_explain::{Dropped, LostGroup, OverwrittenGroup, SafePlaces};
 use pmt_failures::{ShownFailure, Unwritten, unwritten_assertions};
 use pmt_fates::PlaceRow;
 use pmt_hints::Hint;
@@ -88,40 +89,46 @@ struct Parts {
     unwritten: Vec<Unwritten>,
 }
 
-/// The explanation of the trace that was analysed.
+/// The explanation of the trace that was analysed, where these are its safe places, as `pmt_explain::safe_places` gives them.
 ///
 /// # Errors
 /// Where memory was refused.
 pub fn explanation_of(
     alloc: Global,
     analysis: Analysis,
+    places: Vec<u64>,
     labels: &Labels,
     options: &Options,
 ) -> Result<Explanation, OutOfMemory>
+    requires { AreSafePlaces analysis.trace places.items }
     ensures explained { IfOk result (IsExplanation analysis labels.now options.now) }
     ensures analysis { IfOk result (λ x. x.analysis ≡ analysis) }
     ensures limit { IfOk result (λ x. x.limit ≡ options.now.limit) }
 {
-    let parts = parts_of(alloc, &analysis, labels, options)?;
+    let parts = parts_of(alloc, &analysis, places, labels, options)?;
     Ok(explained(analysis, options.limit, parts))
 }
 
-// What is found in the trace that was analysed.
+// What is found in the trace that was analysed, where these are its safe places.
 fn parts_of(
     alloc: Global,
     analysis: &Analysis,
+    places: Vec<u64>,
     labels: &Labels,
     options: &Options,
 ) -> Result<Parts, OutOfMemory>
+    requires { AreSafePlaces analysis.now.trace places.items }
     ensures { IfOk result (AreParts analysis.now labels.now options.now) }
 {
     let label_numbers = label_numbers(alloc, labels, analysis.trace().len())?;
     let numbers = label_numbers.as_slice();
     let frames = frame_numbers(alloc, labels, numbers, analysis.trace().len())?;
     let lost = losses_of(alloc, analysis, labels, frames.as_slice(), options)?;
+    let safe = SafePlaces::new(analysis.trace(), places);
     let found = found_of(
         alloc,
         analysis,
+        &safe,
         labels,
         numbers,
         frames.as_slice(),

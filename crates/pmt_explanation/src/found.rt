@@ -1,5 +1,5 @@
 //! What an explanation has by from which place on each store is safe.
-ghost use Rattle.std.specs.Prelude.{IfOk, map};
+ghost use Rattle.std.specs.Prelude.{◌≡◌, IfOk, map};
 ghost use Rattle.pmt_explain.specs.Dropping.{event_of};
 ghost use Rattle.pmt_fates.specs.Paths.{AreLeftPaths};
 ghost use Rattle.pmt_fates.specs.Places.{ArePlaces};
@@ -11,7 +11,7 @@ use crate::failed::{Failed, failed_of};
 use crate::hinting::hints_asked;
 use pmt_analysis::Analysis;
 use pmt_asked::{Labels, Options};
-use pmt_explain::{Dropped, EventEffects, effects};
+use pmt_explain::{Dropped, SafePlaces, dropped_events};
 use pmt_fates::{PlaceTable, place_table};
 use pmt_hints::Hint;
 use pmt_model::OutOfMemory;
@@ -33,25 +33,27 @@ pub(crate) struct Found {
 }
 
 // What is found in the trace that was analysed, where its events have these numbers of labels and of innermost frames, and where these
-// stores are told as never persisted. From which place on each of its stores is safe is asked once.
+// stores are told as never persisted.
 pub(crate) fn found_of(
     alloc: Global,
     analysis: &Analysis,
+    safe: &SafePlaces<'_>,
     labels: &Labels,
     numbers: &[Option<u64>],
     frames: &[Option<u64>],
     told: &[u64],
     options: &Options,
 ) -> Result<Found, OutOfMemory>
+    requires { safe.now.trace.now ≡ analysis.now.trace }
     ensures found { IfOk result (AreFound analysis.now.trace analysis.now.verdicts labels.now numbers.now frames.now options.now) }
     ensures places { IfOk result (λ found. ArePlaces analysis.now.trace frames.now told.now (map event_of found.dropped.items) found.table.places.items) }
     ensures paths { IfOk result (λ found. AreLeftPaths analysis.now.trace frames.now numbers.now told.now (map event_of found.dropped.items) found.table.places.items found.table.left_paths.items) }
     ensures hints { IfOk result (λ found. AreHints analysis.now.trace labels.now frames.now numbers.now options.now.choice found.hints.items) }
 {
-    let EventEffects { dropped, safe } = effects(alloc, analysis.trace())?;
+    let dropped = dropped_events(alloc, safe, analysis.selection())?;
     let failed = failed_of(
         alloc,
-        &safe,
+        safe,
         analysis.verdicts(),
         labels,
         numbers,
@@ -60,7 +62,7 @@ pub(crate) fn found_of(
     )?;
     let effects = effects_of(
         alloc,
-        &safe,
+        safe,
         dropped.as_slice(),
         labels,
         numbers,
@@ -69,7 +71,7 @@ pub(crate) fn found_of(
     )?;
     let table = place_table(
         alloc,
-        &safe,
+        safe,
         effects.waited.as_slice(),
         frames,
         numbers,
@@ -80,7 +82,7 @@ pub(crate) fn found_of(
     let hints = hints_asked(
         alloc,
         analysis,
-        &safe,
+        safe,
         waited,
         labels,
         frames,

@@ -23,7 +23,7 @@ returns c =
       lost = c.in_ok-lost.ensures.groups;
       lost_causes = subst (λ fs. AreGrouped (filter_map (lost_item a.trace fs) lost.groups.items) lost.causes.items) c.as_slice.ensures.value c.in_ok-lost.ensures.causes;
       overwritten = c.in_ok-lost.ensures.overwritten;
-      unwritten = c.in_ok-unwritten.ensures ∙ ap (λ T. asked_unwritten T c.args.labels.now c.args.options.now.choice (unwritten_of T)) c.trace-3.ensures.value;
+      unwritten = c.in_ok-unwritten.ensures ∙ ap (λ T. asked_unwritten T c.args.labels.now c.args.options.now.choice (unwritten_of T)) c.trace-4.ensures.value;
       ignored_stores = c.in_ok-lost.ensures.ignored_stores;
       ignored_pairs = c.in_ok-lost.ensures.ignored_pairs;
     }

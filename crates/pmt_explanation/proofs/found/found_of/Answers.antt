@@ -8,9 +8,9 @@ use Rattle.pmt_explanation.proofs.found.found_of.Goals as goal
 
 pub returns-clause-found : goal.returns-clause-found
 returns-clause-found c =
-    let dropped = c.in_ok-dropped.field-0.dropped in
-    let U = c.in_ok-dropped.field-0.safe.trace.now in
-    let is : c.in_ok-dropped.field-0.safe.trace.now ≡ c.args.analysis.now.trace = search rules in
+    let dropped = c.in_ok-dropped.dropped in
+    let U = c.args.safe.now.trace.now in
+    let is : c.args.safe.now.trace.now ≡ c.args.analysis.now.trace = c.requires in
     let all : AreDropped c.args.analysis.now.trace dropped.items = search rules in
     subst (λ T. AreFound T c.args.analysis.now.verdicts c.args.labels.now c.args.numbers.now c.args.frames.now c.args.options.now (record { dropped = dropped; failed = c.in_ok-failed.failed; effects = c.in_ok-effects.effects; table = c.in_ok-table.table; hints = c.in_ok-hints.hints })) is
     (record {
