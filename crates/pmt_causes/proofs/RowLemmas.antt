@@ -17,7 +17,7 @@ use Rattle.std.proofs.lemmas.Option.{slice_get-get_or, get_or_from_slice_get, sl
 use Rattle.pmt_model.specs.declared.event.Event.{Event}
 use Rattle.pmt_model.specs.Traces.{Recording, IsTrace, IsEventIn}
 use Rattle.pmt_laws.proofs.Histories.{event-none}
-use Rattle.pmt_explain.specs.declared.dropped_event.Dropped.{Dropped}
+use Rattle.pmt_dropping.specs.declared.dropped_event.Dropped.{Dropped}
 use Rattle.pmt_causes.specs.Numbers.{Numbers}
 use Rattle.pmt_causes.specs.declared.tables.Counts.{Counts}
 use Rattle.pmt_causes.specs.declared.tables.Row.{Row}

@@ -10,7 +10,7 @@ use Rattle.pmt_model.specs.declared.event.Event.{Event}
 use Rattle.pmt_model.specs.declared.event.Op.{Op}
 use Rattle.pmt_model.specs.Traces.{Recording, event, event_limit}
 use Rattle.pmt_laws.proofs.Histories.{event-some, event-none}
-use Rattle.pmt_explain.specs.declared.dropped_event.Dropped.{Dropped}
+use Rattle.pmt_dropping.specs.declared.dropped_event.Dropped.{Dropped}
 use Rattle.pmt_causes.specs.Numbers.{Numbers}
 use Rattle.pmt_causes.specs.declared.tables.Counts.{Counts}
 use Rattle.pmt_causes.specs.Labels.{label_of}

@@ -5,7 +5,7 @@ use Rattle.std.specs.Ordering.{nat_cmp}
 use Rattle.std.specs.BTreeMap.{BTreeMap, get}
 use Rattle.pmt_model.specs.declared.event.Op.{Op}
 use Rattle.pmt_model.specs.Traces.{Recording, event_limit}
-use Rattle.pmt_explain.specs.declared.dropped_event.Dropped.{Dropped}
+use Rattle.pmt_dropping.specs.declared.dropped_event.Dropped.{Dropped}
 use Rattle.pmt_causes.specs.Numbers.{Numbers, number_at}
 use Rattle.pmt_causes.specs.declared.tables.Counts.{Counts}
 use Rattle.pmt_causes.specs.declared.tables.Row.{Row}

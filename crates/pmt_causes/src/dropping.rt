@@ -7,7 +7,7 @@ ghost use Rattle.pmt_causes.specs.Dropped.{dropped_item, kind_of as kind_in, op_
 
 use crate::grouping::{Group, Keyed, groups};
 use crate::labels::label_of;
-use pmt_explain::Dropped;
+use pmt_dropping::Dropped;
 use pmt_model::{Format, Op, OutOfMemory, Trace, line_of};
 use pmt_reasons::Reason;
 use std::alloc::Global;

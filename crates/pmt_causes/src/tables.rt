@@ -5,13 +5,13 @@ ghost use Rattle.std.specs.List.{All, count_by};
 ghost use Rattle.std.specs.Ordering.{nat_cmp};
 ghost use Rattle.std.specs.BTreeMap.{IsOrdered, get, keys};
 ghost use Rattle.pmt_model.specs.Traces.{IsTrace};
-ghost use Rattle.pmt_explain.specs.declared.dropped_event.Dropped.{Dropped};
+ghost use Rattle.pmt_dropping.specs.declared.dropped_event.Dropped.{Dropped};
 ghost use Rattle.pmt_causes.specs.Numbers.{number_at};
 ghost use Rattle.pmt_causes.specs.Tables.{AreThreadRows, AreLabelRows, AreRows, HasLowerKey, label_at, has_key, thread_of};
 ghost use Rattle.pmt_causes.specs.Tallies.{AreCounts, AreDrops, IsFew, counts_in, counts_of, dropped_at, listed_at, row_in, with_op};
 
 use crate::labels::label_of;
-use pmt_explain::Dropped;
+use pmt_dropping::Dropped;
 use pmt_model::{Op, OutOfMemory, Trace};
 use std::alloc::Global;
 use std::collections::{BTreeMap, HashMap};

@@ -15,11 +15,8 @@ pub mod WriterLemmas
 pub mod FollowingLemmas
 pub mod ReachLemmas
 pub mod SavingLemmas
-pub mod KnownLemmas
-pub mod DroppingLemmas
 pub mod CompletedLemmas
 pub mod CrashLemmas
 pub mod CountingLemmas
 pub mod KeptLemmas
 pub mod KeepingLemmas
-pub mod SearchingLemmas

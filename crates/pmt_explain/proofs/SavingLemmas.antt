@@ -11,11 +11,10 @@ use Rattle.pmt_laws.proofs.Histories.{act-unique, act-within, count-mono, front-
 use Rattle.pmt_reasons.specs.Causes.{IsPending}
 use Rattle.pmt_reasons.specs.Failures.{IsLost}
 use Rattle.pmt_reasons.proofs.CauseLemmas.{pending_by_fronts, rank-store, rank-above, marks-later}
-use Rattle.pmt_explain.specs.declared.following.Ahead.{Ahead}
-use Rattle.pmt_explain.specs.declared.following.Following.{Following}
+use Rattle.pmt_explain.specs.declared.ahead.Ahead.{Ahead}
 use Rattle.pmt_explain.specs.Numbers.{number_at}
 use Rattle.pmt_explain.specs.Following.{past_of, IsCompleteBy, ByFence, ByItself, IsCompletedAfter, IsAhead}
-use Rattle.pmt_explain.specs.Saving.{IsSafePlace, TellsSafe, AreSafePlaces, IsStored, TellsStored, loses}
+use Rattle.pmt_explain.specs.Saving.{IsSafePlace, TellsSafe, AreSafePlaces, loses}
 use Rattle.pmt_explain.proofs.FirstLemmas.{first-same}
 use Rattle.pmt_explain.proofs.ReachLemmas.{complete-front, front-complete}
 
@@ -115,9 +114,9 @@ lost-by-place T n (Some full) l x s w within is safe = (λ e. there (l == full) 
     back false other lost =
         lt-ltb n s ((pending-before T l n x s within safe).1 (subst (λ b. (if b then count_at T l n else front_at T l n) < count_at T l x) other (missing lost)))
 
--- what comes after a store, told of its event
-pub stored-at : (T : Recording) (i k : ℕ) (v : Written) (f : Following) → IsAct T i (Stores k v) → IsStored T k i f → TellsStored T i f
-stored-at T i k v f own stored l w at =
+-- the safe place of a store, told of its event
+pub safe-at : (T : Recording) (i k p : ℕ) (v : Written) → IsAct T i (Stores k v) → IsSafePlace T k i p → TellsSafe T i p
+safe-at T i k p v own safe l w at =
     let both : Stores k v ≡ Stores l w = act-unique T i (Stores k v) (Stores l w) own at in
     let same : k ≡ l = cc in
-    subst (λ j. IsStored T j i f) same stored
+    subst (λ j. IsSafePlace T j i p) same safe

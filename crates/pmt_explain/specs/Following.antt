@@ -1,14 +1,9 @@
--- What comes after the flushes of a trace.
-use Rattle.std.specs.Prelude.{◌≡◌, ℕ, suc, ◌<◌, ◌≤◌, min, List, length, slice_get, slice_index, Option, None, Some, nat_eq, unwrap_or}
-use Rattle.std.specs.declared.hash.FoldHasher.{FoldHasher}
-use Rattle.std.specs.declared.hash.BuildHasherDefault.{BuildHasherDefault}
-use Rattle.indexmap.specs.IndexMap.{IndexMap, get}
+-- What comes after a place of a trace.
+use Rattle.std.specs.Prelude.{◌≡◌, ℕ, suc, ◌<◌, ◌≤◌, length, slice_index}
 use Rattle.pmt_model.specs.Machine.{Flushes, Clflushes, Fences}
 use Rattle.pmt_model.specs.Traces.{Recording, IsAct}
-use Rattle.pmt_model.specs.Findings.{IsFlushedAfter}
-use Rattle.pmt_explain.specs.declared.following.Following.{Following}
-use Rattle.pmt_explain.specs.declared.following.Ahead.{Ahead}
-use Rattle.pmt_explain.specs.Numbers.{HasNumber, number_at}
+use Rattle.pmt_explain.specs.declared.ahead.Ahead.{Ahead}
+use Rattle.pmt_explain.specs.Numbers.{number_at}
 
 -- This is the first number below `past` that has the property, or `past` where none has it.
 pub record IsFirst (P : ℕ → Type 0) (past first : ℕ) : Type 0 where
@@ -24,10 +19,6 @@ past_of T = suc (length T.events)
 abbrev pub IsFenceAfter : Recording → ℕ → ℕ → ℕ → Type 0
 IsFenceAfter T t n k = (n < k) × IsAct T k (Fences t)
 
--- Event k is a flush of line l by thread t after event n.
-abbrev pub IsFlushAfter : Recording → ℕ → ℕ → ℕ → ℕ → Type 0
-IsFlushAfter T t l n k = (n < k) × IsAct T k (Flushes t l)
-
 -- Event i flushes line l and is complete by place p: it is a clflush, or its thread has fenced since.
 pub data IsCompleteBy (T : Recording) (l i p : ℕ) : Type 0 where
   ByFence : (t fence : ℕ) → IsAct T i (Flushes t l) → IsAct T fence (Fences t) → i < fence → fence ≤ p → IsCompleteBy T l i p
@@ -37,38 +28,9 @@ pub data IsCompleteBy (T : Recording) (l i p : ℕ) : Type 0 where
 abbrev pub IsCompletedAfter : Recording → ℕ → ℕ → ℕ → Type 0
 IsCompletedAfter T l n p = (i : ℕ) × (n < i) × IsCompleteBy T l i p
 
--- This is what comes after the flush of line l by thread t at i. Of its next flush nothing is told past the next fence.
-pub record IsFollowing (T : Recording) (t l i : ℕ) (f : Following) : Type 0 where
-  pub fence : IsFirst (IsFenceAfter T t i) (past_of T) f.fence
-  pub again : IsFirst (IsFlushAfter T t l i) f.fence f.again
-  pub completed : IsFirst (IsCompletedAfter T l i) (past_of T) f.completed
-
--- This is what comes after event i, if it is a flush.
-abbrev pub TellsFollowing : Recording → ℕ → Following → Type 0
-TellsFollowing T i f = (t l : ℕ) → IsAct T i (Flushes t l) → IsFollowing T t l i f
-
--- What comes after each event that is a flush, the first one being event 1.
-pub record AreFollowing (T : Recording) (list : List Following) : Type 0 where
-  pub size : length list ≡ length T.events
-  pub each : (n : ℕ) (f : Following) → slice_get list n ≡ Some f → TellsFollowing T (suc n) f
-
-abbrev pub NextFlushes : Type 0
-NextFlushes = IndexMap ℕ ℕ (BuildHasherDefault FoldHasher)
-
-abbrev pub flush_in : Option NextFlushes → ℕ → Option ℕ
-flush_in None l = None
-flush_in (Some flushes) l = get nat_eq flushes l
-
--- The next flush of line l by thread t, or the other number where none is noted.
-abbrev pub flush_at : ℕ → List NextFlushes → ℕ → ℕ → ℕ
-flush_at other flushes t l = unwrap_or (flush_in (slice_get flushes t) l) other
-
 -- What comes after place n.
 pub record IsAhead (T : Recording) (n : ℕ) (a : Ahead) : Type 0 where
   pub past : a.past ≡ past_of T
   pub threads : length a.fences ≡ 256
   pub fences : (t : ℕ) → t < 256 → IsFirst (IsFenceAfter T t n) (past_of T) (slice_index a.fences t)
-  pub maps : length a.flushes.items ≡ 256
-  pub flushes : (t l : ℕ) → t < 256 → IsFirst (IsFlushAfter T t l n) (slice_index a.fences t) (min (slice_index a.fences t) (flush_at (past_of T) a.flushes.items t l))
   pub completed : (l : ℕ) → IsFirst (IsCompletedAfter T l n) (past_of T) (number_at (past_of T) a.completed l)
-  pub flushed : (l : ℕ) → IsFlushedAfter T l n → HasNumber a.completed l

@@ -10,13 +10,10 @@ pub mod Numbers
 pub mod Runs
 pub mod Wanting
 pub mod Writers
-pub mod Dropping
 pub mod Following
 pub mod Saving
-pub mod Known
 pub mod Completed
 pub mod Crashes
 pub mod Keepers
 pub mod Counting
 pub mod Kept
-pub mod Searching

@@ -15,10 +15,6 @@ number_in (row ∷ rows) line = if row.line == line then Some row.number else nu
 abbrev pub number_at : ℕ → Numbers → ℕ → ℕ
 number_at other numbers line = unwrap_or (number_in numbers line) other
 
--- The line has a number: what is told of it does not depend on the other one.
-abbrev pub HasNumber : Numbers → ℕ → Type 0
-HasNumber numbers line = number_at 0 numbers line ≡ number_at 1 numbers line
-
 -- The line gets this number, and no other line's is changed.
 pub record Puts (line number : ℕ) (old new : Numbers) : Type 0 where
   pub here : (other : ℕ) → number_at other new line ≡ number

@@ -3,9 +3,7 @@ use Rattle.std.specs.Prelude.{◌≡◌, ℕ, suc, ◌==◌, Bool, if◌then◌e
 use Rattle.pmt_model.specs.Values.{Written}
 use Rattle.pmt_model.specs.Machine.{Stores}
 use Rattle.pmt_model.specs.Traces.{Recording, IsAct}
-use Rattle.pmt_model.specs.Findings.{IsFlushedAfter}
 use Rattle.pmt_reasons.specs.Causes.{IsPending}
-use Rattle.pmt_explain.specs.declared.following.Following.{Following}
 use Rattle.pmt_explain.specs.Following.{IsFirst, past_of}
 
 -- Store i to line l is persisted at the end of every run to place p or a later one, and p is the first such place; one more than the
@@ -21,19 +19,6 @@ TellsSafe T i p = (l : ℕ) (w : Written) → IsAct T i (Stores l w) → IsSafeP
 pub record AreSafePlaces (T : Recording) (places : List ℕ) : Type 0 where
   pub size : length places ≡ length T.events
   pub each : (n p : ℕ) → slice_get places n ≡ Some p → TellsSafe T (suc n) p
-
--- This is what comes after the store to line l at i: its safe place, and whether a flush of the line does.
-pub record IsStored (T : Recording) (l i : ℕ) (f : Following) : Type 0 where
-  pub safe : IsSafePlace T l i f.completed
-  pub flushed : f.again ≡ past_of T → ¬ IsFlushedAfter T l i
-
--- This is what comes after event i, if it is a store.
-abbrev pub TellsStored : Recording → ℕ → Following → Type 0
-TellsStored T i f = (l : ℕ) (w : Written) → IsAct T i (Stores l w) → IsStored T l i f
-
--- What comes after each event that is a store, the first one being event 1.
-abbrev pub AreStored : Recording → List Following → Type 0
-AreStored T list = (n : ℕ) (f : Following) → slice_get list n ≡ Some f → TellsStored T (suc n) f
 
 -- The crash at place n, with all stores to the full line, loses store x to line l, which is safe from place s on.
 abbrev pub loses : ℕ → Option ℕ → ℕ → ℕ → ℕ → Bool

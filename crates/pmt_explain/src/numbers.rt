@@ -10,14 +10,14 @@ use std::marker::Model;
 
 /// A line with its number.
 #[derive(Clone, Copy, Debug, PartialEq, Eq)]
-pub(crate) struct Numbered {
-    pub(crate) line: u64,
-    pub(crate) number: u64,
+pub struct Numbered {
+    pub line: u64,
+    pub number: u64,
 }
 
 /// Numbers of lines.
 #[derive(Drop)]
-pub(crate) struct Numbers {
+pub struct Numbers {
     lines: LinePlaces,
     // each of these lines with its number
     rows: Vec<Numbered>,
@@ -37,7 +37,7 @@ impl Model for Numbers {
 
 impl Numbers {
     // No line has one.
-    pub(crate) fn new(alloc: Global) -> Self
+    pub fn new(alloc: Global) -> Self
         ensures { result ≡ [] }
     {
         Numbers {
@@ -47,7 +47,7 @@ impl Numbers {
     }
 
     // The number of the line, if it has one.
-    pub(crate) fn get(&self, line: u64) -> Option<u64>
+    pub fn get(&self, line: u64) -> Option<u64>
         ensures { result ≡ number_in self.now line }
     {
         match self.lines.find(line) {
@@ -82,7 +82,7 @@ impl Numbers {
     }
 
     // The number of the line, which gets the other one if it has none.
-    pub(crate) fn keep(&mut self, line: u64, other: u64) -> Result<u64, OutOfMemory>
+    pub fn keep(&mut self, line: u64, other: u64) -> Result<u64, OutOfMemory>
         ensures number { IfOk result (λ number. number ≡ number_at other self.old line) }
         ensures here { IfOk result (λ number. number_in self.new line ≡ Some number) }
         ensures others { OnOk result ((l : ℕ) → l ≢ line → number_in self.new l ≡ number_in self.old l) }
@@ -92,7 +92,7 @@ impl Numbers {
     }
 
     // The number of the line, or the other one where it has none. The line gets this one.
-    pub(crate) fn replace(&mut self, line: u64, other: u64, number: u64) -> Result<u64, OutOfMemory>
+    pub fn replace(&mut self, line: u64, other: u64, number: u64) -> Result<u64, OutOfMemory>
         ensures number { IfOk result (λ old. old ≡ number_at other self.old line) }
         ensures put { OnOk result (Puts line number self.old self.new) }
     {
@@ -103,7 +103,7 @@ impl Numbers {
     }
 
     // The number of the line, or the other one where it has none. The line gets the lower one of it and the bound.
-    pub(crate) fn lower(&mut self, line: u64, other: u64, bound: u64) -> Result<u64, OutOfMemory>
+    pub fn lower(&mut self, line: u64, other: u64, bound: u64) -> Result<u64, OutOfMemory>
         ensures number { IfOk result (λ old. old ≡ number_at other self.old line) }
         ensures put { IfOk result (λ old. Puts line (min old bound) self.old self.new) }
     {

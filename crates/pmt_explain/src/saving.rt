@@ -4,7 +4,7 @@ ghost use Rattle.std.specs.Prelude.{◌≡◌, length, IfOk, OnOk};
 ghost use Rattle.pmt_explain.specs.Following.{IsAhead};
 ghost use Rattle.pmt_explain.specs.Saving.{AreSafePlaces};
 
-use crate::following::Ahead;
+use crate::ahead::Ahead;
 use pmt_model::{OutOfMemory, Trace};
 use std::alloc::Global;
 
@@ -72,7 +72,7 @@ fn look_ahead(alloc: Global, trace: &Trace, places: &mut Vec<u64>) -> Result<(),
     requires { length places.old.items ≡ length trace.now.events }
     ensures { OnOk result (AreSafePlaces trace.now places.new.items) }
 {
-    let mut ahead = Ahead::new(alloc, trace.len() as u64 + 1)?;
+    let mut ahead = Ahead::new(alloc, trace.len() as u64 + 1);
     note_places(&mut ahead, trace, places)
 }
 
@@ -86,8 +86,8 @@ fn note_places(ahead: &mut Ahead, trace: &Trace, places: &mut Vec<u64>) -> Resul
     let events = trace.events();
     for index in (0..events.len()).rev() {
         let event = events[index];
-        let after = ahead.go_back(format, event.thread, event.op, index as u64 + 1)?;
-        places[index] = after.completed;
+        let place = ahead.go_back(format, event.thread, event.op, index as u64 + 1)?;
+        places[index] = place;
     }
     Ok(())
 }

@@ -3,7 +3,7 @@ use Rattle.std.specs.Prelude.{◌≡◌, ℕ, List, Option, take}
 use Rattle.std.specs.List.{filter_map}
 use Rattle.pmt_model.specs.Traces.{Recording}
 use Rattle.pmt_model.specs.declared.finding.Verdict.{Verdict}
-use Rattle.pmt_explain.specs.Dropping.{AreDropped}
+use Rattle.pmt_dropping.specs.Dropping.{AreDropped}
 use Rattle.pmt_causes.specs.Dropped.{dropped_item}
 use Rattle.pmt_causes.specs.FailureKeys.{AreFailureGroups}
 use Rattle.pmt_causes.specs.Groups.{AreGrouped}

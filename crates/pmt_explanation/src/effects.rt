@@ -14,7 +14,8 @@ use crate::asking::asked_drops;
 use crate::causing::asked_late;
 use pmt_asked::{Labels, Options};
 use pmt_causes::{DroppedKey, Group, LateSpot, Row, dropped_groups, label_table, thread_table};
-use pmt_explain::{Dropped, SafePlaces};
+use pmt_dropping::Dropped;
+use pmt_explain::SafePlaces;
 use pmt_model::OutOfMemory;
 use std::alloc::Global;
 

@@ -1,6 +1,6 @@
 //! What an explanation has by from which place on each store is safe.
 ghost use Rattle.std.specs.Prelude.{◌≡◌, IfOk, map};
-ghost use Rattle.pmt_explain.specs.Dropping.{event_of};
+ghost use Rattle.pmt_dropping.specs.Dropping.{event_of};
 ghost use Rattle.pmt_fates.specs.Paths.{AreLeftPaths};
 ghost use Rattle.pmt_fates.specs.Places.{ArePlaces};
 ghost use Rattle.pmt_explanation.specs.Finding.{AreFound};
@@ -11,7 +11,8 @@ use crate::failed::{Failed, failed_of};
 use crate::hinting::hints_asked;
 use pmt_analysis::Analysis;
 use pmt_asked::{Labels, Options};
-use pmt_explain::{Dropped, SafePlaces, dropped_events};
+use pmt_dropping::{Dropped, dropped_events};
+use pmt_explain::SafePlaces;
 use pmt_fates::{PlaceTable, place_table};
 use pmt_hints::Hint;
 use pmt_model::OutOfMemory;

@@ -1,5 +1,6 @@
 //! What is known of a trace before it is drawn.
-use pmt_explain::{Dropped, LostGroup, OverwrittenGroup};
+use pmt_dropping::Dropped;
+use pmt_explain::{LostGroup, OverwrittenGroup};
 use pmt_model::{Trace, Verdict};
 use pmt_reasons::Reason;
 

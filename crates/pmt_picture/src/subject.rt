@@ -1,7 +1,8 @@
 //! What a picture is about.
 use crate::known::Known;
 use crate::spans::{concerns, touches_any};
-use pmt_explain::{Dropped, LostGroup, Overwriting};
+use pmt_dropping::Dropped;
+use pmt_explain::{LostGroup, Overwriting};
 use pmt_model::Trace;
 
 /// What a picture is about.

@@ -2,7 +2,7 @@ use Rattle.std.proofs.Common.{take, refl, ap, ◌∙◌, arith}
 use Rattle.std.specs.List.{count_by}
 use Rattle.std.proofs.lemmas.List.{take_all, length-take}
 use Rattle.std.proofs.lemmas.List.Sums.{count_by-le-length}
-use Rattle.pmt_explain.specs.declared.dropped_event.Dropped.{Dropped}
+use Rattle.pmt_dropping.specs.declared.dropped_event.Dropped.{Dropped}
 use Rattle.pmt_causes.specs.Tables.{has_key, thread_of}
 use Rattle.pmt_causes.specs.Tallies.{dropped_at}
 use Rattle.pmt_causes.proofs.TallyLemmas.{dropped-none, drops-next}

@@ -1,6 +1,6 @@
 use Rattle.std.proofs.Common.{◌≡◌, ℕ, length, take}
 use Rattle.std.specs.List.{count_by}
-use Rattle.pmt_explain.specs.declared.dropped_event.Dropped.{Dropped}
+use Rattle.pmt_dropping.specs.declared.dropped_event.Dropped.{Dropped}
 use Rattle.pmt_causes.specs.Tables.{has_key, thread_of}
 use Rattle.pmt_causes.specs.Tallies.{dropped_at}
 use Rattle.pmt_causes.proofs.tables.drop_counts.Given as goal

@@ -1,6 +1,6 @@
 use Rattle.std.proofs.Common.{rules, get_or, arith}
 use Rattle.std.proofs.lemmas.List.Sums.{count_by-le-length}
-use Rattle.pmt_explain.specs.declared.dropped_event.Dropped.{Dropped}
+use Rattle.pmt_dropping.specs.declared.dropped_event.Dropped.{Dropped}
 use Rattle.std.proofs.lemmas.List.Sorted.{answers_always}
 use Rattle.pmt_causes.specs.Tables.{has_key, label_at}
 use Rattle.pmt_causes.proofs.RowLemmas.{rank_of, rows-sorted}

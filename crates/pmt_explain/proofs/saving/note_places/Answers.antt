@@ -2,7 +2,7 @@ use Rattle.std.proofs.Common.{◌≡◌, ◌-◌, suc, ◌<◌, length, subst, s
 use Rattle.std.proofs.lemmas.List.{length-set}
 use Rattle.std.proofs.lemmas.Option.{slice_get_within}
 use Rattle.pmt_explain.specs.Following.{IsAhead}
-use Rattle.pmt_explain.specs.Saving.{TellsSafe, TellsStored}
+use Rattle.pmt_explain.specs.Saving.{TellsSafe}
 use Rattle.pmt_explain.proofs.FollowingLemmas.{event-at, told-set}
 use Rattle.pmt_explain.proofs.saving.note_places.Goals as goal
 
@@ -25,12 +25,11 @@ loop-index-preserved c =
     let inside : c.loop-index.index - 1 < length c.loop-index.places.items = omega (arith, c.loop-index.invariant.size, ap (λ xs. length xs) c.events-events.ensures.value) in
     let is = event-at T c.format-format.result c.events-events.result.now i c.index-events-index.result c.format-format.ensures.value c.events-events.ensures.value within c.index-events-index.is in
     let old = subst (λ k. IsAhead T k c.loop-index.ahead) before c.loop-index.invariant.ahead in
-    let stored : TellsStored T (suc i) c.in_ok-after.after = c.in_ok-after.ensures.stored T i is old in
-    let tells : TellsSafe T (suc i) c.in_ok-after.after.completed = λ l w at_store. (stored l w at_store).safe in
+    let place = c.in_ok-place.place in
     record {
-      size = length-set c.loop-index.places.items i c.in_ok-after.after.completed ∙ c.loop-index.invariant.size;
-      ahead = c.in_ok-after.ensures.ahead T i is (omega arith) old;
-      each = λ n p from at. told-set (TellsSafe T) c.loop-index.places.items i n c.in_ok-after.after.completed p inside tells (λ m q later here. c.loop-index.invariant.each m q (omega arith) here) from at;
+      size = length-set c.loop-index.places.items i place ∙ c.loop-index.invariant.size;
+      ahead = c.in_ok-place.ensures.ahead T i is (omega arith) old;
+      each = λ n p from at. told-set (TellsSafe T) c.loop-index.places.items i n place p inside (c.in_ok-place.ensures.safe T i is old) (λ m q later here. c.loop-index.invariant.each m q (omega arith) here) from at;
     }
 
 pub returns : goal.returns

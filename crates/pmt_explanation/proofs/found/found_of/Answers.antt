@@ -1,5 +1,5 @@
 use Rattle.std.proofs.Common.{rules, ◌≡◌, sym, subst, ap, ◌∙◌}
-use Rattle.pmt_explain.specs.Dropping.{AreDropped}
+use Rattle.pmt_dropping.specs.Dropping.{AreDropped}
 use Rattle.pmt_causes.specs.Tables.{AreLabelRows, AreThreadRows}
 use Rattle.pmt_explanation.specs.Asking.{asked_dropped}
 use Rattle.pmt_failures.specs.Failing.{failing_events}

@@ -1,0 +1,4 @@
+pub mod FollowingLemmas
+pub mod SearchingLemmas
+pub mod DroppingLemmas
+pub mod BehindLemmas

@@ -1,0 +1,4 @@
+pub mod Dropping
+pub mod Following
+pub mod Searching
+pub mod Behind
