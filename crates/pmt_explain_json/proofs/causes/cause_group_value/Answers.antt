@@ -1,4 +1,4 @@
-use Rattle.std.proofs.Common.{◌≡◌, ℕ, true, false, List, [], ◌∷◌, length, map, IfOk, subst, sym, ap, ◌∙◌}
+use Rattle.std.proofs.Common.{◌≡◌, ℕ, true, false, List, [], ◌∷◌, length, map, IfOk, subst, ap, ◌∙◌}
 use Rattle.serde_json.specs.View.{view}
 use Rattle.pmt_causes.specs.declared.counting.Count.{Count}
 use Rattle.pmt_causes.specs.declared.details.Maker.{Maker}
@@ -12,8 +12,8 @@ use Rattle.pmt_explain_json.proofs.causes.cause_group_value.Goals as goal
 pub returns : goal.returns
 returns c =
     let g = c.args.group.now in
-    let count = c.from.ensures ∙ ap count_data (c.len.ensures ∙ sym c.as_slice.ensures.len ∙ ap length c.as_slice.ensures.value) in
-    let events = subst (λ (ns : List ℕ). IfOk c.numbers_value-events.result (λ v. view v ≡ array_of (map count_data ns))) c.as_slice.ensures.value c.numbers_value-events.ensures in
+    let count = c.from.ensures ∙ ap count_data c.len.ensures.value in
+    let events = subst (λ (ns : List ℕ). IfOk c.numbers_value-events.result (λ v. view v ≡ array_of (map count_data ns))) c.as_slice.ensures c.numbers_value-events.ensures in
     let claims = subst (λ (cs : List (Count Maker)). IfOk c.makers_value-claims.result (λ v. view v ≡ array_of (map (maker_count_data c.args.labels.now true) cs))) c.as_slice-2.ensures.value c.makers_value-claims.ensures in
     let next = subst (λ (cs : List (Count Maker)). IfOk c.makers_value-next.result (λ v. view v ≡ array_of (map (maker_count_data c.args.labels.now false) cs))) c.as_slice-3.ensures.value c.makers_value-next.ensures in
     let parts = subst (λ (cs : List (Count RangePart)). IfOk c.parts_value-parts.result (λ v. view v ≡ array_of (map part_count_data cs))) c.as_slice-4.ensures.value c.parts_value-parts.ensures in

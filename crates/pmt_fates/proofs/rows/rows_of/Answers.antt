@@ -78,6 +78,5 @@ returns c =
     let fates = c.args.fates.now in
     let saved : ℕ → Option SavedBefore = saved_by c.args.safe.now c.args.savings.now in
     let all : c.loop-index.index ≡ length c.args.trace.now.events = omega (arith, ap (λ xs. length xs) c.events-events.ensures.value) in
-    let few : length (place_items T labels (length T.events)) < 2 ^ 63 = omega (arith, items-length T labels (length T.events), c.events-events.ensures.is_trace.few) in
-    rows-told fates saved (place_items T labels (length T.events)) c.loop-index.rows (row_place c.loop-index.places) few
+    rows-told fates saved (place_items T labels (length T.events)) c.loop-index.rows.items (row_place c.loop-index.places)
     (subst (λ m. AreSoFar fates saved (place_items T labels m) c.loop-index.rows.items (row_place c.loop-index.places)) all c.loop-index.invariant)
