@@ -18,9 +18,10 @@ use crate::fencing::next_fences;
 use crate::flushing::next_flushes;
 use crate::grouping::{Group, Keyed, groups};
 use crate::limit::first;
-use pmt_explain::{LastWriters, SafePlaces, ordered_failure, persist_failure};
+use pmt_explain::{SafePlaces, ordered_failure, persist_failure};
 use pmt_model::{Op, OutOfMemory, Range, Trace};
 use pmt_reasons::Failure;
+use pmt_writers::LastWriters;
 use std::alloc::Global;
 
 /// Failed assertions by cause.
@@ -50,8 +51,8 @@ struct Loss {
 /// and `whole` those of their labels; and what is counted inside each of the first `limit` groups. The failure of each is that which
 /// `pmt_explain::failure` tells.
 ///
-/// It takes at most three looks at each event, where the numbers rise, and at most two at each run of bytes of the ranges of
-/// these assertions that one store was the last to write.
+/// It takes at most three looks at each event, where the numbers rise, and at each of these assertions what
+/// `pmt_explain::persist_failure` and `ordered_failure` take.
 ///
 /// # Errors
 /// Where memory was refused.

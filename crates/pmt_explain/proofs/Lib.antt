@@ -9,9 +9,7 @@ pub mod LostGroupLemmas
 pub mod OverwrittenGroupLemmas
 pub mod FirstLemmas
 pub mod NumberLemmas
-pub mod RunLemmas
 pub mod FirstInLemmas
-pub mod WriterLemmas
 pub mod FollowingLemmas
 pub mod ReachLemmas
 pub mod SavingLemmas

@@ -7,9 +7,8 @@ pub mod Grouping
 pub mod LostGroups
 pub mod OverwrittenGroups
 pub mod Numbers
-pub mod Runs
 pub mod Wanting
-pub mod Writers
+pub mod FirstIn
 pub mod Following
 pub mod Saving
 pub mod Completed

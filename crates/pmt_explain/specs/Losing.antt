@@ -1,16 +1,20 @@
 -- The stores that a crash loses, and the first of them.
-use Rattle.std.specs.Prelude.{◌≡◌, ◌↔◌, ℕ, ◌<◌, ◌≤◌, ◌⊎◌, ◌==◌, ◌&&◌, ◌||◌, Bool, true, min, max, nat_lt, IsTrue, List, Contains, Option, None, Some, slice_index}
+use Rattle.std.specs.Prelude.{◌≡◌, ◌↔◌, ℕ, ◌<◌, ◌⊎◌, ◌==◌, ◌&&◌, ◌||◌, Bool, true, nat_lt, IsTrue, List, Contains, Option, None, Some, slice_index}
 use Rattle.std.specs.List.Sorted.{IsStrictlyIncreasing}
 use Rattle.pmt_model.specs.Values.{Span}
 use Rattle.pmt_model.specs.Traces.{Recording}
 use Rattle.pmt_reasons.specs.declared.failure.ByteStore.{ByteStore}
 use Rattle.pmt_reasons.specs.Failures.{IsLost, IsLastIn, IsNoLater}
-use Rattle.pmt_explain.specs.declared.runs.Run.{Run}
 
 -- The byte of a store comes before the first one so far: by the number of the store, and then by the address.
 abbrev pub comes_before : ByteStore → Option ByteStore → Bool
 comes_before x None = true
 comes_before x (Some y) = nat_lt x.store y.store || (x.store == y.store && nat_lt x.byte y.byte)
+
+-- The store of the first one so far, or the greatest number where there is none.
+abbrev pub store_bound : Option ByteStore → ℕ
+store_bound None = 18446744073709551615
+store_bound (Some x) = x.store
 
 -- The one that is found is picked exactly where it comes before the first one and has the property.
 abbrev pub Picks : Type 0 → Option ByteStore → ByteStore → Option ByteStore → Type 0
@@ -30,10 +34,6 @@ IsFirstIn T i A P Covered (Some x) = IsFirstAmong T i A P Covered x
 -- Every byte is covered.
 abbrev pub Anywhere : ℕ → Type 0
 Anywhere b = Unit
-
--- What is found first, where the run is looked at for bytes from low to high.
-abbrev pub Considers : (ℕ → Type 0) → ℕ → ℕ → Run → Option ByteStore → Option ByteStore → Type 0
-Considers P low high r first result = ((min r.high high ≤ max r.low low) × (result ≡ first)) ⊎ ((max r.low low < min r.high high) × Picks (P r.store) first (record { store = r.store; byte = max r.low low }) result)
 
 -- The crash at place n loses store x, which stands below index k of the list.
 pub record IsLostAmong (T : Recording) (n : ℕ) (full : Option ℕ) (last : List ℕ) (k x : ℕ) : Type 0 where

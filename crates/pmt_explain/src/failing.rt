@@ -9,14 +9,15 @@ ghost use Rattle.pmt_reasons.specs.Failures.{IsFailureAt, IsPersistFailure, IsOr
 ghost use Rattle.pmt_explain.specs.Losing.{Anywhere, IsFirstAmong};
 ghost use Rattle.pmt_explain.specs.Keeping.{IsStoreOff, KeepsWithout, IsCrashAfter, IsFirstCrash};
 ghost use Rattle.pmt_explain.specs.Saving.{AreSafePlaces};
-ghost use Rattle.pmt_explain.specs.Writers.{Knows};
+ghost use Rattle.pmt_writers.specs.Writers.{Knows};
 
-use crate::last_writers::LastWriters;
+use crate::first_in::first_in;
 use crate::lost::line_of_store;
 use crate::saving::SafePlaces;
 use crate::wanted::Wanted;
 use pmt_model::{Op, OutOfMemory, Range, Trace};
 use pmt_reasons::{ByteStore, Failure};
+use pmt_writers::LastWriters;
 use std::alloc::Global;
 
 /// The crash that violates the assertion with this number: of an isPersist one at its place, which loses the first store that it
@@ -105,7 +106,8 @@ fn failure_of_ordered(
 /// The crash that violates the isPersist of the range at the event with this number, if it fails. Here `safe` has the places that
 /// `safe_places` gives, and `writers` are those of the first `number` events.
 ///
-/// It takes one look at each run of bytes of the range that one store was the last to write.
+/// It takes a look-up for each 64 bytes of the range, and where these may have that store a look at each word, and some four at each of
+/// its bytes.
 pub fn persist_failure(
     trace: &Trace,
     safe: &[u64],
@@ -122,7 +124,7 @@ pub fn persist_failure(
         place: number,
         full: None,
     };
-    match writers.first_in(trace, safe, wanted, range) {
+    match first_in(writers, trace, safe, wanted, range) {
         None => None,
         Some(lost) => Some(Failure {
             place: number,
@@ -135,7 +137,7 @@ pub fn persist_failure(
 /// The crash that violates the isOrderedBefore of the two ranges at the event with this number, if it fails. Here `safe` has the
 /// places that `safe_places` gives, and `writers` are those of the first `number` events.
 ///
-/// It takes at most two looks at each run of bytes of the ranges that one store was the last to write.
+/// It takes at most four times as many looks as `persist_failure`.
 pub fn ordered_failure(
     trace: &Trace,
     safe: &[u64],
@@ -168,7 +170,7 @@ fn first_kept(
     requires kept { Knows trace.now number kept writers.now }
     ensures { IsFirstCrash trace.now number lost kept result }
 {
-    match writers.first_in(trace, safe, Wanted::Off { line: None }, kept) {
+    match first_in(writers, trace, safe, Wanted::Off { line: None }, kept) {
         None => None,
         Some(first) => match crash_after(trace, safe, number, lost, writers, first) {
             Some(failure) => Some(failure),
@@ -195,7 +197,7 @@ fn second_kept(
     ensures { IsFirstCrash trace.now number lost kept result }
 {
     let line = line_of_store(trace, first.store);
-    match writers.first_in(trace, safe, Wanted::Off { line }, kept) {
+    match first_in(writers, trace, safe, Wanted::Off { line }, kept) {
         None => None,
         Some(second) => crash_after(trace, safe, number, lost, writers, second),
     }
@@ -239,7 +241,7 @@ fn crash_keeping(
         place: kept.store,
         full: Some(line),
     };
-    match writers.first_in(trace, safe, wanted, range) {
+    match first_in(writers, trace, safe, wanted, range) {
         None => None,
         Some(lost) => Some(Failure {
             place: kept.store,

@@ -1,17 +1,12 @@
-//! The first one of the last stores that is wanted.
+//! Which of the last stores to bytes are wanted, and which of two comes first.
 
-ghost use Rattle.std.specs.Prelude.{◌≡◌, ◌+◌, ◌≤◌, ◌<◌, ◌/◌, ◌⊎◌, ◌↔◌, ℕ, length, IsTrue};
-ghost use Rattle.pmt_model.specs.Values.{Span};
-ghost use Rattle.pmt_explain.specs.Losing.{comes_before, Anywhere, Considers, IsFirstIn, Picks};
-ghost use Rattle.pmt_explain.specs.Runs.{HasRun};
+ghost use Rattle.std.specs.Prelude.{◌≡◌, ◌==◌, ◌||◌, ◌<◌, ◌^◌, ◌↔◌, IsTrue, nat_lt};
+ghost use Rattle.pmt_explain.specs.Losing.{comes_before, store_bound, Picks};
 ghost use Rattle.pmt_explain.specs.Saving.{AreSafePlaces};
 ghost use Rattle.pmt_explain.specs.Wanting.{IsWithin, Wants};
-ghost use Rattle.pmt_explain.specs.Writers.{AreRuns, Knows};
 
-use crate::last_writers::LastWriters;
 use crate::lost::{is_lost, line_of_store};
-use crate::runs::Run;
-use pmt_model::{Range, Trace};
+use pmt_model::Trace;
 use pmt_reasons::ByteStore;
 
 /// Which stores are wanted.
@@ -24,7 +19,7 @@ pub(crate) enum Wanted {
 }
 
 // Whether the store is wanted.
-fn is_wanted(trace: &Trace, safe: &[u64], wanted: Wanted, store: u64) -> bool
+pub(crate) fn is_wanted(trace: &Trace, safe: &[u64], wanted: Wanted, store: u64) -> bool
     requires safe { AreSafePlaces trace.now safe.now }
     requires within { IsWithin trace.now wanted }
     ensures { IsTrue result ↔ Wants trace.now wanted store }
@@ -50,8 +45,28 @@ fn comes_first(found: ByteStore, first: Option<ByteStore>) -> bool
     }
 }
 
+// The store of the first one so far, or the greatest number where there is none.
+#[inline(always)]
+pub(crate) fn bound_of(first: Option<ByteStore>) -> u64
+    ensures { result ≡ store_bound first }
+{
+    match first {
+        None => u64::MAX,
+        Some(found) => found.store,
+    }
+}
+
+// Whether there is no store, which is 0, or it comes after this one.
+#[inline(always)]
+pub(crate) fn comes_after(store: u32, bound: u64) -> bool
+    ensures after { result ≡ ((store == 0) || nat_lt bound store) }
+    ensures small { store < 2 ^ 32 }
+{
+    store == 0 || bound < store as u64
+}
+
 // The first wanted one so far, with one more to be judged.
-fn earlier(
+pub(crate) fn earlier(
     trace: &Trace,
     safe: &[u64],
     wanted: Wanted,
@@ -66,99 +81,4 @@ fn earlier(
         return Some(found);
     }
     first
-}
-
-// The same with the bytes of a run from `low` to `high`.
-fn first_of_run(
-    trace: &Trace,
-    safe: &[u64],
-    wanted: Wanted,
-    low: u64,
-    high: u64,
-    run: Run,
-    first: Option<ByteStore>,
-) -> Option<ByteStore>
-    requires safe { AreSafePlaces trace.now safe.now }
-    requires within { IsWithin trace.now wanted }
-    ensures { Considers (Wants trace.now wanted) low high run first result }
-{
-    let byte = run.low.max(low);
-    if run.high.min(high) <= byte {
-        return first;
-    }
-    let found = ByteStore {
-        store: run.store,
-        byte,
-    };
-    earlier(trace, safe, wanted, first, found)
-}
-
-// The same with all of these runs.
-fn first_of_runs(
-    trace: &Trace,
-    safe: &[u64],
-    wanted: Wanted,
-    low: u64,
-    high: u64,
-    runs: &[Run],
-    first: Option<ByteStore>,
-) -> Option<ByteStore>
-    requires safe { AreSafePlaces trace.now safe.now }
-    requires within { IsWithin trace.now wanted }
-    ensures { (i near : ℕ) (A : Span) → A.addr ≡ low → A.addr + A.len ≡ high → AreRuns trace.now i near low high runs.now → IsFirstIn trace.now i A (Wants trace.now wanted) (λ b. b / 64 < near) first → IsFirstIn trace.now i A (Wants trace.now wanted) (λ b. (b / 64 < near) ⊎ HasRun runs.now b) result }
-{
-    let mut earliest = first;
-    for run in runs {
-        earliest = first_of_run(trace, safe, wanted, low, high, *run, earliest);
-    }
-    earliest
-}
-
-impl LastWriters {
-    // Of the last stores to bytes of the range the first one that is wanted, with its first byte.
-    pub(crate) fn first_in(
-        &self,
-        trace: &Trace,
-        safe: &[u64],
-        wanted: Wanted,
-        range: Range,
-    ) -> Option<ByteStore>
-        requires safe { AreSafePlaces trace.now safe.now }
-        requires within { IsWithin trace.now wanted }
-        ensures { (i : ℕ) → Knows trace.now i range self.now → IsFirstIn trace.now i range (Wants trace.now wanted) Anywhere result }
-    {
-        let low = range.addr().get();
-        let high = low + range.len();
-        let mut first = None;
-        for near in low / 64..(high - 1) / 64 + 1 {
-            first = self.first_near(trace, safe, wanted, low, high, near, first);
-        }
-        first
-    }
-
-    // The first one so far, with the 64 bytes of this number.
-    fn first_near(
-        &self,
-        trace: &Trace,
-        safe: &[u64],
-        wanted: Wanted,
-        low: u64,
-        high: u64,
-        near: u64,
-        first: Option<ByteStore>,
-    ) -> Option<ByteStore>
-        requires safe { AreSafePlaces trace.now safe.now }
-        requires within { IsWithin trace.now wanted }
-        ensures { (i : ℕ) (A : Span) → A.addr ≡ low → A.addr + A.len ≡ high → Knows trace.now i A self.now → IsFirstIn trace.now i A (Wants trace.now wanted) (λ b. b / 64 < near) first → IsFirstIn trace.now i A (Wants trace.now wanted) (λ b. b / 64 < near + 1) result }
-    {
-        match self.table.places.get(near) {
-            None => first,
-            Some(at) => match self.table.runs.get(at as usize) {
-                None => first,
-                Some(runs) => {
-                    first_of_runs(trace, safe, wanted, low, high, runs.as_slice(), first)
-                }
-            },
-        }
-    }
 }
