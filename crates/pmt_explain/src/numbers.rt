@@ -1,6 +1,6 @@
 //! Numbers of lines.
 
-ghost use Rattle.std.specs.Prelude.{◌≡◌, ◌≢◌, ℕ, Some, [], min, IfOk, OnOk};
+ghost use Rattle.std.specs.Prelude.{◌≡◌, [], min, IfOk, OnOk};
 ghost use Rattle.pmt_explain.specs.Numbers.{number_at, number_in, Puts, Reaches};
 
 use pmt_model::OutOfMemory;
@@ -15,7 +15,7 @@ pub struct Numbered {
     pub number: u64,
 }
 
-/// Numbers of lines.
+/// Numbers of lines: each has one or none. A line that came lately takes a few steps, another one a look-up.
 #[derive(Drop)]
 pub struct Numbers {
     lines: LinePlaces,
@@ -36,7 +36,7 @@ impl Model for Numbers {
 }
 
 impl Numbers {
-    // No line has one.
+    /// No line has one.
     pub fn new(alloc: Global) -> Self
         ensures { result ≡ [] }
     {
@@ -46,7 +46,7 @@ impl Numbers {
         }
     }
 
-    // The number of the line, if it has one.
+    /// The number of the line, if it has one.
     pub fn get(&self, line: u64) -> Option<u64>
         ensures { result ≡ number_in self.now line }
     {
@@ -81,17 +81,10 @@ impl Numbers {
         Ok(place)
     }
 
-    // The number of the line, which gets the other one if it has none.
-    pub fn keep(&mut self, line: u64, other: u64) -> Result<u64, OutOfMemory>
-        ensures number { IfOk result (λ number. number ≡ number_at other self.old line) }
-        ensures here { IfOk result (λ number. number_in self.new line ≡ Some number) }
-        ensures others { OnOk result ((l : ℕ) → l ≢ line → number_in self.new l ≡ number_in self.old l) }
-    {
-        let place = self.reach(line, other)?;
-        Ok(self.rows[place].number)
-    }
-
-    // The number of the line, or the other one where it has none. The line gets this one.
+    /// The number of the line, or the other one where it has none. The line gets this one.
+    ///
+    /// # Errors
+    /// Where memory was refused.
     pub fn replace(&mut self, line: u64, other: u64, number: u64) -> Result<u64, OutOfMemory>
         ensures number { IfOk result (λ old. old ≡ number_at other self.old line) }
         ensures put { OnOk result (Puts line number self.old self.new) }
@@ -102,7 +95,10 @@ impl Numbers {
         Ok(old)
     }
 
-    // The number of the line, or the other one where it has none. The line gets the lower one of it and the bound.
+    /// The number of the line, or the other one where it has none. The line gets the lower one of it and the bound.
+    ///
+    /// # Errors
+    /// Where memory was refused.
     pub fn lower(&mut self, line: u64, other: u64, bound: u64) -> Result<u64, OutOfMemory>
         ensures number { IfOk result (λ old. old ≡ number_at other self.old line) }
         ensures put { IfOk result (λ old. Puts line (min old bound) self.old self.new) }
