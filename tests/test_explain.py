@@ -1,27 +1,23 @@
 """What `explain` says: the JSON and the texts of small random traces against explained.py, and texts and entries by hand."""
 import json
 import os
-import pathlib
 import random
 import re
 import shlex
 import subprocess
 import sys
-import tempfile
 
 from broken import joined
 from checks import Checks, add_tests
 from crowded import random_trace
+from explain_lines import NEVER_STORED, lines_of, many_failures, refused
 from explained import KINDS, Explained, judged, with_events
 from explained_text import SCREEN, wrong_screen, wrong_text
 from machine import spelled, text_of
 from program import TOP, find
-from schemas import complaints, names_of, wrongs
-from traces import all_traces
 from worked_stories import STORIES
 
 TEXTS = TOP / "examples/explain"
-SCHEMA = TOP / "docs/explain.schema.json"
 PLACES = (TOP / "examples", TOP / "tests/traces")
 TRACES = 400
 
@@ -136,10 +132,6 @@ def compare_texts(program, explained, words, file, status):
 
 
 TWO_LOST = "pmtrace 1\nstore 0 0x1000 0102\nstore 3 0x1002 0304\n"
-NEVER_STORED = (
-    "pmtrace 1\nisPersist 0 0x1000 8\nstore 0 0x1007 01\nisPersist 0 0x1000 7\nisPersist 0 0x1000 8\n"
-    "isOrderedBefore 0 0x2000 4096 0x1007 1\nclflushopt 0 0x1007\nsfence 0\n"
-)
 ALL_IN_PARTS = ["--ignore", "0x1003:281474976706557", "--ignore", "0xfff:3", "--ignore", "0x1001:2"]
 
 TABLES = ("place", "thread", "label")
@@ -240,23 +232,6 @@ hint: list.c:57 fill: 1 store is saved one fence late: a crash right after the f
 # The same with the pointer stored first, and with the first fence saving nothing.
 POINTER_FIRST = "pmtrace 1\nstore 0 0x1040 0010000000000000\nstore 0 0x1000 01\nclwb 0 0x1040\nsfence 0\nclwb 0 0x1000\nsfence 0\n"
 NOTHING_SAVED = "pmtrace 1\nstore 0 0x1000 01\nsfence 0\nclwb 0 0x1000\nsfence 0\n"
-
-
-def many_failures():
-    """A trace with 300 assertions that fail, of 4096 bytes each, whose 512 stores are never flushed."""
-    stores = "".join(f"store 0 {0x1000 + 8 * word:#x} 0102030405060708\n" for word in range(512))
-    claims = "".join(f"isPersist {thread} 0x1000 4096\n" for thread in range(100)) * 3
-    return f"pmtrace 1\n{stores}{claims}"
-
-
-def lines_of(done):
-    """The lines that a program wrote, each once."""
-    return dict.fromkeys(done.stdout.decode().removesuffix("\n").split("\n"))
-
-
-def refused(lines):
-    """The first of these lines that the schema refuses, each with why."""
-    return [told for told in zip(lines, complaints(SCHEMA, lines), strict=True) if told[1]][:3]
 
 
 class Explain(Checks):
@@ -455,73 +430,3 @@ class Explain(Checks):
 
 
 add_tests(Explain, Explain.check_text, {f"text_of_{path.stem}": path for path in sorted(TEXTS.glob("*.text"))})
-
-
-# Labels of any letters, what is asked for, and traces that reach the bounds of numbers.
-ODD_LABELS = ("\u2028\U0001f600 \"\\ < main", " < main file.c:9", "file.c:7 call", "</script>\x85")
-CHOICES = (
-    [],
-    *(["--only", kind] for kind in KINDS),
-    ["--limit", "0"],
-    ["--limit", "all"],
-    ["--label", "c:", "--limit", str(2**64)],
-    ["--from", "1", "--to", str(2**64 - 1), "--thread", "0", "--range", "0x0:281474976710656"],
-    ["--ignore", "0x1000:8"],
-)
-BOUNDS = (
-    "pmtrace 1\n" + 999_999 * "sfence 255\n" + "store 255 0xffffffffffff ff\n",
-    "pmtrace 2 256\nstore 0 0x0 00\nisPersist 255 0x0 4096\nisOrderedBefore 0 0x0 4096 0xfffffffff000 4096\nstore 0 0x0 00\n",
-    NEVER_STORED,
-    many_failures(),
-    # The second of three lines is not flushed.
-    "pmtrace 1\nstore 0 0x0 01\nstore 0 0x40 02\nstore 0 0x80 03\nclwb 0 0x0\nclwb 0 0x80\nsfence 0\n" + 2 * "isPersist 0 0x0 192\n",
-)
-
-
-class Schema(Checks):
-    """Lines of JSON are as docs/explain.schema.json says, and lines that are not are refused."""
-
-    @classmethod
-    def setUpClass(cls):
-        with tempfile.TemporaryDirectory() as name:
-            cls.file, found = pathlib.Path(name) / "t", {}
-            texts = [trace.read_text() for trace in all_traces()]
-            for text in (*texts, *BOUNDS):
-                cls.file.write_text(text)
-                found |= cls.told()
-            for text in texts:
-                found |= cls.told_of_cut(text)
-        cls.lines = list(found)
-
-    @classmethod
-    def told(cls, *words):
-        done = subprocess.run([os.environ["PMTRIM"], "explain", "--json", *words, cls.file], capture_output=True, timeout=120)
-        return lines_of(done)
-
-    @classmethod
-    def told_of_cut(cls, text):
-        """The lines of the trace as one that was cut, with labels, by all choices and of each failure."""
-        cls.file.write_text(text)
-        events, names = text.count("\n") - 1, cls.file.with_name("l")
-        cls.file.with_name("t.cut").write_text(f"{events} it was cut\n")
-        names.write_text("".join(f"{number} {ODD_LABELS[number % 4]}\n" for number in range(1, events + 1) if number % 5))
-        found = {line: None for words in CHOICES for line in cls.told("--labels", names, *words)}
-        failing = {event for entry in map(json.loads, found) if entry["kind"] == "cause" for event in entry["events"]}
-        return found | {line: None for event in sorted(failing)[:20] for line in cls.told("--failure", str(event))}
-
-    def test_lines(self):
-        """Each name of the schema is in a line, so it knows no more than is written."""
-        self.expect_equal("the schema", refused(self.lines), [])
-        unseen = [name for name in names_of(json.loads(SCHEMA.read_text())) if not any(f'"{name}"' in line for line in self.lines)]
-        self.expect_equal("names that no line has", unseen, [])
-
-    def test_wrong_lines(self):
-        """Of each set of kinds, causes, reasons and mends one line, with each thing in it wrong in turn."""
-        short = sorted((line for line in self.lines if len(line) < 3000), key=len)
-        longest = {tuple(re.findall(r'"(?:kind|why|assertion|hint|reason|mend|cause)":"\w+"', line)): line for line in short}
-        wrong = [(f"{told} in {line}", json.dumps(value)) for line in longest.values() for told, value in wrongs(json.loads(line))]
-        judged_lines = zip(wrong, complaints(SCHEMA, [line for _, line in wrong]), strict=True)
-        self.expect_equal("wrong lines that are accepted", [name for (name, _), told in judged_lines if not told][:5], [])
-        line = next(line for line in self.lines if '"reason":"useless"' in line)
-        told = complaints(SCHEMA, [line.replace('"useless"', '"forgotten"')])[0][0]
-        self.expect("what is told", told.startswith("$.reason.reason: 'forgotten' is not one of"), told)

@@ -2,8 +2,8 @@
 
 use crate::summary::late_stores;
 use pmt_explanation::Summary;
+use pmt_hint_text::has_hints;
 use pmt_pen::Pen;
-use pmt_place_text::has_hints;
 use pmt_telling::{Telling, push_wrapped, tells_all};
 
 // Adds whether a crash can lose what is claimed, or at the end what was stored. Nothing if a part is asked for, or nothing was stored, or

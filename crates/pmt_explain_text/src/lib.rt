@@ -12,7 +12,8 @@ mod summary;
 mod tables;
 mod unknown;
 mod unwritten;
+mod wanted;
 
 pub use crate::people::text;
-pub use pmt_place_text::source_places;
+pub use crate::wanted::source_places;
 pub use pmt_telling::Screen;

@@ -9,12 +9,11 @@ use crate::unwritten::unwritten_section;
 use pmt_asked::Labels;
 use pmt_explanation::{Explanation, summary_of};
 use pmt_failure_text::failures_section;
+use pmt_guess_text::{claims_wanted, guesses_section};
+use pmt_hint_text::{hints_section, late_section, lost_section, marks_section};
 use pmt_model::OutOfMemory;
 use pmt_pen::Pen;
-use pmt_place_text::{
-    claims_wanted, guesses_section, hints_section, late_section, lost_section, marks_section,
-    places_section,
-};
+use pmt_place_text::places_section;
 use pmt_telling::{Screen, Telling, hinting_of, push_sections, sources_section, tells_all};
 use std::alloc::Global;
 

@@ -1,7 +1,6 @@
 //! What becomes of the stores of each place, in words: of the places that lose or delay some.
 
 use crate::callers::{Callers, callers_of, push_callers};
-use crate::claims::Claims;
 use crate::member_story::{MOST_STORIES, push_store_story, waited_by};
 use crate::members::{Members, members_of};
 use crate::rests::{most_lost, rest_of, sum_of, sum_of_entry};
@@ -12,6 +11,7 @@ use pmt_causes::Origin;
 use pmt_explanation::{Explanation, first};
 use pmt_failures::mend_for;
 use pmt_fates::{PlaceRow, Standing, standing_of};
+use pmt_guess_text::Claims;
 use pmt_model::OutOfMemory;
 use pmt_pen::Pen;
 use pmt_telling::{
@@ -84,13 +84,18 @@ fn is_told(sharing: &Sharing, rows: &[PlaceRow], number: usize) -> bool {
 }
 
 // The places that lose or delay stores, which come first; none where something is asked for.
-pub(crate) fn troubled<'a>(explanation: &'a Explanation, choice: &Choice) -> &'a [PlaceRow] {
+fn troubled<'a>(explanation: &'a Explanation, choice: &Choice) -> &'a [PlaceRow] {
     if !tells_all(choice) {
         return &[];
     }
     let rows = explanation.places.as_slice();
     let count = rows.iter().filter(|row| is_troubled(row)).count();
     first(rows, count)
+}
+
+/// Those of these places that may be told with a story.
+pub fn storied<'a>(explanation: &'a Explanation, choice: &Choice) -> &'a [PlaceRow] {
+    first(troubled(explanation, choice), MOST_STORIES)
 }
 
 // Whether the place loses or delays stores.

@@ -1,8 +1,8 @@
 //! Places that lose all they store to one cache line which nothing flushes: those of one line are told once.
 
-use crate::claims::Claims;
 use pmt_causes::Origin;
 use pmt_fates::{PlaceRow, Standing, standing_of};
+use pmt_guess_text::Claims;
 use pmt_model::OutOfMemory;
 use pmt_pen::Pen;
 use pmt_telling::{

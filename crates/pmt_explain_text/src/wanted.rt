@@ -1,11 +1,10 @@
 //! Which lines of source files the text may have rows of.
 
-use crate::lost::shown_causes;
-use crate::member_story::MOST_STORIES;
-use crate::places::troubled;
 use pmt_asked::{Choice, Labels};
-use pmt_explanation::{Explanation, first};
+use pmt_explanation::Explanation;
+use pmt_hint_text::shown_causes;
 use pmt_model::{OutOfMemory, Trace};
+use pmt_place_text::storied;
 use pmt_slices::{store_story_of, story_of};
 use pmt_sources::{SourcePlace, place_at};
 use pmt_telling::flushed_instead;
@@ -33,7 +32,7 @@ pub fn source_places<'a>(
         }
         add_instead(&mut found, labels, trace, shown.failure.lost.store)?;
     }
-    for row in first(troubled(explanation, choice), MOST_STORIES) {
+    for row in storied(explanation, choice) {
         if let Some(store) = row.first_lost.or(row.first_late) {
             if let Some(story) = store_story_of(alloc, trace, store)? {
                 add_places(&mut found, labels, story.numbers())?;

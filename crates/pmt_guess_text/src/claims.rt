@@ -30,8 +30,8 @@ impl Claims {
         self.flushed.is_empty() || self.claimed.is_empty()
     }
 
-    // Whether an event flushes the line.
-    pub(crate) fn has_flush(&self, line: u64) -> bool {
+    /// Whether an event flushes the line.
+    pub fn has_flush(&self, line: u64) -> bool {
         self.flushed.contains_key(&line)
     }
 

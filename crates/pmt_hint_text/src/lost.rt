@@ -32,11 +32,8 @@ pub fn lost_section(told: &Telling<'_>) -> Section {
     section
 }
 
-// The causes of what is never persisted; none where nothing is asked for.
-pub(crate) fn shown_causes<'a>(
-    explanation: &'a Explanation,
-    choice: &Choice,
-) -> &'a [Group<LostKey>] {
+/// The causes of what is never persisted; none where nothing is asked for.
+pub fn shown_causes<'a>(explanation: &'a Explanation, choice: &Choice) -> &'a [Group<LostKey>] {
     let all = explanation.lost_causes.as_slice();
     first(all, if tells_all(choice) { 0 } else { all.len() })
 }

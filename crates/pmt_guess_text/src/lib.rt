@@ -1,0 +1,9 @@
+//! What `pmtrim explain` writes of places that could be left out, and of which cache lines the program speaks.
+#![tactic(auto)]
+
+mod claims;
+mod guesses;
+mod merging;
+
+pub use crate::claims::{Claims, claims_wanted};
+pub use crate::guesses::guesses_section;
