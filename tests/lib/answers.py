@@ -33,7 +33,8 @@ def answer_lines(explained):
     but = f", but for {ignored} that {'is' if ignored == 1 else 'are'} ignored" if ignored else ""
     late = sum(row["late"] for _, row in by_place.rows(explained))
     delayed = f", {late} of them late" if late else ""
-    slips = "; hints say what a crash before that may break" if hinted.hints(explained) or hinted.path_hints(explained) or hinted.left(explained) else ""
+    is_hinted = hinted.hints(explained) or hinted.path_hints(explained) or hinted.left(explained)
+    slips = f"; hints say what a crash before that may break, {hinted.first_share(explained)}" if is_hinted else ""
     safe = f"{'the store' if stores == 1 else f'each of the {stores} stores'} is safe by the end of the trace{but}{delayed}{slips}"
     if claims == empty:
         return textwrap.wrap(f"Nothing is claimed: no assertion says what a crash may not lose. {safe[0].upper()}{safe[1:]}.", WIDTH)

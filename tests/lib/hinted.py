@@ -19,7 +19,6 @@ WORDS = {
 OTHERS = {"split_word": "other part", "stored_after_flush": "flush", "one_line_short": "missed store", "open_at_store": "store"}
 FIXES = {
     "split_word": "Lay the word out in one cache line, or let a log or a checksum vouch for both parts.",
-    "open_at_store": "If that store may not be saved first, fence before it; isOrderedBefore claims the order.",
 }
 
 
@@ -184,6 +183,8 @@ def fix(explained, kind, number):
     """What to do about the event."""
     if kind in FIXES:
         return FIXES[kind]
+    if kind == "open_at_store":
+        return f"If that store may not be saved first, fence before {named(explained, store_past(explained.trace, number))}; isOrderedBefore claims the order."
     trace, fence = explained.trace, until_fence(explained.trace, number).stop
     at = f", {named(explained, fence)}" if fence <= len(trace.events) else ""
     line, thread = explained.address(trace.line(number) + (kind == "one_line_short")), trace.event(number)[1]
@@ -255,6 +256,22 @@ def lines(explained):
             yield loss(explained, numbers[0])
         yield f"  fix:    {fix(explained, kind, numbers[0])}"
     yield from left_lines(explained)
+
+
+def first_share(explained):
+    """Where the first hint of a screen is, and of how many flushes or stores there it is so: hints of paths come before those of places."""
+    counts = dict(rows(explained))
+    found = {"path": [(label, len(numbers), place(explained, numbers[0])) for label, numbers in path_hints(explained)][:1]}
+    for kind, key, numbers in hints(explained):
+        found.setdefault(kind, [(name_of(key), len(numbers), key)])
+    for what in ("left_path", "left"):
+        most = sorted((row for row in left(explained) if bool(row[1]) == (what == "left_path")), key=lambda row: -row[2]["left"])[:1]
+        found[what] = [(name, row["left"], place(explained, row["first"])) for name, _, row in most]
+    order = ("path", "left_path", "open_at_store", "stored_after_flush", "one_line_short", "left", "split_word")
+    kind, (name, count, key) = next((kind, found[kind][0]) for kind in order if found.get(kind))
+    kept = sum(place(explained, flush) == key for flush in kept_of_any_kind(explained))
+    all_of = {"path": kept, "open_at_store": kept, "one_line_short": counts[key]["flushes"]}.get(kind, counts[key]["stores"])
+    return f"first at {name}, {count} of {all_of} time{'' if all_of == 1 else 's'}"
 
 
 def kept_of_any_kind(explained):

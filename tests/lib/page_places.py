@@ -84,6 +84,8 @@ SHARED = re.compile(r"^error: cache line 0x[0-9a-f]+ is never flushed: (\d+) pla
 HINT = re.compile(r"^hint: (.*): (\d+) (?:time|store)s? .*; first: event (\d+)(?:, [a-z ]+ event (\d+)(?: \(.*\))?)?\n(?:  before: (.*)\n)?  fix:    (.*)", re.M)
 # The page names an event by its whole label, the text by the innermost frame.
 CALLERS = re.compile(r" < [^()]*(?=\))")
+# The text names the store to fence before, which the page has in a row of its own.
+STORE_NAMED = re.compile(r"(?<=fence before )event (\d+)(?: \(.*\))?(?=;)")
 EVENT = re.compile(r"\bevent (\d+)")
 WAITED = re.compile(r"^ {4,}(\d+)  .*  late: left unsafe by (\d+) fences$", re.M)
 ERROR = re.compile(r"^error: a crash .*?(?: \((\d+) times\))?$", re.M)
@@ -160,11 +162,16 @@ def wrong_late(pages, text, told):
     return ""
 
 
+def with_store(fix, store):
+    """What the page says to do, where the text names this store."""
+    return STORE_NAMED.sub(lambda named: "it" if named[1] == store else named[0], fix)
+
+
 def wrong_hints(pages, text, _):
     """Each hint as it is chosen by its row: count, place, first event, the one that it goes with, what a crash keeps without it, and what
     to do."""
     wanted = [
-        (int(count), name, f"event {first} (", other and f"event {other} (", EVENT.findall(before), fix)
+        (int(count), name, f"event {first} (", other and f"event {other} (", EVENT.findall(before), with_store(fix, other))
         for name, count, first, other, before, fix in HINT.findall(text)
     ]
     found = rows(pages, "hint")

@@ -2,7 +2,7 @@
 
 use crate::summary::late_stores;
 use pmt_explanation::Summary;
-use pmt_hint_text::has_hints;
+use pmt_hint_text::{has_hints, push_first_hint};
 use pmt_pen::Pen;
 use pmt_telling::{Telling, push_wrapped, tells_all};
 
@@ -132,6 +132,7 @@ fn push_stores(pen: &mut Pen, told: &Telling<'_>, counts: &Summary, one: &str, m
         pen.fill(", # of them late", &[late]);
     }
     if has_hints(told) {
-        pen.put("; hints say what a crash before that may break");
+        pen.put("; hints say what a crash before that may break, first at ");
+        push_first_hint(pen, told);
     }
 }

@@ -1,13 +1,16 @@
 //! What no rule forbids and mostly is a slip, in words.
 
-use crate::left::{add_left, add_most_left_path, add_most_left_place, count_left};
+use crate::left::{
+    add_left, add_most_left_path, add_most_left_place, count_left, most_left, push_left_share,
+};
 use pmt_explanation::first;
 use pmt_hints::{Hint, HintKind};
 use pmt_model::{Op, Trace, line_of};
 use pmt_pen::Pen;
 use pmt_telling::{
     HEAD, Hinting, NEAR, SOURCE, Section, Telling, hint_line, hint_partner, line_of_store,
-    push_event, push_hint_words, push_own_flush, push_place, push_wrapped,
+    push_count, push_event, push_hint_words, push_own_flush, push_path, push_place,
+    push_place_name, push_wrapped,
 };
 
 const HEADING: &str =
@@ -54,13 +57,65 @@ fn add_first(
     is_path: bool,
     without: Option<usize>,
 ) {
-    for (index, hint) in told.explanation.hints.iter().enumerate() {
-        if hint.kind == kind && hint.path.is_some() == is_path {
-            if without != Some(index) {
-                add_hint(section, told, hint);
-            }
-            return;
+    let Some(index) = first_of(told, kind, is_path) else {
+        return;
+    };
+    if without != Some(index) {
+        if let Some(hint) = told.explanation.hints.get(index) {
+            add_hint(section, told, hint);
         }
+    }
+}
+
+// The index of the first hint of this kind of a path alone, or of a place.
+fn first_of(told: &Telling<'_>, kind: HintKind, is_path: bool) -> Option<usize> {
+    let hints = told.explanation.hints.as_slice();
+    hints
+        .iter()
+        .position(|hint| hint.kind == kind && hint.path.is_some() == is_path)
+}
+
+/// Adds where the first hint of a screen is, and of how many flushes or stores there it is so.
+pub fn push_first_hint(pen: &mut Pen, told: &Telling<'_>) {
+    if let Some(index) = first_of(told, HintKind::OpenAtStore, true) {
+        push_share(pen, told, index);
+    } else if let Some(row) = most_left(told, true) {
+        push_left_share(pen, told, &row, true);
+    } else if let Some(index) = first_of(told, HintKind::OpenAtStore, false)
+        .or(first_of(told, HintKind::StoredAfterFlush, false))
+        .or(first_of(told, HintKind::OneLineShort, false))
+    {
+        push_share(pen, told, index);
+    } else if let Some(row) = most_left(told, false) {
+        push_left_share(pen, told, &row, false);
+    } else if let Some(index) = first_of(told, HintKind::SplitWord, false) {
+        push_share(pen, told, index);
+    }
+}
+
+// Adds where the hint is, and of how many flushes or stores of its place it is told.
+fn push_share(pen: &mut Pen, told: &Telling<'_>, index: usize) {
+    let Some(hint) = told.explanation.hints.get(index) else {
+        return;
+    };
+    match hint.path {
+        Some(path) => push_path(pen, told, path),
+        None => push_place_name(pen, told, hint.place),
+    }
+    pen.fill(", # of ", &[hint.count]);
+    push_count(pen, events_like(told, hint), "time");
+}
+
+// How many events of the place of the hint are such as it is told of.
+fn events_like(told: &Telling<'_>, hint: &Hint) -> u64 {
+    let rows = told.explanation.places.as_slice();
+    let Some(row) = rows.iter().find(|row| row.place == hint.place) else {
+        return 0;
+    };
+    match hint.kind {
+        HintKind::SplitWord | HintKind::StoredAfterFlush => row.stores,
+        HintKind::OneLineShort => row.flushes,
+        HintKind::OpenAtStore => row.flushes.saturating_sub(row.idle_flushes),
     }
 }
 
@@ -91,7 +146,7 @@ fn push_hint(pen: &mut Pen, told: &Telling<'_>, hint: &Hint, partner: Option<u64
     if let Some(other) = partner {
         push_loss(pen, told, hint, other);
     }
-    push_fix(pen, told, hint);
+    push_fix(pen, told, hint, partner);
 }
 
 // Adds the hint, the first event and the one that it goes with.
@@ -160,7 +215,7 @@ fn other_words(kind: HintKind) -> &'static str {
 }
 
 // Adds what to do.
-fn push_fix(pen: &mut Pen, told: &Telling<'_>, hint: &Hint) {
+fn push_fix(pen: &mut Pen, told: &Telling<'_>, hint: &Hint, partner: Option<u64>) {
     match hint.kind {
         HintKind::SplitWord => pen.put(
             "  fix:    Lay the word out in one cache line, or let a log or a checksum vouch for both parts.\n",
@@ -171,11 +226,21 @@ fn push_fix(pen: &mut Pen, told: &Telling<'_>, hint: &Hint) {
                 push_own_flush(pen, told, line, event.thread, hint.first);
             }
         }
-        HintKind::OpenAtStore => pen.put(
-            "  fix:    If that store may not be saved first, fence before it; isOrderedBefore claims the order.\n",
-        ),
+        HintKind::OpenAtStore => push_fence(pen, told, partner),
         HintKind::OneLineShort => push_next_flush(pen, told, hint.first),
     }
+}
+
+// Adds the fence before the store at which the flush is open, which is named if it stands near.
+fn push_fence(pen: &mut Pen, told: &Telling<'_>, store: Option<u64>) {
+    let mut fix = Pen::new(pen.alloc());
+    fix.put("  fix:    If that store may not be saved first, fence before ");
+    match store {
+        Some(store) => push_place(&mut fix, told, store),
+        None => fix.put("it"),
+    }
+    fix.put("; isOrderedBefore claims the order.");
+    push_wrapped(pen, &fix, SOURCE);
 }
 
 // Adds the flush of the line right after that of the flush.

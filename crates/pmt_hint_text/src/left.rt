@@ -77,20 +77,31 @@ fn has_hint(told: &Telling<'_>, place: Origin) -> bool {
 
 // Adds the hint at the place with most such stores, the first one of several, if hints at all places are asked for.
 pub(crate) fn add_most_left_place(section: &mut Section, told: &Telling<'_>) {
-    if asks_all_places(told.screen.choice) {
-        add_most(section, told, told.explanation.places.as_slice(), false);
-    }
+    add_most(section, told, false);
 }
 
 // Adds the hint at the path with most such stores, the first one of several, if hints at all places are asked for.
 pub(crate) fn add_most_left_path(section: &mut Section, told: &Telling<'_>) {
-    if asks_all_places(told.screen.choice) {
-        add_most(section, told, told.explanation.left_paths.as_slice(), true);
+    add_most(section, told, true);
+}
+
+// Adds the hint at the place, or path, with most such stores.
+fn add_most(section: &mut Section, told: &Telling<'_>, is_path: bool) {
+    if let Some(row) = most_left(told, is_path) {
+        add_row(section, told, &row, is_path);
     }
 }
 
-// Adds the hint at the place, or path, with most such stores, the first one of several.
-fn add_most(section: &mut Section, told: &Telling<'_>, rows: &[PlaceRow], is_path: bool) {
+// The place, or path, with most such stores, the first one of several, if hints at all places are asked for.
+pub(crate) fn most_left(told: &Telling<'_>, is_path: bool) -> Option<PlaceRow> {
+    if !asks_all_places(told.screen.choice) {
+        return None;
+    }
+    let rows = if is_path {
+        told.explanation.left_paths.as_slice()
+    } else {
+        told.explanation.places.as_slice()
+    };
     let mut most: Option<PlaceRow> = None;
     for row in rows {
         let least = match most {
@@ -106,9 +117,20 @@ fn add_most(section: &mut Section, told: &Telling<'_>, rows: &[PlaceRow], is_pat
             most = Some(*row);
         }
     }
-    if let Some(row) = most {
-        add_row(section, told, &row, is_path);
-    }
+    most
+}
+
+// Adds where the hint at the place, or path, is, and of how many stores of the place it is told.
+pub(crate) fn push_left_share(pen: &mut Pen, told: &Telling<'_>, row: &PlaceRow, is_path: bool) {
+    let place = if is_path {
+        push_path(pen, told, row.first);
+        place_of(told, row.first)
+    } else {
+        push_place_name(pen, told, row.place);
+        row.place
+    };
+    pen.fill(", # of ", &[row.left]);
+    push_count(pen, stores_at(told, place), "time");
 }
 
 // Adds the hint at the place, or path: how many stores, why it matters, the first one, what a crash keeps without it, and what to do.
