@@ -312,7 +312,7 @@ def wrong_places(explained, lines):
     return None
 
 
-MORE = re.compile(r"\.\.\. (\d+) (?:more: (.*)|of these in full) \(--limit all\)$")
+MORE = re.compile(r"\.\.\. (?:(\d+) more: (.*)|these are all places that lose or delay stores; (\d+) shown in brief) \(--limit all\)$")
 
 
 def wrong_places_of_screen(explained, lines):
@@ -332,7 +332,7 @@ def wrong_places_of_screen(explained, lines):
             return f"places of a screen: wanted {wanted}, in {told}"
         short += is_short
     left = rests[shown] if shown < len(rests) else (short, None)
-    found = (int(more[1]), more[2]) if more else (0, None)
+    found = (int(more[1] or more[3]), more[2]) if more else (0, None)
     return None if found == left else f"what is left of places: wanted {left}, in {told}"
 
 

@@ -26,7 +26,7 @@ gives no status 1.
 
 ";
 
-// Adds what the trace lacks, so that nothing is known of it.
+// Adds what the trace lacks, so that nothing is known of it, and what no trace tells.
 pub(crate) fn push_unknown(pen: &mut Pen, counts: &Summary) {
     if counts.events == 0 {
         pen.put(NO_EVENTS);
@@ -38,6 +38,7 @@ pub(crate) fn push_unknown(pen: &mut Pen, counts: &Summary) {
     if counts.assertions == 0 {
         pen.put(NO_CLAIMS);
     }
+    pen.put(UNSEEN);
 }
 
 const NO_EVENTS: &str =
@@ -47,6 +48,7 @@ const NO_FLUSHES: &str =
     "  not known: what is flushed, since the trace has no flush: does the recorder take the program's?\n";
 
 const NO_CLAIMS: &str =
-    "  not known: what must be saved before what, as no assertion says so: claim it with isOrderedBefore
-    or isPersist, or run the program's recovery on each crash (pmtrim-replay)
-";
+    "  not known: what must be saved before what, as no assertion says so (isOrderedBefore, isPersist)\n";
+
+const UNSEEN: &str =
+    "  not known: what other runs do, and what recovery makes of a crash (pmtrim-replay runs it)\n";

@@ -281,7 +281,9 @@ fn push_more(pen: &mut Pen, section: &Section) {
     }
     let mut line = Pen::new(pen.alloc());
     if left == 0 {
-        line.fill("... # of these in full (", &[shortened]);
+        line.put("... these are all ");
+        line.put(section.what);
+        line.fill("; # shown in brief (", &[shortened]);
     } else {
         line.fill("... # more: ", &[left]);
         line.put(section.rest().unwrap_or(section.what));
