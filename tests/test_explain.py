@@ -202,6 +202,24 @@ CALLERS = """\
   caller: 0 never persisted, 0 saved late, 2 in time: good a.c:2
   fix:    """
 
+# A removal that flushes the node it removes in place of the one before it, its labels, and what is told of that flush and its fence.
+REMOVAL = "pmtrace 1\n" + "".join(f"store 0 {at:#x} 01\nclwb 0 {at:#x}\nsfence 0\n" for at in (0x1000, 0x2000)) + "store 0 0x1000 02\nclwb 0 0x2000\nsfence 0\n"
+REMOVAL_LABELS = "7 list.c:95 remove\n8 list.c:97 remove < main list.c:120\n9 list.c:98 remove\n"
+STRAYED = [
+    "  or:     If event 8 (list.c:97 remove) was meant for this store, correct its address and add no flush.",
+    "  1 time clwb at list.c:97 remove < main list.c:120, first event 8: all stores to its line are safe already; perhaps meant for event 7",
+    "  1 time sfence at list.c:98 remove, first event 9: all that it completes is safe already; perhaps meant for event 7",
+]
+
+# A place that loses all to a line that nothing flushes, and one that loses less to a line that is flushed, the labels, and how they are told.
+APART = "pmtrace 1\nstore 0 0x1000 01\nstore 0 0x2000 01\nclwb 0 0x1000\nsfence 0\nstore 0 0x2000 02\nstore 0 0x1000 02\n"
+APART_LABELS = "1 log.c:5 add\n2 stats.c:12 bump < log.c:6 add\n5 stats.c:12 bump < log.c:8 add\n6 log.c:9 seal\n"
+APART_TOLD = [
+    "error: log.c:9 seal: 1 store: 1 never persisted, 0 saved late, 0 in time",
+    "apart: nothing flushes the lines of these; --ignore-label or --ignore leaves out what may be lost:",
+    "error: stats.c:12 bump: 2 stores: 2 never persisted, 0 saved late, 0 in time",
+]
+
 # Claims with marks in one line of 256 bytes, and what is told of them if lines have 64 bytes, and 32.
 MARKS = (
     "isOrderedBefore 0 0x1000 8 0x1030 32\nisOrderedBefore 0 0x1000 8 0x1030 17\nisOrderedBefore 1 0x1000 8 0x1030 16\n"
@@ -318,6 +336,25 @@ class Explain(Checks):
         (folder / "l").write_text(CALLED_LABELS)
         text = self.explain("--labels", "l", "t", folder=folder).stdout.decode()
         self.expect("callers", CALLERS in text, text)
+
+    def test_strayed_flush(self):
+        """A flush that does nothing, in the story of a store without one: it may have been meant for the store."""
+        folder = self.new_folder()
+        (folder / "t").write_text(REMOVAL)
+        (folder / "l").write_text(REMOVAL_LABELS)
+        lines = joined(self.explain("--labels", "l", "t", folder=folder).stdout.decode().splitlines())
+        found = [line for line in lines if line.startswith("  or: ") or "perhaps meant for" in line]
+        self.expect_equal("a flush of the wrong node", found, STRAYED)
+
+    def test_places_apart(self):
+        """Places that lose all to lines that nothing flushes come last, below a line of their own, with and without an assertion."""
+        folder = self.new_folder()
+        (folder / "l").write_text(APART_LABELS)
+        for claim, guess in (("", []), ("isPersist 0 0x2040 1\n", [GUESS])):
+            (folder / "t").write_text(f"{APART}{claim}")
+            lines = joined(self.explain("--labels", "l", "t", folder=folder).stdout.decode().splitlines())
+            found = [line.removesuffix("; one of them:") for line in lines if line.startswith(("error: ", "apart: ", "guess: "))]
+            self.expect_equal(f"places apart {claim}", found, [*APART_TOLD, *guess])
 
     def test_marks(self):
         """A mark that ends with its cache line is in one, and lines have the size that the trace says; the answers are written by hand."""

@@ -7,13 +7,15 @@ import re
 
 import grouped
 import hinted
+import place_entries
 import placed as by_place
 from answers import wrong_answer
 from broken import WIDTH, joined, wrong_breaks
 from explained import NOTHING
 from lost_ranges import range_block
 from machine import FENCES, FLUSHES
-from stories import HEADING, asides, cut, early, named, plural, rows, store_rows, wrong_story
+from place_entries import PLACE, meant_for, wrong_apart
+from stories import HEADING, asides, cut, early, named, plural, rows, store_rows, strayed_lines, wrong_story
 
 SCREEN = 40
 MOST = 8
@@ -69,7 +71,7 @@ def dropped_lines(explained):
     for (what, reason), numbers in dropped_groups(explained):
         by = reasons[numbers[0]]["by"]
         behind = f" (event {by['event']})" if by else ""
-        lines.append(f"  {times(len(numbers))} {what}, first event {numbers[0]}: {REASONS[reason]}{behind}")
+        lines.append(f"  {times(len(numbers))} {what}, first event {numbers[0]}: {REASONS[reason]}{behind}{meant_for(explained, numbers[0])}")
     return lines
 
 
@@ -261,12 +263,6 @@ def wrong_losses(explained, entries):
     return None if told == wanted else f"never persisted: wanted {wanted}, in {told}"
 
 
-PLACE = re.compile(
-    r"(error|warning|note): .*: \d+ stores?: \d+ never persisted, \d+ saved late, \d+ in time(, \d+ ignored)?(; why: --failure \d+|; one of them:)?$"
-    r"|error: cache line 0x[0-9a-f]+ is never flushed: \d+ places lose all that they store to it, \d+ stores: "
-)
-
-
 def wrong_late(explained, lines):
     """What is wrong with how many stores are saved late."""
     rows = [row for _, row in by_place.rows(explained)]
@@ -290,8 +286,11 @@ def told_early(entry):
 def wrong_places(explained, lines):
     """What is wrong with the entries of places."""
     heading = by_place.LABELLED if explained.labels else by_place.THREADS
-    wanted = list(by_place.heads(explained))
+    wanted = list(place_entries.heads(explained))
     told = below(lines, heading)
+    if wrong_apart(explained, told):
+        return wrong_apart(explained, told)
+    told = [line for line in told if line != place_entries.APART]
     starts = [at for at, line in enumerate(told) if PLACE.match(line)]
     entries = [told[start:end] for start, end in zip(starts, [*starts[1:], len(told)])]
     if [entry[0] for entry in entries] != [head for head, *_ in wanted]:
@@ -306,8 +305,8 @@ def wrong_places(explained, lines):
             return f"the story of a place: wanted {story}, in {entry}"
         draw = f"  draw:   pmtrim draw --line {explained.address(explained.trace.line(store))} "
         order = [ORDER] if explained.trace.is_safe(store, explained.end) else []
-        names = [line if line == ORDER else line[:10] for line in entry[len(story) + 1 :]]
-        if names != ["  fix:    ", *order, "  draw:   "] or not entry[-1].startswith(draw) or not entry[-1].endswith(f" > event{store}.svg"):
+        names = [line if line == ORDER or line.startswith("  or: ") else line[:10] for line in entry[len(story) + 1 :]]
+        if names != ["  fix:    ", *strayed_lines(explained, store), *order, "  draw:   "] or not entry[-1].startswith(draw) or not entry[-1].endswith(f" > event{store}.svg"):
             return f"a place: wanted what mends it, and {draw}, in {entry}"
     return None
 
@@ -317,11 +316,14 @@ MORE = re.compile(r"\.\.\. (?:(\d+) more: (.*)|these are all places that lose or
 
 def wrong_places_of_screen(explained, lines):
     """What is wrong with the entries of places on a screen: first ones in full, and then their first lines alone; and how many are left."""
-    wanted, rests = list(by_place.heads(explained)), list(by_place.rests(explained))
+    wanted, rests = list(place_entries.heads(explained)), list(place_entries.rests(explained))
     told = below(lines, by_place.LABELLED if explained.labels else by_place.THREADS)
     if not told:
         is_told = not wanted or any(f"places that lose or delay stores: {rests[0][0]}, {rests[0][1]}" in line for line in lines)
         return None if is_told else f"no places: wanted {rests[0]}"
+    if wrong_apart(explained, told):
+        return wrong_apart(explained, told)
+    told = [line for line in told if line != place_entries.APART]
     starts = [at for at, line in enumerate(told) if PLACE.match(line)]
     shown, more = len(starts), MORE.match(told[-1])
     entries = [told[start:end] for start, end in zip(starts, [*starts[1:], len(told) - bool(more)])]
@@ -449,8 +451,8 @@ def wrong_text(explained, told):
             return f"{heading} wanted {wanted}, in\n{told.decode()}"
     if below(lines, hinted.HEADING) != list(hinted.lines(explained)):
         return f"hints: wanted {list(hinted.lines(explained))}, in\n{told.decode()}"
-    if [line for line in lines if line.startswith("guess: ")] != by_place.guess_lines(explained, hinted.hinted_places(explained)):
-        return f"the guess: wanted {by_place.guess_lines(explained, hinted.hinted_places(explained))}, in\n{told.decode()}"
+    if [line for line in lines if line.startswith("guess: ")] != place_entries.guess_lines(explained):
+        return f"the guess: wanted {place_entries.guess_lines(explained)}, in\n{told.decode()}"
     wrong = wrong_late(explained, lines) or wrong_places(explained, lines) or wrong_answer(explained, lines)
     if wrong:
         return wrong
@@ -476,7 +478,7 @@ def wrong_screen(explained, told):
         "do nothing": explained.dropped(),
         "overwritten": explained.overwritten(),
         "left unsafe": [] if explained.is_whole() else grouped.late(explained),
-        "places": list(by_place.heads(explained)),
+        "places": list(place_entries.heads(explained)),
         "hint": [*hinted.hints(explained), *hinted.path_hints(explained), *hinted.left(explained)],
     }
     by_places = [line for line in below(lines, OVERWRITTEN_PLACES) if not line.startswith("... ")]

@@ -4,7 +4,6 @@ the order in which places are told.
 The findings are those of explained.py, and what a run can reach is that of machine.py.
 """
 import functools
-import shlex
 
 from grouped import ANY_FLUSH, FEW, fences_waited, following, inside, safe_place
 from machine import FENCES, is_kept
@@ -192,83 +191,3 @@ def caller_lines(explained, key):
         found.append((f"{len(told) - few} others", [sum(counts) for counts in zip(*(counts for _, counts in told[few:]))]))
     for name, counts in found:
         yield f"  caller: {fates_in_words(*counts)}: {name}"
-
-
-def heads(explained):
-    """Of each place that loses or delays stores the line that tells it, the store whose story stands below, none where a failed assertion tells of
-    it, and what becomes of the stores by caller. Places that lose all to one line which nothing flushes are told once."""
-    for line, store, keys in entries_by_place(explained):
-        yield line, store, [] if store is None or len(keys) > 1 else list(caller_lines(explained, keys[0]))
-
-
-def rests(explained):
-    """How many places have no room on a screen, and what is told of them, by the number of entries that have room."""
-    told, counts = [keys for _, _, keys in entries_by_place(explained)], dict(rows(explained))
-    for shown in range(len(told)):
-        left = [counts[key] for keys in told[shown:] for key in keys]
-        first, most = max(((keys[0], counts[keys[0]]["never_persisted"]) for keys in told[shown:]), key=lambda pair: pair[1])
-        lost, late = (sum(row[name] for row in left) for name in ("never_persisted", "late"))
-        at = f" ({most} at {name_of(first)})" if most else ""
-        yield len(told) - shown, f"{stores_in_words(lost)} never persisted{at}, {late} saved late"
-
-
-def entries_by_place(explained):
-    """Of each entry of places its line, its store and its places."""
-    if not explained.is_whole():
-        return
-    lines, told_lines = shared_lines(explained), set()
-    for key, row in rows(explained):
-        if key in lines:
-            if lines[key] not in told_lines:
-                told_lines.add(lines[key])
-                sharing = [(other, found) for other, found in rows(explained) if lines.get(other) == lines[key]]
-                yield shared_head(explained, lines[key], sharing), row["first_never_persisted"], [other for other, _ in sharing]
-        elif standing(row)[0] < 4:
-            lost, late = row["never_persisted"], row["late"]
-            ignored = f", {row['ignored']} ignored" if row["ignored"] else ""
-            kind = "error" if lost else "warning" if late < row["stores"] - row["ignored"] else "note"
-            told = f"{kind}: {name_of(key)}: {stores_in_words(row['stores'])}: {fates_in_words(lost, late, row['in_time'])}{ignored}"
-            if key in retold(explained):
-                failure = retold(explained)[key]
-                yield f"{told}; why: --failure {failure}", None, [key]
-            else:
-                yield told + (ONE_OF_THEM if (lost or late) > 1 else ""), row["first_never_persisted"] or row["first_late"], [key]
-
-
-def spoken_of(explained):
-    """The lines that are flushed, the lines behind them, and those of the ranges of assertions."""
-    trace = explained.trace
-    for number in trace.numbers:
-        if trace.event(number)[0] != "store" and trace.event(number)[0] not in FENCES:
-            yield from {byte // trace.size for byte in explained.bytes_of(number)}
-        if trace.event(number)[0] in ANY_FLUSH:
-            yield trace.line(number) + 1
-
-
-def guess_lines(explained, hinted):
-    """The line that guesses at places which lose all that they store, to lines of which nothing else speaks, and of which these places, which are
-    hinted at, are none. Nothing is guessed of a trace without a flush or without an assertion."""
-    trace = explained.trace
-    words = {trace.event(number)[0] for number in trace.numbers}
-    if not explained.is_whole() or not words.intersection(ANY_FLUSH) or not words.intersection(("isPersist", "isOrderedBefore")):
-        return []
-    losing = {key: row["never_persisted"] for key, row in rows(explained) if standing(row)[0] == 3}
-    lost = [store for store in explained.lost_stores() if not explained.is_ignored(store)]
-    loud = {*spoken_of(explained), *(trace.line(store) for store in lost if place(explained, store) not in losing)}
-    out = {place(explained, store) for store in lost if trace.line(store) in loud}
-    quiet = [key for key in losing if key not in out and key not in hinted]
-    if not quiet:
-        return []
-    named = [name for kind, name in quiet if kind == "label" and name and not name.startswith("-")]
-    written = {byte for store in lost if place(explained, store) in quiet and place(explained, store)[1] not in named for byte in explained.bytes_of(store)}
-    starts = sorted(byte for byte in written if byte - 1 not in written)
-    ranges = [(start, next(end for end in range(start, start + len(written) + 1) if end not in written) - start) for start in starts]
-    names = ", ".join(name_of(key) for key in quiet[:MOST]) + (f" and {len(quiet) - MOST} more" if len(quiet) > MOST else "")
-    options = [*(f" --ignore-label {shlex.quote(name)}" for name in named), *(f" --ignore {start:#x}:{length}" for start, length in ranges)]
-    more = f" and {len(options) - MOST} more" if len(options) > MOST else ""
-    what = "1 place loses all that it stores" if len(quiet) == 1 else f"{len(quiet)} places lose all that they store"
-    count = stores_in_words(sum(losing[key] for key in quiet))
-    return [
-        f"guess: {what} ({count}), to cache lines that nothing flushes and no assertion names: {names}."
-        f" If a crash may lose that, as locks or statistics, leave it out by{''.join(options[:MOST])}{more}"
-    ]

@@ -204,6 +204,29 @@ def store_rows(explained, store):
     return [*told, *([f"  stored: at {label}"] if " < " in label else [])]
 
 
+def strayed(explained, store):
+    """The flush that may have been meant for the store, which is late or has no flush: the last one of another line in its story that does nothing, as
+    most at its line of source, if a fence of the thread follows; and that fence. None if there is none."""
+    trace, others = explained.trace, flushes_elsewhere(explained.trace, store)
+    fences = [at for at in trace.numbers if at > store and trace.event(at)[1] == trace.event(store)[1] and trace.event(at)[0] in FENCES]
+    found = [flush for flush in (*others[:FEW], *others[-1:]) if flush in explained.labels and has_strayed(explained, flush)]
+    is_unflushed = trace.is_safe(store, explained.end) or explained.cause(store, explained.end)["cause"] == "unflushed"
+    return (found[-1], fences[0]) if fences and found and is_unflushed and not trace.is_safe(store, fences[0]) else None
+
+
+def strayed_lines(explained, store):
+    """The row that asks whether that flush was meant for the store."""
+    found = strayed(explained, store)
+    return [f"  or:     If {hinted.named(explained, found[0])} was meant for this store, correct its address and add no flush."] if found else []
+
+
+def has_strayed(explained, flush):
+    """Whether the flush does nothing, and most of its place do nothing."""
+    trace = explained.trace
+    own = [at for at in trace.numbers if trace.event(at)[0] in ANY_FLUSH and place_at(explained, at) == place_at(explained, flush)]
+    return not is_kept(trace, flush) and 2 * sum(not is_kept(trace, at) for at in own) > len(own)
+
+
 def missing(explained, store):
     """What is missing of a store that is never persisted."""
     cause = explained.cause(store, explained.end)

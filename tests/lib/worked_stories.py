@@ -30,6 +30,7 @@ sfence 1|b.c:3
   stored: at a.c:1 f < main a.c:9
   fix:    Flush cache line 0x1000 by thread 0 after event 1 (a.c:1 f), before its next fence, event
           8 (flush.c:6).
+  or:     If event 7 (flush.c:5) was meant for this store, correct its address and add no flush.
   order:  A crash may keep any part of what waits for one fence: fence before what must come later.
 """,
     ),

@@ -1,15 +1,18 @@
 //! Flushes and fences that do nothing, in words: by source place, or by thread and cache line.
 
-use pmt_causes::{DroppedKey, Group, ReasonKind, Spot};
+use pmt_causes::{DroppedKey, Group, Origin, ReasonKind, Spot};
 use pmt_explanation::{first, first_of};
-use pmt_model::Trace;
+use pmt_model::{Op, Trace};
 use pmt_names::word_of;
 use pmt_pen::Pen;
+use pmt_place_text::Strayed;
 use pmt_reasons::Reason;
-use pmt_telling::{HEAD, Section, Telling, line_address, push_count, push_label, push_wrapped};
+use pmt_telling::{
+    HEAD, Section, Telling, line_address, place_of, push_count, push_label, push_wrapped,
+};
 
-// What does nothing.
-pub(crate) fn dropped_section(told: &Telling<'_>) -> Section {
+// What does nothing, where these flushes may have been meant for stores.
+pub(crate) fn dropped_section(told: &Telling<'_>, strayed: &[Strayed]) -> Section {
     let groups = told.explanation.dropped_groups.as_slice();
     let mut section = Section::new(
         told.alloc,
@@ -20,14 +23,14 @@ pub(crate) fn dropped_section(told: &Telling<'_>) -> Section {
     );
     for group in first(groups, told.explanation.limit) {
         let mut pen = Pen::new(told.alloc);
-        push_dropped(&mut pen, told, group);
+        push_dropped(&mut pen, told, group, strayed);
         section.add(pen);
     }
     section
 }
 
 // Adds the group.
-fn push_dropped(pen: &mut Pen, told: &Telling<'_>, group: &Group<DroppedKey>) {
+fn push_dropped(pen: &mut Pen, told: &Telling<'_>, group: &Group<DroppedKey>, strayed: &[Strayed]) {
     let mut line = Pen::new(pen.alloc());
     let number = first_of(group);
     push_members(&mut line, told, group);
@@ -35,7 +38,46 @@ fn push_dropped(pen: &mut Pen, told: &Telling<'_>, group: &Group<DroppedKey>) {
     if let Some(by) = by_of(told, number) {
         line.fill(" (event #)", &[by]);
     }
+    if let Some(store) = store_of(told, strayed, number) {
+        line.fill("; perhaps meant for event #", &[store]);
+    }
     push_wrapped(pen, &line, HEAD);
+}
+
+// The store for which the event may have been meant, if there is one.
+fn store_of(told: &Telling<'_>, strayed: &[Strayed], number: u64) -> Option<u64> {
+    for one in strayed {
+        if let Some(store) = meant_for(told, one, number) {
+            return Some(store);
+        }
+    }
+    None
+}
+
+// The store for which the event may have been meant, if this flush at its line of source, or this fence, may have been.
+fn meant_for(told: &Telling<'_>, strayed: &Strayed, number: u64) -> Option<u64> {
+    let is_fence = is_fence(told.trace, number);
+    let like = if is_fence {
+        strayed.fence?
+    } else {
+        strayed.flush
+    };
+    let place = place_of(told, number);
+    let is_labelled = matches!(place, Origin::Label(_));
+    if is_labelled && place_of(told, like) == place {
+        Some(strayed.store)
+    } else {
+        None
+    }
+}
+
+// Whether the event is a fence.
+fn is_fence(trace: &Trace, number: u64) -> bool {
+    let Some(event) = trace.get(number) else {
+        return false;
+    };
+    let op = event.op;
+    matches!(op, Op::Sfence | Op::Mfence)
 }
 
 // Adds how many events are in the group, what they are, where they stand, and the first of them.

@@ -9,7 +9,7 @@ use crate::unwritten::unwritten_section;
 use pmt_asked::Labels;
 use pmt_explanation::{Explanation, summary_of};
 use pmt_failure_text::failures_section;
-use pmt_guess_text::{claims_wanted, guesses_section};
+use pmt_guess_text::{apart_of, claims_wanted, guesses_section};
 use pmt_hint_text::{hints_section, late_section, lost_section, marks_section};
 use pmt_model::OutOfMemory;
 use pmt_pen::Pen;
@@ -36,16 +36,19 @@ pub fn text(
         screen,
     };
     let claims = claims_wanted(&told)?;
+    let apart = apart_of(&told, &claims)?;
     let hinting = hinting_of(&told)?;
+    let mut strayed = Vec::new(alloc);
+    let places = places_section(&told, &claims, &apart, &mut strayed);
     let mut sections = vec![in alloc;
         failures_section(&told, &hinting),
-        places_section(&told, &claims),
-        guesses_section(&told, &claims),
+        places,
+        guesses_section(&told, &claims, &apart),
         lost_section(&told),
         other_threads_section(&told),
         hints_section(&told, &hinting),
         unwritten_section(&told),
-        dropped_section(&told),
+        dropped_section(&told, strayed.as_slice()),
         late_section(&told),
         marks_section(&told),
         overwritten_section(&told).aside(),

@@ -1,6 +1,6 @@
 //! Which cache lines the program speaks of: those that it flushes, and those of its assertions.
 
-use crate::guesses::loses_all;
+use crate::apart::loses_all;
 use pmt_model::{Op, OutOfMemory, Range, Trace, line_of};
 use pmt_telling::{Telling, tells_all};
 use std::alloc::Global;
@@ -25,9 +25,14 @@ impl Claims {
         }
     }
 
-    // Whether the trace has no flush, or no assertion.
-    pub(crate) fn is_silent(&self) -> bool {
-        self.flushed.is_empty() || self.claimed.is_empty()
+    // Whether the trace has a flush.
+    pub(crate) fn has_flushes(&self) -> bool {
+        !self.flushed.is_empty()
+    }
+
+    // Whether the trace has an assertion.
+    pub(crate) fn has_claims(&self) -> bool {
+        !self.claimed.is_empty()
     }
 
     /// Whether an event flushes the line.

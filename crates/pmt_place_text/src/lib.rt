@@ -9,4 +9,5 @@ mod rests;
 mod retold;
 mod sharing;
 
+pub use crate::member_story::Strayed;
 pub use crate::places::{places_section, storied};

@@ -7,23 +7,43 @@ use pmt_pen::Pen;
 use pmt_slices::{StorePart, StoreStory, store_story_of};
 use pmt_telling::{
     SOURCE, StoryColumns, StoryRow, Telling, does_nothing, line_address, line_of_store, place_of,
-    push_story_break, push_story_gap, push_story_row, push_wrapped, spelling_of, story_columns,
-    story_row,
+    push_place, push_story_break, push_story_gap, push_story_row, push_wrapped, spelling_of,
+    story_columns, story_row,
 };
 
 // So many places are told with a story: each looks at all events after its store.
 pub(crate) const MOST_STORIES: usize = 32;
 
-// Adds the events of the store's story, a row each, with what is missing if it is never persisted.
-pub(crate) fn push_store_story(pen: &mut Pen, told: &Telling<'_>, store: u64) {
-    if add_story(pen, told, store).is_err() {
-        pen.refuse();
+/// A flush that may have been meant for a store, and the fence that would have saved the store with it, if that one does nothing.
+#[derive(Clone, Copy)]
+pub struct Strayed {
+    /// The flush.
+    pub flush: u64,
+    /// The fence.
+    pub fence: Option<u64>,
+    /// The store.
+    pub store: u64,
+}
+
+// Adds the events of the store's story, a row each, with what is missing if it is never persisted; and gives the flush among them that may have
+// been meant for the store.
+pub(crate) fn push_store_story(pen: &mut Pen, told: &Telling<'_>, store: u64) -> Option<Strayed> {
+    match add_story(pen, told, store) {
+        Ok(strayed) => strayed,
+        Err(_) => {
+            pen.refuse();
+            None
+        }
     }
 }
 
-fn add_story(pen: &mut Pen, told: &Telling<'_>, store: u64) -> Result<(), OutOfMemory> {
+fn add_story(
+    pen: &mut Pen,
+    told: &Telling<'_>,
+    store: u64,
+) -> Result<Option<Strayed>, OutOfMemory> {
     let Some(story) = store_story_of(told.alloc, told.trace, store)? else {
-        return Ok(());
+        return Ok(None);
     };
     let rows = rows_of(told, store, &story)?;
     let columns = story_columns(rows.as_slice());
@@ -32,7 +52,7 @@ fn add_story(pen: &mut Pen, told: &Telling<'_>, store: u64) -> Result<(), OutOfM
         push_missing(pen, told, store, &story, columns);
     }
     push_callers(pen, told, store);
-    Ok(())
+    Ok(strayed_flush(told, &story, store))
 }
 
 // The rows of the story.
@@ -111,6 +131,54 @@ fn push_idle(note: &mut Pen, told: &Telling<'_>, flush: u64) {
             }
         }
     }
+}
+
+// The last flush of another line in the story that does nothing, as most flushes at its line of source, if a fence of the store's thread
+// follows: one of the store's line in its place would save the store.
+fn strayed_flush(told: &Telling<'_>, story: &StoreStory, store: u64) -> Option<Strayed> {
+    let mut flush: Option<u64> = None;
+    let mut fence: Option<u64> = None;
+    for number in story.numbers() {
+        let part = story.part(*number);
+        if part == StorePart::Other && has_strayed(told, *number) {
+            flush = Some(*number);
+        }
+        if part == StorePart::OwnFence {
+            fence = Some(*number);
+        }
+    }
+    let fence = fence?;
+    Some(Strayed {
+        flush: flush?,
+        fence: if does_nothing(told, fence) {
+            Some(fence)
+        } else {
+            None
+        },
+        store,
+    })
+}
+
+// Whether the flush does nothing, and most flushes at its line of source do nothing.
+fn has_strayed(told: &Telling<'_>, flush: u64) -> bool {
+    let place = place_of(told, flush);
+    let is_labelled = matches!(place, Origin::Label(_));
+    let rows = told.explanation.places.as_slice();
+    match rows.iter().find(|row| row.place == place) {
+        Some(row) => is_labelled
+            && row.idle_flushes > row.flushes.saturating_sub(row.idle_flushes)
+            && does_nothing(told, flush),
+        None => false,
+    }
+}
+
+// Adds that this flush may have been meant for the store, so that no further one is wanted.
+pub(crate) fn push_strayed(pen: &mut Pen, told: &Telling<'_>, strayed: Strayed) {
+    let mut line = Pen::new(pen.alloc());
+    line.put("  or:     If ");
+    push_place(&mut line, told, strayed.flush);
+    line.put(" was meant for this store, correct its address and add no flush.");
+    push_wrapped(pen, &line, SOURCE);
 }
 
 // For how many fences the event waited.

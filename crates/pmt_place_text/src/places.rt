@@ -1,7 +1,7 @@
 //! What becomes of the stores of each place, in words: of the places that lose or delay some.
 
 use crate::callers::{Callers, callers_of, push_callers};
-use crate::member_story::{MOST_STORIES, push_store_story, waited_by};
+use crate::member_story::{MOST_STORIES, Strayed, push_store_story, push_strayed, waited_by};
 use crate::members::{Members, members_of};
 use crate::rests::{most_lost, rest_of, sum_of, sum_of_entry};
 use crate::retold::{Retold, retold_of};
@@ -11,7 +11,7 @@ use pmt_causes::Origin;
 use pmt_explanation::{Explanation, first};
 use pmt_failures::mend_for;
 use pmt_fates::{PlaceRow, Standing, standing_of};
-use pmt_guess_text::Claims;
+use pmt_guess_text::{Apart, Claims};
 use pmt_model::OutOfMemory;
 use pmt_pen::Pen;
 use pmt_telling::{
@@ -29,8 +29,17 @@ const THREADS: &str =
 const ORDER: &str =
     "  order:  A crash may keep any part of what waits for one fence: fence before what must come later.\n";
 
-/// The places that lose or delay stores, unless something is asked for.
-pub fn places_section(told: &Telling<'_>, claims: &Claims) -> Section {
+const APART: &str =
+    "apart: nothing flushes the lines of these; --ignore-label or --ignore leaves out what may be lost:\n";
+
+/// The places that lose or delay stores, unless something is asked for; those that stand apart last, below a line of their own. Adds the flushes
+/// that they tell of as perhaps meant for a store.
+pub fn places_section(
+    told: &Telling<'_>,
+    claims: &Claims,
+    apart: &Apart,
+    strayed: &mut Vec<Strayed>,
+) -> Section {
     let rows = troubled(told.explanation, told.screen.choice);
     let heading = if told.labels.texts.is_empty() {
         THREADS
@@ -45,7 +54,7 @@ pub fn places_section(told: &Telling<'_>, claims: &Claims) -> Section {
         "",
     )
     .shorts_first();
-    if !rows.is_empty() && add_rows(&mut section, told, rows, claims).is_err() {
+    if !rows.is_empty() && add_rows(&mut section, told, rows, claims, apart, strayed).is_err() {
         section.refuse();
     }
     section
@@ -57,7 +66,11 @@ fn add_rows(
     told: &Telling<'_>,
     rows: &[PlaceRow],
     claims: &Claims,
+    apart: &Apart,
+    strayed: &mut Vec<Strayed>,
 ) -> Result<(), OutOfMemory> {
+    let ordered = apart_last(told, rows, apart)?;
+    let rows = ordered.as_slice();
     let sharing = sharing_of(told, rows, claims)?;
     let members = members_of(told, rows)?;
     section.total = (0..rows.len())
@@ -71,8 +84,32 @@ fn add_rows(
         retold,
         callers,
     };
-    add_places(section, told, rows, &beside);
-    Ok(())
+    add_places(section, told, rows, &beside, apart, strayed)
+}
+
+// These places, but those that stand apart last.
+fn apart_last(
+    told: &Telling<'_>,
+    rows: &[PlaceRow],
+    apart: &Apart,
+) -> Result<Vec<PlaceRow>, OutOfMemory> {
+    let mut ordered = Vec::with_capacity(told.alloc, rows.len())?;
+    for is_apart in [false, true] {
+        for row in rows {
+            if stands_apart(apart, row.place) == is_apart {
+                ordered.push(*row)?;
+            }
+        }
+    }
+    Ok(ordered)
+}
+
+// Whether the place stands apart: a thread is no line of source.
+fn stands_apart(apart: &Apart, place: Origin) -> bool {
+    match place {
+        Origin::Label(_) => apart.has(place),
+        Origin::Thread(_) => false,
+    }
 }
 
 // Whether the place of this row is told with another one.
@@ -119,8 +156,17 @@ struct Beside {
 
 // Adds an entry for each of these places that is not told with another one, as many as the limit says, each with its first line
 // for a short form; and on a screen what is told of those that are left.
-fn add_places(section: &mut Section, told: &Telling<'_>, rows: &[PlaceRow], beside: &Beside) {
+fn add_places(
+    section: &mut Section,
+    told: &Telling<'_>,
+    rows: &[PlaceRow],
+    beside: &Beside,
+    apart: &Apart,
+    strayed: &mut Vec<Strayed>,
+) -> Result<(), OutOfMemory> {
     let most = most_stories(told);
+    let storied = storied(told.explanation, told.screen.choice);
+    let mut has_apart = false;
     let is_screen = told.screen.rows.is_some();
     let mut left = sum_of(rows);
     let mut added = 0usize;
@@ -135,19 +181,36 @@ fn add_places(section: &mut Section, told: &Telling<'_>, rows: &[PlaceRow], besi
             continue;
         }
         added = added.saturating_add(1);
+        let above = if !has_apart && stands_apart(apart, row.place) {
+            has_apart = true;
+            APART
+        } else {
+            ""
+        };
+        let is_story = stories < most && storied.iter().any(|other| other.place == row.place);
         let mut pen = Pen::new(told.alloc);
-        let is_story = number < MOST_STORIES && stories < most;
-        if push_place_entry(&mut pen, told, rows, row, beside, is_story) {
+        pen.put(above);
+        if !push_place_head(&mut pen, told, rows, row, beside, true) {
             stories = stories.saturating_add(1);
+            note(strayed, push_why(&mut pen, told, row, beside, is_story))?;
         }
         if is_screen {
             section.add_rest(rest_of(told, left, most_lost(rows, number, &beside.sharing)));
             left = left.without(sum_of_entry(rows, row, &beside.sharing));
         }
-        section.add_with_short(pen, short_of(told, rows, row, beside));
+        section.add_with_short(pen, short_of(told, rows, row, beside, above));
     }
     if is_screen {
         section.add_rest(rest_of(told, left, most_lost(rows, next, &beside.sharing)));
+    }
+    Ok(())
+}
+
+// Notes the flush, if there is one.
+fn note(strayed: &mut Vec<Strayed>, found: Option<Strayed>) -> Result<(), OutOfMemory> {
+    match found {
+        Some(found) => Ok(strayed.push(found)?),
+        None => Ok(()),
     }
 }
 
@@ -159,25 +222,21 @@ fn most_stories(told: &Telling<'_>) -> usize {
     }
 }
 
-// Adds the place, or those that share its line, and its first store that is lost or late, with or without its story; or which failed
-// assertion tells of that. Whether it may have a story: there is none where an assertion tells.
-fn push_place_entry(
+// Adds the first store of the place that is lost or late, with or without its story; and gives the flush in it that may have been meant for it.
+fn push_why(
     pen: &mut Pen,
     told: &Telling<'_>,
-    rows: &[PlaceRow],
     row: &PlaceRow,
     beside: &Beside,
     is_story: bool,
-) -> bool {
-    if push_place_head(pen, told, rows, row, beside, true) {
-        return false;
-    }
+) -> Option<Strayed> {
     if let Some(store) = row.first_lost {
-        push_lost(pen, told, beside, row.place, store, is_story);
+        push_lost(pen, told, beside, row.place, store, is_story)
     } else if let Some(store) = row.first_late {
-        push_late(pen, told, beside, row.place, store, is_story);
+        push_late(pen, told, beside, row.place, store, is_story)
+    } else {
+        None
     }
-    true
 }
 
 // Adds the place, or those that share its line, and what becomes of their stores, as the first line of an entry or the only one; whether a
@@ -200,9 +259,16 @@ fn push_place_head(
     failure.is_some()
 }
 
-// The short form of the entry.
-fn short_of(told: &Telling<'_>, rows: &[PlaceRow], row: &PlaceRow, beside: &Beside) -> Pen {
+// The short form of the entry, below these words.
+fn short_of(
+    told: &Telling<'_>,
+    rows: &[PlaceRow],
+    row: &PlaceRow,
+    beside: &Beside,
+    above: &str,
+) -> Pen {
     let mut pen = Pen::new(told.alloc);
+    pen.put(above);
     let _is_retold = push_place_head(&mut pen, told, rows, row, beside, false);
     pen
 }
@@ -252,7 +318,7 @@ fn is_one_of_many(row: &PlaceRow) -> bool {
     }
 }
 
-// Adds the first store of a place that is never persisted: why, and what mends it.
+// Adds the first store of a place that is never persisted: why, and what mends it; and gives the flush that may have been meant for it.
 fn push_lost(
     pen: &mut Pen,
     told: &Telling<'_>,
@@ -260,33 +326,39 @@ fn push_lost(
     place: Origin,
     store: u64,
     is_story: bool,
-) {
-    if is_story {
-        push_store_story(pen, told, store);
+) -> Option<Strayed> {
+    let mut strayed = if is_story {
+        push_store_story(pen, told, store)
     } else {
         push_named(pen, told, "  store:  ", store);
-    }
+        None
+    };
     push_callers(pen, told, &beside.callers, place);
-    if let Some(group) = beside.members.group_of(told, store) {
-        if !is_story {
-            push_cause(pen, told, group.cause, group.line);
-        }
-        if is_unflushed(group.cause) {
-            push_early(pen, told, "  early:  ", store, SOURCE);
-        }
-        push_mend(
-            pen,
-            told,
-            "  fix:    ",
-            mend_for(group.cause, group.line, store, None, false),
-        );
-        let line = line_address(told.trace, group.line);
-        pen.put("  draw:   ");
-        push_draw(pen, told, "--line @", line, store);
+    let group = beside.members.group_of(told, store)?;
+    if !is_story {
+        push_cause(pen, told, group.cause, group.line);
     }
+    if is_unflushed(group.cause) {
+        push_early(pen, told, "  early:  ", store, SOURCE);
+    } else {
+        strayed = None;
+    }
+    push_mend(
+        pen,
+        told,
+        "  fix:    ",
+        mend_for(group.cause, group.line, store, None, false),
+    );
+    if let Some(found) = strayed {
+        push_strayed(pen, told, found);
+    }
+    let line = line_address(told.trace, group.line);
+    pen.put("  draw:   ");
+    push_draw(pen, told, "--line @", line, store);
+    strayed
 }
 
-// Adds the first store of a place that is saved late: why, and what mends that.
+// Adds the first store of a place that is saved late: why, and what mends that; and gives the flush that may have been meant for it.
 fn push_late(
     pen: &mut Pen,
     told: &Telling<'_>,
@@ -294,24 +366,30 @@ fn push_late(
     place: Origin,
     store: u64,
     is_story: bool,
-) {
-    if is_story {
-        push_store_story(pen, told, store);
+) -> Option<Strayed> {
+    let strayed = if is_story {
+        push_store_story(pen, told, store)
     } else {
         push_named(pen, told, "  late:   ", store);
         pen.fill(
             "  why:    # fences of its thread left it unsafe\n",
             &[waited_by(told, store)],
         );
-    }
+        None
+    };
     push_callers(pen, told, &beside.callers, place);
     push_early(pen, told, "  early:  ", store, SOURCE);
     let Some(event) = told.trace.get(store) else {
-        return;
+        return None;
     };
+    let thread = event.thread;
     let line = line_of_store(told.trace, store);
-    push_own_flush(pen, told, line, event.thread, store);
+    push_own_flush(pen, told, line, thread, store);
+    if let Some(found) = strayed {
+        push_strayed(pen, told, found);
+    }
     pen.put(ORDER);
     pen.put("  draw:   ");
     push_draw(pen, told, "--line @", line_address(told.trace, line), store);
+    strayed
 }

@@ -1,0 +1,95 @@
+//! Which places lose all that they store to cache lines of which the program speaks nowhere, perhaps on purpose.
+
+use crate::claims::Claims;
+use pmt_causes::Origin;
+use pmt_fates::{PlaceRow, Standing, standing_of};
+use pmt_model::{OutOfMemory, Trace};
+use pmt_telling::{Telling, line_of_store, place_of, tells_all};
+use std::collections::HashMap;
+
+// The places that lose all that they store, by whether the program speaks of a line of theirs, or a hint of them.
+type Places = HashMap<Origin, bool>;
+
+/// The places that lose all that they store, to lines of which the program speaks nowhere: neither they nor the lines before them are flushed,
+/// no assertion names them, and no other place loses a store to them; no hint is told of such a place. There is none where a trace has no flush.
+#[derive(Drop)]
+pub struct Apart {
+    places: Places,
+}
+
+impl Apart {
+    /// Whether it is such a place.
+    pub fn has(&self, place: Origin) -> bool {
+        match self.places.get(&place) {
+            Some(is_spoken_of) => !*is_spoken_of,
+            None => false,
+        }
+    }
+}
+
+/// These places, unless something is asked for.
+///
+/// # Errors
+/// Where memory was refused.
+pub fn apart_of(told: &Telling<'_>, claims: &Claims) -> Result<Apart, OutOfMemory> {
+    if !tells_all(told.screen.choice) || !claims.has_flushes() {
+        return Ok(Apart {
+            places: HashMap::new(told.alloc),
+        });
+    }
+    let mut places = losing_all(told)?;
+    let others = other_lines(told, &places)?;
+    for store in told.explanation.stores.as_slice() {
+        let line = line_of_store(told.trace, *store);
+        if is_spoken_of(told.trace, claims, &others, line) {
+            note_spoken_of(&mut places, place_of(told, *store))?;
+        }
+    }
+    for hint in told.explanation.hints.iter() {
+        note_spoken_of(&mut places, hint.place)?;
+    }
+    Ok(Apart { places })
+}
+
+// The places that lose all that they store.
+fn losing_all(told: &Telling<'_>) -> Result<Places, OutOfMemory> {
+    let mut places = HashMap::new(told.alloc);
+    for row in told.explanation.places.as_slice() {
+        if loses_all(row) {
+            places.insert(row.place, false)?;
+        }
+    }
+    Ok(places)
+}
+
+// Whether the place loses all that it stores.
+pub(crate) fn loses_all(row: &PlaceRow) -> bool {
+    match standing_of(row) {
+        Standing::LosesAll => true,
+        Standing::LosesSome | Standing::DelaysSome | Standing::DelaysAll | Standing::Keeps => false,
+    }
+}
+
+// The lines to which other places lose a store.
+fn other_lines(told: &Telling<'_>, places: &Places) -> Result<HashMap<u64, bool>, OutOfMemory> {
+    let mut lines = HashMap::new(told.alloc);
+    for store in told.explanation.stores.as_slice() {
+        if !places.contains_key(&place_of(told, *store)) {
+            lines.insert(line_of_store(told.trace, *store), true)?;
+        }
+    }
+    Ok(lines)
+}
+
+// Whether the line is flushed, named by an assertion, or one to which another place loses a store.
+fn is_spoken_of(trace: &Trace, claims: &Claims, others: &HashMap<u64, bool>, line: u64) -> bool {
+    claims.is_flushed(line) || others.contains_key(&line) || claims.is_claimed(trace, line)
+}
+
+// Notes that the program, or a hint, speaks of the place.
+fn note_spoken_of(places: &mut Places, place: Origin) -> Result<(), OutOfMemory> {
+    if places.contains_key(&place) {
+        places.insert(place, true)?;
+    }
+    Ok(())
+}
