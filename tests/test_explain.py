@@ -216,9 +216,14 @@ APART = "pmtrace 1\nstore 0 0x1000 01\nstore 0 0x2000 01\nclwb 0 0x1000\nsfence 
 APART_LABELS = "1 log.c:5 add\n2 stats.c:12 bump < log.c:6 add\n5 stats.c:12 bump < log.c:8 add\n6 log.c:9 seal\n"
 APART_TOLD = [
     "error: log.c:9 seal: 1 store: 1 never persisted, 0 saved late, 0 in time",
-    "apart: nothing flushes the lines of these; --ignore-label or --ignore leaves out what may be lost:",
+    "apart: nothing flushes the lines of these: a flush is missing, or they may be lost (--ignore-label):",
     "error: stats.c:12 bump: 2 stores: 2 never persisted, 0 saved late, 0 in time",
 ]
+
+# A store whose line nothing flushes, since the flush after it has the address of another one; its labels, and that it does not stand apart.
+ASTRAY = "pmtrace 1\nstore 0 0x1000 01\nclwb 0 0x1000\nsfence 0\nstore 0 0x2000 02\nclwb 0 0x1000\nsfence 0\nisPersist 0 0x1000 1\n"
+ASTRAY_LABELS = "4 list.c:95 remove\n5 list.c:97 remove\n"
+ASTRAY_TOLD = ["error: list.c:95 remove: 1 store: 1 never persisted, 0 saved late, 0 in time"]
 
 # Claims with marks in one line of 256 bytes, and what is told of them if lines have 64 bytes, and 32.
 MARKS = (
@@ -355,6 +360,10 @@ class Explain(Checks):
             lines = joined(self.explain("--labels", "l", "t", folder=folder).stdout.decode().splitlines())
             found = [line.removesuffix("; one of them:") for line in lines if line.startswith(("error: ", "apart: ", "guess: "))]
             self.expect_equal(f"places apart {claim}", found, [*APART_TOLD, *guess])
+        (folder / "l").write_text(ASTRAY_LABELS)
+        (folder / "t").write_text(ASTRAY)
+        lines = joined(self.explain("--labels", "l", "t", folder=folder).stdout.decode().splitlines())
+        self.expect_equal("a wrong address", [line for line in lines if line.startswith(("error: ", "apart: ", "guess: "))], ASTRAY_TOLD)
 
     def test_marks(self):
         """A mark that ends with its cache line is in one, and lines have the size that the trace says; the answers are written by hand."""

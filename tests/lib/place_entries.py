@@ -7,9 +7,9 @@ from grouped import ANY_FLUSH
 from hinted import hinted_places
 from machine import FENCES, is_kept
 from placed import MOST, ONE_OF_THEM, caller_lines, fates_in_words, name_of, place, retold, rows, shared_head, shared_lines, standing, stores_in_words
-from stories import strayed
+from stories import flushed_instead, has_strayed, strayed
 
-APART = "apart: nothing flushes the lines of these; --ignore-label or --ignore leaves out what may be lost:"
+APART = "apart: nothing flushes the lines of these: a flush is missing, or they may be lost (--ignore-label):"
 PLACE = re.compile(
     r"(error|warning|note): .*: \d+ stores?: \d+ never persisted, \d+ saved late, \d+ in time(, \d+ ignored)?(; why: --failure \d+|; one of them:)?$"
     r"|error: cache line 0x[0-9a-f]+ is never flushed: \d+ places lose all that they store to it, \d+ stores: "
@@ -81,15 +81,21 @@ def spoken_of(explained):
 @functools.lru_cache(maxsize=1)
 def apart(explained):
     """The places which lose all that they store, to lines of which nothing else speaks, and which are not hinted at, with how much they lose; none in a
-    trace without a flush."""
+    trace without a flush, and none whose first lost store may have been meant by a flush that comes instead."""
     trace = explained.trace
     if not explained.is_whole() or not {trace.event(number)[0] for number in trace.numbers}.intersection(ANY_FLUSH):
         return {}
     losing = {key: row["never_persisted"] for key, row in rows(explained) if standing(row)[0] == 3}
+    meant = {key for key, row in rows(explained) if key in losing and is_meant(explained, flushed_instead(explained, row["first_never_persisted"]))}
     lost = [store for store in explained.lost_stores() if not explained.is_ignored(store)]
     loud = {*spoken_of(explained), *(trace.line(store) for store in lost if place(explained, store) not in losing)}
     out = {place(explained, store) for store in lost if trace.line(store) in loud}
-    return {key: count for key, count in losing.items() if key not in out and key not in hinted_places(explained)}
+    return {key: count for key, count in losing.items() if key not in out and key not in meant and key not in hinted_places(explained)}
+
+
+def is_meant(explained, flush):
+    """Whether a flush that comes instead may have been meant for the store: it does nothing, as most at its line of source."""
+    return flush in explained.labels and has_strayed(explained, flush)
 
 
 def guess_lines(explained):

@@ -287,16 +287,22 @@ def named(explained, number):
     return f"event {number} (line {event['line']}, thread {event['thread']}){label}: {event['words']}"
 
 
-def instead(explained, store):
-    """What is told of the flush that the thread of a store makes instead: the last one of another line before its next fence, where it flushes
-    the store's line not at all before."""
+def flushed_instead(explained, store):
+    """The flush that the thread of a store makes instead: the last one of another line before its next fence, where it flushes the store's line not
+    at all before. None if there is none."""
     trace, thread = explained.trace, explained.trace.event(store)[1]
     own = [at for at in range(store + 1, explained.end + 1) if trace.event(at)[1] == thread]
     fence = first(own, lambda at: trace.event(at)[0] in FENCES)
     flushes = [at for at in own if fence is not None and at < fence and trace.event(at)[0] in ANY_FLUSH]
-    if flushes and not any(trace.line(at) == trace.line(store) for at in flushes):
-        idle = "" if is_kept(trace, flushes[-1]) else "; it does nothing"
-        yield f"the flush before its next fence is {named(explained, flushes[-1])}{idle}"
+    return flushes[-1] if flushes and not any(trace.line(at) == trace.line(store) for at in flushes) else None
+
+
+def instead(explained, store):
+    """What is told of that flush."""
+    flush = flushed_instead(explained, store)
+    if flush is not None:
+        idle = "" if is_kept(explained.trace, flush) else "; it does nothing"
+        yield f"the flush before its next fence is {named(explained, flush)}{idle}"
 
 
 def asides(explained, number):

@@ -4,14 +4,15 @@ use crate::claims::Claims;
 use pmt_causes::Origin;
 use pmt_fates::{PlaceRow, Standing, standing_of};
 use pmt_model::{OutOfMemory, Trace};
-use pmt_telling::{Telling, line_of_store, place_of, tells_all};
+use pmt_telling::{Telling, does_nothing, flushed_instead, line_of_store, place_of, tells_all};
 use std::collections::HashMap;
 
 // The places that lose all that they store, by whether the program speaks of a line of theirs, or a hint of them.
 type Places = HashMap<Origin, bool>;
 
 /// The places that lose all that they store, to lines of which the program speaks nowhere: neither they nor the lines before them are flushed,
-/// no assertion names them, and no other place loses a store to them; no hint is told of such a place. There is none where a trace has no flush.
+/// no assertion names them, and no other place loses a store to them; no hint is told of such a place, and its first store has no flush instead
+/// that may have been meant for it. There is none where a trace has no flush.
 #[derive(Drop)]
 pub struct Apart {
     places: Places,
@@ -48,7 +49,43 @@ pub fn apart_of(told: &Telling<'_>, claims: &Claims) -> Result<Apart, OutOfMemor
     for hint in told.explanation.hints.iter() {
         note_spoken_of(&mut places, hint.place)?;
     }
+    note_strayed(told, &mut places)?;
     Ok(Apart { places })
+}
+
+// Notes the places whose first lost store has a flush instead that does nothing, as most flushes at its line of source: it may have been meant
+// for the store.
+fn note_strayed(told: &Telling<'_>, places: &mut Places) -> Result<(), OutOfMemory> {
+    let idle = idle_places(told)?;
+    for row in told.explanation.places.as_slice() {
+        if loses_all(row) && has_strayed(told, &idle, row) {
+            places.insert(row.place, true)?;
+        }
+    }
+    Ok(())
+}
+
+// The lines of source most of whose flushes do nothing.
+fn idle_places(told: &Telling<'_>) -> Result<HashMap<Origin, bool>, OutOfMemory> {
+    let mut idle = HashMap::new(told.alloc);
+    for row in told.explanation.places.as_slice() {
+        let is_idle = row.idle_flushes > row.flushes.saturating_sub(row.idle_flushes);
+        if is_idle && matches!(row.place, Origin::Label(_)) {
+            idle.insert(row.place, true)?;
+        }
+    }
+    Ok(idle)
+}
+
+// Whether the first lost store of the place has such a flush instead.
+fn has_strayed(told: &Telling<'_>, idle: &HashMap<Origin, bool>, row: &PlaceRow) -> bool {
+    let Some(store) = row.first_lost else {
+        return false;
+    };
+    match flushed_instead(told.trace, store) {
+        Some(flush) => does_nothing(told, flush) && idle.contains_key(&place_of(told, flush)),
+        None => false,
+    }
 }
 
 // The places that lose all that they store.

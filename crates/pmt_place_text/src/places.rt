@@ -30,7 +30,7 @@ const ORDER: &str =
     "  order:  A crash may keep any part of what waits for one fence: fence before what must come later.\n";
 
 const APART: &str =
-    "apart: nothing flushes the lines of these; --ignore-label or --ignore leaves out what may be lost:\n";
+    "apart: nothing flushes the lines of these: a flush is missing, or they may be lost (--ignore-label):\n";
 
 /// The places that lose or delay stores, unless something is asked for; those that stand apart last, below a line of their own. Adds the flushes
 /// that they tell of as perhaps meant for a store.
