@@ -9,6 +9,8 @@ from machine import FENCES, is_kept
 from placed import MOST, ONE_OF_THEM, caller_lines, fates_in_words, name_of, place, retold, rows, shared_head, shared_lines, standing, stores_in_words
 from stories import flushed_instead, has_strayed, strayed
 
+# Of so many places a flush instead of the right one is looked for.
+MOST_ASKED = 32
 APART = "apart: nothing flushes the lines of these: a flush is missing, or they may be lost (--ignore-label):"
 PLACE = re.compile(
     r"(error|warning|note): .*: \d+ stores?: \d+ never persisted, \d+ saved late, \d+ in time(, \d+ ignored)?(; why: --failure \d+|; one of them:)?$"
@@ -86,7 +88,8 @@ def apart(explained):
     if not explained.is_whole() or not {trace.event(number)[0] for number in trace.numbers}.intersection(ANY_FLUSH):
         return {}
     losing = {key: row["never_persisted"] for key, row in rows(explained) if standing(row)[0] == 3}
-    meant = {key for key, row in rows(explained) if key in losing and is_meant(explained, flushed_instead(explained, row["first_never_persisted"]))}
+    asked = [(key, row["first_never_persisted"]) for key, row in rows(explained) if key in losing][:MOST_ASKED]
+    meant = {key for key, store in asked if is_meant(explained, flushed_instead(explained, store))}
     lost = [store for store in explained.lost_stores() if not explained.is_ignored(store)]
     loud = {*spoken_of(explained), *(trace.line(store) for store in lost if place(explained, store) not in losing)}
     out = {place(explained, store) for store in lost if trace.line(store) in loud}

@@ -7,12 +7,15 @@ use pmt_model::{OutOfMemory, Trace};
 use pmt_telling::{Telling, does_nothing, flushed_instead, line_of_store, place_of, tells_all};
 use std::collections::HashMap;
 
+// Of so many places that lose all a flush instead is looked for, which may take thousands of looks for each.
+const MOST: usize = 32;
+
 // The places that lose all that they store, by whether the program speaks of a line of theirs, or a hint of them.
 type Places = HashMap<Origin, bool>;
 
 /// The places that lose all that they store, to lines of which the program speaks nowhere: neither they nor the lines before them are flushed,
-/// no assertion names them, and no other place loses a store to them; no hint is told of such a place, and its first store has no flush instead
-/// that may have been meant for it. There is none where a trace has no flush.
+/// no assertion names them, and no other place loses a store to them; no hint is told of such a place, and its first store, if it is one of the
+/// first 32 that lose all, has no flush instead that may have been meant for it. There is none where a trace has no flush.
 #[derive(Drop)]
 pub struct Apart {
     places: Places,
@@ -53,13 +56,17 @@ pub fn apart_of(told: &Telling<'_>, claims: &Claims) -> Result<Apart, OutOfMemor
     Ok(Apart { places })
 }
 
-// Notes the places whose first lost store has a flush instead that does nothing, as most flushes at its line of source: it may have been meant
-// for the store.
+// Notes those of the first places that lose all whose first lost store has a flush instead that does nothing, as most flushes at its line of
+// source: it may have been meant for the store.
 fn note_strayed(told: &Telling<'_>, places: &mut Places) -> Result<(), OutOfMemory> {
     let idle = idle_places(told)?;
+    let mut asked = 0usize;
     for row in told.explanation.places.as_slice() {
-        if loses_all(row) && has_strayed(told, &idle, row) {
-            places.insert(row.place, true)?;
+        if loses_all(row) && asked < MOST {
+            asked = asked.saturating_add(1);
+            if has_strayed(told, &idle, row) {
+                places.insert(row.place, true)?;
+            }
         }
     }
     Ok(())
