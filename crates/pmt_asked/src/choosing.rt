@@ -1,6 +1,7 @@
 //! Which findings are asked for.
-ghost use Rattle.std.specs.Prelude.{◌≡◌, ◌+◌, nat_lt};
-ghost use Rattle.pmt_asked.specs.Choosing.{has_text as text_has, is_asked_for as asked_for, is_chosen as event_chosen, is_kind_chosen, is_label_chosen, is_same_kind as same_kind, is_thread_chosen, kind_name, meets as ranges_meet, meets_line as line_met, op_meets, stands_between};
+ghost use Rattle.std.specs.Prelude.{◌≡◌, ◌+◌, is_some, nat_lt, IsTrue};
+ghost use Rattle.pmt_model.specs.Traces.{event};
+ghost use Rattle.pmt_asked.specs.Choosing.{ChoosesAll, has_text as text_has, is_asked_for as asked_for, is_chosen as event_chosen, is_kind_chosen, is_label_chosen, is_same_kind as same_kind, is_thread_chosen, kind_name, meets as ranges_meet, meets_line as line_met, op_meets, stands_between};
 
 use crate::ignoring::ByteRange;
 use crate::labels::Labels;
@@ -97,10 +98,13 @@ pub fn is_asked_for(
     is_asked(choice, kind) && is_chosen(trace, labels, choice, number)
 }
 
-// Whether findings of the event are asked for.
+// Whether findings of the event are asked for. It is not looked at where those of all events are.
 fn is_chosen(trace: &Trace, labels: &Labels, choice: &Choice, number: u64) -> bool
     ensures { result ≡ event_chosen trace.now labels.now choice.now number }
 {
+    if chooses_all(choice) {
+        return has_event(trace, number);
+    }
     let Some(event) = trace.get(number) else {
         return false;
     };
@@ -110,6 +114,26 @@ fn is_chosen(trace: &Trace, labels: &Labels, choice: &Choice, number: u64) -> bo
         && is_of_thread(choice, thread)
         && is_in_range(trace.format(), choice, op)
         && is_labelled(labels, choice, number)
+}
+
+// Whether nothing but a kind is asked for.
+#[inline(always)]
+fn chooses_all(choice: &Choice) -> bool
+    ensures { IsTrue result → ChoosesAll choice.now }
+{
+    choice.thread.is_none()
+        && choice.range.is_none()
+        && choice.from.is_none()
+        && choice.to.is_none()
+        && choice.label.is_none()
+}
+
+// Whether the trace has an event with this number.
+#[inline(always)]
+fn has_event(trace: &Trace, number: u64) -> bool
+    ensures { result ≡ is_some (event trace.now number) }
+{
+    0 < number && number <= trace.len() as u64
 }
 
 // Whether the number is none before the first that is asked for, and none after the last.
