@@ -1,5 +1,6 @@
 pub mod CountLemmas
 pub mod CountedLemmas
+mod DroppedLemmas
 pub mod ExactDetails
 pub mod ExactFailures
 pub mod ExactKeys

@@ -5,8 +5,9 @@ ghost use Rattle.std.specs.List.{filter_map};
 ghost use Rattle.pmt_causes.specs.Groups.{AreGrouped};
 ghost use Rattle.pmt_causes.specs.Dropped.{dropped_item, kind_of as kind_in, op_key as key_in, key_of_parts, flush_spot as flush_spot_in, fence_spot as fence_spot_in};
 
-use crate::grouping::{Group, Keyed, groups};
+use crate::grouping::{Group, Keyed, in_order, put};
 use crate::labels::label_of;
+use indexmap::IndexMap;
 use pmt_dropping::Dropped;
 use pmt_model::{Format, Op, OutOfMemory, Trace, line_of};
 use pmt_reasons::Reason;
@@ -68,23 +69,16 @@ pub fn dropped_groups(
 ) -> Result<Vec<Group<DroppedKey>>, OutOfMemory>
     ensures { IfOk result (λ gs. AreGrouped (filter_map (dropped_item trace.now labels.now) dropped.now) gs.items) }
 {
-    let items = dropped_items(alloc, trace, labels, dropped)?;
-    groups(alloc, items.as_slice())
-}
-
-// These events with their keys.
-fn dropped_items(
-    alloc: Global,
-    trace: &Trace,
-    labels: &[Option<u64>],
-    dropped: &[Dropped],
-) -> Result<Vec<Keyed<DroppedKey>>, OutOfMemory>
-    ensures { IfOk result (λ items. items.items ≡ filter_map (dropped_item trace.now labels.now) dropped.now) }
-{
-    dropped
-        .iter()
-        .filter_map(|entry| item_of(trace, labels, *entry))
-        .collect(alloc)
+    let mut places = IndexMap::new(alloc);
+    let mut groups = Vec::new(alloc);
+    let mut last = 0;
+    for entry in dropped {
+        let Some(item) = item_of(trace, labels, *entry) else {
+            continue;
+        };
+        last = put(alloc, &mut groups, &mut places, item, last, dropped.len())?;
+    }
+    in_order(groups)
 }
 
 // The event with its key.
