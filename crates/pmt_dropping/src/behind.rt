@@ -107,7 +107,7 @@ impl Behind {
             return Reason::Safe;
         }
         let past = safe.trace().len() as u64 + 1;
-        reason_of_marking(place, after.fence, after.again, past)
+        reason_of_marking(place, after.fence as u64, after.again as u64, past)
     }
 
     // Goes on over the event with this number.

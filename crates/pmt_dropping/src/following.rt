@@ -15,22 +15,22 @@ use std::alloc::Global;
 const ROOM: usize = 64;
 
 // The next flush of each of these lines: its number by the line's.
-type NextFlushes = IndexMap<u64, u64>;
+type NextFlushes = IndexMap<u64, u32>;
 
 /// What comes after a flush, by numbers of events; one more than the last number where there is no such event.
 #[derive(Clone, Copy, Debug, PartialEq, Eq)]
 pub(crate) struct Following {
     /// The next fence of its thread.
-    pub(crate) fence: u64,
+    pub(crate) fence: u32,
     /// The next flush of its line by its thread, if it comes before that fence; else the fence.
-    pub(crate) again: u64,
+    pub(crate) again: u32,
 }
 
 /// What comes after a place, as events are read from the last to the first.
 #[derive(Drop)]
 pub(crate) struct Upcoming {
     // of each thread, its next fence
-    fences: [u64; 256],
+    fences: [u32; 256],
     // of each thread, the next flush of each line that it flushes before that fence
     flushes: Vec<NextFlushes>,
 }
@@ -39,7 +39,7 @@ pub(crate) struct Upcoming {
 pub(crate) fn all_following(alloc: Global, trace: &Trace) -> Result<Vec<Following>, OutOfMemory>
     ensures { IfOk result (λ list. AreFollowing trace.now list.items) }
 {
-    let past = trace.len() as u64 + 1;
+    let past = trace.len() as u32 + 1;
     let mut following = vec![in alloc; NOTHING; trace.len()]?;
     let mut upcoming = Upcoming::new(alloc, past)?;
     note_all(&mut upcoming, trace, &mut following)?;
@@ -60,7 +60,7 @@ fn note_all(
     let events = trace.events();
     for index in (0..events.len()).rev() {
         let event = events[index];
-        let after = upcoming.go_back(format, event.thread, event.op, index as u64 + 1)?;
+        let after = upcoming.go_back(format, event.thread, event.op, index as u32 + 1)?;
         following[index] = after;
     }
     Ok(())
@@ -94,7 +94,7 @@ fn forget(flushes: &mut NextFlushes)
 
 impl Upcoming {
     // Before any event is read, where this is one more than the last number.
-    pub(crate) fn new(alloc: Global, past: u64) -> Result<Self, OutOfMemory>
+    pub(crate) fn new(alloc: Global, past: u32) -> Result<Self, OutOfMemory>
         ensures { IfOk result (λ upcoming. (T : Recording) → past ≡ past_of T → IsUpcoming T (length T.events) upcoming) }
     {
         let flushes = no_flushes(alloc)?;
@@ -110,7 +110,7 @@ impl Upcoming {
         format: Format,
         thread: u8,
         op: Op,
-        number: u64,
+        number: u32,
     ) -> Result<Following, OutOfMemory>
         requires { length self.old.flushes.items ≡ 256 }
         ensures tells { (T : Recording) (n : ℕ) → IsAct T (suc n) (act_of format thread op) → number ≡ suc n → IsUpcoming T (suc n) self.old → IfOk result (TellsFollowing T (suc n)) }
@@ -129,7 +129,7 @@ impl Upcoming {
     }
 
     // A flush of the line by the thread.
-    fn over_flush(&mut self, thread: u8, line: u64, number: u64) -> Result<Following, OutOfMemory>
+    fn over_flush(&mut self, thread: u8, line: u64, number: u32) -> Result<Following, OutOfMemory>
         requires { length self.old.flushes.items ≡ 256 }
         ensures tells { (T : Recording) (n : ℕ) → IsAct T (suc n) (Flushes thread line) → number ≡ suc n → IsUpcoming T (suc n) self.old → IfOk result (TellsFollowing T (suc n)) }
         ensures upcoming { (T : Recording) (n : ℕ) → IsAct T (suc n) (Flushes thread line) → number ≡ suc n → IsUpcoming T (suc n) self.old → OnOk result (IsUpcoming T n self.new) }
@@ -143,7 +143,7 @@ impl Upcoming {
     }
 
     // A fence of the thread.
-    fn over_fence(&mut self, thread: u8, number: u64) -> Following
+    fn over_fence(&mut self, thread: u8, number: u32) -> Following
         requires { length self.old.flushes.items ≡ 256 }
         ensures { (T : Recording) (n : ℕ) → IsAct T (suc n) (Fences thread) → number ≡ suc n → IsUpcoming T (suc n) self.old → IsUpcoming T n self.new }
     {
