@@ -76,12 +76,17 @@ fn note_strayed(told: &Telling<'_>, places: &mut Places) -> Result<(), OutOfMemo
 fn idle_places(told: &Telling<'_>) -> Result<HashMap<Origin, bool>, OutOfMemory> {
     let mut idle = HashMap::new(told.alloc);
     for row in told.explanation.places.as_slice() {
-        let is_idle = row.idle_flushes > row.flushes.saturating_sub(row.idle_flushes);
-        if is_idle && matches!(row.place, Origin::Label(_)) {
+        if is_mostly_idle(row) {
             idle.insert(row.place, true)?;
         }
     }
     Ok(idle)
+}
+
+/// Whether the place is a line of source most of whose flushes do nothing.
+pub fn is_mostly_idle(row: &PlaceRow) -> bool {
+    matches!(row.place, Origin::Label(_))
+        && row.idle_flushes > row.flushes.saturating_sub(row.idle_flushes)
 }
 
 // Whether the first lost store of the place has such a flush instead.

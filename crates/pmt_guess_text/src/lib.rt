@@ -6,6 +6,6 @@ mod claims;
 mod guesses;
 mod merging;
 
-pub use crate::apart::{Apart, apart_of};
+pub use crate::apart::{Apart, apart_of, is_mostly_idle};
 pub use crate::claims::{Claims, claims_wanted};
 pub use crate::guesses::guesses_section;

@@ -2,6 +2,7 @@
 
 use pmt_asked::frame_of;
 use pmt_causes::Origin;
+use pmt_guess_text::is_mostly_idle;
 use pmt_model::OutOfMemory;
 use pmt_pen::Pen;
 use pmt_slices::{StorePart, StoreStory, store_story_of};
@@ -162,12 +163,9 @@ fn strayed_flush(told: &Telling<'_>, story: &StoreStory, store: u64) -> Option<S
 // Whether the flush does nothing, and most flushes at its line of source do nothing.
 fn has_strayed(told: &Telling<'_>, flush: u64) -> bool {
     let place = place_of(told, flush);
-    let is_labelled = matches!(place, Origin::Label(_));
     let rows = told.explanation.places.as_slice();
     match rows.iter().find(|row| row.place == place) {
-        Some(row) => is_labelled
-            && row.idle_flushes > row.flushes.saturating_sub(row.idle_flushes)
-            && does_nothing(told, flush),
+        Some(row) => is_mostly_idle(row) && does_nothing(told, flush),
         None => false,
     }
 }
