@@ -84,7 +84,7 @@ impl Numbers {
     /// The number of the line, or the other one where it has none. The line gets this one.
     ///
     /// # Errors
-    /// Where memory was refused.
+    /// Where memory was refused. They can't be used any more then.
     pub fn replace(&mut self, line: u64, other: u64, number: u64) -> Result<u64, OutOfMemory>
         ensures number { IfOk result (λ old. old ≡ number_at other self.old line) }
         ensures put { OnOk result (Puts line number self.old self.new) }
@@ -98,7 +98,7 @@ impl Numbers {
     /// The number of the line, or the other one where it has none. The line gets the lower one of it and the bound.
     ///
     /// # Errors
-    /// Where memory was refused.
+    /// Where memory was refused. They can't be used any more then.
     pub fn lower(&mut self, line: u64, other: u64, bound: u64) -> Result<u64, OutOfMemory>
         ensures number { IfOk result (λ old. old ≡ number_at other self.old line) }
         ensures put { IfOk result (λ old. Puts line (min old bound) self.old self.new) }

@@ -51,7 +51,7 @@ impl LastWriters {
     /// Goes to the place: on from its own, or from the first event where that is a later one.
     ///
     /// # Errors
-    /// Where memory was refused.
+    /// Where memory was refused. It can't be used any more then.
     pub fn go_to(&mut self, alloc: Global, trace: &Trace, place: u64) -> Result<(), OutOfMemory>
         requires within { place ≤ length trace.now.events }
         requires before { AreWriters trace.now self.old }
