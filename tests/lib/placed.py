@@ -170,9 +170,19 @@ def fates_in_words(lost, late, in_time):
     return f"{lost} never persisted, {late} saved late, {in_time} in time"
 
 
+def told_paths(paths):
+    """Of call paths, each with the counts of its events, the worst that becomes of them first, what is told of them: names with counts. Those with
+    the greatest shares come first, and of as great ones those with most events. Of more than three paths the others than the first two are one."""
+    share = lambda counts: (*(-(count * 1_000_000 // sum(counts)) for count in counts[:-1]), -sum(counts))
+    told = sorted(paths.items(), key=lambda item: share(item[1]))
+    few = 2 if len(told) > 3 else 3
+    found = [(label.partition(CALLER)[2] if CALLER in label else "none", counts) for label, counts in told[:few]]
+    return found + ([(f"{len(told) - few} others", [sum(counts) for counts in zip(*(counts for _, counts in told[few:]))])] if told[few:] else [])
+
+
 def caller_lines(explained, key):
     """Of a place that loses or delays a part of its stores, none of which is ignored, what becomes of those of each call path, if one saves all in
-    time: most lost first, then most late. Of more than three paths the others than the first two are one line."""
+    time."""
     row, lost, paths = dict(rows(explained))[key], set(explained.lost_stores()), {}
     if key[0] == "thread" or row["ignored"] or standing(row)[0] > 1:
         return
@@ -181,13 +191,7 @@ def caller_lines(explained, key):
             late = number not in lost and fences_waited(explained.trace, number) >= 2
             counts = paths.setdefault(explained.labels[number], [0, 0, 0])
             counts[0 if number in lost else 1 if late else 2] += 1
-    share = lambda counts: tuple(-(count * 1_000_000 // sum(counts)) for count in counts[:2])
-    told = sorted(paths.items(), key=lambda item: share(item[1]))
-    if any(told[-1][1][:2]):
+    if all(any(counts[:2]) for counts in paths.values()):
         return
-    few = 2 if len(told) > 3 else 3
-    found = [(label.partition(CALLER)[2] if CALLER in label else "none", counts) for label, counts in told[:few]]
-    if told[few:]:
-        found.append((f"{len(told) - few} others", [sum(counts) for counts in zip(*(counts for _, counts in told[few:]))]))
-    for name, counts in found:
+    for name, counts in told_paths(paths):
         yield f"  caller: {fates_in_words(*counts)}: {name}"

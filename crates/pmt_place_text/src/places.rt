@@ -1,6 +1,6 @@
 //! What becomes of the stores of each place, in words: of the places that lose or delay some.
 
-use crate::callers::{Callers, callers_of, push_callers};
+use crate::callers::{callers_of, push_fates};
 use crate::member_story::{MOST_STORIES, Strayed, push_store_story, push_strayed, waited_by};
 use crate::members::{Members, members_of};
 use crate::rests::{most_lost, rest_of, sum_of, sum_of_entry};
@@ -15,9 +15,9 @@ use pmt_guess_text::{Apart, Claims};
 use pmt_model::OutOfMemory;
 use pmt_pen::Pen;
 use pmt_telling::{
-    HEAD, SOURCE, Section, Telling, is_unflushed, line_address, line_of_store, push_cause,
-    push_count, push_draw, push_early, push_mend, push_named, push_own_flush, push_place_name,
-    push_wrapped, tells_all,
+    CallPaths, HEAD, SOURCE, Section, Telling, is_unflushed, line_address, line_of_store,
+    push_cause, push_count, push_draw, push_early, push_mend, push_named, push_own_flush,
+    push_place_name, push_wrapped, tells_all,
 };
 
 const LABELLED: &str =
@@ -151,7 +151,7 @@ struct Beside {
     sharing: Sharing,
     members: Members,
     retold: Retold,
-    callers: Callers,
+    callers: CallPaths,
 }
 
 // Adds an entry for each of these places that is not told with another one, as many as the limit says, each with its first line
@@ -333,7 +333,7 @@ fn push_lost(
         push_named(pen, told, "  store:  ", store);
         None
     };
-    push_callers(pen, told, &beside.callers, place);
+    push_fates(pen, told, &beside.callers, place);
     let group = beside.members.group_of(told, store)?;
     if !is_story {
         push_cause(pen, told, group.cause, group.line);
@@ -377,7 +377,7 @@ fn push_late(
         );
         None
     };
-    push_callers(pen, told, &beside.callers, place);
+    push_fates(pen, told, &beside.callers, place);
     push_early(pen, told, "  early:  ", store, SOURCE);
     let Some(event) = told.trace.get(store) else {
         return None;

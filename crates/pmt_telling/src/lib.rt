@@ -1,6 +1,7 @@
 //! What the texts for people are made of: what is told, its sections, lines and words.
 #![tactic(auto)]
 
+mod callers;
 mod commands;
 mod hinting;
 mod missing;
@@ -12,6 +13,7 @@ mod spelling;
 mod story_rows;
 mod telling;
 
+pub use crate::callers::{CallPaths, Tallies, Tally, label_at, push_callers, told_paths};
 pub use crate::commands::{push_draw, push_word};
 pub use crate::hinting::{Hinting, hint_line, hint_partner, hinting_of, push_hint_words};
 pub use crate::missing::{flushed_instead, push_early, push_instead};
