@@ -202,6 +202,33 @@ CALLERS = """\
   caller: 0 never persisted, 0 saved late, 2 in time: good a.c:2
   fix:    """
 
+
+def publishing(*rounds):
+    """A trace of rounds, each of which stores a record and then its mark and claims their order, and the labels of the claims, which all stand at one
+    line of source. A round is what its label has behind that, and whether it fences before the mark."""
+    events, labels = [], []
+    for index, (callers, fences) in enumerate(rounds):
+        record, mark = 0x1000 + 0x100 * index, 0x1040 + 0x100 * index
+        events += [f"store 0 {record:#x} 01", f"clwb 0 {record:#x}", *["sfence 0"] * fences]
+        events += [f"store 0 {mark:#x} 01", f"clwb 0 {mark:#x}", "sfence 0", f"isOrderedBefore 0 {record:#x} 1 {mark:#x} 1"]
+        labels.append(f"{len(events)} x.c:9 publish{callers}")
+    return "".join(f"{line}\n" for line in ("pmtrace 1", *events)), "".join(f"{line}\n" for line in labels)
+
+
+# Rounds by a caller that forgets the fence, and by one that does not, and what is told of the callers; then more callers, one of them wrong at times.
+PUBLISHED = publishing((" < replace x.c:5 < main x.c:20", 0), (" < commit x.c:7", 1), (" < replace x.c:5 < main x.c:20", 0))
+PUBLISHED_TOLD = """\
+  fix: sfence by thread 0 right after event 2, the flush of the lost store's line
+  caller: 2 of 2 fail: replace x.c:5 < main x.c:20
+  caller: 0 of 1 fail: commit x.c:7
+"""
+PUBLISHED_BY_MANY = publishing((" < a", 1), (" < b", 0), (" < b", 1), (" < c", 0), ("", 1), (" < d", 1), (" < d", 1))
+BY_MANY_TOLD = """\
+  caller: 1 of 1 fails: c
+  caller: 1 of 2 fails: b
+  caller: 0 of 4 fail: 3 others
+"""
+
 # A removal that flushes the node it removes in place of the one before it, its labels, and what is told of that flush and its fence.
 REMOVAL = "pmtrace 1\n" + "".join(f"store 0 {at:#x} 01\nclwb 0 {at:#x}\nsfence 0\n" for at in (0x1000, 0x2000)) + "store 0 0x1000 02\nclwb 0 0x2000\nsfence 0\n"
 REMOVAL_LABELS = "7 list.c:95 remove\n8 list.c:97 remove < main list.c:120\n9 list.c:98 remove\n"
@@ -341,6 +368,27 @@ class Explain(Checks):
         (folder / "l").write_text(CALLED_LABELS)
         text = self.explain("--labels", "l", "t", folder=folder).stdout.decode()
         self.expect("callers", CALLERS in text, text)
+
+    def test_callers_of_failures(self):
+        """By way of which callers of a function its assertions fail."""
+        folder = self.new_folder()
+        text = self.labelled(folder, *PUBLISHED)
+        self.expect("two callers", PUBLISHED_TOLD + "  also: event 19\n" in text and text.count("  caller: ") == 2, text)
+        text = self.labelled(folder, *PUBLISHED, "--failure", "19")
+        self.expect("of one that is asked for", PUBLISHED_TOLD.replace("event 2,", "event 15,") in text, text)
+        text = self.labelled(folder, *PUBLISHED_BY_MANY)
+        self.expect("many callers", BY_MANY_TOLD in text and text.count("  caller: ") == 3, text)
+        text = self.labelled(folder, *publishing((" < replace x.c:5", 0), (" < replace x.c:5", 1)))
+        self.expect("a single caller", "  caller: " not in text, text)
+        text = self.labelled(folder, *publishing(("", 0), ("", 1)))
+        self.expect("no callers", "  caller: " not in text, text)
+        self.expect("no labels", "  caller: " not in self.told(PUBLISHED[0]))
+
+    def labelled(self, folder, text, labels, *words):
+        """What is told of a trace with labels."""
+        (folder / "t").write_text(text)
+        (folder / "l").write_text(labels)
+        return self.explain(*words, "--labels", "l", "t", folder=folder).stdout.decode()
 
     def test_strayed_flush(self):
         """A flush that does nothing, in the story of a store without one: it may have been meant for the store."""

@@ -222,11 +222,12 @@ def wrong_failure(explained, why, members, entry):
     if wrong:
         return wrong
     rest = entry[len(rows(explained, members[0])) + len(list(asides(explained, members[0]))) + 2 : -1]
+    callers = [cut(line, WIDTH) for line in by_place.failing_lines(explained, members[0])]
     if not is_alone(explained):
-        others = [*inside_lines(explained, why, members), *others_lines(members)]
+        others = [*callers, *inside_lines(explained, why, members), *others_lines(members)]
         return None if rest == others else f"the others: wanted {others}, in {entry}"
-    wanted = list(full_lines(explained, members[0]))
-    told = [line for line in rest if line.startswith(("  claim: ", "  loses: "))] + told_of_range(entry)
+    wanted = [*callers, *full_lines(explained, members[0])]
+    told = [line for line in rest if line.startswith(("  caller: ", "  claim: ", "  loses: "))] + told_of_range(entry)
     return None if told == wanted and any(", lost: event " in row for row in wanted) else f"all of a failure: wanted {wanted}, in {entry}"
 
 

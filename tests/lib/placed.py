@@ -9,6 +9,7 @@ from grouped import ANY_FLUSH, FEW, fences_waited, following, inside, safe_place
 from machine import FENCES, is_kept
 
 CALLER = " < "
+ASSERTIONS = ("isPersist", "isOrderedBefore")
 COUNTS = ("stores", "never_persisted", "ignored", "late", "in_time", "left", "flushes", "flushes_dropped", "fences", "fences_dropped")
 LABELLED = "places: what became of the stores of each line of source; those that lose or delay a part first:"
 THREADS = "places: what became of the stores of each thread; with --labels FILE a place is a line of source:"
@@ -195,3 +196,15 @@ def caller_lines(explained, key):
         return
     for name, counts in told_paths(paths):
         yield f"  caller: {fates_in_words(*counts)}: {name}"
+
+
+def failing_lines(explained, number):
+    """How many assertions fail at the place of this one by way of each of its callers, if it has one, and the place has several call paths."""
+    failing, paths = set(explained.failing()), {}
+    for other in explained.trace.numbers:
+        if explained.trace.event(other)[0] in ASSERTIONS and other in explained.labels and place(explained, other) == place(explained, number):
+            paths.setdefault(explained.labels[other], [0, 0])[other not in failing] += 1
+    if CALLER not in explained.labels.get(number, "") or len(paths) < 2:
+        return
+    for name, (fail, right) in told_paths(paths):
+        yield f"  caller: {fail} of {fail + right} {'fails' if fail == 1 else 'fail'}: {name}"

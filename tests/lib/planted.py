@@ -39,6 +39,16 @@ def named_at(lines, name):
     return next((at for at, line in enumerate(lines) if re.match(rf"  {name}: \S", line)), None)
 
 
+def failing_at(lines):
+    """Where the first line stands that tells how many assertions fail by way of a caller."""
+    return next((at for at, line in enumerate(lines) if re.match(r"  caller: \d+ of \d+ fails?: ", line)), None)
+
+
+def fates_at(lines):
+    """Where the first line stands that tells what becomes of the stores of a caller."""
+    return next((at for at, line in enumerate(lines) if re.match(r"  caller: \d+ never persisted, ", line)), None)
+
+
 def story_at(lines):
     """Where the first event of the first story stands."""
     return below_at(lines, "error: a crash can ", 1)
@@ -61,6 +71,7 @@ TEXT = {
     "how many have a next flush or fence": (lambda lines: first_at(lines, "  next: "), raised(r"(?<=in )\d+")),
     "how many lose a part of the range": (lambda lines: first_at(lines, "  range: "), raised(r"(?<=in )\d+")),
     "how many lose a store of one place": (lambda lines: first_at(lines, "  stored: in "), raised(r"(?<=in )\d+")),
+    "how many fail by way of a caller": (failing_at, raised(r"\d+")),
     "how many are claimed at one place": (lambda lines: first_at(lines, "  called: "), raised(r"(?<=in )\d+")),
     "an event of a story": (story_at, raised(r"\d+")),
     "an event of a story left out": (story_at, None),
@@ -88,7 +99,7 @@ TEXT = {
     "what makes a late store safe": (lambda lines: below_place(lines, "safe only from here on"), None),
     "the flush that is missing": (lambda lines: first_at(lines, "--  no flush of cache line "), None),
     "the fence that is missing": (lambda lines: first_at(lines, "--  flushed by event "), raised(r"(?<=event )\d+")),
-    "what becomes of the stores of a caller": (lambda lines: first_at(lines, "  caller: "), raised(r"\d+")),
+    "what becomes of the stores of a caller": (fates_at, raised(r"\d+")),
     "a flush that does nothing": (lambda lines: below_place(lines, "; does nothing"), lambda line: line.replace("; does nothing", "")),
     "what mends a place": (lambda lines: below_place(lines, "  fix:    "), None),
     "the picture of a place": (lambda lines: below_place(lines, "  draw:   "), raised(r"(?<=event)\d+(?=\.svg)")),

@@ -1,5 +1,6 @@
 //! Failed assertions in words: each by its story, and one that is asked for in full.
 
+use crate::callers::{callers_of, push_failing};
 use crate::causes::{push_head, push_others};
 use crate::fixes::push_fix;
 use crate::inside::push_inside;
@@ -10,8 +11,8 @@ use pmt_failures::ShownFailure;
 use pmt_pen::Pen;
 use pmt_reasons::ByteStore;
 use pmt_telling::{
-    Hinting, SOURCE, Section, Telling, failure_of, line_address, plural, push_cause, push_draw,
-    push_event, push_mend, push_named, push_wrapped,
+    CallPaths, Hinting, SOURCE, Section, Telling, failure_of, line_address, plural, push_cause,
+    push_draw, push_event, push_mend, push_named, push_wrapped,
 };
 
 // The most cache lines that are named.
@@ -22,7 +23,6 @@ const HEADING: &str =
 
 /// The failed assertions, each cause once.
 pub fn failures_section(told: &Telling<'_>, hinting: &Hinting) -> Section {
-    let failures = told.explanation.failures.as_slice();
     let causes = told.explanation.causes.as_slice();
     let mut section = Section::new(
         told.alloc,
@@ -35,6 +35,17 @@ pub fn failures_section(told: &Telling<'_>, hinting: &Hinting) -> Section {
         "causes of failed assertions",
         "--only failure",
     );
+    match callers_of(told) {
+        Ok(callers) => add_causes(&mut section, told, hinting, &callers),
+        Err(_) => section.refuse(),
+    }
+    section
+}
+
+// Adds an entry for each cause of which a failure is told in full.
+fn add_causes(section: &mut Section, told: &Telling<'_>, hinting: &Hinting, callers: &CallPaths) {
+    let failures = told.explanation.failures.as_slice();
+    let causes = told.explanation.causes.as_slice();
     let counts = told.explanation.counts.as_slice();
     for index in 0..failures.len() {
         let shown = &failures[index];
@@ -48,7 +59,8 @@ pub fn failures_section(told: &Telling<'_>, hinting: &Hinting) -> Section {
         push_head(&mut pen, told, group, shown.event);
         push_story(&mut pen, told, shown, hinting);
         push_fix(&mut pen, told, shown);
-        push_inside(&mut pen, told, group, inside);
+        let has_callers = push_failing(&mut pen, told, callers, shown.event);
+        push_inside(&mut pen, told, group, inside, has_callers);
         push_others(&mut pen, group);
         if failure_of(told.screen.choice).is_some() {
             push_failure(&mut pen, told, shown, group);
@@ -57,7 +69,6 @@ pub fn failures_section(told: &Telling<'_>, hinting: &Hinting) -> Section {
         push_draw(&mut pen, told, "--failure #", shown.event, shown.event);
         section.add(pen);
     }
-    section
 }
 
 // Adds the failed assertion in full.

@@ -8,12 +8,14 @@ use pmt_telling::{Telling, push_line};
 // The most rows on a screen.
 const FEW: u64 = 2;
 
-// Adds what differs among the assertions of a cause, and which flush or fence comes next: a row each, where it says something.
+// Adds what differs among the assertions of a cause, and which flush or fence comes next: a row each, where it says something. Where it stands
+// already how many fail by way of each caller, a screen has no row of who calls.
 pub(crate) fn push_inside(
     pen: &mut Pen,
     told: &Telling<'_>,
     group: &Group<FailureKey>,
     inside: &CauseCounts,
+    has_callers: bool,
 ) {
     let all = group.members.len() as u64;
     if all < 2 {
@@ -33,7 +35,8 @@ pub(crate) fn push_inside(
         push_makers(pen, told, "  stored: ", &inside.stores, all);
         rows = rows.saturating_add(1);
     }
-    if inside.claims.told.len() > 1 && (is_whole || rows < FEW) {
+    let tells_claims = is_whole || (rows < FEW && !has_callers);
+    if inside.claims.told.len() > 1 && tells_claims {
         push_makers(pen, told, "  called: ", &inside.claims, all);
     }
 }

@@ -2,6 +2,7 @@
 #![tactic(auto)]
 
 mod asides;
+mod callers;
 mod causes;
 mod failures;
 mod fixes;
