@@ -10,6 +10,7 @@ import sys
 from broken import joined
 from checks import Checks, add_tests
 from crowded import random_trace
+from delayed import DELAYED, DELAYED_ANSWER, DELAYED_HINT, delayed
 from explain_lines import NEVER_STORED, lines_of, many_failures, refused
 from explained import KINDS, Explained, judged, with_events
 from explained_text import SCREEN, wrong_screen, wrong_text
@@ -389,6 +390,20 @@ class Explain(Checks):
         (folder / "t").write_text(text)
         (folder / "l").write_text(labels)
         return self.explain(*words, "--labels", "l", "t", folder=folder).stdout.decode()
+
+    def test_named_hint(self):
+        """The hint that the answer names is on the screen, however many places delay a store, and so is the story of the first where both have room."""
+        folder = self.new_folder()
+        for count, shown in DELAYED:
+            trace, labels = delayed(count)
+            (folder / "t").write_bytes(trace)
+            (folder / "l").write_bytes(labels)
+            text = self.explain("--labels", "l", "t", folder=folder).stdout.decode()
+            self.expect(f"{count} places: the answer", DELAYED_ANSWER in " ".join(text.split()), text)
+            self.expect(f"{count} places: the hint", DELAYED_HINT.format(count + 5, count + 6) in text and text.count("\n") <= SCREEN, text)
+            told = [line for line in text.splitlines() if line.startswith("note: late.c:")]
+            self.expect_equal(f"{count} places: those with a line", len(told), shown)
+            self.expect_equal(f"{count} places: the story", "left unsafe by 2 fences\n" in text, shown == count)
 
     def test_strayed_flush(self):
         """A flush that does nothing, in the story of a store without one: it may have been meant for the store."""

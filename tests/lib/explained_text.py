@@ -9,7 +9,7 @@ import grouped
 import hinted
 import place_entries
 import placed as by_place
-from answers import wrong_answer
+from answers import answer_lines, wrong_answer
 from broken import WIDTH, joined, wrong_breaks
 from explained import NOTHING
 from lost_ranges import range_block
@@ -357,6 +357,8 @@ def wrong_hints_of_screen(explained, lines):
     told = [line for line in below(lines, hinted.HEADING) if line.startswith("hint: ")]
     wanted = list(brief_hints(explained))
     rests = [wanted, *([*wanted[:at], *wanted[at + 1 :]] for at in range(len(wanted)) if explained.causes)]
+    if "; hints say " in " ".join(answer_lines(explained)) and not told:
+        return f"not the hint that the answer names: {wanted}"
     is_right = explained.asked["only"] is not None or any(told == rest[: len(told)] for rest in rests)
     return None if is_right else f"hints of a screen: wanted {wanted}, in {told}"
 

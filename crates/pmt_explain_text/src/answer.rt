@@ -9,7 +9,7 @@ use pmt_telling::{Telling, push_wrapped, tells_all};
 // Adds whether a crash can lose what is claimed, or at the end what was stored. Nothing if a part is asked for, or nothing was stored, or
 // the trace was cut and only stores that are not saved by then could be told.
 pub(crate) fn push_answer(pen: &mut Pen, told: &Telling<'_>, counts: &Summary) {
-    if counts.stores == 0 || !tells_all(told.screen.choice) {
+    if !may_answer(told, counts) {
         return;
     }
     let mut words = Pen::new(told.alloc);
@@ -24,6 +24,17 @@ pub(crate) fn push_answer(pen: &mut Pen, told: &Telling<'_>, counts: &Summary) {
         push_safe(&mut words, told, counts);
     }
     push_wrapped(pen, &words, 0);
+}
+
+// Whether all is told of a trace with a store.
+fn may_answer(told: &Telling<'_>, counts: &Summary) -> bool {
+    counts.stores > 0 && tells_all(told.screen.choice)
+}
+
+// Whether the answer names the first hint: it does if nothing is lost, neither what is claimed nor what is stored.
+pub(crate) fn names_hint(told: &Telling<'_>, counts: &Summary) -> bool {
+    let is_safe = counts.failing == 0 && counts.never_persisted == 0;
+    may_answer(told, counts) && is_safe && has_hints(told)
 }
 
 // Adds how many assertions a crash violates, and how many stores it loses at the end.
@@ -131,7 +142,7 @@ fn push_stores(pen: &mut Pen, told: &Telling<'_>, counts: &Summary, one: &str, m
     if late > 0 {
         pen.fill(", # of them late", &[late]);
     }
-    if has_hints(told) {
+    if names_hint(told, counts) {
         pen.put("; hints say what a crash before that may break, first at ");
         push_first_hint(pen, told);
     }

@@ -1,5 +1,6 @@
 //! An explanation as a text for people.
 
+use crate::answer::names_hint;
 use crate::dropped::dropped_section;
 use crate::other_threads::other_threads_section;
 use crate::overwritten::overwritten_section;
@@ -40,13 +41,18 @@ pub fn text(
     let hinting = hinting_of(&told)?;
     let mut strayed = Vec::new(alloc);
     let places = places_section(&told, &claims, &apart, &mut strayed);
+    let counts = summary_of(explanation);
+    let mut hints = hints_section(&told, &hinting);
+    if names_hint(&told, &counts) {
+        hints = hints.named();
+    }
     let mut sections = vec![in alloc;
         failures_section(&told, &hinting),
         places,
         guesses_section(&told, &claims, &apart),
         lost_section(&told),
         other_threads_section(&told),
-        hints_section(&told, &hinting),
+        hints,
         unwritten_section(&told),
         dropped_section(&told, strayed.as_slice()),
         late_section(&told),
@@ -57,7 +63,7 @@ pub fn text(
         sources_section(&told),
     ]?;
     let mut pen = Pen::new(alloc);
-    push_summary(&mut pen, &told, &summary_of(explanation));
+    push_summary(&mut pen, &told, &counts);
     push_sections(&mut pen, sections.as_mut_slice(), screen.rows);
     let is_quiet = sections.iter().all(|section| section.total == 0);
     if is_quiet && !tells_all(screen.choice) {

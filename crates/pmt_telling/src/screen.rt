@@ -19,6 +19,8 @@ pub struct Section {
     is_refused: bool,
     // How many entries a screen shows first, if it has room; none where all other sections come first.
     firsts: usize,
+    // Whether the answer names the first entry, which a screen shows before all others then.
+    is_named: bool,
     // How many of them are shown, and how many of these first ones are not shown by their short forms.
     shown: usize,
     whole: usize,
@@ -46,6 +48,7 @@ impl Section {
             rests: Vec::new(alloc),
             is_refused: false,
             firsts: 1,
+            is_named: false,
             shown: 0,
             whole: 0,
             total,
@@ -63,6 +66,12 @@ impl Section {
     /// The same section, shown on a screen only where all others have what they want.
     pub fn aside(mut self) -> Self {
         self.firsts = 0;
+        self
+    }
+
+    /// The same section, whose first entry the answer names: a screen shows that before all others, by its short form if it has one.
+    pub fn named(mut self) -> Self {
+        self.is_named = true;
         self
     }
 
@@ -151,6 +160,8 @@ enum Step {
 // What sections show, one after the other.
 #[derive(Clone, Copy, PartialEq, Eq)]
 enum Turn {
+    // The entries that the answer names, those with short forms by these.
+    Named,
     // The first entries, one of them as a whole.
     Firsts,
     // All entries, those with short forms by these.
@@ -167,7 +178,13 @@ fn fit(pen: &mut Pen, sections: &mut [Section], rows: usize) {
         sections[index].shown = 0;
         sections[index].whole = 0;
     }
-    for turn in [Turn::Firsts, Turn::Entries, Turn::Wholes, Turn::Asides] {
+    for turn in [
+        Turn::Named,
+        Turn::Firsts,
+        Turn::Entries,
+        Turn::Wholes,
+        Turn::Asides,
+    ] {
         for index in 0..sections.len() {
             fill(pen, sections, index, turn, rows);
         }
@@ -196,22 +213,19 @@ fn fill(pen: &mut Pen, sections: &mut [Section], index: usize, turn: Turn, rows:
 
 // How many entries of the section are shown at most after this turn.
 fn most_entries(section: &Section, turn: Turn) -> usize {
-    let is_all = match turn {
-        Turn::Firsts => false,
-        Turn::Entries | Turn::Wholes => section.firsts > 0,
-        Turn::Asides => true,
+    let most = match turn {
+        Turn::Named => section.is_named as usize,
+        Turn::Firsts => section.firsts,
+        Turn::Entries | Turn::Wholes => if section.firsts > 0 { usize::MAX } else { 0 },
+        Turn::Asides => usize::MAX,
     };
-    let count = section.entries.len();
-    if is_all {
-        count
-    } else {
-        count.min(section.firsts)
-    }
+    section.entries.len().min(most)
 }
 
 // How many of those with short forms are shown as a whole at most after this turn.
 fn most_wholes(turn: Turn) -> usize {
     match turn {
+        Turn::Named => 0,
         Turn::Firsts | Turn::Entries => 1,
         Turn::Wholes | Turn::Asides => usize::MAX,
     }
