@@ -15,11 +15,11 @@ from explained import NOTHING
 from lost_ranges import range_block
 from machine import FENCES, FLUSHES
 from place_entries import PLACE, meant_for, wrong_apart
-from stories import HEADING, asides, cut, early, named, plural, rows, store_rows, strayed_lines, wrong_story
+from stories import HEADING, asides, beside, cut, early, named, plural, rows, store_rows, strayed_lines, wrong_story
 
 SCREEN = 40
 MOST = 8
-# Those of a story, with what was flushed before and the callers.
+# Those of a story, with what was flushed before or beside and the callers.
 MOST_ROWS = 12
 DROPPED = "note: flushes and fences that do nothing, most first:"
 OTHER_THREADS = "note: fences that complete nothing while flushes of another thread wait, most first:"
@@ -301,7 +301,7 @@ def wrong_places(explained, lines):
             if len(entry) > 1 and not entry[1].startswith("... "):
                 return f"a place that an assertion tells of: {entry}"
             continue
-        story = [*store_rows(explained, store), *(cut(line, WIDTH) for line in callers), *early_lines(explained, store)]
+        story = [*store_rows(explained, store), *(cut(line, WIDTH) for line in callers), *early_lines(explained, store), *beside(explained, store)]
         if len(story) > MOST_ROWS + len(callers) or entry[1 : len(story) + 1] != story:
             return f"the story of a place: wanted {story}, in {entry}"
         draw = f"  draw:   pmtrim draw --line {explained.address(explained.trace.line(store))} "

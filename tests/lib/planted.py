@@ -81,6 +81,7 @@ TEXT = {
     "the crash of a story": (lambda lines: first_at(lines, "--  crash"), None),
     "the hint of a failure": (lambda lines: named_at(lines, "hint"), None),
     "what was flushed before": (lambda lines: first_at(lines, "  early: "), raised(r"(?<=event )\d+")),
+    "what is flushed beside": (lambda lines: first_at(lines, "  beside: "), raised(r"(?<=event )\d+")),
     "what is flushed instead": (lambda lines: first_at(lines, "  but: "), raised(r"(?<=event )\d+")),
     "what mends a failure": (lambda lines: named_at(lines, "fix"), raised(r"(?<=event )\d+")),
     "the picture of a failure": (lambda lines: named_at(lines, "draw"), raised(r"(?<=event)\d+(?=\.svg)")),

@@ -280,6 +280,22 @@ def early(explained, store):
         yield f"flushed and fenced just before the store, by {hinted.named(explained, own[-2])} and {hinted.named(explained, own[-1])}"
 
 
+def beside(explained, store):
+    """What is told of a store that no flush of its line follows: whether its thread flushes the cache lines on both sides of it, or one of them, after
+    the store and before its next fence."""
+    trace, thread, line = explained.trace, explained.trace.event(store)[1], explained.trace.line(store)
+    own = [at for at in range(store + 1, explained.end + 1) if trace.event(at)[1] == thread]
+    fence = first(own, lambda at: trace.event(at)[0] in FENCES)
+    if fence is None or any(trace.is_flush_of(at, line, ANY_FLUSH) for at in range(store + 1, explained.end + 1)):
+        return
+    flushed = {trace.line(at) for at in own if at < fence and trace.event(at)[0] in ANY_FLUSH}
+    near = [explained.address(at) for at in (line - 1, line + 1) if at in flushed]
+    side = "before" if line - 1 in flushed else "after"
+    if near:
+        which = "lines on both sides" if near[1:] else f"line {side} {explained.address(line)}"
+        yield f"  beside: before event {fence} its thread flushes {' and '.join(near)}, the cache {which}."
+
+
 def named(explained, number):
     """An event as the text names it."""
     event = explained.event(number)

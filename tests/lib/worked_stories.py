@@ -59,4 +59,59 @@ sfence 0|a.c:3
   fix:    Flush cache line 0x1000 after event 1 (a.c:1), and fence by the thread that flushes it.
 """,
     ),
+    (
+        """store 0 0x1000 01|a.c:1 put
+store 0 0x1040 01|a.c:1 put
+store 0 0x1080 01|a.c:1 put
+clwb 0 0x1000|a.c:2 sync
+clwb 0 0x1080|a.c:2 sync
+sfence 0|a.c:3 sync
+""",
+        """error: a.c:1 put: 3 stores: 1 never persisted, 0 saved late, 2 in time
+    2  a.c:1 put   store 0x1040 01  never persisted
+    4  a.c:2 sync  clwb 0x1000      another cache line
+    5  a.c:2 sync  clwb 0x1080      another cache line
+    6  a.c:3 sync  sfence           does not save event 2
+       ----------  no flush of cache line 0x1040 follows
+  beside: before event 6 its thread flushes 0x1000 and 0x1080, the cache lines on both sides.
+  fix:    Flush cache line 0x1040 after event 2 (a.c:1 put), and fence by the thread that flushes
+          it. Thread 0 fences at event 6 (a.c:3 sync): a flush by it before that needs no other
+          fence.
+""",
+    ),
+    (
+        """store 0 0x1000 01|a.c:1 put
+store 0 0x1040 01|a.c:1 put
+clflushopt 0 0x1000|a.c:2 sync
+clwb 1 0x1080|b.c:2 sync
+sfence 0|a.c:3 sync
+clwb 0 0x1080|a.c:4 late
+""",
+        """error: a.c:1 put: 2 stores: 1 never persisted, 0 saved late, 1 in time
+    2  a.c:1 put   store 0x1040 01    never persisted
+    3  a.c:2 sync  clflushopt 0x1000  another cache line
+    5  a.c:3 sync  sfence             does not save event 2
+       ----------  no flush of cache line 0x1040 follows
+  beside: before event 5 its thread flushes 0x1000, the cache line before 0x1040.
+  fix:    Flush cache line 0x1040 after event 2 (a.c:1 put), and fence by the thread that flushes
+          it. Thread 0 fences at event 5 (a.c:3 sync): a flush by it before that needs no other
+          fence.
+""",
+    ),
+    (
+        """store 0 0x0 01|a.c:1 put
+store 0 0x40 01|a.c:1 put
+clwb 0 0x7f|a.c:2 sync
+sfence 0|a.c:3 sync
+""",
+        """error: a.c:1 put: 2 stores: 1 never persisted, 0 saved late, 1 in time
+    1  a.c:1 put   store 0x0 01  never persisted
+    3  a.c:2 sync  clwb 0x7f     another cache line
+    4  a.c:3 sync  sfence        does not save event 1
+       ----------  no flush of cache line 0x0 follows
+  beside: before event 4 its thread flushes 0x40, the cache line after 0x0.
+  fix:    Flush cache line 0x0 after event 1 (a.c:1 put), and fence by the thread that flushes it.
+          Thread 0 fences at event 4 (a.c:3 sync): a flush by it before that needs no other fence.
+""",
+    ),
 )

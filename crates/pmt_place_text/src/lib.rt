@@ -8,6 +8,7 @@ mod places;
 mod rests;
 mod retold;
 mod sharing;
+mod sides;
 
 pub use crate::member_story::Strayed;
 pub use crate::places::{places_section, storied};

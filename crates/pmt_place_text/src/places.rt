@@ -6,6 +6,7 @@ use crate::members::{Members, members_of};
 use crate::rests::{most_lost, rest_of, sum_of, sum_of_entry};
 use crate::retold::{Retold, retold_of};
 use crate::sharing::{Sharing, push_shared, sharing_of};
+use crate::sides::push_sides;
 use pmt_asked::Choice;
 use pmt_causes::Origin;
 use pmt_explanation::{Explanation, first};
@@ -339,7 +340,7 @@ fn push_lost(
         push_cause(pen, told, group.cause, group.line);
     }
     if is_unflushed(group.cause) {
-        push_early(pen, told, "  early:  ", store, SOURCE);
+        push_misses(pen, told, store, is_story);
     } else {
         strayed = None;
     }
@@ -356,6 +357,14 @@ fn push_lost(
     pen.put("  draw:   ");
     push_draw(pen, told, "--line @", line, store);
     strayed
+}
+
+// Adds what flushes near the store, which no flush of its line follows, come too early or miss its line.
+fn push_misses(pen: &mut Pen, told: &Telling<'_>, store: u64, is_story: bool) {
+    push_early(pen, told, "  early:  ", store, SOURCE);
+    if is_story {
+        push_sides(pen, told, store);
+    }
 }
 
 // Adds the first store of a place that is saved late: why, and what mends that; and gives the flush that may have been meant for it.
