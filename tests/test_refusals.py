@@ -133,7 +133,7 @@ def answers_of_many_lines(folder):
     fronts = "; ".join(f"line {addr:#x} front 1 count 1" for addr in range(0x1000, 0x1000 + 64 * 10000, 64))
     yield Case(["trim", trace], {Answer(0, trimmed)}, sparse=0.3)
     yield Case(["trim", "--workers", "8", trace], {Answer(0, trimmed)}, sparse=0.3)
-    yield Case(["check", "--workers", "4", trace], {Answer(0, report)}, threads=True, sparse=0.3)
+    yield Case(["check", "--workers", "4", trace], {Answer(0, report)}, sparse=0.3)
     yield Case(["fronts", trace, "20001"], {Answer(0, text(fronts, "place 20001 lines 10000"))}, sparse=0.3)
 
 

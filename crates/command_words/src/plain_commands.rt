@@ -14,7 +14,7 @@ pub const CHECK: CommandText<'static> = CommandText {
         Word {
             name: "workers",
             kind: WordKind::OneOf("N", WORKERS),
-            help: "How many threads to use; from 2 on events are read in one{n}and judged in another",
+            help: "Accepted, and changes nothing: check{n}is one pass in one thread",
         },
         Word {
             name: "labels",

@@ -1,6 +1,5 @@
 -- The next entry of a report, and its lines, part by part.
 use Rattle.std.proofs.Common.{◌≡◌, ℕ, ◌+◌, ◌≤◌, Bool, true, false, if◌then◌else◌, List, [], ◌∷◌, ◌++◌, length, get_or, drop, take, inl, inr, ◌⊎◌, ◌-◌, ◌<◌, refl, sym, ap, ◌∙◌, subst, append_assoc, arith}
-use Rattle.std.specs.Prelude.{nat_lt}
 use Rattle.std.specs.List.{flat_map}
 use Rattle.std.proofs.lemmas.List.{drop_all, take_all}
 use Rattle.pmt_model.specs.declared.finding.Finding.{Finding}

@@ -22,14 +22,14 @@ use std::io::{Read, Write};
 use std::sync::Wait;
 use std::thread::Threads;
 
-/// Writes the report of the trace whose text the reader gives, by this many workers, and tells whether a verdict fails or a store is
-/// never persisted: both are of one analysis of that trace. The reader is handed back.
+/// Writes the report of the trace whose text the reader gives, and tells whether a verdict fails or a store is never persisted: both are
+/// of one analysis of that trace, the same for every number of workers. One thread reads and sweeps. The reader is handed back.
 ///
 /// # Errors
 /// In this order: `BadWorkers` unless there are 1, 2, 4, 8 or 16, in which case nothing is read; `Text`, `TooMany` and `Read` as
 /// the bytes come, `OutOfMemory`; nothing is written then. `Write` where a write or the last flush failed.
 pub fn run_check<T: Threads + Wait + Sync, R: Read, W: Write>(
-    rt: &T,
+    _rt: &T,
     alloc: Global,
     workers: usize,
     reader: Counted<R>,
@@ -43,7 +43,7 @@ pub fn run_check<T: Threads + Wait + Sync, R: Read, W: Write>(
     ensures read_failures { failure_count result.0 ≡ failure_count reader + run_read_faults result.1 }
     ensures write_failures { failure_count writer.new ≡ failure_count writer.old + write_faults result.1 }
 {
-    let (reader, found) = checked(rt, alloc, workers, reader);
+    let (reader, found) = checked(alloc, workers, reader);
     match found {
         Ok(checked) => {
             let done = write_found(alloc, writer, &checked);

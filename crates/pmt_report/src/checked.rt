@@ -21,13 +21,9 @@ use pmt_taking::{TakeError, take_block};
 use pmt_text::{Counted, EventSource, TextSource};
 use std::alloc::Global;
 use std::io::Read;
-use std::thread::{Threads, join_mut};
 
-// So many events are read while those before them are swept, where two threads do so.
-const BLOCK: u64 = 16_384;
-
-// So many are read by one thread before it sweeps them: they stay in the processor's cache, and their memory is had again for the next ones.
-const SMALL_BLOCK: u64 = 1_024;
+// So many events are read before they are swept: they stay in the processor's cache, and their memory is had again for the next ones.
+const BLOCK: u64 = 1_024;
 
 /// What a sweep found, and how many events it took.
 #[derive(Drop)]
@@ -43,12 +39,12 @@ pub(crate) struct Taken {
     pub(crate) sweeper: Sweeper,
 }
 
-/// What a check finds in the trace whose text the reader gives, by this many workers. The reader is handed back.
+/// What a check finds in the trace whose text the reader gives: the same for each allowed number of workers, by one thread. The reader is
+/// handed back.
 ///
 /// # Errors
 /// As `analysed`.
-pub(crate) fn checked<T: Threads + Sync, R: Read>(
-    rt: &T,
+pub(crate) fn checked<R: Read>(
     alloc: Global,
     workers: usize,
     reader: Counted<R>,
@@ -64,7 +60,7 @@ pub(crate) fn checked<T: Threads + Sync, R: Read>(
         return (reader, Err(RunError::BadWorkers));
     }
     let mut source = TextSource::new(alloc, reader);
-    let found = checked_from(rt, alloc, &mut source, workers > 1);
+    let found = checked_from(alloc, &mut source);
     let reader = source.into_input();
     match found {
         Ok(checked) => (reader, Ok(checked)),
@@ -73,47 +69,28 @@ pub(crate) fn checked<T: Threads + Sync, R: Read>(
     }
 }
 
-// What a check finds in the events that the source has still to give. Where there are to be two threads, one reads events while another
-// one sweeps those that were read before.
-fn checked_from<T: Threads + Sync, S: EventSource>(
-    rt: &T,
-    alloc: Global,
-    source: &mut S,
-    two: bool,
-) -> Result<CheckedTrace, TakeError>
+// What a check finds in the events that the source has still to give.
+fn checked_from<S: EventSource>(alloc: Global, source: &mut S) -> Result<CheckedTrace, TakeError>
     ensures right { IfOk result (IsCheckOf (S.coming source.old)) }
     ensures fault { IfErr (told_by result) (λ e. IfSome (S.coming source.old) (λ c. IsFaultOf c e)) }
     ensures told { TellsTaken (S.state source.old) result (S.state source.new) }
     ensures failures { CountsReads (S.failures source.old) (told_by result) (S.failures source.new) }
 {
-    let taken = taken_whole(rt, alloc, source, two)?;
+    let taken = taken_whole(alloc, source)?;
     let checked = finished(alloc, taken)?;
     Ok(checked)
 }
 
-// How many events are read at once.
-fn block_size(two: bool) -> u64
-    ensures { 1 ≤ result }
-{
-    if two { BLOCK } else { SMALL_BLOCK }
-}
-
 // A sweep of all events of the source.
-fn taken_whole<T: Threads + Sync, S: EventSource>(
-    rt: &T,
-    alloc: Global,
-    source: &mut S,
-    two: bool,
-) -> Result<Taken, TakeError>
+fn taken_whole<S: EventSource>(alloc: Global, source: &mut S) -> Result<Taken, TakeError>
     ensures taken { IfOk result (λ t. (T : Recording) × HasTaken T t × ComesWhole (S.coming source.old) T) }
     ensures fault { IfErr (told_by result) (λ e. IfSome (S.coming source.old) (λ c. IsFaultOf c e)) }
     ensures told { TellsTaken (S.state source.old) result (S.state source.new) }
     ensures failures { CountsReads (S.failures source.old) (told_by result) (S.failures source.new) }
 {
-    let most = block_size(two);
-    let block = take_block(alloc, source, most)?;
+    let block = take_block(alloc, source, BLOCK)?;
     let mut sweeper = Sweeper::new(alloc, block.format())?;
-    match take_others(rt, alloc, block, &mut sweeper, source, most, two) {
+    match take_others(alloc, block, &mut sweeper, source, BLOCK) {
         Ok(events) => Ok(Taken { events, sweeper }),
         Err(error) => {
             let_go(sweeper);
@@ -126,14 +103,12 @@ fn taken_whole<T: Threads + Sync, S: EventSource>(
 fn let_go(_sweeper: Sweeper) {}
 
 // Sweeps the first block and all that come after it, and counts their events. Whatever showed the first block before, they are all of it.
-fn take_others<T: Threads + Sync, S: EventSource>(
-    rt: &T,
+fn take_others<S: EventSource>(
     alloc: Global,
     first: Trace,
     sweeper: &mut Sweeper,
     source: &mut S,
     most: u64,
-    two: bool,
 ) -> Result<u64, TakeError>
     requires fresh { HasSwept (empty first.format) sweeper.old }
     requires some { 1 ≤ most }
@@ -147,7 +122,7 @@ fn take_others<T: Threads + Sync, S: EventSource>(
     let mut more = is_full(&first, most);
     let mut block = first;
     'take: while more {
-        let (swept, next) = sweep_and_take(rt, alloc, &block, sweeper, source, most, two);
+        let (swept, next) = sweep_and_take(alloc, &block, sweeper, source, most);
         let next = next?;
         swept?;
         events += next.len() as u64;
@@ -165,15 +140,13 @@ fn is_full(block: &Trace, most: u64) -> bool
     block.len() as u64 == most
 }
 
-// Sweeps the events that were read, and reads the next ones: at once, if two threads are to do so.
-fn sweep_and_take<T: Threads + Sync, S: EventSource>(
-    rt: &T,
+// Sweeps the events that were read, and reads the next ones.
+fn sweep_and_take<S: EventSource>(
     alloc: Global,
     block: &Trace,
     sweeper: &mut Sweeper,
     source: &mut S,
     most: u64,
-    two: bool,
 ) -> (Result<(), OutOfMemory>, Result<Trace, TakeError>)
     requires { (T : Recording) × HasSwept T sweeper.old × IsTrace (with_events T block.now.events) }
     ensures swept { (T : Recording) → HasSwept T sweeper.old → IsTrace (with_events T block.now.events) → OnOk result.0 (HasSwept (with_events T block.now.events) sweeper.new) }
@@ -182,13 +155,6 @@ fn sweep_and_take<T: Threads + Sync, S: EventSource>(
     ensures told { TellsRefusal (S.state source.old) result.1 (S.state source.new) }
     ensures failures { CountsReads (S.failures source.old) (told_by result.1) (S.failures source.new) }
 {
-    if two {
-        return join_mut(
-            rt,
-            &mut || sweeper.take(block.events()),
-            &mut || take_block(alloc, source, most),
-        );
-    }
     let swept = sweeper.take(block.events());
     (swept, take_block(alloc, source, most))
 }

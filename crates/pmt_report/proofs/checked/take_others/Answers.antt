@@ -22,8 +22,8 @@ take-init g c =
       omega (arith, c.len-events.ensures.value),
     )
 
-pub sweep_and_take-swept-requires-after_bounds : goal.sweep_and_take-swept-requires-after_bounds
-sweep_and_take-swept-requires-after_bounds g c = λ bounds lives. (c.take.invariant.0, c.take.invariant.1, c.take.invariant.2)
+pub sweep_and_take-swept-requires : goal.sweep_and_take-swept-requires
+sweep_and_take-swept-requires g c = (c.take.invariant.0, c.take.invariant.1, c.take.invariant.2)
 
 pub take-requires : goal.take-requires
 take-requires g c =

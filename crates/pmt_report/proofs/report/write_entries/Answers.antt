@@ -1,5 +1,4 @@
-use Rattle.std.proofs.Common.{◌≡◌, ℕ, ◌+◌, ◌≤◌, List, ◌++◌, length, Option, ap, sym, ◌∙◌, arith}
-use Rattle.pmt_text.specs.Counting.{inner_device}
+use Rattle.std.proofs.Common.{ℕ, ◌+◌, ◌≤◌, List, ◌++◌, length, ap, sym, ◌∙◌, arith}
 use Rattle.pmt_report.specs.Entries.{entries}
 use Rattle.pmt_report.proofs.ChunkLemmas.{all-few, all-put, line-fails, way-on}
 use Rattle.pmt_report.proofs.NextLemmas.{none-left}

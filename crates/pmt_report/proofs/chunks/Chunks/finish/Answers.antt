@@ -1,5 +1,3 @@
-use Rattle.std.proofs.Common.{◌≡◌, ℕ, List, ◌≤◌, length, take, Option, subst, sym}
-use Rattle.pmt_text.specs.Counting.{inner_device}
 use Rattle.pmt_report.proofs.ChunkLemmas.{all-written, flush-fails}
 use Rattle.pmt_report.proofs.chunks.Chunks.finish.Goals as goal
 

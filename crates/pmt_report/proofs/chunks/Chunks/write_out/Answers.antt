@@ -1,7 +1,6 @@
-use Rattle.std.proofs.Common.{◌≡◌, ℕ, ◌+◌, List, ◌<◌, length, take, Option, subst, ap, sym, ◌∙◌}
+use Rattle.std.proofs.Common.{ℕ, ◌+◌, List, ◌<◌, length, take, subst, ap, ◌∙◌}
 use Rattle.std.specs.Io.KnownBytes.{Appends}
 use Rattle.pmt_text.specs.Counting.{inner_device}
-use Rattle.pmt_report.specs.Chunking.{IsPut}
 use Rattle.pmt_report.proofs.ChunkLemmas.{waiting-out, waiting-fails}
 use Rattle.pmt_report.proofs.chunks.Chunks.write_out.Goals as goal
 
