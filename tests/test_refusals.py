@@ -218,7 +218,7 @@ def explained(run, folder):
         (["--labels", labels, "--ignore-label", "a < b", trace], 2),
     ):
         answer, _ = run(["explain", *words])
-        yield Case(["explain", *words], {answer._replace(status=status)})
+        yield Case(["explain", *words], {answer._replace(status=status)}, threads=status < 2)
 
 
 def streams(folder):

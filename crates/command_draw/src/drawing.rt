@@ -19,12 +19,14 @@ use pmt_taking::TakeError;
 use pmt_text::{Counted, TextSource};
 use std::alloc::{AllocError, Global};
 use std::io::{Cursor, Read, Write};
+use std::thread::Threads;
 
 /// Draws the trace of the file, or that of `input` where none is named, into the file that is named or to `out`. The status is 0.
 ///
 /// # Errors
 /// The fault of the labels, of the trace or of the write; `OutOfMemory`.
-pub fn draw<O, I, W>(
+pub fn draw<T, O, I, W>(
+    rt: &T,
     alloc: Global,
     drawing: &Drawing<'_>,
     files: &O,
@@ -32,6 +34,7 @@ pub fn draw<O, I, W>(
     out: &mut W,
 ) -> Result<u8, Fault>
 where
+    T: Threads + Sync,
     O: Opener,
     I: Read,
     W: Write,
@@ -39,20 +42,21 @@ where
 {
     let labels = labels_of(alloc, files, drawing.labels)?;
     let bytes = bytes_of(alloc, Input::new("draw", drawing.file), files, input)?;
-    let text = svg_asked(alloc, drawing, &labels, bytes.as_slice())?;
+    let text = svg_asked(rt, alloc, drawing, &labels, bytes.as_slice())?;
     let read = [drawing.file, drawing.labels];
     write_named(alloc, files, drawing.out, &read, text.into_bytes(), out)?;
     Ok(0)
 }
 
 // The text of the picture that is asked for, of the trace with this text.
-fn svg_asked(
+fn svg_asked<T: Threads + Sync>(
+    rt: &T,
     alloc: Global,
     drawing: &Drawing<'_>,
     labels: &Labels,
     bytes: &[u8],
 ) -> Result<String, Fault> {
-    match explained(alloc, labels, drawing.events, bytes) {
+    match explained(rt, alloc, labels, drawing.events, bytes) {
         Ok(explanation) => svg_of(
             alloc,
             &explanation,
@@ -68,7 +72,8 @@ fn svg_asked(
 }
 
 // The explanation of the trace with this text, with what a picture of these events needs.
-fn explained(
+fn explained<T: Threads + Sync>(
+    rt: &T,
     alloc: Global,
     labels: &Labels,
     asked: AskedEvents,
@@ -80,7 +85,7 @@ fn explained(
         choice: needed_by(asked),
     };
     let mut source = TextSource::new(alloc, Counted::new(Cursor::new(bytes)));
-    explain(alloc, &mut source, labels, &options)
+    explain(rt, alloc, &mut source, labels, &options)
 }
 
 // The findings that a picture of these events needs: to draw what is told first all of them, and else those of the signs.

@@ -20,6 +20,7 @@ use pmt_taking::TakeError;
 use pmt_text::{Counted, TextSource};
 use std::alloc::{AllocError, Global};
 use std::io::{Read, Write};
+use std::thread::Threads;
 
 // The lines of a text where the words don't say how many entries are shown.
 const ROWS: usize = 40;
@@ -31,7 +32,8 @@ const ROWS: usize = 40;
 /// # Errors
 /// The fault of a file of what is ignored, of the labels, of the trace, that no failed assertion is where one was asked for, the fault of the
 /// folder of the source files, that of the write: the first of them. Each names the file and says why.
-pub fn run_explain<O, I, W, P>(
+pub fn run_explain<T, O, I, W, P>(
+    rt: &T,
     alloc: Global,
     words: &mut ExplainWords<'_>,
     files: &O,
@@ -41,6 +43,7 @@ pub fn run_explain<O, I, W, P>(
     watch: &mut P,
 ) -> Result<u8, Fault>
 where
+    T: Threads + Sync,
     O: Opener,
     I: Read,
     W: Write,
@@ -58,7 +61,16 @@ where
         cut,
         colors: is_colored(words, colors),
     };
-    explain_bytes(alloc, files, words, &known, bytes.as_slice(), out, watch)
+    explain_bytes(
+        rt,
+        alloc,
+        files,
+        words,
+        &known,
+        bytes.as_slice(),
+        out,
+        watch,
+    )
 }
 
 // Adds what the files tell to ignore.
@@ -99,7 +111,8 @@ fn is_colored(words: &ExplainWords<'_>, colors: bool) -> bool {
 }
 
 // Explains the trace with this text. The status is 1 where an assertion fails, or a store is never persisted that is not ignored.
-fn explain_bytes<O: Opener, W: Write, P: Watch>(
+fn explain_bytes<T: Threads + Sync, O: Opener, W: Write, P: Watch>(
+    rt: &T,
     alloc: Global,
     files: &O,
     words: &ExplainWords<'_>,
@@ -110,7 +123,7 @@ fn explain_bytes<O: Opener, W: Write, P: Watch>(
 ) -> Result<u8, Fault>
     ensures { IfOk result (λ status. status ≤ 1) }
 {
-    match explained(alloc, words, &known.labels, bytes, watch) {
+    match explained(rt, alloc, words, &known.labels, bytes, watch) {
         Ok(mut explanation) => tell(
             alloc,
             files,
@@ -129,7 +142,8 @@ fn explain_bytes<O: Opener, W: Write, P: Watch>(
 }
 
 // The explanation of the trace with this text.
-fn explained<P: Watch>(
+fn explained<T: Threads + Sync, P: Watch>(
+    rt: &T,
     alloc: Global,
     words: &ExplainWords<'_>,
     labels: &Labels,
@@ -138,7 +152,7 @@ fn explained<P: Watch>(
 ) -> Result<Explanation, TakeError> {
     let text = WatchedText::new(bytes, watch);
     let mut source = TextSource::new(alloc, Counted::new(text));
-    explain(alloc, &mut source, labels, &words.options)
+    explain(rt, alloc, &mut source, labels, &words.options)
 }
 
 // Writes what is asked for of the explained trace with this text.

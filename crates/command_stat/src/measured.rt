@@ -13,6 +13,7 @@ use pmt_text::{Counted, TextSource};
 use std::alloc::Global;
 use std::collections::BTreeMap;
 use std::io::{Cursor, Read};
+use std::thread::Threads;
 
 // What is measured of a trace.
 #[derive(Drop)]
@@ -30,7 +31,8 @@ pub(crate) struct Measured {
 }
 
 // What is measured of the trace of the file or of `input`, with the labels of the file.
-pub(crate) fn measured_of<O: Opener, I: Read>(
+pub(crate) fn measured_of<T: Threads + Sync, O: Opener, I: Read>(
+    rt: &T,
     alloc: Global,
     files: &O,
     input: &mut I,
@@ -41,14 +43,19 @@ pub(crate) fn measured_of<O: Opener, I: Read>(
     let source = Input::new("stat", file);
     let bytes = bytes_of(alloc, source, files, input)?;
     let cut = cut_of(alloc, files, file)?;
-    match explained(alloc, &labels, bytes.as_slice()) {
+    match explained(rt, alloc, &labels, bytes.as_slice()) {
         Ok(explanation) => Ok(measures_of(alloc, &explanation, &labels, cut)?),
         Err(error) => Err(taken_fault(alloc, source, bytes.as_slice(), error)?),
     }
 }
 
 // The explanation of the trace with this text, of which nothing is asked but what each place has.
-fn explained(alloc: Global, labels: &Labels, bytes: &[u8]) -> Result<Explanation, TakeError> {
+fn explained<T: Threads + Sync>(
+    rt: &T,
+    alloc: Global,
+    labels: &Labels,
+    bytes: &[u8],
+) -> Result<Explanation, TakeError> {
     let options = Options {
         ignored: Ignored::new(alloc),
         limit: 0,
@@ -62,7 +69,7 @@ fn explained(alloc: Global, labels: &Labels, bytes: &[u8]) -> Result<Explanation
         },
     };
     let mut source = TextSource::new(alloc, Counted::new(Cursor::new(bytes)));
-    explain(alloc, &mut source, labels, &options)
+    explain(rt, alloc, &mut source, labels, &options)
 }
 
 // What is measured of the explained trace.

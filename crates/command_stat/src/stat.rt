@@ -13,6 +13,7 @@ use pmt_model::OutOfMemory;
 use pmt_stat::Budget;
 use std::alloc::Global;
 use std::io::{Read, Write};
+use std::thread::Threads;
 
 // What is told.
 #[derive(Clone, Copy)]
@@ -31,7 +32,8 @@ pub(crate) struct Told<'a> {
 ///
 /// # Errors
 /// The fault of the budget, of the labels, of a trace, or of the write: the first of them.
-pub fn run_stat<O, I, W>(
+pub fn run_stat<T, O, I, W>(
+    rt: &T,
     alloc: Global,
     words: &StatWords<'_>,
     files: &O,
@@ -39,16 +41,17 @@ pub fn run_stat<O, I, W>(
     out: &mut W,
 ) -> Result<u8, Fault>
 where
+    T: Threads + Sync,
     O: Opener,
     I: Read,
     W: Write,
     ensures { IfOk result (λ status. status ≤ 1) }
 {
     let budget = asked_budget(alloc, words, files)?;
-    let own = measured_of(alloc, files, input, words.file, words.labels)?;
+    let own = measured_of(rt, alloc, files, input, words.file, words.labels)?;
     match words.other {
         Some(name) => {
-            let other = measured_of(alloc, files, input, Some(name), words.other_labels)?;
+            let other = measured_of(rt, alloc, files, input, Some(name), words.other_labels)?;
             tell(alloc, words, &own, Some(&other), budget.as_ref(), out)
         }
         None => tell(alloc, words, &own, None, budget.as_ref(), out),

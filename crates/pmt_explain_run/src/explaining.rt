@@ -15,13 +15,15 @@ use pmt_report::{Placed, swept_places};
 use pmt_taking::TakeError;
 use pmt_text::EventSource;
 use std::alloc::Global;
+use std::thread::Threads;
 
 /// Explains the trace whose events the source has still to give, with these labels of its events.
 ///
 /// # Errors
 /// `Source` with the fault that the source told, or with `Failed` where it had told a fault before. `OutOfMemory` where memory was
 /// refused to the explanation itself; the source told no fault then. The source stands past the events that were taken.
-pub fn explain<S: EventSource>(
+pub fn explain<T: Threads + Sync, S: EventSource>(
+    rt: &T,
     alloc: Global,
     source: &mut S,
     labels: &Labels,
@@ -36,12 +38,13 @@ pub fn explain<S: EventSource>(
     ensures failures { CountsReads (S.failures source.old) (told_by result) (S.failures source.new) }
 {
     let placed = swept_places(alloc, source)?;
-    let explanation = explained(alloc, placed, labels, options)?;
+    let explanation = explained(rt, alloc, placed, labels, options)?;
     Ok(explanation)
 }
 
 // The explanation of the trace that was analysed.
-fn explained(
+fn explained<T: Threads + Sync>(
+    rt: &T,
     alloc: Global,
     placed: Placed,
     labels: &Labels,
@@ -55,5 +58,5 @@ fn explained(
     let Placed { analysis, safe } = placed;
     let places = places_of(alloc, analysis.trace(), &safe)?;
     drop(safe);
-    explanation_of(alloc, analysis, places, labels, options)
+    explanation_of(rt, alloc, analysis, places, labels, options)
 }

@@ -65,17 +65,7 @@ pub record IsExplanation (a : Analysed) (labels : Labels) (o : Options) (x : Exp
 pub record AreParts (a : Analysed) (labels : Labels) (o : Options) (p : Parts) : Type 0 where
   pub label_numbers : AreLabelNumbers labels (length a.trace.events) p.label_numbers.items
   pub frames : AreFrameNumbers labels (length a.trace.events) p.frames.items
-  pub places : ArePlaces a.trace p.frames.items p.lost.stores.items (map event_of p.found.dropped.items) p.found.table.places.items
-  pub left_paths : AreLeftPaths a.trace p.frames.items p.label_numbers.items p.lost.stores.items (map event_of p.found.dropped.items) p.found.table.places.items p.found.table.left_paths.items
-  pub hints : AreHints a.trace labels p.frames.items p.label_numbers.items o.choice p.found.hints.items
-  pub found : AreFound a.trace a.verdicts labels p.label_numbers.items p.frames.items o p.found
-  pub stores : p.lost.stores.items ≡ told_stores a.trace labels o.ignored a.findings
-  pub lost : AreLostGroups a.trace (asked_numbers a.trace labels o.choice kinds.NeverPersisted p.lost.stores.items) p.lost.groups.items
-  pub lost_causes : AreGrouped (filter_map (lost_item a.trace p.frames.items) p.lost.groups.items) p.lost.causes.items
-  pub overwritten : AreOverwrittenGroups a.trace (asked_pairs a.trace labels o.choice (told_pairs a.trace labels o.ignored a.findings)) p.lost.overwritten.items
-  pub unwritten : p.unwritten.items ≡ asked_unwritten a.trace labels o.choice (unwritten_of a.trace)
-  pub ignored_stores : p.lost.ignored_stores ≡ count_by (λ (f : Finding). is_some (lost_store f)) a.findings - length p.lost.stores.items
-  pub ignored_pairs : p.lost.ignored_pairs ≡ count_by (λ (f : Finding). is_some (overwriting f)) a.findings - length (told_pairs a.trace labels o.ignored a.findings)
+  pub found : AreFound a labels p.label_numbers.items p.frames.items o p.found
 
 -- An assertion fails, or a store that is not ignored is never persisted, in a trace that was not cut.
 abbrev pub has_failed : Explanation → Bool → Bool

@@ -1,36 +1,78 @@
--- What an explanation has by from which place on each store is safe.
-use Rattle.std.specs.Prelude.{◌≡◌, ℕ, List, Option, take}
+-- What an explanation has of an analysed trace.
+use Rattle.std.specs.Prelude.{◌≡◌, ◌-◌, ℕ, List, Option, length, map, take, count_by, is_some}
 use Rattle.std.specs.List.{filter_map}
 use Rattle.pmt_model.specs.Traces.{Recording}
-use Rattle.pmt_model.specs.declared.finding.Verdict.{Verdict}
-use Rattle.pmt_dropping.specs.Dropping.{AreDropped}
+use Rattle.pmt_model.specs.declared.finding.Finding.{Finding}
+use Rattle.pmt_analysis.specs.Analysing.{Analysed}
+use Rattle.pmt_dropping.specs.declared.dropped_event.Dropped.{Dropped}
+use Rattle.pmt_dropping.specs.Dropping.{AreDropped, event_of}
+use Rattle.pmt_explain.specs.LostGroups.{AreLostGroups}
+use Rattle.pmt_explain.specs.OverwrittenGroups.{AreOverwrittenGroups}
 use Rattle.pmt_causes.specs.Dropped.{dropped_item}
 use Rattle.pmt_causes.specs.FailureKeys.{AreFailureGroups}
 use Rattle.pmt_causes.specs.Groups.{AreGrouped}
 use Rattle.pmt_causes.specs.Inside.{AreInside}
 use Rattle.pmt_causes.specs.Late.{AreWaited}
+use Rattle.pmt_causes.specs.LostCauses.{lost_item}
 use Rattle.pmt_causes.specs.Tables.{AreLabelRows, AreThreadRows}
-use Rattle.pmt_asked.specs.declared.choosing.Kind.TheVariants as kinds
-use Rattle.pmt_asked.specs.declared.options.Options.{Options}
-use Rattle.pmt_explanation.specs.declared.found.Found.{Found}
-use Rattle.pmt_asked.specs.declared.labels.Labels.{Labels}
-use Rattle.pmt_asked.specs.Choosing.{is_asked_for}
-use Rattle.pmt_explanation.specs.Asking.{asked_dropped, asked_numbers}
-use Rattle.pmt_explanation.specs.Causing.{AreAskedLate, first_members}
+use Rattle.pmt_fates.specs.Paths.{AreLeftPaths}
+use Rattle.pmt_fates.specs.Places.{ArePlaces}
+use Rattle.pmt_fates.specs.declared.places.PlaceTable.{PlaceTable}
 use Rattle.pmt_failures.specs.Failing.{failing_events}
 use Rattle.pmt_failures.specs.Showing.{AreShown}
+use Rattle.pmt_failures.specs.Unwriting.{unwritten_of}
+use Rattle.pmt_asked.specs.declared.choosing.Kind.TheVariants as kinds
+use Rattle.pmt_asked.specs.declared.options.Options.{Options}
+use Rattle.pmt_asked.specs.declared.labels.Labels.{Labels}
+use Rattle.pmt_asked.specs.Choosing.{is_asked_for}
+use Rattle.pmt_explanation.specs.declared.drops.Drops.{Drops}
+use Rattle.pmt_explanation.specs.declared.firsts.Firsts.{Firsts}
+use Rattle.pmt_explanation.specs.declared.found.Found.{Found}
+use Rattle.pmt_explanation.specs.declared.risks.Risks.{Risks}
+use Rattle.pmt_explanation.specs.Asking.{asked_dropped, asked_numbers, asked_pairs, asked_unwritten}
+use Rattle.pmt_explanation.specs.Causing.{AreAskedLate, first_members}
+use Rattle.pmt_explanation.specs.Hinting.{AreHints}
+use Rattle.pmt_explanation.specs.Losing.{lost_store, told_stores, overwriting, told_pairs}
 
--- What is found in a trace with these verdicts, with these labels, whose numbers and whose innermost frames' numbers are these, where this is asked.
-pub record AreFound (T : Recording) (verdicts : List Verdict) (labels : Labels) (numbers frames : List (Option ℕ)) (o : Options) (x : Found) : Type 0 where
-  pub failing : x.failed.failing.items ≡ failing_events verdicts
-  pub asked_failing : x.failed.asked.items ≡ asked_numbers T labels o.choice kinds.Failure x.failed.failing.items
-  pub causes : AreFailureGroups T frames x.failed.asked.items x.failed.causes.items
-  pub counts : AreInside T frames numbers (take o.limit x.failed.causes.items) x.failed.counts.items
-  pub shown : AreShown T (take o.limit (first_members x.failed.causes.items)) x.failed.shown.items
-  pub dropped : AreDropped T x.dropped.items
-  pub asked_dropped : x.effects.asked_dropped.items ≡ asked_dropped T labels o.choice x.dropped.items
-  pub dropped_groups : AreGrouped (filter_map (dropped_item T numbers) x.effects.asked_dropped.items) x.effects.dropped_groups.items
-  pub late : AreAskedLate T frames (is_asked_for T labels o.choice kinds.Late) x.effects.late.items
-  pub waited : AreWaited T x.effects.waited.items
-  pub threads : AreThreadRows T x.dropped.items x.effects.threads.items
-  pub labelled : AreLabelRows T numbers x.dropped.items x.effects.labelled.items
+-- In all of these the labels' numbers and those of innermost frames are given, and this is asked.
+
+-- What the others need.
+pub record AreFirsts (a : Analysed) (labels : Labels) (frames : List (Option ℕ)) (o : Options) (x : Firsts) : Type 0 where
+  pub dropped : AreDropped a.trace x.dropped.items
+  pub waited : AreWaited a.trace x.waited.items
+  pub late : AreAskedLate a.trace frames (is_asked_for a.trace labels o.choice kinds.Late) x.late.items
+  pub stores : x.stores.items ≡ told_stores a.trace labels o.ignored a.findings
+
+-- What is told of these, which are dropped.
+pub record AreDrops (T : Recording) (labels : Labels) (numbers : List (Option ℕ)) (o : Options) (dropped : List Dropped) (d : Drops) : Type 0 where
+  pub asked : d.asked.items ≡ asked_dropped T labels o.choice dropped
+  pub groups : AreGrouped (filter_map (dropped_item T numbers) d.asked.items) d.groups.items
+  pub threads : AreThreadRows T dropped d.threads.items
+  pub labelled : AreLabelRows T numbers dropped d.labelled.items
+
+-- What each place has.
+pub record ArePlacesOf (T : Recording) (numbers frames : List (Option ℕ)) (x : Firsts) (t : PlaceTable) : Type 0 where
+  pub places : ArePlaces T frames x.stores.items (map event_of x.dropped.items) t.places.items
+  pub left_paths : AreLeftPaths T frames numbers x.stores.items (map event_of x.dropped.items) t.places.items t.left_paths.items
+
+-- What a crash may lose, where these stores are told as never persisted.
+pub record AreRisks (a : Analysed) (labels : Labels) (numbers frames : List (Option ℕ)) (o : Options) (stores : List ℕ) (r : Risks) : Type 0 where
+  pub failing : r.failed.failing.items ≡ failing_events a.verdicts
+  pub asked_failing : r.failed.asked.items ≡ asked_numbers a.trace labels o.choice kinds.Failure r.failed.failing.items
+  pub causes : AreFailureGroups a.trace frames r.failed.asked.items r.failed.causes.items
+  pub counts : AreInside a.trace frames numbers (take o.limit r.failed.causes.items) r.failed.counts.items
+  pub shown : AreShown a.trace (take o.limit (first_members r.failed.causes.items)) r.failed.shown.items
+  pub lost : AreLostGroups a.trace (asked_numbers a.trace labels o.choice kinds.NeverPersisted stores) r.lost.groups.items
+  pub lost_causes : AreGrouped (filter_map (lost_item a.trace frames) r.lost.groups.items) r.lost.causes.items
+  pub overwritten : AreOverwrittenGroups a.trace (asked_pairs a.trace labels o.choice (told_pairs a.trace labels o.ignored a.findings)) r.lost.overwritten.items
+  pub unwritten : r.unwritten.items ≡ asked_unwritten a.trace labels o.choice (unwritten_of a.trace)
+  pub ignored_stores : r.lost.ignored_stores ≡ count_by (λ (f : Finding). is_some (lost_store f)) a.findings - length stores
+  pub ignored_pairs : r.lost.ignored_pairs ≡ count_by (λ (f : Finding). is_some (overwriting f)) a.findings - length (told_pairs a.trace labels o.ignored a.findings)
+
+-- All of it.
+pub record AreFound (a : Analysed) (labels : Labels) (numbers frames : List (Option ℕ)) (o : Options) (x : Found) : Type 0 where
+  pub firsts : AreFirsts a labels frames o x.firsts
+  pub drops : AreDrops a.trace labels numbers o x.firsts.dropped.items x.drops
+  pub hints : AreHints a.trace labels frames numbers o.choice x.hints.items
+  pub table : ArePlacesOf a.trace numbers frames x.firsts x.table
+  pub risks : AreRisks a labels numbers frames o x.firsts.stores.items x.risks

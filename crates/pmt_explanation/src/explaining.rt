@@ -1,27 +1,25 @@
 //! The explanation of a trace.
 ghost use Rattle.std.specs.Prelude.{◌≡◌, IfOk};
-ghost use Rattle.pmt_explanation.specs.Asking.{asked_unwritten};
 ghost use Rattle.pmt_explanation.specs.Explaining.{AreParts, IsExplanation, has_failed as fails};
 ghost use Rattle.pmt_asked.specs.declared.options.Options.{Options};
 ghost use Rattle.pmt_asked.specs.declared.labels.Labels.{Labels};
 ghost use Rattle.pmt_explain.specs.Saving.{AreSafePlaces};
-ghost use Rattle.pmt_failures.specs.Unwriting.{unwritten_of};
 
-use crate::asking::asked_unwrittens;
 use crate::found::{Found, found_of};
 use crate::frames::frame_numbers;
-use crate::losses::{Losses, losses_of};
 use crate::numbering::label_numbers;
+use crate::risks::Risks;
 use pmt_analysis::Analysis;
-use pmt_asked::{Choice, Labels, Options};
+use pmt_asked::{Labels, Options};
 use pmt_causes::{CauseCounts, DroppedKey, FailureKey, Group, LateSpot, LostKey, Row};
 use pmt_dropping::Dropped;
 use pmt_explain::{LostGroup, OverwrittenGroup, SafePlaces};
-use pmt_failures::{ShownFailure, Unwritten, unwritten_assertions};
+use pmt_failures::{ShownFailure, Unwritten};
 use pmt_fates::PlaceRow;
 use pmt_hints::Hint;
-use pmt_model::{OutOfMemory, Trace};
+use pmt_model::OutOfMemory;
 use std::alloc::Global;
+use std::thread::Threads;
 
 /// What is to be told of a trace.
 #[derive(Drop)]
@@ -80,21 +78,21 @@ pub struct Explanation {
     pub unwritten: Vec<Unwritten>,
 }
 
-// What is found in a trace.
+// What is found in a trace, where its events have these numbers of labels and of innermost frames.
 #[derive(Drop)]
 struct Parts {
     label_numbers: Vec<Option<u64>>,
     frames: Vec<Option<u64>>,
     found: Found,
-    lost: Losses,
-    unwritten: Vec<Unwritten>,
 }
 
-/// The explanation of the trace that was analysed, where these are its safe places, as `pmt_explain::safe_places` gives them.
+/// The explanation of the trace that was analysed, where these are its safe places, as `pmt_explain::safe_places` gives them. Up to four
+/// threads find what it has.
 ///
 /// # Errors
 /// Where memory was refused.
-pub fn explanation_of(
+pub fn explanation_of<R: Threads + Sync>(
+    rt: &R,
     alloc: Global,
     analysis: Analysis,
     places: Vec<u64>,
@@ -106,12 +104,13 @@ pub fn explanation_of(
     ensures analysis { IfOk result (λ x. x.analysis ≡ analysis) }
     ensures limit { IfOk result (λ x. x.limit ≡ options.now.limit) }
 {
-    let parts = parts_of(alloc, &analysis, places, labels, options)?;
+    let parts = parts_of(rt, alloc, &analysis, places, labels, options)?;
     Ok(explained(analysis, options.limit, parts))
 }
 
 // What is found in the trace that was analysed, where these are its safe places.
-fn parts_of(
+fn parts_of<R: Threads + Sync>(
+    rt: &R,
     alloc: Global,
     analysis: &Analysis,
     places: Vec<u64>,
@@ -124,25 +123,21 @@ fn parts_of(
     let label_numbers = label_numbers(alloc, labels, analysis.trace().len())?;
     let numbers = label_numbers.as_slice();
     let frames = frame_numbers(alloc, labels, numbers, analysis.trace().len())?;
-    let lost = losses_of(alloc, analysis, labels, frames.as_slice(), options)?;
     let safe = SafePlaces::new(analysis.trace(), places);
     let found = found_of(
+        rt,
         alloc,
         analysis,
         &safe,
         labels,
         numbers,
         frames.as_slice(),
-        lost.stores.as_slice(),
         options,
     )?;
-    let unwritten = unwritten_asked(alloc, analysis.trace(), labels, &options.choice)?;
     Ok(Parts {
         label_numbers,
         frames,
         found,
-        lost,
-        unwritten,
     })
 }
 
@@ -156,50 +151,47 @@ fn explained(analysis: Analysis, limit: usize, parts: Parts) -> Explanation
         label_numbers,
         frames,
         found,
-        lost,
-        unwritten,
     } = parts;
+    let Found {
+        firsts,
+        drops,
+        hints,
+        table,
+        risks,
+    } = found;
+    let Risks {
+        lost,
+        failed,
+        unwritten,
+    } = risks;
     Explanation {
         analysis,
         limit,
-        failing: found.failed.failing,
-        asked_failing: found.failed.asked,
+        failing: failed.failing,
+        asked_failing: failed.asked,
         label_numbers,
         frames,
-        causes: found.failed.causes,
-        counts: found.failed.counts,
-        failures: found.failed.shown,
-        stores: lost.stores,
+        causes: failed.causes,
+        counts: failed.counts,
+        failures: failed.shown,
+        stores: firsts.stores,
         ignored_never_persisted: lost.ignored_stores,
         lost: lost.groups,
         lost_causes: lost.causes,
-        dropped: found.dropped,
-        asked_dropped: found.effects.asked_dropped,
-        dropped_groups: found.effects.dropped_groups,
-        late: found.effects.late,
-        waited: found.effects.waited,
-        threads: found.effects.threads,
-        labelled: found.effects.labelled,
-        places: found.table.places,
-        left_paths: found.table.left_paths,
-        hints: found.hints,
+        dropped: firsts.dropped,
+        asked_dropped: drops.asked,
+        dropped_groups: drops.groups,
+        late: firsts.late,
+        waited: firsts.waited,
+        threads: drops.threads,
+        labelled: drops.labelled,
+        places: table.places,
+        left_paths: table.left_paths,
+        hints,
         overwritten: lost.overwritten,
         ignored_overwritten: lost.ignored_pairs,
         unwritten,
     }
-}
-
-// The assertions on bytes that no store has written, where they are asked for.
-fn unwritten_asked(
-    alloc: Global,
-    trace: &Trace,
-    labels: &Labels,
-    choice: &Choice,
-) -> Result<Vec<Unwritten>, OutOfMemory>
-    ensures { IfOk result (λ found. found.items ≡ asked_unwritten trace.now labels.now choice.now (unwritten_of trace.now)) }
-{
-    let found = unwritten_assertions(alloc, trace)?;
-    asked_unwrittens(alloc, trace, labels, choice, found.as_slice())
 }
 
 /// Whether an assertion fails, or a store that is not ignored is never persisted. Of a trace that was cut the stores are not known to be

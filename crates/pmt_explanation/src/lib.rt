@@ -6,15 +6,17 @@
 mod asking;
 mod causing;
 mod counting;
-mod effects;
+mod drops;
 pub mod explaining;
 mod failed;
+mod firsts;
 mod found;
 mod frames;
 mod hinting;
 mod losing;
 mod losses;
 mod numbering;
+mod risks;
 pub mod summing;
 
 pub use crate::causing::first_of;

@@ -6,11 +6,11 @@ ghost use Rattle.pmt_causes.specs.LostCauses.{lost_item};
 ghost use Rattle.pmt_explain.specs.LostGroups.{AreLostGroups};
 ghost use Rattle.pmt_explain.specs.OverwrittenGroups.{AreOverwrittenGroups};
 ghost use Rattle.pmt_explanation.specs.Asking.{asked_numbers as numbers_asked, asked_pairs as pairs_asked};
-ghost use Rattle.pmt_explanation.specs.Losing.{lost_store as lost_of, overwriting as overwriting_of, told_pairs, told_stores};
+ghost use Rattle.pmt_explanation.specs.Losing.{lost_store as lost_of, overwriting as overwriting_of, told_pairs};
 ghost use Rattle.pmt_asked.specs.declared.choosing.Kind.TheVariants.{NeverPersisted};
 
 use crate::asking::{asked_numbers, asked_pairs};
-use crate::losing::{lost_store, lost_stores, overwriting, overwritings};
+use crate::losing::{lost_store, overwriting, overwritings};
 use pmt_analysis::Analysis;
 use pmt_asked::{Choice, Kind, Labels, Options};
 use pmt_causes::{Group, LostKey, lost_causes};
@@ -21,11 +21,9 @@ use std::alloc::Global;
 /// Stores that are never persisted or overwritten.
 #[derive(Drop)]
 pub(crate) struct Losses {
-    /// The stores that are never persisted, by rising event number, without those that are ignored.
-    pub(crate) stores: Vec<u64>,
     /// How many stores that are never persisted are ignored.
     pub(crate) ignored_stores: u64,
-    /// Those of `stores` that are asked for, by line and cause.
+    /// Those that are told and asked for, by line and cause.
     pub(crate) groups: Vec<LostGroup>,
     /// These by cause, each by its first store.
     pub(crate) causes: Vec<Group<LostKey>>,
@@ -35,17 +33,17 @@ pub(crate) struct Losses {
     pub(crate) ignored_pairs: u64,
 }
 
-// The stores that are never persisted or overwritten, where the events have these numbers of innermost frames.
+// What is lost or overwritten, where the events have these numbers of innermost frames, and these stores are told as never persisted.
 pub(crate) fn losses_of(
     alloc: Global,
     analysis: &Analysis,
     labels: &Labels,
     frames: &[Option<u64>],
     options: &Options,
+    stores: &[u64],
 ) -> Result<Losses, OutOfMemory>
-    ensures stores { IfOk result (λ l. l.stores.items ≡ told_stores analysis.now.trace labels.now options.now.ignored analysis.now.findings) }
-    ensures ignored_stores { IfOk result (λ l. l.ignored_stores ≡ count_by (λ f. is_some (lost_of f)) analysis.now.findings - length l.stores.items) }
-    ensures groups { IfOk result (λ l. AreLostGroups analysis.now.trace (numbers_asked analysis.now.trace labels.now options.now.choice NeverPersisted l.stores.items) l.groups.items) }
+    ensures ignored_stores { IfOk result (λ l. l.ignored_stores ≡ count_by (λ f. is_some (lost_of f)) analysis.now.findings - length stores.now) }
+    ensures groups { IfOk result (λ l. AreLostGroups analysis.now.trace (numbers_asked analysis.now.trace labels.now options.now.choice NeverPersisted stores.now) l.groups.items) }
     ensures causes { IfOk result (λ l. AreGrouped (filter_map (lost_item analysis.now.trace frames.now) l.groups.items) l.causes.items) }
     ensures overwritten { IfOk result (λ l. AreOverwrittenGroups analysis.now.trace (pairs_asked analysis.now.trace labels.now options.now.choice (told_pairs analysis.now.trace labels.now options.now.ignored analysis.now.findings)) l.overwritten.items) }
     ensures ignored_pairs { IfOk result (λ l. l.ignored_pairs ≡ count_by (λ f. is_some (overwriting_of f)) analysis.now.findings - length (told_pairs analysis.now.trace labels.now options.now.ignored analysis.now.findings)) }
@@ -54,15 +52,13 @@ pub(crate) fn losses_of(
     let findings = analysis.findings();
     let ignored = &options.ignored;
     let choice = &options.choice;
-    let stores = lost_stores(alloc, trace, labels, ignored, findings)?;
     let ignored_stores = count_lost(findings).saturating_sub(stores.len()) as u64;
-    let groups = asked_losses(alloc, trace, labels, choice, stores.as_slice())?;
+    let groups = asked_losses(alloc, trace, labels, choice, stores)?;
     let causes = lost_causes(alloc, trace, frames, groups.as_slice())?;
     let pairs = overwritings(alloc, trace, labels, ignored, findings)?;
     let ignored_pairs = count_overwritten(findings).saturating_sub(pairs.len()) as u64;
     let overwritten = asked_overwritten(alloc, trace, labels, choice, pairs.as_slice())?;
     Ok(Losses {
-        stores,
         ignored_stores,
         groups,
         causes,

@@ -156,15 +156,15 @@ where
         Request::Fronts(words) => fronts(alloc, *words, files, input, out, recalls),
         Request::Check(words) => check(rt, *words, files, input, out, recalls),
         Request::Explain(words) => {
-            run_explain(alloc, words, files, input, out, terminals.colors, watch)
+            run_explain(rt, alloc, words, files, input, out, terminals.colors, watch)
         }
         Request::Trim(words) => trim(rt, *words, files, input, out, recalls),
         Request::Stream(words) => stream(alloc, *words, files, input, out, recalls),
-        Request::Draw(drawing) => draw(alloc, drawing, files, input, out),
+        Request::Draw(drawing) => draw(rt, alloc, drawing, files, input, out),
         Request::Image(words) => run_image(alloc, words, files, input, out),
         Request::ImageList(words) => run_list(alloc, words, files, input, out),
         Request::Slice(words) => run_slice(alloc, words, files, input, out),
-        Request::Stat(words) => run_stat(alloc, words, files, input, out),
+        Request::Stat(words) => run_stat(rt, alloc, words, files, input, out),
         Request::Parts(words) => run_parts(alloc, words, files, input, out),
         Request::Record(words) => record(rt, files, words.scripts.as_slice(), out, recalls),
     }

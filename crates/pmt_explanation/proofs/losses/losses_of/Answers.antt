@@ -10,18 +10,14 @@ use Rattle.pmt_explanation.proofs.losses.losses_of.Goals as goal
 
 pub returns-clause-groups : goal.returns-clause-groups
 returns-clause-groups c =
-    subst (λ T. AreLostGroups T (asked_numbers T c.args.labels.now c.args.options.now.choice NeverPersisted c.in_ok-stores.stores.items) c.in_ok-groups.groups.items) c.trace-trace.ensures.value
-    (subst (λ ns. AreLostGroups c.trace-trace.result.now (asked_numbers c.trace-trace.result.now c.args.labels.now c.args.options.now.choice NeverPersisted ns) c.in_ok-groups.groups.items) c.as_slice.ensures.value c.in_ok-groups.ensures)
+    subst (λ T. AreLostGroups T (asked_numbers T c.args.labels.now c.args.options.now.choice NeverPersisted c.args.stores.now) c.in_ok-groups.groups.items) c.trace-trace.ensures.value c.in_ok-groups.ensures
 
 pub returns-clause-causes : goal.returns-clause-causes
 returns-clause-causes c =
     subst (λ T. AreGrouped (filter_map (lost_item T c.args.frames.now) c.in_ok-groups.groups.items) c.in_ok-causes.causes.items) c.trace-trace.ensures.value
-    (subst (λ gs. AreGrouped (filter_map (lost_item c.trace-trace.result.now c.args.frames.now) gs) c.in_ok-causes.causes.items) c.as_slice-2.ensures.value c.in_ok-causes.ensures)
-
-pub returns-clause-stores : goal.returns-clause-stores
-returns-clause-stores c = rw (sym c.trace-trace.ensures.value, sym c.findings-findings.ensures.value) c.in_ok-stores.ensures
+    (subst (λ gs. AreGrouped (filter_map (lost_item c.trace-trace.result.now c.args.frames.now) gs) c.in_ok-causes.causes.items) c.as_slice.ensures.value c.in_ok-causes.ensures)
 
 pub returns-clause-overwritten : goal.returns-clause-overwritten
 returns-clause-overwritten c =
-    let pairs : c.as_slice-3.result.now ≡ told_pairs c.trace-trace.result.now c.args.labels.now c.args.options.now.ignored c.findings-findings.result.now = c.as_slice-3.ensures.value ∙ c.in_ok-pairs.ensures in
+    let pairs : c.as_slice-2.result.now ≡ told_pairs c.trace-trace.result.now c.args.labels.now c.args.options.now.ignored c.findings-findings.result.now = c.as_slice-2.ensures.value ∙ c.in_ok-pairs.ensures in
     rw (sym c.trace-trace.ensures.value, sym c.findings-findings.ensures.value, sym pairs) c.in_ok-overwritten.ensures
