@@ -3,8 +3,9 @@
 
 An edit turns the meaning of a function. It is refused where the prover says of a line of that function that a goal is not proved, or of
 a line of its proof that it proves no goal. A proof that only names what is gone says nothing of the contract. A function is proved by its
-own body and the contracts of those that it calls, so the edits of a crate are tried in one check; those that turn one function in
-several, and an edit of no function, as of a constant, alone. The crates below are taken as they were built last.
+own body and the contracts of those that it calls. So the edits of a crate are tried in one check, in which the other functions have neither
+body nor proof, but a hole, which stands for what their contracts promise; those that turn one function are tried in several, and an edit of
+no function, as of a constant, alone. The crates below are taken as they were built last.
 What was refused is kept by the sum of all that was read: the crate, its edits, the libraries below, the kit, and what tells what an edit turns.
 The last line is 'N passed, M failed'.
 """
@@ -24,24 +25,31 @@ from concurrent.futures import ThreadPoolExecutor
 from typing import NamedTuple
 
 import sources
-from sources import TOP, items_of
+from sources import TOP, body_of, items_of
 
 # What a check reads of a crate.
 PARTS = ("src", "specs", "proofs")
 # What the prover says of a goal that is not proved, and of a proof that does not prove its goal.
 GOAL = re.compile(r"^note: (?:\./)?(src/\S+?):(\d+):\d+: (it is not proved that .*?) \(`", re.M)
 PROOF = re.compile(r"^(?:\./)?(proofs/\S+?):(\d+):\d+: error: (?!.*(?:has no field|is not in scope|has no `|was not admitted))(.{,100})", re.M)
-# Its last line: how many functions it was asked for, and how many of them are proved.
-ENDED = re.compile(r"^only=\d+ proved=\d+$", re.M)
+# Its last line: how many functions it was asked for, and how many holes are left.
+ENDED = re.compile(r"^only=\d+ holes=\d+$", re.M)
+# A proof with a hole.
+HOLE = """use Rattle.{crate}.proofs.{path}.Statement.{{statement}}
+
+pub {name}_spec : {{M : Type 1}} → statement M
+{name}_spec = ?
+"""
 
 
 class Function(NamedTuple):
-    """A function of a crate: its file, the path by which the prover names it, and its lines."""
+    """A function of a crate: its file, the path by which the prover names it, its lines, and the one that opens its body, if it has one."""
 
     file: str
     path: str
     first: int
     last: int
+    body: int | None
 
     def has(self, file, line):
         """Whether this line of this file is one of its lines, or of its proof."""
@@ -109,7 +117,16 @@ def functions_of(crate):
                 block = item.owner + (item.trait if item.trait != item.owner else "")
                 beside = [] if item.trait or (item.owner, path) in homes else [home for name, home in homes if name == item.owner]
                 home = str(beside[0].relative_to(crate)) if len(beside) == 1 else file
-                yield Function(file, "::".join(filter(None, (module_of(home), block, item.name))), first + 1, item.last + 1)
+                path_below = "::".join(filter(None, (module_of(home), block, item.name)))
+                yield Function(file, path_below, first + 1, item.last + 1, opening_of(lines, item))
+
+
+def opening_of(lines, item):
+    """The line that opens a function's body. Nothing, where it has none, and of a method of `From`, whose proof stands elsewhere."""
+    if item.trait and item.trait in ("From", item.owner):
+        return None
+    body = body_of(lines, item.first, item.last)
+    return None if body is None else body + 1
 
 
 def read_edit(crate, path, functions):
@@ -149,8 +166,8 @@ def rounds_of(edits):
     return rounds
 
 
-def write_edited(crate, copy, edits):
-    """Makes the copy what the crate is with these edits."""
+def write_edited(crate, copy, functions, edits):
+    """Makes the copy what the crate is with these edits, without the bodies and proofs of the functions that they don't turn."""
     for part in PARTS:
         shutil.rmtree(copy / part, ignore_errors=True)
         if (crate / part).is_dir():
@@ -158,6 +175,21 @@ def write_edited(crate, copy, edits):
     for change in sorted((change for edit in edits for change in edit.changes), key=lambda it: -it.first):
         text = (copy / change.file).read_text()
         (copy / change.file).write_text(text[: change.first] + change.new + text[change.last :])
+    turned = {path for edit in edits for path in edit.paths()}
+    for function in functions:
+        if function.body and not any(function.path == path or function.path.startswith(f"{path}::") for path in turned):
+            take_body(crate.name, copy, function)
+
+
+def take_body(crate, copy, function):
+    """Puts a hole in the place of a function's body, as long as that in lines, and one in the place of its proof."""
+    file, proof = copy / function.file, copy / "proofs" / function.path.replace("::", "/")
+    lines = file.read_text().splitlines()
+    lines[function.body : function.last - 1] = ["unreachable!()"] + [""] * (function.last - 2 - function.body)
+    file.write_text("\n".join(lines) + "\n")
+    shutil.rmtree(proof, ignore_errors=True)
+    proof.mkdir(parents=True)
+    (proof / "Proof.antt").write_text(HOLE.format(crate=crate, path=function.path.replace("::", "."), name=proof.name))
 
 
 class Built(NamedTuple):
@@ -176,7 +208,7 @@ class Built(NamedTuple):
         words += [word for folder in (self.kit / "rlibs", *self.below.values()) for word in ("-L", f"dependency={folder}")]
         for name in ("std", *self.needs):
             words += ["--extern", f"{name}={self.below.get(name, self.kit / 'rlibs') / name}.rlib"]
-        return [self.kit / "bin/rattle", "check", "--crate-name", crate.name, "src/lib.rt", *words, "--jobs", "1", "--incremental", "kept"]
+        return [self.kit / "bin/rattle", "check", "--crate-name", crate.name, "src/lib.rt", *words, "--jobs", "1", "--incremental", "kept", "--allow-holes"]
 
     def sum(self, crate):
         """The sum of all that a trial of the crate's edits reads. The format of a library has the sum of its files."""
@@ -230,7 +262,7 @@ def try_edits(crate, command, copy):
     edits = [read_edit(crate, path, functions) for path in paths]
     told, wrong = [], []
     for beside in rounds_of(edits):
-        write_edited(crate, copy, beside)
+        write_edited(crate, copy, functions, beside)
         goals = check(command, copy, {path for edit in beside for path in edit.paths()})
         wrong += [f"{goal.told()}, where no edit is" for goal in goals if not any(goal.is_of(edit) for edit in beside)]
         for edit in beside:
@@ -280,10 +312,10 @@ def try_crate(crate, place, kept):
 
 
 def try_ahead(crates, asked, kept):
-    """Tries the edits of each crate once a run that proves the crates has proved it and those below, one after another, so that they are
-    kept. The run adds the names of what it has proved to a file, and ends this one, which ends its check."""
+    """Tries the edits of this lane's crates, each once a run that proves the crates has proved it and those below, so that they are kept.
+    The run adds the names of what it has proved to a file, and ends this one, which ends its check."""
     signal.signal(signal.SIGTERM, lambda *_: sys.exit(1))
-    needs, left = needs_of(asked.top), list(crates)
+    needs, left = needs_of(asked.top), crates[asked.lane :: asked.lanes]
     while left:
         proved = set(asked.ahead.read_text().split()) if asked.ahead.exists() else set()
         ready = [crate for crate in left if proved.issuperset([crate.name, *crates_below(needs, crate.name)])]
@@ -301,6 +333,7 @@ def arguments():
     parser.add_argument("--built", type=pathlib.Path, help="where its libraries are built, if elsewhere")
     parser.add_argument("--lanes", type=int, default=1, help="how many crates are tried side by side")
     parser.add_argument("--ahead", type=pathlib.Path, help="a file with the names of crates that are proved by now: try each once it is there, for a later run")
+    parser.add_argument("--lane", type=int, default=0, help="with --ahead: which of so many lanes this one is, from 0 on")
     parser.add_argument("--kept", type=pathlib.Path, default=cache / "pmtrim-edits", help="where refusals are kept")
     parser.add_argument("crates", nargs="*")
     return parser

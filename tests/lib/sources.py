@@ -46,6 +46,15 @@ def end_of(lines, first, indent):
     return len(lines) - 1
 
 
+def body_of(lines, first, last):
+    """The line that opens the body of the function from this line to that one, if one does, and its last line closes it."""
+    indent = lines[first][: len(lines[first]) - len(lines[first].lstrip())]
+    if lines[last] != indent + "}":
+        return None
+    opens = (at for at in range(first, last) if lines[at] == indent + "{" or lines[at].endswith("{") and (at == first or lines[at].startswith(indent + ")")))
+    return next(opens, None)
+
+
 def items_of(crate, path):
     """The functions and types of a source file."""
     lines = path.read_text().splitlines()
