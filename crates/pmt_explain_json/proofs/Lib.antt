@@ -1,3 +1,4 @@
+pub mod Arrays
 pub mod Making
 pub mod NoFloats
 pub mod PlaceFloats

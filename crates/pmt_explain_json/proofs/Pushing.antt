@@ -1,6 +1,6 @@
 -- Texts and values that are pushed piece by piece.
-use Rattle.std.proofs.Common.{◌≡◌, ℕ, ◌+◌, ◌<◌, List, [], ◌∷◌, ◌++◌, length, get_or, take, drop, map, drop-cons, sym, ap, add-one, ◌∙◌, append_assoc}
-use Rattle.std.proofs.lemmas.List.{map-append, map_more}
+use Rattle.std.proofs.Common.{◌≡◌, ℕ, ◌+◌, ◌<◌, ◌≤◌, List, [], ◌∷◌, ◌++◌, length, get_or, take, drop, map, drop-cons, sym, ap, add-one, ◌∙◌, append_assoc, append-nil}
+use Rattle.std.proofs.lemmas.List.{drop_all, map-append, map_more}
 use Rattle.std.specs.List.{flat_map}
 use Rattle.serde_json.specs.Data.{Data}
 use Rattle.serde_json.specs.View.{view}
@@ -52,3 +52,9 @@ lines-pushed f xs i d old new all within so-far pushed =
     ∙ append_assoc old (f (get_or xs i d)) rest
     ∙ ap (λ (ys : List _). old ++ flat_map f ys) (sym e)
     ∙ so-far
+
+-- The lines of all items, once none is left.
+pub all-pushed : {A : Type 0} → (f : A → List ℕ) (xs : List A) (i : ℕ) (old all : List ℕ) →
+    old ++ flat_map f (drop i xs) ≡ all → length xs ≤ i → old ≡ all
+all-pushed f xs i old all so-far end =
+    sym (append-nil old) ∙ ap (λ (ys : List _). old ++ flat_map f ys) (sym (drop_all i xs end)) ∙ so-far

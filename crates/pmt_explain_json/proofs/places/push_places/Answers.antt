@@ -1,7 +1,11 @@
+use Rattle.std.proofs.Common.{arith}
 use Rattle.pmt_explain_json.specs.Places.{place_line}
-use Rattle.pmt_explain_json.proofs.Pushing.{lines-pushed}
+use Rattle.pmt_explain_json.proofs.Pushing.{all-pushed, lines-pushed}
 use Rattle.pmt_explain_json.proofs.places.push_places.Goals as goal
 
 pub loop-row-preserved : goal.loop-row-preserved
 loop-row-preserved c =
     lines-pushed (place_line c.args.trace.now c.args.labels.now c.args.whole) c.args.rows.now c.loop-row.row-index _ _ _ _ c.loop-row-test.true c.loop-row.invariant c.in_ok-push_place.ensures
+
+pub returns : goal.returns
+returns c = all-pushed (place_line c.args.trace.now c.args.labels.now c.args.whole) c.args.rows.now c.loop-row.row-index _ _ c.loop-row.invariant (omega (arith, c.loop-row-test.false))
