@@ -1,5 +1,7 @@
 -- Texts that are pushed piece by piece.
-use Rattle.std.proofs.Common.{◌≡◌, ℕ, List, ◌++◌, Result, Ok, Err, OnOk, refl, ap, subst, ◌∙◌, append_assoc}
+use Rattle.std.proofs.Common.{◌≡◌, ℕ, ◌+◌, ◌<◌, ◌≤◌, List, [], ◌∷◌, ◌++◌, length, map, get_or, drop, drop-cons, add-one, Result, Ok, Err, OnOk, refl, sym, ap, subst, ◌∙◌, append-nil, append_assoc}
+use Rattle.std.proofs.lemmas.List.{drop_all}
+use Rattle.std.specs.List.{flat_map}
 use Rattle.std.specs.Prelude.{if◌then◌else◌}
 use Rattle.std.specs.Result.{is_ok}
 
@@ -33,3 +35,42 @@ last-field r s t u a w f e o = subst (λ (x : List ℕ). OnOk r (u ≡ x)) (push
 pub if-ok : {A E : Type 0} → (r : Result A E) (t u v : List ℕ) → t ≡ (if is_ok r then u else v) → OnOk r (t ≡ u)
 if-ok (Ok x) t u v e = e
 if-ok (Err x) t u v e = tt
+
+-- What is spelled of the items that are left, with that of one of them pushed.
+pub item-pushed : {A : Type 0} → (F G : List A → List ℕ) (xs : List A) (i : ℕ) (d : A) (piece old new all : List ℕ) →
+    i < length xs → ((ys : List A) → F (get_or xs i d ∷ ys) ≡ piece ++ G ys) → old ++ F (drop i xs) ≡ all → new ≡ old ++ piece →
+    new ++ G (drop (i + 1) xs) ≡ all
+item-pushed F G xs i d piece old new all within parts so-far pushed =
+    let rest = drop (i + 1) xs in
+    let e : drop i xs ≡ get_or xs i d ∷ rest = rw (add-one) (drop-cons xs i d within) in
+    ap (λ (t : List ℕ). t ++ G rest) pushed
+    ∙ append_assoc old piece (G rest)
+    ∙ ap (λ (t : List ℕ). old ++ t) (sym (ap F e ∙ parts rest))
+    ∙ so-far
+
+-- What is spelled of all items, once none is left.
+pub items-pushed : {A : Type 0} → (F : List A → List ℕ) (xs : List A) (i : ℕ) (old all : List ℕ) →
+    F [] ≡ [] → old ++ F (drop i xs) ≡ all → length xs ≤ i → old ≡ all
+items-pushed F xs i old all empty so-far end =
+    sym (ap (λ (t : List ℕ). old ++ t) (ap F (drop_all i xs end) ∙ empty) ∙ append-nil old) ∙ so-far
+
+-- A piece for each item.
+pub piece-pushed : {A : Type 0} → (f : A → List ℕ) (xs : List A) (i : ℕ) (d : A) (old new all : List ℕ) →
+    i < length xs → old ++ flat_map f (drop i xs) ≡ all → new ≡ old ++ f (get_or xs i d) →
+    new ++ flat_map f (drop (i + 1) xs) ≡ all
+piece-pushed f xs i d old new all within = item-pushed (flat_map f) (flat_map f) xs i d (f (get_or xs i d)) old new all within (λ ys. refl)
+
+pub pieces-pushed : {A : Type 0} → (f : A → List ℕ) (xs : List A) (i : ℕ) (old all : List ℕ) →
+    old ++ flat_map f (drop i xs) ≡ all → length xs ≤ i → old ≡ all
+pieces-pushed f xs i old all = items-pushed (flat_map f) xs i old all refl
+
+-- A letter for each item.
+pub letter-pushed : {A : Type 0} → (f : A → ℕ) (xs : List A) (i : ℕ) (d : A) (old new all : List ℕ) (letter : ℕ) →
+    i < length xs → old ++ map f (drop i xs) ≡ all → new ≡ old ++ letter ∷ [] → letter ≡ f (get_or xs i d) →
+    new ++ map f (drop (i + 1) xs) ≡ all
+letter-pushed f xs i d old new all letter within so-far pushed same =
+    item-pushed (map f) (map f) xs i d (f (get_or xs i d) ∷ []) old new all within (λ ys. refl) so-far (pushed ∙ ap (λ (n : ℕ). old ++ n ∷ []) same)
+
+pub letters-pushed : {A : Type 0} → (f : A → ℕ) (xs : List A) (i : ℕ) (old all : List ℕ) →
+    old ++ map f (drop i xs) ≡ all → length xs ≤ i → old ≡ all
+letters-pushed f xs i old all = items-pushed (map f) xs i old all refl
