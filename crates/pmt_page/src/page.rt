@@ -4,7 +4,7 @@ ghost use Rattle.pmt_page.specs.Pages.{page, parts_of, source_data, still, told_
 ghost use Rattle.pmt_page.specs.Pages.{filled as filled_with};
 
 use crate::escapes::{push_embedded, push_html};
-use crate::template::{TEMPLATE, Template};
+use crate::template::{Template, own_template};
 use pmt_model::OutOfMemory;
 use std::alloc::Global;
 
@@ -35,7 +35,7 @@ pub struct Blocks<'a> {
 pub fn page_text(alloc: Global, blocks: Blocks<'_>) -> Result<Vec<u8>, OutOfMemory>
     ensures { IfOk result (λ text. text.items ≡ page blocks.entry) }
 {
-    filled(alloc, TEMPLATE, blocks)
+    filled(alloc, own_template(), blocks)
 }
 
 // A template with these blocks between its parts.

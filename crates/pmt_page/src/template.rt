@@ -1,4 +1,6 @@
 //! The template of the page: what stands before its blocks, between them and after them.
+ghost use Rattle.std.specs.Prelude.{◌≡◌};
+ghost use Rattle.pmt_page.specs.Pages.{parts as own_parts, parts_of};
 
 use crate::parts::{
     AFTER_SOURCES, BEFORE_ABOUT, BEFORE_COLUMNS, BEFORE_EXPLAINED, BEFORE_LABELS, BEFORE_PICTURE,
@@ -19,7 +21,13 @@ pub struct Template<'a> {
 }
 
 /// The template in `page/`.
-pub const TEMPLATE: Template<'static> = Template {
+pub(crate) fn own_template() -> Template<'static>
+    ensures { parts_of result ≡ own_parts }
+{
+    TEMPLATE
+}
+
+const TEMPLATE: Template<'static> = Template {
     before_picture: BEFORE_PICTURE,
     before_text: BEFORE_TEXT,
     before_about: BEFORE_ABOUT,

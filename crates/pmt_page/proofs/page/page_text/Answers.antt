@@ -1,6 +1,7 @@
-use Rattle.pmt_page.specs.Pages.{page}
+use Rattle.std.proofs.Common.{◌≡◌, IfOk, subst}
+use Rattle.pmt_page.specs.Pages.{Parts, filled, page}
 use Rattle.pmt_page.proofs.page.page_text.Goals as goal
 
 pub returns : goal.returns
 unfolding page
-returns c = c.filled.ensures
+returns c = subst (λ (p : Parts). IfOk c.filled.result (λ text. text.items ≡ filled p c.args.blocks)) c.own_template.ensures c.filled.ensures
