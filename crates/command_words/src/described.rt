@@ -86,35 +86,26 @@ pub type Made<'a> = Result<Command<'a>, AllocError>;
 
 /// The command with one of its own more, of this text.
 pub fn with_text<'a>(alloc: Global, command: Made<'a>, text: &CommandText<'a>) -> Made<'a> {
-    with_command(command, command_of(alloc, text))
+    let own = command_of(alloc, text)?;
+    command?.subcommand(own)
 }
 
-// The command with one of its own.
-fn with_command<'a>(command: Made<'a>, own: Made<'a>) -> Made<'a> {
-    command?.subcommand(own?)
-}
-
-// The command of this text.
-fn command_of<'a>(alloc: Global, text: &CommandText<'a>) -> Made<'a> {
-    let command = Command::new(alloc, text.name)
+/// The command of this text.
+pub fn command_of<'a>(alloc: Global, text: &CommandText<'a>) -> Made<'a> {
+    let mut command = Command::new(alloc, text.name)
         .override_usage(text.usage)
         .about(text.about)
         .after_help(text.after);
-    with_words(alloc, Ok(command), text.words)
-}
-
-// The command with these words.
-fn with_words<'a>(alloc: Global, command: Made<'a>, words: &[Word<'a>]) -> Made<'a> {
-    let mut made = command;
-    for word in words {
-        made = with(made, argument_of(alloc, word));
+    for word in text.words {
+        command = with_word(alloc, command, word)?;
     }
-    made
+    Ok(command)
 }
 
-// The command with an argument more.
-fn with<'a>(command: Made<'a>, argument: Result<Arg<'a>, AllocError>) -> Made<'a> {
-    command?.arg(argument?)
+// The command with this word.
+fn with_word<'a>(alloc: Global, command: Command<'a>, word: &Word<'a>) -> Made<'a> {
+    let argument = argument_of(alloc, word)?;
+    command.arg(argument)
 }
 
 // The argument of the word.
@@ -136,12 +127,20 @@ fn argument_of<'a>(alloc: Global, word: &Word<'a>) -> Result<Arg<'a>, AllocError
 // The argument with the name of the option and its letter.
 fn with_letter<'a>(argument: Arg<'a>, name: &'a str) -> Arg<'a> {
     let named = argument.long(name);
+    match letter_of(name) {
+        Some(letter) => named.short(letter),
+        None => named,
+    }
+}
+
+// The letter of the option with this name, if it has one.
+fn letter_of(name: &str) -> Option<char> {
     match name {
-        "workers" => named.short('j'),
-        "quiet" => named.short('q'),
-        "verbose" => named.short('v'),
-        "out" => named.short('o'),
-        _ => named,
+        "workers" => Some('j'),
+        "quiet" => Some('q'),
+        "verbose" => Some('v'),
+        "out" => Some('o'),
+        _ => None,
     }
 }
 

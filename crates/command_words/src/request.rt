@@ -119,14 +119,12 @@ fn image<'a>(alloc: Global, given: &ArgMatches<'a>) -> Result<Request<'a>, Fault
     }
 }
 
-// One of the texts 1, 2, 4, 8 and 16: the command takes no other.
+// The number that the word is: 1, 2, 4, 8 or 16, since the command takes no other.
 fn workers_of(given: &ArgMatches<'_>) -> usize {
-    match given.get_str("workers") {
-        Some("2") => 2,
-        Some("4") => 4,
-        Some("8") => 8,
-        Some("16") => 16,
-        _ => 1,
+    let word = given.get_str("workers").unwrap_or("1");
+    match read_number(10, word.as_bytes()) {
+        Some(workers) => workers as usize,
+        None => 1,
     }
 }
 
