@@ -76,8 +76,7 @@ fn is_fence(trace: &Trace, number: u64) -> bool {
     let Some(event) = trace.get(number) else {
         return false;
     };
-    let op = event.op;
-    matches!(op, Op::Sfence | Op::Mfence)
+    matches!(event.op, Op::Sfence | Op::Mfence)
 }
 
 // Adds how many events are in the group, what they are, where they stand, and the first of them.
@@ -94,8 +93,7 @@ pub(crate) fn push_members(pen: &mut Pen, told: &Telling<'_>, group: &Group<Drop
 // Adds the word of the event, which all of its group have.
 fn push_word(pen: &mut Pen, trace: &Trace, number: u64) {
     if let Some(event) = trace.get(number) {
-        let op = event.op;
-        pen.put(word_of(&op));
+        pen.put(word_of(&event.op));
     }
 }
 

@@ -55,16 +55,14 @@ fn sums_of(told: &Telling<'_>) -> Result<Vec<Sum>, OutOfMemory> {
     let mut sums: Vec<Sum> = Vec::new(told.alloc);
     for group in told.explanation.overwritten.as_slice() {
         let place = place_of(told, group.first.earlier);
-        match numbers.get(&place).copied() {
-            Some(number) => {
-                if let Some(sum) = sums.get_mut(number) {
-                    *sum = with_group(*sum, group);
-                }
-            }
-            None => {
-                numbers.insert(place, sums.len())?;
-                sums.push(with_group(none_of(place, group), group))?;
-            }
+        let next = sums.len();
+        let number = numbers.get(&place).copied().unwrap_or(next);
+        if number == next {
+            numbers.insert(place, next)?;
+            sums.push(none_of(place, group))?;
+        }
+        if let Some(sum) = sums.get_mut(number) {
+            *sum = with_group(*sum, group);
         }
     }
     sums.sort_by_key(|sum| rank_of(sum))?;

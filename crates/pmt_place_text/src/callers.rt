@@ -1,5 +1,6 @@
 //! Of places that lose or delay a part of their stores, the call paths by what becomes of theirs.
 
+use crate::apart::is_labelled;
 use crate::member_story::waited_by;
 use pmt_causes::Origin;
 use pmt_fates::{PlaceRow, Standing, standing_of};
@@ -15,17 +16,27 @@ type Places = HashMap<Origin, bool>;
 
 // The paths of those of these places that lose or delay a part of their stores, none of which is ignored: what becomes of most first.
 pub(crate) fn callers_of(told: &Telling<'_>, rows: &[PlaceRow]) -> Result<CallPaths, OutOfMemory> {
+    let mut tallies = Tallies::new(told.alloc);
+    count_divided(told, rows, &mut tallies)?;
+    tallies.by_place(told)
+}
+
+// Counts what becomes of the stores of such places; where there are none, the trace is not looked at.
+fn count_divided(
+    told: &Telling<'_>,
+    rows: &[PlaceRow],
+    tallies: &mut Tallies,
+) -> Result<(), OutOfMemory> {
     let mut places: Places = HashMap::new(told.alloc);
     for row in rows {
         if is_divided(row) {
             places.insert(row.place, true)?;
         }
     }
-    let mut tallies = Tallies::new(told.alloc);
-    if !places.is_empty() {
-        count_stores(told, &places, &mut tallies)?;
+    if places.is_empty() {
+        return Ok(());
     }
-    tallies.by_place(told)
+    count_stores(told, &places, tallies)
 }
 
 // Whether the place has a label, and loses or delays a part of its stores, none of which is ignored.
@@ -34,10 +45,7 @@ fn is_divided(row: &PlaceRow) -> bool {
         Standing::LosesSome | Standing::DelaysSome => true,
         Standing::LosesAll | Standing::DelaysAll | Standing::Keeps => false,
     };
-    match row.place {
-        Origin::Label(_) => is_part && row.ignored == 0,
-        Origin::Thread(_) => false,
-    }
+    is_labelled(row.place) && is_part && row.ignored == 0
 }
 
 // Counts what becomes of the stores of these places.
@@ -48,11 +56,8 @@ fn count_stores(
 ) -> Result<(), OutOfMemory> {
     for (index, event) in told.trace.events().iter().enumerate() {
         let number = (index as u64).saturating_add(1);
-        if !is_store(event.op) || !places.contains_key(&place_of(told, number)) {
-            continue;
-        }
-        if let Some(label) = label_at(told, number) {
-            tallies.add(tally_of(told, label, number))?;
+        if is_store(event.op) && places.contains_key(&place_of(told, number)) {
+            count_store(told, number, tallies)?;
         }
     }
     Ok(())
@@ -61,6 +66,14 @@ fn count_stores(
 // Whether it is a store.
 fn is_store(op: Op) -> bool {
     matches!(op, Op::Store(_))
+}
+
+// Counts the store, if it has a label.
+fn count_store(told: &Telling<'_>, store: u64, tallies: &mut Tallies) -> Result<(), OutOfMemory> {
+    match label_at(told, store) {
+        Some(label) => tallies.add(tally_of(told, label, store)),
+        None => Ok(()),
+    }
 }
 
 // The store alone, with this label.

@@ -1,8 +1,7 @@
 //! The story of a store that is never persisted, or late: the few events that tell why, a row each.
 
+use crate::apart::{has_strayed, is_labelled, row_of};
 use pmt_asked::frame_of;
-use pmt_causes::Origin;
-use pmt_guess_text::is_mostly_idle;
 use pmt_model::OutOfMemory;
 use pmt_pen::Pen;
 use pmt_slices::{StorePart, StoreStory, store_story_of};
@@ -43,17 +42,30 @@ fn add_story(
     told: &Telling<'_>,
     store: u64,
 ) -> Result<Option<Strayed>, OutOfMemory> {
-    let Some(story) = store_story_of(told.alloc, told.trace, store)? else {
-        return Ok(None);
-    };
-    let rows = rows_of(told, store, &story)?;
+    match store_story_of(told.alloc, told.trace, store)? {
+        Some(story) => {
+            push_events(pen, told, store, &story)?;
+            Ok(strayed_flush(told, &story, store))
+        }
+        None => Ok(None),
+    }
+}
+
+// Adds the events of the story, what is missing, and who calls.
+fn push_events(
+    pen: &mut Pen,
+    told: &Telling<'_>,
+    store: u64,
+    story: &StoreStory,
+) -> Result<(), OutOfMemory> {
+    let rows = rows_of(told, store, story)?;
     let columns = story_columns(rows.as_slice());
-    push_rows(pen, told, &story, columns, rows.as_slice());
+    push_rows(pen, told, story, columns, rows.as_slice());
     if !story.is_safe() {
-        push_missing(pen, told, store, &story, columns);
+        push_missing(pen, told, store, story, columns);
     }
     push_callers(pen, told, store);
-    Ok(strayed_flush(told, &story, store))
+    Ok(())
 }
 
 // The rows of the story.
@@ -66,26 +78,32 @@ fn rows_of<'a>(
     let spelling = spelling_of(told.trace, numbers);
     let mut rows = Vec::with_capacity(told.alloc, numbers.len())?;
     for (index, number) in numbers.iter().enumerate() {
-        let mut note = Pen::new(told.alloc);
-        push_thread(&mut note, told, store, *number);
-        push_note(&mut note, told, story, store, *number);
+        let note = note_of(told, story, store, *number);
         rows.push(story_row(told, numbers, index, spelling, note)?)?;
     }
     Ok(rows)
+}
+
+// What the event is to the store.
+fn note_of(told: &Telling<'_>, story: &StoreStory, store: u64, number: u64) -> Pen {
+    let mut note = Pen::new(told.alloc);
+    push_thread(&mut note, told, store, number);
+    push_note(&mut note, told, story, store, number);
+    note
 }
 
 // Adds the thread of the event, if it is not that of the store.
 fn push_thread(note: &mut Pen, told: &Telling<'_>, store: u64, number: u64) {
     let thread = thread_of(told, number);
     if thread != thread_of(told, store) {
-        note.fill("by thread #: ", &[thread]);
+        note.fill("by thread #: ", &[thread as u64]);
     }
 }
 
 // The thread of the event.
-fn thread_of(told: &Telling<'_>, number: u64) -> u64 {
+pub(crate) fn thread_of(told: &Telling<'_>, number: u64) -> u8 {
     match told.trace.get(number) {
-        Some(event) => event.thread as u64,
+        Some(event) => event.thread,
         None => 0,
     }
 }
@@ -123,13 +141,9 @@ fn push_idle(note: &mut Pen, told: &Telling<'_>, flush: u64) {
         return;
     }
     note.put("; does nothing");
-    let place = place_of(told, flush);
-    if let Origin::Label(_) = place {
-        let rows = told.explanation.places.as_slice();
-        if let Some(row) = rows.iter().find(|row| row.place == place) {
-            if row.flushes > 1 {
-                note.fill(" (# of #)", &[row.idle_flushes, row.flushes]);
-            }
+    if let Some(row) = row_of(told, place_of(told, flush)) {
+        if is_labelled(row.place) && row.flushes > 1 {
+            note.fill(" (# of #)", &[row.idle_flushes, row.flushes]);
         }
     }
 }
@@ -160,18 +174,11 @@ fn strayed_flush(told: &Telling<'_>, story: &StoreStory, store: u64) -> Option<S
     })
 }
 
-// Whether the flush does nothing, and most flushes at its line of source do nothing.
-fn has_strayed(told: &Telling<'_>, flush: u64) -> bool {
-    let place = place_of(told, flush);
-    let rows = told.explanation.places.as_slice();
-    match rows.iter().find(|row| row.place == place) {
-        Some(row) => is_mostly_idle(row) && does_nothing(told, flush),
-        None => false,
-    }
-}
-
-// Adds that this flush may have been meant for the store, so that no further one is wanted.
-pub(crate) fn push_strayed(pen: &mut Pen, told: &Telling<'_>, strayed: Strayed) {
+// Adds that this flush may have been meant for the store, so that no further one is wanted, if there is one.
+pub(crate) fn push_strayed(pen: &mut Pen, told: &Telling<'_>, strayed: Option<Strayed>) {
+    let Some(strayed) = strayed else {
+        return;
+    };
     let mut line = Pen::new(pen.alloc());
     line.put("  or:     If ");
     push_place(&mut line, told, strayed.flush);
@@ -182,10 +189,8 @@ pub(crate) fn push_strayed(pen: &mut Pen, told: &Telling<'_>, strayed: Strayed) 
 // For how many fences the event waited.
 pub(crate) fn waited_by(told: &Telling<'_>, number: u64) -> u64 {
     let waited = told.explanation.waited.as_slice();
-    match waited.get(number.saturating_sub(1) as usize) {
-        Some(fences) => *fences,
-        None => 0,
-    }
+    let place = number.saturating_sub(1) as usize;
+    waited.get(place).copied().unwrap_or(0)
 }
 
 // Adds the rows, with how many flushes of other lines are left out before the last of them.
@@ -242,7 +247,7 @@ fn push_missing(
     match story.flush() {
         Some(flush) => words.fill(
             "flushed by event #, but no fence of thread # follows",
-            &[flush, thread_of(told, flush)],
+            &[flush, thread_of(told, flush) as u64],
         ),
         None => words.fill(
             "no flush of cache line @ follows",

@@ -1,18 +1,21 @@
 //! What becomes of the stores of each place, in words: of the places that lose or delay some.
 
+use crate::apart::{Apart, is_labelled};
 use crate::callers::{callers_of, push_fates};
-use crate::member_story::{MOST_STORIES, Strayed, push_store_story, push_strayed, waited_by};
-use crate::members::{Members, members_of};
-use crate::rests::{most_lost, rest_of, sum_of, sum_of_entry};
-use crate::retold::{Retold, retold_of};
-use crate::sharing::{Sharing, push_shared, sharing_of};
+use crate::claims::Claims;
+use crate::member_story::{
+    MOST_STORIES, Strayed, push_store_story, push_strayed, thread_of, waited_by,
+};
+use crate::members::Members;
+use crate::rests::{Sum, most_lost, rest_of, sum_of, sum_of_entry};
+use crate::retold::Retold;
+use crate::sharing::{Sharing, push_shared};
 use crate::sides::push_sides;
 use pmt_asked::Choice;
 use pmt_causes::Origin;
 use pmt_explanation::{Explanation, first};
 use pmt_failures::mend_for;
 use pmt_fates::{PlaceRow, Standing, standing_of};
-use pmt_guess_text::{Apart, Claims};
 use pmt_model::OutOfMemory;
 use pmt_pen::Pen;
 use pmt_telling::{
@@ -72,20 +75,17 @@ fn add_rows(
 ) -> Result<(), OutOfMemory> {
     let ordered = apart_last(told, rows, apart)?;
     let rows = ordered.as_slice();
-    let sharing = sharing_of(told, rows, claims)?;
-    let members = members_of(told, rows)?;
-    section.total = (0..rows.len())
-        .filter(|number| !is_told(&sharing, rows, *number))
-        .count();
-    let retold = retold_of(told, rows, &members)?;
     let callers = callers_of(told, rows)?;
-    let beside = Beside {
-        sharing,
-        members,
-        retold,
+    let mut beside = Beside {
+        apart,
+        sharing: Sharing::new(told.alloc),
+        members: Members::new(told.alloc),
+        retold: Retold::new(told.alloc),
         callers,
     };
-    add_places(section, told, rows, &beside, apart, strayed)
+    beside.add(told, rows, claims)?;
+    section.total = count_entries(&beside.sharing, rows);
+    add_places(section, told, rows, &beside, strayed)
 }
 
 // These places, but those that stand apart last.
@@ -107,18 +107,18 @@ fn apart_last(
 
 // Whether the place stands apart: a thread is no line of source.
 fn stands_apart(apart: &Apart, place: Origin) -> bool {
-    match place {
-        Origin::Label(_) => apart.has(place),
-        Origin::Thread(_) => false,
-    }
+    is_labelled(place) && apart.has(place)
 }
 
-// Whether the place of this row is told with another one.
-fn is_told(sharing: &Sharing, rows: &[PlaceRow], number: usize) -> bool {
-    match rows.get(number) {
-        Some(row) => sharing.is_told(row.place, number),
-        None => false,
+// How many entries these places have: none has one that is told with another one.
+fn count_entries(sharing: &Sharing, rows: &[PlaceRow]) -> usize {
+    let mut count = 0usize;
+    for (number, row) in rows.iter().enumerate() {
+        if !sharing.is_told(row.place, number) {
+            count = count.saturating_add(1);
+        }
     }
+    count
 }
 
 // The places that lose or delay stores, which come first; none where something is asked for.
@@ -145,66 +145,130 @@ fn is_troubled(row: &PlaceRow) -> bool {
     }
 }
 
-// What is known of places besides their rows: which share a line, why the first lost store of each is lost, of which failed assertions
-// tell, and what becomes of the stores of each call path.
+// What is known of places besides their rows: which stand apart, which share a line, why the first lost store of each is lost, of which
+// failed assertions tell, and what becomes of the stores of each call path.
 #[derive(Drop)]
-struct Beside {
+struct Beside<'a> {
+    apart: &'a Apart,
     sharing: Sharing,
     members: Members,
     retold: Retold,
     callers: CallPaths,
 }
 
-// Adds an entry for each of these places that is not told with another one, as many as the limit says, each with its first line
-// for a short form; and on a screen what is told of those that are left.
+impl Beside<'_> {
+    // Adds what is known of these places.
+    fn add(
+        &mut self,
+        told: &Telling<'_>,
+        rows: &[PlaceRow],
+        claims: &Claims,
+    ) -> Result<(), OutOfMemory> {
+        self.sharing.add(told, rows, claims)?;
+        self.members.add(told, rows)?;
+        self.retold.add(told, rows, &self.members)
+    }
+}
+
+// What is told so far: whether one of the places that stand apart is, how many places have more than their first line, and how many stores
+// are left.
+#[derive(Clone, Copy)]
+struct SoFar {
+    has_apart: bool,
+    stories: usize,
+    left: Sum,
+}
+
+impl SoFar {
+    // What stands above the entry of the place.
+    fn heading(&mut self, apart: &Apart, place: Origin) -> &'static str {
+        if self.has_apart || !stands_apart(apart, place) {
+            return "";
+        }
+        self.has_apart = true;
+        APART
+    }
+}
+
+// Adds an entry for each of these places that is not told with another one, as many as the limit says; and on a screen what is told of those
+// that are left.
 fn add_places(
     section: &mut Section,
     told: &Telling<'_>,
     rows: &[PlaceRow],
-    beside: &Beside,
-    apart: &Apart,
+    beside: &Beside<'_>,
     strayed: &mut Vec<Strayed>,
 ) -> Result<(), OutOfMemory> {
-    let most = most_stories(told);
-    let storied = storied(told.explanation, told.screen.choice);
-    let mut has_apart = false;
-    let is_screen = told.screen.rows.is_some();
-    let mut left = sum_of(rows);
+    let mut so_far = SoFar {
+        has_apart: false,
+        stories: 0,
+        left: sum_of(rows),
+    };
     let mut added = 0usize;
-    let mut stories = 0usize;
     let mut next = 0usize;
     for (number, row) in rows.iter().enumerate() {
         if added >= told.explanation.limit {
             break;
         }
         next = number.saturating_add(1);
-        if beside.sharing.is_told(row.place, number) {
-            continue;
+        if !beside.sharing.is_told(row.place, number) {
+            added = added.saturating_add(1);
+            add_rest(section, told, rows, beside, so_far.left, number);
+            so_far.left = so_far
+                .left
+                .without(sum_of_entry(rows, row, &beside.sharing));
+            add_place(section, told, rows, row, beside, &mut so_far, strayed)?;
         }
-        added = added.saturating_add(1);
-        let above = if !has_apart && stands_apart(apart, row.place) {
-            has_apart = true;
-            APART
-        } else {
-            ""
-        };
-        let is_story = stories < most && storied.iter().any(|other| other.place == row.place);
-        let mut pen = Pen::new(told.alloc);
-        pen.put(above);
-        if !push_place_head(&mut pen, told, rows, row, beside, true) {
-            stories = stories.saturating_add(1);
-            note(strayed, push_why(&mut pen, told, row, beside, is_story))?;
-        }
-        if is_screen {
-            section.add_rest(rest_of(told, left, most_lost(rows, number, &beside.sharing)));
-            left = left.without(sum_of_entry(rows, row, &beside.sharing));
-        }
-        section.add_with_short(pen, short_of(told, rows, row, beside, above));
     }
-    if is_screen {
-        section.add_rest(rest_of(told, left, most_lost(rows, next, &beside.sharing)));
-    }
+    add_rest(section, told, rows, beside, so_far.left, next);
     Ok(())
+}
+
+// Adds what is told on a screen of the places that are left, which lose so much, from this number on.
+fn add_rest(
+    section: &mut Section,
+    told: &Telling<'_>,
+    rows: &[PlaceRow],
+    beside: &Beside<'_>,
+    left: Sum,
+    number: usize,
+) {
+    if told.screen.rows.is_some() {
+        section.add_rest(rest_of(told, left, most_lost(rows, number, &beside.sharing)));
+    }
+}
+
+// Adds an entry for the place, with its first line for a short form.
+fn add_place(
+    section: &mut Section,
+    told: &Telling<'_>,
+    rows: &[PlaceRow],
+    row: &PlaceRow,
+    beside: &Beside<'_>,
+    so_far: &mut SoFar,
+    strayed: &mut Vec<Strayed>,
+) -> Result<(), OutOfMemory> {
+    let above = so_far.heading(beside.apart, row.place);
+    let short = short_of(told, rows, row, beside, above);
+    let mut pen = Pen::new(told.alloc);
+    pen.put(above);
+    if !push_place_head(&mut pen, told, rows, row, beside, true) {
+        let is_story = so_far.stories < most_stories(told) && is_storied(told, row.place);
+        so_far.stories = so_far.stories.saturating_add(1);
+        note(strayed, push_why(&mut pen, told, row, beside, is_story))?;
+    }
+    section.add_with_short(pen, short);
+    Ok(())
+}
+
+// Whether the place may be told with a story.
+fn is_storied(told: &Telling<'_>, place: Origin) -> bool {
+    for row in storied(told.explanation, told.screen.choice) {
+        if row.place == place {
+            return true;
+        }
+    }
+    false
 }
 
 // Notes the flush, if there is one.
@@ -228,7 +292,7 @@ fn push_why(
     pen: &mut Pen,
     told: &Telling<'_>,
     row: &PlaceRow,
-    beside: &Beside,
+    beside: &Beside<'_>,
     is_story: bool,
 ) -> Option<Strayed> {
     if let Some(store) = row.first_lost {
@@ -247,7 +311,7 @@ fn push_place_head(
     told: &Telling<'_>,
     rows: &[PlaceRow],
     row: &PlaceRow,
-    beside: &Beside,
+    beside: &Beside<'_>,
     is_first: bool,
 ) -> bool {
     if let Some(numbers) = beside.sharing.shared(row.place) {
@@ -265,7 +329,7 @@ fn short_of(
     told: &Telling<'_>,
     rows: &[PlaceRow],
     row: &PlaceRow,
-    beside: &Beside,
+    beside: &Beside<'_>,
     above: &str,
 ) -> Pen {
     let mut pen = Pen::new(told.alloc);
@@ -323,7 +387,7 @@ fn is_one_of_many(row: &PlaceRow) -> bool {
 fn push_lost(
     pen: &mut Pen,
     told: &Telling<'_>,
-    beside: &Beside,
+    beside: &Beside<'_>,
     place: Origin,
     store: u64,
     is_story: bool,
@@ -350,9 +414,7 @@ fn push_lost(
         "  fix:    ",
         mend_for(group.cause, group.line, store, None, false),
     );
-    if let Some(found) = strayed {
-        push_strayed(pen, told, found);
-    }
+    push_strayed(pen, told, strayed);
     let line = line_address(told.trace, group.line);
     pen.put("  draw:   ");
     push_draw(pen, told, "--line @", line, store);
@@ -371,7 +433,7 @@ fn push_misses(pen: &mut Pen, told: &Telling<'_>, store: u64, is_story: bool) {
 fn push_late(
     pen: &mut Pen,
     told: &Telling<'_>,
-    beside: &Beside,
+    beside: &Beside<'_>,
     place: Origin,
     store: u64,
     is_story: bool,
@@ -388,15 +450,9 @@ fn push_late(
     };
     push_fates(pen, told, &beside.callers, place);
     push_early(pen, told, "  early:  ", store, SOURCE);
-    let Some(event) = told.trace.get(store) else {
-        return None;
-    };
-    let thread = event.thread;
     let line = line_of_store(told.trace, store);
-    push_own_flush(pen, told, line, thread, store);
-    if let Some(found) = strayed {
-        push_strayed(pen, told, found);
-    }
+    push_own_flush(pen, told, line, thread_of(told, store), store);
+    push_strayed(pen, told, strayed);
     pen.put(ORDER);
     pen.put("  draw:   ");
     push_draw(pen, told, "--line @", line_address(told.trace, line), store);

@@ -5,7 +5,8 @@ use pmt_causes::{Count, Maker, Origin};
 use pmt_fates::PlaceRow;
 use pmt_model::OutOfMemory;
 use pmt_reasons::Cause;
-use pmt_telling::{Telling, is_unflushed, place_of};
+use pmt_telling::{Telling, is_unflushed, label_at, place_of};
+use std::alloc::Global;
 use std::collections::HashMap;
 
 // Of each such place the failed assertion, by its index among those that are shown.
@@ -15,48 +16,54 @@ pub(crate) struct Retold {
 }
 
 impl Retold {
+    // No place.
+    pub(crate) fn new(alloc: Global) -> Self {
+        Retold {
+            failures: HashMap::new(alloc),
+        }
+    }
+
     // The event of the failed assertion that tells of the place, if one does.
     pub(crate) fn event_of(&self, told: &Telling<'_>, place: Origin) -> Option<u64> {
         let index = self.failures.get(&place).copied()?;
         let shown = told.explanation.failures.get(index)?;
         Some(shown.event)
     }
-}
 
-// The places of these rows of which failed assertions tell: one loses a store from the place, for the same kind of cause as the first one
-// that the place loses or delays, and stores with the labels of all that the place loses or delays.
-pub(crate) fn retold_of(
-    told: &Telling<'_>,
-    rows: &[PlaceRow],
-    members: &Members,
-) -> Result<Retold, OutOfMemory> {
-    let mut failures = failing_places(told)?;
-    if !failures.is_empty() {
-        for row in rows {
-            drop_cause(told, members, &mut failures, row);
-        }
-        for store in told.explanation.stores.as_slice() {
-            drop_store(told, &mut failures, *store);
-        }
-        for group in told.explanation.late.as_slice() {
-            for store in group.members.as_slice() {
-                drop_store(told, &mut failures, *store);
+    // Adds the places of these rows of which failed assertions tell: one loses a store from the place, for the same kind of cause as the
+    // first one that the place loses or delays, and stores with the labels of all that the place loses or delays.
+    pub(crate) fn add(
+        &mut self,
+        told: &Telling<'_>,
+        rows: &[PlaceRow],
+        members: &Members,
+    ) -> Result<(), OutOfMemory> {
+        add_failing(told, &mut self.failures)?;
+        if !self.failures.is_empty() {
+            for row in rows {
+                drop_cause(told, members, &mut self.failures, row);
+            }
+            drop_stores(told, &mut self.failures, told.explanation.stores.as_slice());
+            for group in told.explanation.late.as_slice() {
+                drop_stores(told, &mut self.failures, group.members.as_slice());
             }
         }
+        Ok(())
     }
-    Ok(Retold { failures })
 }
 
-// The places of the stores that failed assertions lose, each with the first that does, but for stores that come only after the crash.
-fn failing_places(told: &Telling<'_>) -> Result<HashMap<Origin, usize>, OutOfMemory> {
-    let mut failures = HashMap::new(told.alloc);
+// Adds the places of the stores that failed assertions lose, each with the first that does, but for stores that come only after the crash.
+fn add_failing(
+    told: &Telling<'_>,
+    failures: &mut HashMap<Origin, usize>,
+) -> Result<(), OutOfMemory> {
     for (index, shown) in told.explanation.failures.iter().enumerate() {
         let place = place_of(told, shown.failure.lost.store);
         if shown.cause != Cause::Later && !failures.contains_key(&place) {
             failures.insert(place, index)?;
         }
     }
-    Ok(failures)
+    Ok(())
 }
 
 // Leaves out the place of the row, if its first store is lost or late for another kind of cause.
@@ -72,16 +79,26 @@ fn drop_cause(
     let Some(shown) = told.explanation.failures.get(index) else {
         return;
     };
-    // The flush of a late store's line is missing by the next fence of its thread.
-    let lacks_flush = match row.first_lost {
-        Some(store) => match members.group_of(told, store) {
-            Some(group) => is_unflushed(group.cause),
-            None => true,
-        },
-        None => true,
-    };
-    if is_unflushed(shown.cause) != lacks_flush {
+    if is_unflushed(shown.cause) != lacks_flush(told, members, row) {
         let _index = failures.remove(&row.place);
+    }
+}
+
+// Whether the first store of the row lacks a flush: that of a late store's line is missing by the next fence of its thread.
+fn lacks_flush(told: &Telling<'_>, members: &Members, row: &PlaceRow) -> bool {
+    let Some(store) = row.first_lost else {
+        return true;
+    };
+    match members.group_of(told, store) {
+        Some(group) => is_unflushed(group.cause),
+        None => true,
+    }
+}
+
+// Leaves out the places of those of the stores of which the failed assertions do not tell.
+fn drop_stores(told: &Telling<'_>, failures: &mut HashMap<Origin, usize>, stores: &[u64]) {
+    for store in stores {
+        drop_store(told, failures, *store);
     }
 }
 
@@ -117,15 +134,6 @@ fn tells_of(told: &Telling<'_>, index: usize, store: u64) -> bool {
             .iter()
             .any(|count| has_label(count, label)),
         None => false,
-    }
-}
-
-// The number of the label of the event, if it has one.
-fn label_at(told: &Telling<'_>, number: u64) -> Option<u64> {
-    let numbers = told.explanation.label_numbers.as_slice();
-    match numbers.get(number.saturating_sub(1) as usize) {
-        Some(label) => *label,
-        None => None,
     }
 }
 

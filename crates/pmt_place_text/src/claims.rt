@@ -1,7 +1,8 @@
 //! Which cache lines the program speaks of: those that it flushes, and those of its assertions.
 
 use crate::apart::loses_all;
-use pmt_model::{Op, OutOfMemory, Range, Trace, line_of};
+use pmt_fates::PlaceRow;
+use pmt_model::{Addr, Op, OutOfMemory, Range, Trace, line_of};
 use pmt_telling::{Telling, tells_all};
 use std::alloc::Global;
 use std::collections::HashMap;
@@ -35,8 +36,8 @@ impl Claims {
         !self.claimed.is_empty()
     }
 
-    /// Whether an event flushes the line.
-    pub fn has_flush(&self, line: u64) -> bool {
+    // Whether an event flushes the line.
+    pub(crate) fn has_flush(&self, line: u64) -> bool {
         self.flushed.contains_key(&line)
     }
 
@@ -64,37 +65,53 @@ impl Claims {
 /// # Errors
 /// Where memory was refused.
 pub fn claims_wanted(told: &Telling<'_>) -> Result<Claims, OutOfMemory> {
-    let rows = told.explanation.places.as_slice();
-    if tells_all(told.screen.choice) && rows.iter().any(|row| loses_all(row)) {
-        claims_of(told)
-    } else {
-        Ok(Claims::new(told.alloc))
-    }
-}
-
-// The lines of which the program speaks.
-fn claims_of(told: &Telling<'_>) -> Result<Claims, OutOfMemory> {
     let mut claims = Claims::new(told.alloc);
-    for event in told.trace.events() {
-        let op = event.op;
-        note(told.trace, &mut claims, op)?;
+    if tells_all(told.screen.choice) && is_all_lost(told.explanation.places.as_slice()) {
+        note_events(told.trace, &mut claims)?;
     }
     Ok(claims)
+}
+
+// Whether one of these places loses all that it stores.
+fn is_all_lost(rows: &[PlaceRow]) -> bool {
+    for row in rows {
+        if loses_all(row) {
+            return true;
+        }
+    }
+    false
+}
+
+// Notes the lines of which the program speaks.
+fn note_events(trace: &Trace, claims: &mut Claims) -> Result<(), OutOfMemory> {
+    for event in trace.events() {
+        note(trace, claims, event.op)?;
+    }
+    Ok(())
 }
 
 // Notes the lines that the op flushes or names.
 fn note(trace: &Trace, claims: &mut Claims, op: Op) -> Result<(), OutOfMemory> {
     match op {
         Op::Clwb(addr) | Op::ClflushOpt(addr) | Op::Clflush(addr) => {
-            claims.flushed.insert(line_of(trace.format(), addr), true)?;
+            note_flush(trace, &mut claims.flushed, addr)
         }
-        Op::IsPersist(range) => note_range(trace, &mut claims.claimed, range)?,
+        Op::IsPersist(range) => note_range(trace, &mut claims.claimed, range),
         Op::IsOrderedBefore(first, second) => {
             note_range(trace, &mut claims.claimed, first)?;
-            note_range(trace, &mut claims.claimed, second)?;
+            note_range(trace, &mut claims.claimed, second)
         }
-        Op::Store(_) | Op::Sfence | Op::Mfence => {}
+        Op::Store(_) | Op::Sfence | Op::Mfence => Ok(()),
     }
+}
+
+// Notes the line of the address.
+fn note_flush(
+    trace: &Trace,
+    flushed: &mut HashMap<u64, bool>,
+    addr: Addr,
+) -> Result<(), OutOfMemory> {
+    flushed.insert(line_of(trace.format(), addr), true)?;
     Ok(())
 }
 
