@@ -165,10 +165,8 @@ pub fn told_paths(told: &Telling<'_>, paths: &[Tally]) -> Result<Vec<Tally>, Out
 /// The number of the label of the event, if it has one.
 pub fn label_at(told: &Telling<'_>, number: u64) -> Option<u64> {
     let numbers = told.explanation.label_numbers.as_slice();
-    match numbers.get(number.saturating_sub(1) as usize) {
-        Some(label) => *label,
-        None => None,
-    }
+    let place = number.saturating_sub(1) as usize;
+    numbers.get(place).copied().unwrap_or(None)
 }
 
 /// Adds what the label of the path has behind its innermost frame, or how many paths these are.

@@ -2,14 +2,14 @@
 
 use crate::parts::{NEAR, push_event, push_place};
 use crate::rows::push_wrapped;
-use crate::telling::{Telling, does_nothing, line_of_store};
+use crate::telling::{Telling, does_nothing, end_of, line_of_store, thread_of};
 use pmt_model::{Op, Trace, line_of};
 use pmt_pen::Pen;
 
 // What an event of a thread is to a line.
-#[derive(Clone, Copy, PartialEq, Eq)]
+#[derive(Clone, Copy)]
 enum Turn {
-    // Neither a flush nor a fence.
+    // Neither a flush nor a fence of the thread.
     Nothing,
     Fence,
     // A flush of the line.
@@ -42,25 +42,20 @@ pub fn push_early(pen: &mut Pen, told: &Telling<'_>, name: &str, store: u64, col
 
 // The last such flush and that fence, if both stand near.
 fn early_of(trace: &Trace, store: u64) -> Option<Early> {
-    let thread = trace.get(store)?.thread;
+    let thread = thread_of(trace, store);
     let line = line_of_store(trace, store);
     let mut last: Option<u64> = None;
     for number in (store.saturating_sub(NEAR)..store).rev() {
-        let Some(event) = trace.get(number) else {
-            return None;
-        };
-        if event.thread == thread {
-            match (turn_of(trace, line, event.op), last) {
-                (Turn::Fence, None) => last = Some(number),
-                (Turn::Own, Some(fence)) => {
-                    return Some(Early {
-                        flush: number,
-                        fence,
-                    });
-                }
-                (Turn::Fence, Some(_)) | (Turn::Own, None) => return None,
-                (Turn::Nothing | Turn::Other, _) => {}
+        match (turn_at(trace, thread, line, number), last) {
+            (Turn::Fence, None) => last = Some(number),
+            (Turn::Own, Some(fence)) => {
+                return Some(Early {
+                    flush: number,
+                    fence,
+                });
             }
+            (Turn::Fence, Some(_)) | (Turn::Own, None) => return None,
+            (Turn::Nothing | Turn::Other, _) => {}
         }
     }
     None
@@ -81,23 +76,27 @@ pub fn push_instead(pen: &mut Pen, told: &Telling<'_>, name: &str, flush: u64, c
 /// The last flush that the store's thread makes of another line before its next fence, if that comes soon, and if it flushes none of the
 /// store's own line before.
 pub fn flushed_instead(trace: &Trace, store: u64) -> Option<u64> {
-    let thread = trace.get(store)?.thread;
+    let thread = thread_of(trace, store);
     let line = line_of_store(trace, store);
+    let end = store.saturating_add(NEAR).min(end_of(trace));
     let mut other: Option<u64> = None;
-    for number in store.saturating_add(1)..store.saturating_add(NEAR) {
-        let Some(event) = trace.get(number) else {
-            return None;
-        };
-        if event.thread == thread {
-            match turn_of(trace, line, event.op) {
-                Turn::Fence => return other,
-                Turn::Own => return None,
-                Turn::Other => other = Some(number),
-                Turn::Nothing => {}
-            }
+    for number in store.saturating_add(1)..end {
+        match turn_at(trace, thread, line, number) {
+            Turn::Fence => return other,
+            Turn::Own => return None,
+            Turn::Other => other = Some(number),
+            Turn::Nothing => {}
         }
     }
     None
+}
+
+// What the event is to the line, if the thread makes it.
+fn turn_at(trace: &Trace, thread: u8, line: u64, number: u64) -> Turn {
+    match trace.get(number) {
+        Some(event) if event.thread == thread => turn_of(trace, line, event.op),
+        _ => Turn::Nothing,
+    }
 }
 
 // What the op is to the line.

@@ -2,7 +2,7 @@
 
 use crate::rows::push_wrapped;
 use crate::sources::SOURCE;
-use crate::telling::{Telling, line_address};
+use crate::telling::{Telling, line_address, thread_of};
 use pmt_asked::frame_of;
 use pmt_causes::{Origin, origin_of};
 use pmt_model::{Event, Op};
@@ -42,20 +42,18 @@ pub fn push_event(pen: &mut Pen, told: &Telling<'_>, number: u64) {
         pen.fill("event #", &[number]);
         return;
     };
-    let Event { thread, op } = event;
     pen.fill(
         "event # (line #, thread #)",
-        &[number, number.saturating_add(1), thread as u64],
+        &[number, number.saturating_add(1), event.thread as u64],
     );
     push_label(pen, told, number);
     pen.put(": ");
-    push_words(pen, Event { thread, op });
+    push_words(pen, event);
 }
 
 /// Adds the event's line in the text of its trace, which is ASCII, without its LF.
 pub fn push_words(pen: &mut Pen, event: Event) {
-    let Event { thread, op } = event;
-    let Ok(line) = write_event(pen.alloc(), Event { thread, op }) else {
+    let Ok(line) = write_event(pen.alloc(), event) else {
         pen.refuse();
         return;
     };
@@ -92,10 +90,7 @@ pub fn push_frame(pen: &mut Pen, told: &Telling<'_>, number: u64) {
 
 /// The place of the event.
 pub fn place_of(told: &Telling<'_>, number: u64) -> Origin {
-    let thread = match told.trace.get(number) {
-        Some(event) => event.thread,
-        None => 0,
-    };
+    let thread = thread_of(told.trace, number);
     origin_of(told.explanation.frames.as_slice(), number, thread)
 }
 
@@ -239,10 +234,7 @@ fn is_fence(op: Op) -> bool {
 
 // Adds the fence of the event's thread that stands there, if one does: with it no other one is needed.
 fn push_standing_fence(pen: &mut Pen, told: &Telling<'_>, after: u64, before: Option<u64>) {
-    let Some(event) = told.trace.get(after) else {
-        return;
-    };
-    let thread = event.thread;
+    let thread = thread_of(told.trace, after);
     if let Some(fence) = next_fence(told, thread, after, before) {
         pen.fill(" Thread # fences at ", &[thread as u64]);
         push_place(pen, told, fence);

@@ -77,10 +77,7 @@ impl Section {
 
     /// Adds the entry. All are shown at first.
     pub fn add(&mut self, entry: Pen) {
-        match entry.finish() {
-            Ok(entry) => self.is_refused = self.entries.push(entry).is_err() || self.is_refused,
-            Err(_) => self.is_refused = true,
-        }
+        self.is_refused = !add_text(&mut self.entries, entry) || self.is_refused;
         self.shown = self.entries.len();
         self.whole = self.shown;
     }
@@ -88,18 +85,12 @@ impl Section {
     /// Adds the entry with its short form; all entries of the section are added so.
     pub fn add_with_short(&mut self, entry: Pen, short: Pen) {
         self.add(entry);
-        match short.finish() {
-            Ok(short) => self.is_refused = self.shorts.push(short).is_err() || self.is_refused,
-            Err(_) => self.is_refused = true,
-        }
+        self.is_refused = !add_text(&mut self.shorts, short) || self.is_refused;
     }
 
     /// Adds what is told of the entries that are left where those that stand here by now are shown.
     pub fn add_rest(&mut self, rest: Pen) {
-        match rest.finish() {
-            Ok(rest) => self.is_refused = self.rests.push(rest).is_err() || self.is_refused,
-            Err(_) => self.is_refused = true,
-        }
+        self.is_refused = !add_text(&mut self.rests, rest) || self.is_refused;
     }
 
     /// Notes that memory was refused to an entry.
@@ -123,10 +114,21 @@ impl Section {
     // How many entries are shown by a short form that says less.
     fn shortened(&self) -> usize {
         let entries = self.entries.iter().take(self.shown);
-        let pairs = entries.zip(self.shorts.iter()).skip(self.whole);
-        pairs
-            .filter(|(entry, short)| entry.len() > short.len())
-            .count()
+        let mut count = 0usize;
+        for (entry, short) in entries.zip(self.shorts.iter()).skip(self.whole) {
+            if entry.len() > short.len() {
+                count = count.saturating_add(1);
+            }
+        }
+        count
+    }
+}
+
+// Adds the text; whether there was memory for it.
+fn add_text(texts: &mut Vec<String>, text: Pen) -> bool {
+    match text.finish() {
+        Ok(text) => texts.push(text).is_ok(),
+        Err(_) => false,
     }
 }
 
@@ -158,7 +160,7 @@ enum Step {
 }
 
 // What sections show, one after the other.
-#[derive(Clone, Copy, PartialEq, Eq)]
+#[derive(Clone, Copy)]
 enum Turn {
     // The entries that the answer names, those with short forms by these.
     Named,
@@ -272,18 +274,16 @@ fn push_section(pen: &mut Pen, section: &Section) {
     }
     pen.put("\n");
     pen.put(section.heading);
-    for entry in section.entries.iter().take(section.whole) {
-        pen.put(entry.as_str());
-    }
-    for short in section
-        .shorts
-        .iter()
-        .take(section.shown)
-        .skip(section.whole)
-    {
-        pen.put(short.as_str());
-    }
+    push_texts(pen, section.entries.as_slice(), 0, section.whole);
+    push_texts(pen, section.shorts.as_slice(), section.whole, section.shown);
     push_more(pen, section);
+}
+
+// Adds these of the texts.
+fn push_texts(pen: &mut Pen, texts: &[String], from: usize, end: usize) {
+    for text in texts.iter().take(end).skip(from) {
+        pen.put(text.as_str());
+    }
 }
 
 // Adds how many entries of a section that is shown are left out, or else how many are shown by short forms alone.

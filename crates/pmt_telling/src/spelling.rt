@@ -1,5 +1,6 @@
 //! How the events of a story are spelled: by the words of the trace, but without what is the same in all of them.
 
+use crate::telling::thread_of;
 use pmt_model::{Addr, Event, Op, Range, Trace};
 use pmt_names::word_of;
 use pmt_pen::Pen;
@@ -27,7 +28,7 @@ pub fn spelling_of(trace: &Trace, numbers: &[u64]) -> Spelling {
     let mut common = Common {
         low: u64::MAX,
         high: 0,
-        thread: first_thread(trace, numbers),
+        thread: thread_of(trace, numbers.first().copied().unwrap_or(0)),
         is_one_thread: true,
     };
     for number in numbers {
@@ -39,17 +40,6 @@ pub fn spelling_of(trace: &Trace, numbers: &[u64]) -> Spelling {
     Spelling {
         digits: digits_of(common.low, common.high),
         with_thread: !common.is_one_thread,
-    }
-}
-
-// The thread of the first event.
-fn first_thread(trace: &Trace, numbers: &[u64]) -> u8 {
-    let Some(number) = numbers.first() else {
-        return 0;
-    };
-    match trace.get(*number) {
-        Some(event) => event.thread,
-        None => 0,
     }
 }
 

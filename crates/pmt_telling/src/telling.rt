@@ -84,6 +84,19 @@ pub fn line_of_store(trace: &Trace, number: u64) -> u64 {
     }
 }
 
+// The thread of the event; 0 where the trace has no such one.
+pub(crate) fn thread_of(trace: &Trace, number: u64) -> u8 {
+    match trace.get(number) {
+        Some(event) => event.thread,
+        None => 0,
+    }
+}
+
+// The number behind that of the last event.
+pub(crate) fn end_of(trace: &Trace) -> u64 {
+    (trace.len() as u64).saturating_add(1)
+}
+
 /// Whether the event is a flush or a fence that does nothing.
 pub fn does_nothing(told: &Telling<'_>, number: u64) -> bool {
     let dropped = told.explanation.dropped.as_slice();
