@@ -1,7 +1,7 @@
 -- Lines that are held until all have come.
 use Rattle.std.proofs.Common.{◌≡◌, ℕ, ◌+◌, ◌-◌, ◌≤◌, List, [], ◌∷◌, ◌++◌, length, take, drop, sum, refl, sym, ap, ap₂, ◌∙◌, arith, append_assoc, length-append, length-drop}
-use Rattle.std.proofs.Math.Seq.{take-add}
-use Rattle.std.proofs.lemmas.List.{drop-append-le, drop-drop, take-append-le}
+use Rattle.std.proofs.Math.Seq.{drop-append_seam, take-add}
+use Rattle.std.proofs.lemmas.List.{drop-append-le, drop-drop, length-take-le, take-append-le, take_all}
 use Rattle.std.proofs.lemmas.List.Sums.{sum_by-append, sum_by-cons}
 use Rattle.pmt_trimming.specs.LineQueues.{cut_by, AreHeld, run_text}
 use Rattle.pmt_trimming.proofs.QueueLemmas.{queue-more}
@@ -70,3 +70,37 @@ held-all end from at left lengths longer bytes longest ns more held lengths_are 
     (ap (drop left) lengths_are ∙ drop-append-le left lengths ns held.some)
     (ap (drop at) bytes_are ∙ drop-append-le at bytes more (omega (arith, held.cut)))
     ∙ cut-all (drop left lengths) (drop at bytes) ns more (omega (arith, held.cut, length-drop at bytes))
+
+-- ---- The bytes before the run are gone
+
+take-closed : (end from : ℕ) (old : List ℕ) → end ≤ length old → take end (take end old ++ drop from old) ≡ take end old
+take-closed end from old within =
+    let size : length (take end old) ≡ end = length-take-le end old within in
+    take-append-le end (take end old) (drop from old) (omega (arith, size)) ∙ take_all end (take end old) (omega (arith, size))
+
+drop-closed : (end from : ℕ) (old : List ℕ) → end ≤ length old → drop end (take end old ++ drop from old) ≡ drop from old
+drop-closed end from old within =
+    let size : length (take end old) ≡ end = length-take-le end old within in
+    ap (λ (n : ℕ). drop n (take end old ++ drop from old)) (sym size) ∙ drop-append_seam (take end old) (drop from old)
+
+pub run-closed : (end from at : ℕ) (old new : List ℕ) → end ≤ from → from ≤ at → at ≤ length old → new ≡ take end old ++ drop from old → run_text end end (at - (from - end)) new ≡ run_text end from at old
+run-closed end from at old new before whole within is =
+    let some : end ≤ length old = omega arith in
+    let first : take end new ≡ take end old = ap (take end) is ∙ take-closed end from old some in
+    let rest : drop end new ≡ drop from old = ap (drop end) is ∙ drop-closed end from old some in
+    let size : at - (from - end) - end ≡ at - from = omega arith in
+    ap₂ (λ (xs ys : List ℕ). xs ++ ys) first (ap₂ (λ (n : ℕ) (ys : List ℕ). take n ys) size rest)
+
+pub rest-closed : (end from at : ℕ) (old new : List ℕ) → end ≤ from → from ≤ at → at ≤ length old → new ≡ take end old ++ drop from old → drop (at - (from - end)) new ≡ drop at old
+rest-closed end from at old new before whole within is =
+    let some : end ≤ length old = omega arith in
+    let rest : drop end new ≡ drop from old = ap (drop end) is ∙ drop-closed end from old some in
+    let seam : end + (at - from) ≡ at - (from - end) = omega arith in
+    let back : from + (at - from) ≡ at = omega arith in
+    ap (λ (n : ℕ). drop n new) (sym seam) ∙ sym (drop-drop (at - from) end new) ∙ ap (drop (at - from)) rest ∙ drop-drop (at - from) from old ∙ ap (λ (n : ℕ). drop n old) back
+
+pub size-closed : (end from at : ℕ) (old new : List ℕ) → end ≤ from → from ≤ at → at ≤ length old → new ≡ take end old ++ drop from old → at - (from - end) + length old ≡ at + length new
+size-closed end from at old new before whole within is =
+    let some : end ≤ length old = omega arith in
+    let many : length new ≡ end + (length old - from) = ap length is ∙ length-append (take end old) (drop from old) ∙ ap₂ (λ (m n : ℕ). m + n) (length-take-le end old some) (length-drop from old) in
+    omega (arith, many)

@@ -13,7 +13,7 @@ use Rattle.pmt_laws.proofs.DecidedLemmas.{open_is_dropped}
 use Rattle.pmt_trimming.specs.declared.pass.Mark.{Mark}
 use Rattle.pmt_trimming.specs.declared.pass.Mark.TheVariants as marks
 use Rattle.pmt_trimming.specs.declared.pass.Pass.{Pass}
-use Rattle.pmt_trimming.specs.Passing.{TellsMark, AreMarks, decision_by, flag_by, HasJudged, IsPassOf, Settles, AreFlags}
+use Rattle.pmt_trimming.specs.Passing.{AreDecidedFrom, TellsMark, AreMarks, decision_by, flag_by, HasJudged, IsPassOf, Settles, AreFlags}
 
 -- the first mark, if there is one
 pub first-is : (list : List Mark) (m : Mark) → Some m ≡ slice_get list 0 → (0 < length list) × (m ≡ get_or list 0 m)
@@ -36,7 +36,7 @@ settles-none T p m some read none before = go m none (first-told T p.settled p.m
     go marks.Kept e o = absurd (cc)
     go marks.Dropped e o = absurd (cc)
 
-decided-first : (T : Recording) (k : ℕ) (m : Mark) (kept : Bool) → decision_by m ≡ Some kept → TellsMark T k m → IsDecided T k × ((kept ≡ true) ↔ IsKept T k)
+pub decided-first : (T : Recording) (k : ℕ) (m : Mark) (kept : Bool) → decision_by m ≡ Some kept → TellsMark T k m → IsDecided T k × ((kept ≡ true) ↔ IsKept T k)
 decided-first T k marks.Open kept e told = absurd (cc)
 decided-first T k marks.Kept kept e told = (told.0, ((λ same. told.1), (λ is. sym (same_Some true kept e))))
 decided-first T k marks.Dropped kept e told = (told.0, ((λ same. absurd (true≢false (sym same ∙ sym (same_Some false kept e)))), (λ is. absurd (told.1 is))))
@@ -70,6 +70,22 @@ passing-less T p q m kept some read is before format lines dropped settled = rec
     early k h (inl late) =
         let e : suc p.settled ≡ k = omega (arith, settled) in
         subst (IsDecided T) e (decided-first T (suc p.settled) m kept is (first-told T p.settled p.marks.items m some read before.marks)).0
+
+-- ---- Many events are given out
+
+get-drop-many : (n : ℕ) (list : List Mark) (i : ℕ) → slice_get (drop n list) i ≡ slice_get list (n + i)
+get-drop-many zero list i = let e : i ≡ 0 + i = omega arith in ap (λ (k : ℕ). slice_get list k) e
+get-drop-many (suc n) [] zero = let e : suc (n + 0) ≡ suc n + 0 = omega arith in ap (λ (k : ℕ). slice_get {X = Mark} [] k) e
+get-drop-many (suc n) [] (suc i) = let e : suc (n + suc i) ≡ suc n + suc i = omega arith in ap (λ (k : ℕ). slice_get {X = Mark} [] k) e
+get-drop-many (suc n) (x ∷ list) i = let e : suc (n + i) ≡ suc n + i = omega arith in get-drop-many n list i ∙ ap (λ (k : ℕ). slice_get (x ∷ list) k) e
+
+pub marks-left : (T : Recording) (settled count : ℕ) (list rest : List Mark) → rest ≡ drop count list → AreMarks T settled list → AreMarks T (settled + count) rest
+marks-left T settled count list rest is are i m at =
+    let e : suc (settled + (count + i)) ≡ suc (settled + count + i) = omega arith in
+    subst (λ k. TellsMark T k m) e (are (count + i) m (sym (get-drop-many count list i) ∙ ap (λ ms. slice_get ms i) (sym is) ∙ at))
+
+pub given-out : (T : Recording) (settled last : ℕ) → ((k : ℕ) → k ≤ settled → IsDecided T k) → AreDecidedFrom T settled last → (k : ℕ) → k ≤ last → IsDecided T k
+given-out T settled last before decided k h = elim (cases_lt settled k) [ inl late ↦ decided k late h | inr low ↦ before k low ]
 
 -- ---- An event that comes while none waits
 

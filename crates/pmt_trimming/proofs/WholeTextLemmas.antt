@@ -1,9 +1,12 @@
 -- The whole text at the end of a source, and a fault before it.
-use Rattle.std.proofs.Common.{◌≡◌, ◌≢◌, ℕ, ◌+◌, ◌≤◌, inl, List, [], ◌++◌, length, Option, None, Some, Result, Ok, Err, refl, sym, ap, subst, ◌∙◌, arith, length-append}
+use Rattle.std.proofs.Common.{◌≡◌, ◌≢◌, ℕ, suc, ◌+◌, ◌<◌, ◌≤◌, ◌⊎◌, inl, inr, Bool, List, [], ◌++◌, length, get_or, Option, None, Some, Result, Ok, Err, refl, sym, ap, subst, ◌∙◌, arith, length-append}
 use Rattle.std.specs.Prelude.{IfErr, IfSome}
+use Rattle.std.proofs.lemmas.Bool.{cases_lt}
+use Rattle.std.proofs.lemmas.Option.{slice_get-get_or}
 use Rattle.pmt_model.specs.declared.event.Event.{Event}
 use Rattle.pmt_model.specs.Traces.{Recording}
 use Rattle.pmt_model.specs.Pushing.{empty, with_events}
+use Rattle.pmt_laws.specs.Passing.{IsDecided}
 use Rattle.pmt_text.specs.declared.kind.SourceError.{SourceError}
 use Rattle.pmt_text.specs.declared.kind.SourceError.TheVariants.{Text, TooMany, Read, OutOfMemory, Failed}
 use Rattle.pmt_text.specs.declared.source.SourceState.{SourceState}
@@ -17,8 +20,13 @@ use Rattle.pmt_text.proofs.SourceLemmas.{Gives-trans}
 use Rattle.pmt_taking.specs.Blocks.{Shown}
 use Rattle.pmt_taking.proofs.SourceRunLemmas.{SameReads, SoFar}
 use Rattle.pmt_trimming.specs.Streaming.{IsTextOfTrimmed}
-use Rattle.pmt_trimming.specs.WholeTexts.{IsTextOfWhole}
+use Rattle.pmt_trimming.specs.LineQueues.{Queued, Pops}
+use Rattle.pmt_trimming.specs.Passing.{AreDecidedFrom, AreMarks, Settles, decision_by}
+use Rattle.pmt_trimming.specs.WholeTexts.{HasLeftTo, IsHeldAt, IsTextOfWhole}
+use Rattle.pmt_trimming.specs.declared.pass.Mark.{Mark}
 use Rattle.pmt_trimming.proofs.FlowEnds.{comes-over}
+use Rattle.pmt_trimming.proofs.SettlingLemmas.{decided-first}
+use Rattle.pmt_trimming.proofs.StreamLemmas.{left-popped}
 
 -- the events that were ready, where the trace had none
 ready-events : (before after : Recording) (old new : Option Coming) (lent : Option (List ℕ)) → before.events ≡ [] → (ready : TakesReady old new lent before after) → after.events ≡ ready.events
@@ -92,3 +100,43 @@ refused-counted {B = B} first now T new r so_far same refused =
     go : (old : Option ℕ) → SameReads old new → CountsReads {T = Unit {0}} old (Ok tt) new
     go None reads = tt
     go (Some n) reads = let e : n ≡ n + 0 = omega arith in reads ∙ ap (λ (k : ℕ). Some k) e
+
+-- ---- What is decided leaves
+
+-- a mark that tells a decision
+mark-settles : (T : Recording) (place i : ℕ) (ms : List Mark) (d : Mark) (kept : Bool) → i < length ms → decision_by (get_or ms i d) ≡ Some kept → place + length ms ≤ length T.events → AreMarks T place ms →
+    Settles T (place + i) (Some kept) (place + (i + 1))
+mark-settles T place i ms d kept within is many are =
+    let first = decided-first T (suc (place + i)) (get_or ms i d) kept is (are i (get_or ms i d) (slice_get-get_or ms i d within)) in
+    (omega arith, omega (arith, many, within), first.0, first.1)
+
+-- its line leaves
+pub held-popped : (T : Recording) (place i : ℕ) (ms : List Mark) (d : Mark) (kept : Bool) (o : Option Bool) (old new : Queued) → i < length ms → o ≡ decision_by (get_or ms i d) → o ≡ Some kept →
+    place + length ms ≤ length T.events → AreMarks T place ms → Pops old.lines kept old.text new.lines new.text → HasLeftTo T (place + i) old → HasLeftTo T (place + (i + 1)) new
+held-popped T place i ms d kept o old new within is some many are pops left =
+    let settles = mark-settles T place i ms d kept within (sym is ∙ some) many are in
+    let popped = left-popped T (place + i) (place + (i + 1)) kept (Some kept) left.0 old.lines new.lines [] old.text new.text refl settles left.1.lines pops left.1.left in
+    (popped.0, record { lines = popped.1; left = popped.2 })
+
+-- and its event is decided
+pub decided-more : (T : Recording) (place i : ℕ) (ms : List Mark) (d : Mark) (kept : Bool) (o : Option Bool) → i < length ms → o ≡ decision_by (get_or ms i d) → o ≡ Some kept → AreMarks T place ms →
+    AreDecidedFrom T place (place + i) → AreDecidedFrom T place (place + (i + 1))
+decided-more T place i ms d kept o within is some are before k low high = go (cases_lt (place + i) k)
+  where
+    go : ((place + i) < k) ⊎ (k ≤ (place + i)) → IsDecided T k
+    go (inr early) = before k low early
+    go (inl late) =
+        let e : suc (place + i) ≡ k = omega (arith, late, high) in
+        subst (IsDecided T) e (decided-first T (suc (place + i)) (get_or ms i d) kept (sym is ∙ some) (are i (get_or ms i d) (slice_get-get_or ms i d within))).0
+
+-- none has left yet
+pub none-gone : (T : Recording) (place : ℕ) (waiting : List Event) (q : Queued) → IsHeldAt T place waiting q → HasLeftTo T (place + 0) q
+none-gone T place waiting q held = let e : place ≡ place + 0 = omega arith in subst (λ (n : ℕ). HasLeftTo T n q) e (waiting, held)
+
+-- all have
+pub all-gone : (T : Recording) (place i many : ℕ) (q : Queued) → i ≡ many → HasLeftTo T (place + i) q → HasLeftTo T (place + many) q
+all-gone T place i many q is left = subst (λ (n : ℕ). HasLeftTo T (place + n) q) is left
+
+-- the room of what is gone is had again
+pub whole-after : (T : Recording) (settled next : ℕ) (waiting : List Event) (old new : Queued) → new ≡ old → next ≡ settled → IsHeldAt T settled waiting old → IsHeldAt T next waiting new
+whole-after T settled next waiting old new same place held = subst (λ (q : Queued). IsHeldAt T next waiting q) (sym same) (subst (λ (n : ℕ). IsHeldAt T n waiting old) (sym place) held)

@@ -1,5 +1,5 @@
 -- What a pass over the events of a trace keeps, and what it tells.
-use Rattle.std.specs.Prelude.{◌≡◌, ℕ, suc, ◌+◌, ◌≤◌, ◌⊎◌, ◌↔◌, Bool, true, false, List, length, Option, Some, None, slice_get}
+use Rattle.std.specs.Prelude.{◌≡◌, ℕ, suc, ◌+◌, ◌<◌, ◌≤◌, ◌⊎◌, ◌↔◌, Bool, true, false, List, length, Option, Some, None, slice_get}
 use Rattle.pmt_model.specs.Traces.{Recording, history}
 use Rattle.pmt_model.specs.Keeping.{IsKept}
 use Rattle.pmt_laws.specs.Passing.{IsOpenFlush, IsDecided}
@@ -55,6 +55,10 @@ pub record HasJudged (T : Recording) (p : Pass) (mark : Mark) : Type 0 where
 -- It has taken the events of some trace.
 abbrev pub IsPassing : Pass → Type 0
 IsPassing p = (T : Recording) × IsPassOf T p
+
+-- The events between these are decided.
+abbrev pub AreDecidedFrom : Recording → ℕ → ℕ → Type 0
+AreDecidedFrom T before last = (k : ℕ) → before < k → k ≤ last → IsDecided T k
 
 -- How many events it has taken.
 abbrev pub taken : Pass → ℕ

@@ -2,7 +2,8 @@
 ghost use Rattle.std.specs.Prelude.{◌≡◌, ◌+◌, ◌<◌, ◌≤◌, [], ◌∷◌, ◌++◌, length, sum, take, drop, OnOk};
 ghost use Rattle.pmt_trimming.specs.LineQueues.{AreHeld, IsRun, Pops, cut_by, kept_text, run_text};
 
-use crate::line_queue::move_down;
+use crate::line_queue::{close_gap, move_down};
+use crate::marks::given_up;
 use pmt_model::OutOfMemory;
 use std::alloc::Global;
 use std::marker::Model;
@@ -15,8 +16,11 @@ pub(crate) struct Run {
     at: usize,
 }
 
-/// A text, and after it lines of at most 255 bytes, the first of which leaves first: it ends the text then, or is gone. Room is given up
-/// at the end alone, so they are best held until all have come.
+/// The room of lines that are gone is given up only from so many bytes on.
+const KEPT_ROOM: usize = 4096;
+
+/// A text, and after it lines of at most 255 bytes, the first of which leaves first: it ends the text then, or is gone. The room of lines
+/// that are gone is had again by `give_up_room`.
 #[derive(Drop)]
 pub(crate) struct HeldLines {
     bytes: Vec<u8>,
@@ -93,6 +97,15 @@ impl HeldLines {
         self.left += 1;
     }
 
+    // Gives up the room of lines that are gone, where it is much and no less than what stands after it: so a byte is moved a bounded
+    // number of times.
+    pub(crate) fn give_up_room(&mut self)
+        ensures { self.new ≡ self.old }
+    {
+        self.run = closed(&mut self.bytes, self.run);
+        self.left = given_up(&mut self.lengths, self.left);
+    }
+
     // The text.
     pub(crate) fn into_text(self) -> Vec<u8>
         ensures { result.items ≡ self.text }
@@ -135,5 +148,26 @@ fn past(bytes: &mut Vec<u8>, run: Run, len: usize, kept: bool) -> Run
         end: run.end + size,
         from: at,
         at,
+    }
+}
+
+// The run once the bytes before it are gone, if they are many and no fewer than those from there on.
+fn closed(bytes: &mut Vec<u8>, run: Run) -> Run
+    requires run { IsRun run.end run.from run.at }
+    requires within { run.at ≤ length bytes.old.items }
+    ensures run { IsRun result.end result.from result.at }
+    ensures text { run_text result.end result.from result.at bytes.new.items ≡ run_text run.end run.from run.at bytes.old.items }
+    ensures rest { drop result.at bytes.new.items ≡ drop run.at bytes.old.items }
+    ensures size { result.at + length bytes.old.items ≡ run.at + length bytes.new.items }
+{
+    let gap = run.from - run.end;
+    if gap < KEPT_ROOM || gap < bytes.len() - run.from {
+        return run;
+    }
+    close_gap(bytes, run.end, run.from);
+    Run {
+        end: run.end,
+        from: run.end,
+        at: run.at - gap,
     }
 }

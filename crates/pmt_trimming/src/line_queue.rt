@@ -145,7 +145,7 @@ pub(crate) fn move_down(bytes: &mut Vec<u8>, end: usize, start: usize, len: usiz
 }
 
 // The bytes between the text and the start are gone.
-fn close_gap(bytes: &mut Vec<u8>, end: usize, start: usize)
+pub(crate) fn close_gap(bytes: &mut Vec<u8>, end: usize, start: usize)
     requires before { end ≤ start }
     requires within { start ≤ length bytes.old.items }
     ensures { bytes.new.items ≡ take end bytes.old.items ++ drop start bytes.old.items }

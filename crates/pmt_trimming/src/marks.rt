@@ -82,6 +82,14 @@ impl Marks {
         self.list[self.left + index] = mark;
     }
 
+    // The first marks leave, so many.
+    pub(crate) fn leave(&mut self, count: usize)
+        requires { count ≤ length self.old.items }
+        ensures { self.new.items ≡ drop count self.old.items }
+    {
+        self.left = given_up(&mut self.list, self.left + count);
+    }
+
     // The first mark leaves.
     #[inline(always)]
     pub(crate) fn pop(&mut self)
@@ -93,9 +101,9 @@ impl Marks {
     }
 }
 
-// Gives up the room of the marks that have left, so many, where they are all or many and most: how many are there still.
+// Gives up the room of the items that have left, so many, where they are all or many and most: how many are there still.
 #[inline(always)]
-fn given_up(list: &mut Vec<Mark>, left: usize) -> usize
+pub(crate) fn given_up<T: Copy>(list: &mut Vec<T>, left: usize) -> usize
     requires { left ≤ length list.old.items }
     ensures within { result ≤ length list.new.items }
     ensures rest { drop result list.new.items ≡ drop left list.old.items }
@@ -107,8 +115,8 @@ fn given_up(list: &mut Vec<Mark>, left: usize) -> usize
     left
 }
 
-// The first marks are gone, so many.
-fn drop_first(list: &mut Vec<Mark>, left: usize)
+// The first items are gone, so many.
+fn drop_first<T: Copy>(list: &mut Vec<T>, left: usize)
     requires { left ≤ length list.old.items }
     ensures { list.new.items ≡ drop left list.old.items }
 {
@@ -117,8 +125,8 @@ fn drop_first(list: &mut Vec<Mark>, left: usize)
     list.truncate(len);
 }
 
-// Moves so many marks from this place to the front.
-fn move_first(list: &mut Vec<Mark>, left: usize, len: usize)
+// Moves so many items from this place to the front.
+fn move_first<T: Copy>(list: &mut Vec<T>, left: usize, len: usize)
     requires { left + len ≤ length list.old.items }
     ensures items { take len list.new.items ≡ take len (drop left list.old.items) }
     ensures size { length list.new.items ≡ length list.old.items }

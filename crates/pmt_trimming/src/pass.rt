@@ -7,7 +7,7 @@ ghost use Rattle.pmt_model.specs.Traces.{Recording, act, event_limit};
 ghost use Rattle.pmt_model.specs.Values.{Written};
 ghost use Rattle.pmt_model.specs.declared.event.Event.{Event};
 ghost use Rattle.pmt_live.specs.Fencing.{number_of};
-ghost use Rattle.pmt_trimming.specs.Passing.{HasJudged, IsPassOf, IsPassing, taken, Settles, AreFlags, AreMarks, mark_from, decision_by, flag_by};
+ghost use Rattle.pmt_trimming.specs.Passing.{AreDecidedFrom, HasJudged, IsPassOf, IsPassing, taken, Settles, AreFlags, AreMarks, mark_from, decision_by, flag_by};
 ghost use Rattle.pmt_trimming.specs.Fencing.{HaveMarks, AreDecided};
 
 use crate::marks::Marks;
@@ -189,6 +189,17 @@ impl Pass {
         }
     }
 
+    /// Gives out so many events, the oldest first. They are decided.
+    pub(crate) fn give_out(&mut self, count: usize)
+        requires within { count ≤ length self.old.marks.items }
+        requires room { self.old.settled + count ≤ event_limit }
+        ensures passing { (T : Recording) → IsPassOf T self.old → AreDecidedFrom T self.old.settled (self.old.settled + count) → IsPassOf T self.new }
+        ensures settled { self.new.settled ≡ self.old.settled + count }
+    {
+        self.marks.leave(count);
+        self.settled += count as u64;
+    }
+
     /// Of each event that was not given out, the oldest first, whether it is kept if the trace ends here: open flushes are not.
     ///
     /// # Errors
@@ -215,7 +226,8 @@ fn mark_of(kept: bool) -> Mark
 }
 
 // Whether an event with this mark is kept, if that is decided.
-fn decision(mark: Mark) -> Option<bool>
+#[inline(always)]
+pub(crate) fn decision(mark: Mark) -> Option<bool>
     ensures { result ≡ decision_by mark }
 {
     match mark {

@@ -1,19 +1,20 @@
 //! The trimmer that gives the whole text.
-ghost use Rattle.std.specs.Prelude.{◌≡◌, ◌+◌, ◌++◌, ◌∷◌, [], ◌<◌, ◌≤◌, Bool, List, length, map, Some, IfOk, IfErr, IfSome, OnOk, vec_capacity, vec_len};
+ghost use Rattle.std.specs.Prelude.{◌≡◌, ℕ, ◌+◌, ◌++◌, ◌∷◌, [], ◌<◌, ◌≤◌, Bool, List, length, map, Some, IfOk, IfErr, IfSome, OnOk, vec_capacity, vec_len};
 ghost use Rattle.std.specs.List.{flat_map};
 ghost use Rattle.pmt_model.specs.Pushing.{empty, with_event, with_events};
+ghost use Rattle.pmt_model.specs.declared.event.Event.{Event};
 ghost use Rattle.pmt_model.specs.Traces.{Recording, event_limit};
 ghost use Rattle.pmt_text.specs.Spelling.{event_text};
 ghost use Rattle.pmt_text.specs.Sources.{CountsReads, LendsAll};
 ghost use Rattle.pmt_taking.specs.Sourcing.{IsFaultOf, TellsTaken, told_by};
 ghost use Rattle.pmt_trimming.specs.LineQueues.{kept_texts};
-ghost use Rattle.pmt_trimming.specs.Passing.{IsPassOf, IsPassing, flag_by, taken};
+ghost use Rattle.pmt_trimming.specs.Passing.{AreDecidedFrom, AreMarks, IsPassOf, IsPassing, flag_by, taken};
 ghost use Rattle.pmt_trimming.specs.Streaming.{IsTextOfTrimmed};
-ghost use Rattle.pmt_trimming.specs.WholeTexts.{IsTextOfWhole, IsWhole, IsWholeOf};
+ghost use Rattle.pmt_trimming.specs.WholeTexts.{HasLeftTo, IsHeldAt, IsTextOfWhole, IsWhole, IsWholeOf};
 
 use crate::held_lines::HeldLines;
 use crate::line_len::line_len;
-use crate::pass::{Mark, Pass, flag};
+use crate::pass::{Mark, Pass, decision, flag};
 use pmt_model::{Event, Format, OutOfMemory, Trace};
 use pmt_taking::TakeError;
 use pmt_text::EventSource;
@@ -23,7 +24,8 @@ use std::alloc::Global;
 /// The most events of a block: a read gives about a hundred.
 const BLOCK_ROOM: usize = 512;
 
-/// The text of the trimmed trace whose events the source has still to give. Memory is that of the text of all that comes.
+/// The text of the trimmed trace whose events the source has still to give. Memory is that of this text, and of the lines that wait for a
+/// fence and those after them.
 ///
 /// # Errors
 /// `Source` with the fault that the source told, or with `Failed` where it had told a fault before. `OutOfMemory` where memory was
@@ -56,7 +58,7 @@ fn emptied(alloc: Global, block: Trace) -> Result<Trace, OutOfMemory>
     Trace::with_room(alloc, block.format(), BLOCK_ROOM)
 }
 
-/// The header, and the lines of all events that have come.
+/// The header and the lines that are kept of the events that have left, and the lines of those that have not.
 #[derive(Drop)]
 pub(crate) struct Whole {
     pub(crate) pass: Pass,
@@ -89,8 +91,25 @@ impl Whole {
         Ok(())
     }
 
-    // The next events come, perhaps with their lines, which are not spelled again then.
+    // The next events come, perhaps with their lines, which are not spelled again then. Those that are decided leave.
     fn take_all(
+        &mut self,
+        alloc: Global,
+        events: &[Event],
+        lines: Option<&[u8]>,
+    ) -> Result<(), OutOfMemory>
+        requires whole { IsWhole self.old }
+        requires lines { IfSome lines (λ bytes. LendsAll events.now (Some bytes.now)) }
+        requires room { taken self.old.pass + length events.now ≤ event_limit }
+        ensures { (T : Recording) → IsWholeOf T self.old → OnOk result (IsWholeOf (with_events T events.now) self.new) }
+    {
+        self.take_block(alloc, events, lines)?;
+        self.leave();
+        Ok(())
+    }
+
+    // The same, and none leave.
+    fn take_block(
         &mut self,
         alloc: Global,
         events: &[Event],
@@ -137,6 +156,18 @@ impl Whole {
         Ok(())
     }
 
+    // The events before the first flush whose thread has not fenced since leave.
+    #[inline(never)]
+    fn leave(&mut self)
+        requires whole { IsWhole self.old }
+        requires room { taken self.old.pass ≤ event_limit }
+        ensures { (T : Recording) → IsWholeOf T self.old → IsWholeOf T self.new }
+    {
+        let count = pop_decided(&mut self.held, self.pass.marks());
+        self.pass.give_out(count);
+        self.held.give_up_room();
+    }
+
     // All has come: the text of the kept events.
     fn into_text(self) -> Vec<u8>
         ensures { (T : Recording) → IsWholeOf T self → IsTextOfTrimmed T result.items }
@@ -145,6 +176,22 @@ impl Whole {
         pop_kept(&mut held, pass.marks());
         held.into_text()
     }
+}
+
+// The lines before the first whose mark is that of an open flush leave: how many these are.
+#[inline(always)]
+fn pop_decided(held: &mut HeldLines, marks: &[Mark]) -> usize
+    ensures within { result ≤ length marks.now }
+    ensures left { (T : Recording) (place : ℕ) (waiting : List Event) → AreMarks T place marks.now → place + length marks.now ≤ length T.events → IsHeldAt T place waiting held.old → HasLeftTo T (place + result) held.new }
+    ensures decided { (T : Recording) (place : ℕ) → AreMarks T place marks.now → AreDecidedFrom T place (place + result) }
+{
+    for index in 0..marks.len() {
+        match decision(marks[index]) {
+            Some(kept) => held.pop(kept),
+            None => return index,
+        }
+    }
+    marks.len()
 }
 
 // Puts the lines whose mark is that of a kept event at the end of the text.

@@ -1,0 +1,12 @@
+use Rattle.std.proofs.Common.{ℕ, ◌+◌, ◌≤◌, List, length}
+use Rattle.pmt_model.specs.declared.event.Event.{Event}
+use Rattle.pmt_model.specs.Traces.{Recording}
+use Rattle.pmt_trimming.specs.Passing.{AreDecidedFrom, AreMarks}
+use Rattle.pmt_trimming.specs.WholeTexts.{HasLeftTo, IsHeldAt}
+use Rattle.pmt_trimming.proofs.whole_text.pop_decided.Given as goal
+
+abbrev pub invariant-loop-index : goal.invariant-loop-index
+invariant-loop-index l =
+    (l.index ≤ length l.marks)
+    × ((T : Recording) (place : ℕ) (waiting : List Event) → AreMarks T place l.marks → place + length l.marks ≤ length T.events → IsHeldAt T place waiting l.fn.held → HasLeftTo T (place + l.index) l.held)
+    × ((T : Recording) (place : ℕ) → AreMarks T place l.marks → AreDecidedFrom T place (place + l.index))
