@@ -1,3 +1,4 @@
+mod NotedLemmas
 mod MarkingLemmas
 mod MarkedLemmas
 mod LostLemmas

@@ -1,3 +1,4 @@
+pub mod Noting
 pub mod Late
 pub mod SafePlaces
 pub mod Entries

@@ -7,9 +7,10 @@ ghost use Rattle.pmt_ending.specs.SafePlaces.{AreSafePlaces};
 
 use crate::lost::lost_stores;
 use crate::marking::mark_lost;
+use crate::noted::Noted;
 use crate::safe_places::SafePlaces;
 use pmt_known::{Ends, Known};
-use pmt_model::{Finding, OutOfMemory};
+use pmt_model::OutOfMemory;
 use std::alloc::Global;
 
 /// What is known of a trace once it has ended.
@@ -18,7 +19,7 @@ pub struct Ended {
     /// How many lines are stored or flushed.
     pub lines: usize,
     /// The stores that are never persisted, in report order.
-    pub lost: Vec<Finding>,
+    pub lost: Vec<Noted>,
     /// From which place on each other store is safe.
     pub safe: SafePlaces,
 }

@@ -5,6 +5,7 @@ ghost use Rattle.pmt_ending.specs.Entries.{AreLostAfter, AreMarked, lost_at};
 ghost use Rattle.pmt_ending.specs.Late.{AreKnownLate};
 
 use crate::entry::{FLUSHED, tells_lost};
+use crate::noted::{Noted, note};
 use pmt_model::{Finding, OutOfMemory};
 use std::alloc::Global;
 
@@ -13,7 +14,7 @@ pub(crate) fn lost_stores(
     alloc: Global,
     entries: &[u32],
     before: u32,
-) -> Result<Vec<Finding>, OutOfMemory>
+) -> Result<Vec<Noted>, OutOfMemory>
     ensures { IfOk result (λ lost. (T : Recording) → AreMarked T entries.now → AreLostAfter T before → AreKnownLate T lost.items) }
 {
     let mut lost = Vec::new(alloc);
@@ -24,12 +25,12 @@ pub(crate) fn lost_stores(
 }
 
 // Adds that the event with this number is never persisted, if its entry tells so.
-fn push_lost(lost: &mut Vec<Finding>, event: u64, entry: u32) -> Result<(), OutOfMemory>
+fn push_lost(lost: &mut Vec<Noted>, event: u64, entry: u32) -> Result<(), OutOfMemory>
     ensures { OnOk result (lost.new.items ≡ lost.old.items ++ lost_at event entry) }
 {
     if tells_lost(entry) {
         let flushed = entry == FLUSHED;
-        lost.push(Finding::NeverPersisted { event, flushed })?;
+        note(lost, Finding::NeverPersisted { event, flushed })?;
     }
     Ok(())
 }

@@ -3,31 +3,32 @@ ghost use Rattle.std.specs.Prelude.{◌≡◌, [], ◌++◌, OnOk};
 ghost use Rattle.pmt_model.specs.declared.finding.Finding.TheVariants.{Overwritten};
 ghost use Rattle.pmt_pass.specs.Adding.{found_if, overwritten, with_verdict};
 
+use pmt_ending::{Noted, note};
 use pmt_model::{Finding, OutOfMemory, Verdict};
 use pmt_words::Overwrite;
 
 // Adds the finding, if it is one.
 #[inline(always)]
 pub(crate) fn push_if(
-    found: &mut Vec<Finding>,
+    found: &mut Vec<Noted>,
     is_one: bool,
     finding: Finding,
 ) -> Result<(), OutOfMemory>
     ensures { OnOk result (found.new.items ≡ found.old.items ++ found_if is_one finding) }
 {
     if is_one {
-        found.push(finding)?;
+        note(found, finding)?;
     }
     Ok(())
 }
 
 // Adds that these stores are overwritten.
 #[inline(always)]
-fn push_overwritten(found: &mut Vec<Finding>, over: &[Overwrite]) -> Result<(), OutOfMemory>
+fn push_overwritten(found: &mut Vec<Noted>, over: &[Overwrite]) -> Result<(), OutOfMemory>
     ensures { OnOk result (found.new.items ≡ found.old.items ++ overwritten over.now) }
 {
     for index in 0..over.len() {
-        found.push(finding_of(over[index]))?;
+        note(found, finding_of(over[index]))?;
     }
     Ok(())
 }
@@ -35,7 +36,7 @@ fn push_overwritten(found: &mut Vec<Finding>, over: &[Overwrite]) -> Result<(), 
 // Adds that these stores are overwritten, and leaves none of them.
 #[inline(always)]
 pub(crate) fn move_overwritten(
-    found: &mut Vec<Finding>,
+    found: &mut Vec<Noted>,
     over: &mut Vec<Overwrite>,
 ) -> Result<(), OutOfMemory>
     ensures found { OnOk result (found.new.items ≡ found.old.items ++ overwritten over.old.items) }

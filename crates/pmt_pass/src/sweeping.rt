@@ -12,7 +12,7 @@ ghost use Rattle.pmt_pass.specs.Passing.{HasSwept, IsPassOf};
 
 use crate::adding::{move_overwritten, push_if, push_verdict};
 use crate::joining::joined;
-use pmt_ending::{Ended, SafePlaces};
+use pmt_ending::{Ended, Noted, SafePlaces};
 use pmt_known::Known;
 use pmt_model::{Event, Finding, Format, Op, OutOfMemory, Trace, Verdict, WordStore, line_of};
 use pmt_verdicts::verdict;
@@ -25,7 +25,7 @@ pub struct Swept {
     /// How many lines are stored or flushed.
     pub lines: usize,
     /// The findings in report order.
-    pub findings: Vec<Finding>,
+    pub findings: Vec<Noted>,
     /// The verdicts of the assertions, in event order.
     pub verdicts: Vec<Verdict>,
     /// Of each event, whether it is kept.
@@ -58,7 +58,7 @@ pub struct Sweeper {
     format: Format,
     known: Known,
     // What is found, apart from stores that are never persisted.
-    found: Vec<Finding>,
+    found: Vec<Noted>,
     // The stores that a store overwrites: none once they are found.
     over: Vec<Overwrite>,
     // Of each event that has come, whether it is kept, as far as that is decided: a flush is not while it waits for a fence.

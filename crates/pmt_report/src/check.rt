@@ -13,6 +13,7 @@ use crate::checked::{CheckedTrace, checked};
 use crate::fault::RunError;
 use crate::report::{report_of, write_report};
 use pmt_analysis::Analysis;
+use pmt_ending::{Noted, all_noted};
 use pmt_flags::marked_count;
 use pmt_model::{Finding, OutOfMemory, Verdict};
 use pmt_pass::Swept;
@@ -79,7 +80,7 @@ fn write_found<W: Write>(
 fn is_failed(swept: &Swept) -> bool
     ensures { result ≡ (list_any is_failure swept.now.verdicts.items || list_any is_loss swept.now.findings.items) }
 {
-    some_fails(swept.verdicts.as_slice()) || some_is_lost(swept.findings.as_slice())
+    some_fails(swept.verdicts.as_slice()) || some_noted_is_lost(swept.findings.as_slice())
 }
 
 // The answer, where all went well.
@@ -101,11 +102,12 @@ fn answered(done: Result<(), RunError>, failed: bool) -> Result<bool, RunError>
 pub fn report_text(alloc: Global, analysis: &Analysis) -> Result<Vec<u8>, OutOfMemory>
     ensures { IfOk result (λ text. text.items ≡ report_for analysis.now) }
 {
+    let findings = all_noted(alloc, analysis.findings())?;
     report_of(
         alloc,
         analysis.trace().len() as u64,
         analysis.lines() as u64,
-        analysis.findings(),
+        findings.as_slice(),
         analysis.verdicts(),
         analysis.selection().len() as u64,
     )
@@ -130,6 +132,13 @@ fn some_is_lost(findings: &[Finding]) -> bool
     ensures { result ≡ list_any is_loss findings.now }
 {
     findings.iter().any(|finding| is_lost(*finding))
+}
+
+// The same, of findings in eight bytes.
+fn some_noted_is_lost(findings: &[Noted]) -> bool
+    ensures { result ≡ list_any is_loss findings.now }
+{
+    findings.iter().any(|noted| is_lost(noted.finding()))
 }
 
 // Whether the finding is a store that is never persisted.

@@ -5,6 +5,7 @@ ghost use Rattle.pmt_text.specs.Spelling.{numeral};
 ghost use Rattle.pmt_report.specs.Entries.{entries, finding_entry, finding_line, flushed_word, is_before, assertion_word, verdict_entry, verdict_word};
 ghost use Rattle.pmt_report.specs.Reports.{report_end, report_head};
 
+use pmt_ending::Noted;
 use pmt_model::{Finding, Verdict};
 use pmt_text::line_text::{LINE_ROOM, put, put_decimal, put_word};
 
@@ -47,9 +48,9 @@ pub(crate) fn spelled(line: &[u8; LINE_ROOM], start: usize) -> &[u8]
 #[inline(always)]
 pub(crate) fn spell_next<'a>(
     line: &mut [u8; LINE_ROOM],
-    findings: &'a [Finding],
+    findings: &'a [Noted],
     verdicts: &'a [Verdict],
-) -> (usize, &'a [Finding], &'a [Verdict])
+) -> (usize, &'a [Noted], &'a [Verdict])
     ensures within { result.0 ≤ 128 }
     ensures told { entries findings.now verdicts.now ≡ drop result.0 line.new ++ entries result.1.now result.2.now }
     ensures left { length result.1.now + length result.2.now ≡ length findings.now + length verdicts.now - 1 }
@@ -62,7 +63,7 @@ pub(crate) fn spell_next<'a>(
     }
     match findings {
         [finding, others @ ..] => {
-            let at = spell_finding(line, finding);
+            let at = spell_finding(line, finding.finding());
             (at, others, verdicts)
         }
         [] => (LINE_ROOM, findings, verdicts),
@@ -71,7 +72,7 @@ pub(crate) fn spell_next<'a>(
 
 // Whether the verdict stands before all of these findings, which are in report order.
 #[inline(always)]
-fn is_before(verdict: &Verdict, findings: &[Finding]) -> bool
+fn is_before(verdict: &Verdict, findings: &[Noted]) -> bool
     ensures { result ≡ is_before verdict.now findings.now }
 {
     match findings {
@@ -93,11 +94,11 @@ fn spell_verdict(line: &mut [u8; LINE_ROOM], verdict: &Verdict) -> usize
 
 // Spells the entry of a finding.
 #[inline(always)]
-fn spell_finding(line: &mut [u8; LINE_ROOM], finding: &Finding) -> usize
-    ensures { Puts line.old 128 (finding_entry finding.now) 57 result line.new }
+fn spell_finding(line: &mut [u8; LINE_ROOM], finding: Finding) -> usize
+    ensures { Puts line.old 128 (finding_entry finding) 57 result line.new }
 {
     let at = put(line, LINE_ROOM, b'\n');
-    match *finding {
+    match finding {
         Finding::Overwritten { earlier, later } => put_overwritten(line, at, earlier, later),
         Finding::NeverPersisted { event, flushed } => put_lost(line, at, event, flushed),
         Finding::RedundantFlush { event } => put_event(line, at, b"redundant-flush ", event),

@@ -9,7 +9,8 @@ ghost use Rattle.pmt_report.specs.Runs.{write_faults};
 use crate::chunks::Chunks;
 use crate::entry::{spell_end, spell_head, spell_next, spelled};
 use crate::fault::RunError;
-use pmt_model::{Finding, OutOfMemory, Verdict};
+use pmt_ending::Noted;
+use pmt_model::{OutOfMemory, Verdict};
 use pmt_text::Counted;
 use pmt_text::line_text::LINE_ROOM;
 use std::alloc::Global;
@@ -20,7 +21,7 @@ pub(crate) fn report_of(
     alloc: Global,
     events: u64,
     lines: u64,
-    findings: &[Finding],
+    findings: &[Noted],
     verdicts: &[Verdict],
     kept: u64,
 ) -> Result<Vec<u8>, OutOfMemory>
@@ -39,7 +40,7 @@ pub(crate) fn report_of(
 // Adds the entries, by event number.
 fn push_entries(
     text: &mut Vec<u8>,
-    findings: &[Finding],
+    findings: &[Noted],
     verdicts: &[Verdict],
 ) -> Result<(), OutOfMemory>
     ensures { OnOk result (text.new.items ≡ text.old.items ++ entries findings.now verdicts.now) }
@@ -65,7 +66,7 @@ pub(crate) fn write_report<W: Write>(
     writer: &mut Counted<W>,
     events: u64,
     lines: u64,
-    findings: &[Finding],
+    findings: &[Noted],
     verdicts: &[Verdict],
     kept: u64,
 ) -> Result<(), RunError>
@@ -98,7 +99,7 @@ pub(crate) fn write_report<W: Write>(
 fn write_entries<W: Write>(
     chunks: &mut Chunks,
     writer: &mut Counted<W>,
-    findings: &[Finding],
+    findings: &[Noted],
     verdicts: &[Verdict],
 ) -> Result<(), RunError>
     requires writes { failure_count writer.old < 2 ^ 64 - 1 }

@@ -7,7 +7,7 @@ ghost use Rattle.pmt_analysis.specs.Analysing.{IsAnalysed};
 ghost use Rattle.pmt_ending.specs.SafePlaces.{AreSafePlaces};
 
 use pmt_analysis::Analysis;
-use pmt_ending::SafePlaces;
+use pmt_ending::{SafePlaces, all_told};
 use pmt_flags::marked_numbers;
 use pmt_model::{OutOfMemory, Trace};
 use pmt_pass::{Swept, sweep};
@@ -71,6 +71,7 @@ fn swept_trace(alloc: Global, trace: Trace) -> Result<Placed, OutOfMemory>
         kept,
         safe,
     } = sweep(alloc, &trace)?;
+    let findings = all_told(alloc, findings.as_slice())?;
     let selection = marked_numbers(alloc, kept.as_slice())?;
     let analysis = Analysis::new(trace, lines, findings, verdicts, selection);
     Ok(Placed { analysis, safe })

@@ -13,8 +13,8 @@ loop-index-init c = sym (append-nil c.args.found.now.items)
 
 pub loop-index-preserved : goal.loop-index-preserved
 loop-index-preserved c =
-    overwritten-next c.args.over.now c.args.found.now.items c.loop-index.found.items c.push.new.self.items c.loop-index.index none c.loop-index-test.true c.loop-index.invariant
-    (c.in_ok-push.ensures.items ∙ ap (λ f. c.loop-index.found.items ++ f ∷ []) c.finding_of.ensures)
+    overwritten-next c.args.over.now c.args.found.now.items c.loop-index.found.items c.note.new.list.items c.loop-index.index none c.loop-index-test.true c.loop-index.invariant
+    (c.in_ok-note.ensures ∙ ap (λ f. c.loop-index.found.items ++ f ∷ []) c.finding_of.ensures)
 
 pub returns : goal.returns
 returns c = c.loop-index.invariant ∙ ap (λ o. c.args.found.now.items ++ overwritten o) (take_all c.loop-index.index c.args.over.now (omega (arith, c.loop-index-test.false)))

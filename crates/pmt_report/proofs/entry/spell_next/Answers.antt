@@ -1,4 +1,7 @@
-use Rattle.std.proofs.Common.{inl, inr, sym, ◌∙◌}
+use Rattle.std.proofs.Common.{inl, inr, sym, subst, ◌∙◌}
+use Rattle.pmt_model.specs.declared.finding.Finding.{Finding}
+use Rattle.pmt_text.specs.LineTexts.{Puts}
+use Rattle.pmt_report.specs.Entries.{finding_entry}
 use Rattle.pmt_report.proofs.NextLemmas.{verdict-told, finding-told, none-told}
 use Rattle.pmt_report.proofs.entry.spell_next.Goals as goal
 use Rattle.pmt_report.proofs.entry.spell_next.Goals.{in_default, in-len1-up+else-is_before}
@@ -17,4 +20,4 @@ returns-in-len1-up-findings-clause-told c =
     (elim c.if-verdicts-lt1.branch [
       | in_default w ↦ inl w.in_default.len_below
       | in-len1-up+else-is_before w ↦ inr (sym w.is_before.ensures ∙ w.if-is_before.false)
-    ]) c.told-line c.spell_finding-at.ensures
+    ]) c.told-line (subst (λ (f : Finding). Puts c.args.line.now 128 (finding_entry f) 57 c.spell_finding-at.result c.spell_finding-at.new.line) (c.finding.ensures ∙ c.finding-item.is) c.spell_finding-at.ensures)
