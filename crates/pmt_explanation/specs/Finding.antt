@@ -26,12 +26,14 @@ use Rattle.pmt_asked.specs.declared.options.Options.{Options}
 use Rattle.pmt_asked.specs.declared.labels.Labels.{Labels}
 use Rattle.pmt_asked.specs.Choosing.{is_asked_for}
 use Rattle.pmt_explanation.specs.declared.drops.Drops.{Drops}
+use Rattle.pmt_explanation.specs.declared.drops.Rows.{Rows}
 use Rattle.pmt_explanation.specs.declared.firsts.Firsts.{Firsts}
+use Rattle.pmt_explanation.specs.declared.found.Begun.{Begun}
 use Rattle.pmt_explanation.specs.declared.found.Found.{Found}
 use Rattle.pmt_explanation.specs.declared.risks.Risks.{Risks}
 use Rattle.pmt_explanation.specs.Asking.{asked_dropped, asked_numbers, asked_pairs, asked_unwritten}
 use Rattle.pmt_explanation.specs.Causing.{AreAskedLate, first_members}
-use Rattle.pmt_explanation.specs.Hinting.{AreHints}
+use Rattle.pmt_explanation.specs.Hinting.{AreEarly, AreHints}
 use Rattle.pmt_explanation.specs.Losing.{lost_store, told_stores, overwriting, told_pairs}
 
 -- In all of these the labels' numbers and those of innermost frames are given, and this is asked.
@@ -41,38 +43,48 @@ pub record AreFirsts (a : Analysed) (labels : Labels) (frames : List (Option ℕ
   pub dropped : AreDropped a.trace x.dropped.items
   pub waited : AreWaited a.trace x.waited.items
   pub late : AreAskedLate a.trace frames (is_asked_for a.trace labels o.choice kinds.Late) x.late.items
-  pub stores : x.stores.items ≡ told_stores a.trace labels o.ignored a.findings
 
 -- What is told of these, which are dropped.
 pub record AreDrops (T : Recording) (labels : Labels) (numbers : List (Option ℕ)) (o : Options) (dropped : List Dropped) (d : Drops) : Type 0 where
   pub asked : d.asked.items ≡ asked_dropped T labels o.choice dropped
   pub groups : AreGrouped (filter_map (dropped_item T numbers) d.asked.items) d.groups.items
-  pub threads : AreThreadRows T dropped d.threads.items
-  pub labelled : AreLabelRows T numbers dropped d.labelled.items
 
--- What each place has.
-pub record ArePlacesOf (T : Recording) (numbers frames : List (Option ℕ)) (x : Firsts) (t : PlaceTable) : Type 0 where
-  pub places : ArePlaces T frames x.stores.items (map event_of x.dropped.items) t.places.items
-  pub left_paths : AreLeftPaths T frames numbers x.stores.items (map event_of x.dropped.items) t.places.items t.left_paths.items
+-- What threads and labels have, where these are dropped.
+pub record AreRows (T : Recording) (numbers : List (Option ℕ)) (dropped : List Dropped) (r : Rows) : Type 0 where
+  pub threads : AreThreadRows T dropped r.threads.items
+  pub labelled : AreLabelRows T numbers dropped r.labelled.items
 
--- What a crash may lose, where these stores are told as never persisted.
-pub record AreRisks (a : Analysed) (labels : Labels) (numbers frames : List (Option ℕ)) (o : Options) (stores : List ℕ) (r : Risks) : Type 0 where
+-- What each place has, where these stores are told as never persisted, and these are dropped.
+pub record ArePlacesOf (T : Recording) (numbers frames : List (Option ℕ)) (stores : List ℕ) (dropped : List Dropped) (t : PlaceTable) : Type 0 where
+  pub places : ArePlaces T frames stores (map event_of dropped) t.places.items
+  pub left_paths : AreLeftPaths T frames numbers stores (map event_of dropped) t.places.items t.left_paths.items
+
+-- What a crash may lose.
+pub record AreRisks (a : Analysed) (labels : Labels) (numbers frames : List (Option ℕ)) (o : Options) (r : Risks) : Type 0 where
+  pub stores : r.stores.items ≡ told_stores a.trace labels o.ignored a.findings
   pub failing : r.failed.failing.items ≡ failing_events a.verdicts
   pub asked_failing : r.failed.asked.items ≡ asked_numbers a.trace labels o.choice kinds.Failure r.failed.failing.items
   pub causes : AreFailureGroups a.trace frames r.failed.asked.items r.failed.causes.items
   pub counts : AreInside a.trace frames numbers (take o.limit r.failed.causes.items) r.failed.counts.items
   pub shown : AreShown a.trace (take o.limit (first_members r.failed.causes.items)) r.failed.shown.items
-  pub lost : AreLostGroups a.trace (asked_numbers a.trace labels o.choice kinds.NeverPersisted stores) r.lost.groups.items
+  pub lost : AreLostGroups a.trace (asked_numbers a.trace labels o.choice kinds.NeverPersisted r.stores.items) r.lost.groups.items
   pub lost_causes : AreGrouped (filter_map (lost_item a.trace frames) r.lost.groups.items) r.lost.causes.items
   pub overwritten : AreOverwrittenGroups a.trace (asked_pairs a.trace labels o.choice (told_pairs a.trace labels o.ignored a.findings)) r.lost.overwritten.items
   pub unwritten : r.unwritten.items ≡ asked_unwritten a.trace labels o.choice (unwritten_of a.trace)
-  pub ignored_stores : r.lost.ignored_stores ≡ count_by (λ (f : Finding). is_some (lost_store f)) a.findings - length stores
+  pub ignored_stores : r.lost.ignored_stores ≡ count_by (λ (f : Finding). is_some (lost_store f)) a.findings - length r.stores.items
   pub ignored_pairs : r.lost.ignored_pairs ≡ count_by (λ (f : Finding). is_some (overwriting f)) a.findings - length (told_pairs a.trace labels o.ignored a.findings)
+
+-- What is found by the analysis alone.
+pub record AreBegun (a : Analysed) (labels : Labels) (numbers frames : List (Option ℕ)) (o : Options) (x : Begun) : Type 0 where
+  pub firsts : AreFirsts a labels frames o x.firsts
+  pub risks : AreRisks a labels numbers frames o x.risks
+  pub early : AreEarly a.trace labels frames numbers o.choice x.early
 
 -- All of it.
 pub record AreFound (a : Analysed) (labels : Labels) (numbers frames : List (Option ℕ)) (o : Options) (x : Found) : Type 0 where
   pub firsts : AreFirsts a labels frames o x.firsts
   pub drops : AreDrops a.trace labels numbers o x.firsts.dropped.items x.drops
+  pub rows : AreRows a.trace numbers x.firsts.dropped.items x.rows
   pub hints : AreHints a.trace labels frames numbers o.choice x.hints.items
-  pub table : ArePlacesOf a.trace numbers frames x.firsts x.table
-  pub risks : AreRisks a labels numbers frames o x.firsts.stores.items x.risks
+  pub table : ArePlacesOf a.trace numbers frames x.risks.stores.items x.firsts.dropped.items x.table
+  pub risks : AreRisks a labels numbers frames o x.risks

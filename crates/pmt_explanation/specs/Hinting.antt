@@ -9,6 +9,8 @@ use Rattle.pmt_hints.specs.declared.hint.HintKind.TheVariants.{OneLineShort, Ope
 use Rattle.pmt_asked.specs.declared.choosing.Choice.{Choice}
 use Rattle.pmt_asked.specs.declared.choosing.Kind.TheVariants as kinds
 use Rattle.pmt_asked.specs.declared.labels.Labels.{Labels}
+use Rattle.pmt_explanation.specs.declared.hinting.EarlyHints.{EarlyHints}
+use Rattle.pmt_explanation.specs.declared.hinting.LateHints.{LateHints}
 use Rattle.pmt_explanation.specs.Asking.{asked_numbers}
 use Rattle.pmt_asked.specs.Choosing.{is_kind_chosen}
 
@@ -59,3 +61,28 @@ AreHintsIf false T labels frames paths c hints = hints ≡ []
 -- All hints, if they are asked for.
 abbrev pub AreHints : Recording → Labels → List (Option ℕ) → List (Option ℕ) → Choice → List Hint → Type 0
 AreHints T labels frames paths c hints = AreHintsIf (is_kind_chosen c kinds.Hint) T labels frames paths c hints
+
+-- Those that the trace and what is kept of it tell.
+pub record AreEarlyHints (T : Recording) (labels : Labels) (frames paths : List (Option ℕ)) (c : Choice) (x : EarlyHints) : Type 0 where
+  pub are_split : AreHintsAsked T labels frames c SplitWord (IsSplitWord T frames) x.words.items
+  pub are_open : AreOpenHints T labels frames paths c x.flushes.items
+
+-- The others.
+pub record AreLateHints (T : Recording) (labels : Labels) (frames : List (Option ℕ)) (c : Choice) (x : LateHints) : Type 0 where
+  pub are_after : AreHintsAsked T labels frames c StoredAfterFlush (IsStoredAfterFlush T) x.stores.items
+  pub are_short : AreHintsAsked T labels frames c OneLineShort (IsOneLineShort T frames) x.runs.items
+
+abbrev pub AreEarlyIf : Bool → Recording → Labels → List (Option ℕ) → List (Option ℕ) → Choice → EarlyHints → Type 0
+AreEarlyIf true T labels frames paths c x = AreEarlyHints T labels frames paths c x
+AreEarlyIf false T labels frames paths c x = (x.words.items ≡ []) × (x.flushes.items ≡ [])
+
+abbrev pub AreLateIf : Bool → Recording → Labels → List (Option ℕ) → Choice → LateHints → Type 0
+AreLateIf true T labels frames c x = AreLateHints T labels frames c x
+AreLateIf false T labels frames c x = (x.stores.items ≡ []) × (x.runs.items ≡ [])
+
+-- Both, if hints are asked for.
+abbrev pub AreEarly : Recording → Labels → List (Option ℕ) → List (Option ℕ) → Choice → EarlyHints → Type 0
+AreEarly T labels frames paths c x = AreEarlyIf (is_kind_chosen c kinds.Hint) T labels frames paths c x
+
+abbrev pub AreLate : Recording → Labels → List (Option ℕ) → Choice → LateHints → Type 0
+AreLate T labels frames c x = AreLateIf (is_kind_chosen c kinds.Hint) T labels frames c x

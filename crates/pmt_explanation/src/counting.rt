@@ -1,6 +1,6 @@
 //! How many events of each kind and threads there are.
 ghost use Rattle.std.specs.Prelude.{◌≡◌, ◌+◌, ◌^◌, ◌<◌, ◌≤◌, Bool, cond, count_by};
-ghost use Rattle.pmt_explanation.specs.Counting.{AreCounts, is_fence, is_flush, is_store, is_reason_of_fence as drops_fence, per_cent as share_of};
+ghost use Rattle.pmt_explanation.specs.Counting.{AreCounts, is_fence as fences_in, is_flush as flushes_in, is_store as stores_in, is_reason_of_fence as drops_fence, per_cent as share_of};
 
 use pmt_model::{Event, Op};
 use pmt_reasons::Reason;
@@ -16,21 +16,36 @@ pub(crate) struct Counts {
 }
 
 impl Counts {
-    // Counts an event with this op.
+    // Counts an event with this op, without a branch, since the kind of the next one can't be foreseen.
     fn add(&mut self, op: Op)
         requires { self.old.stores + self.old.flushes + self.old.fences < 2 ^ 63 }
-        ensures stores { self.new.stores ≡ self.old.stores + cond (is_store op) 1 0 }
-        ensures flushes { self.new.flushes ≡ self.old.flushes + cond (is_flush op) 1 0 }
-        ensures fences { self.new.fences ≡ self.old.fences + cond (is_fence op) 1 0 }
+        ensures stores { self.new.stores ≡ self.old.stores + cond (stores_in op) 1 0 }
+        ensures flushes { self.new.flushes ≡ self.old.flushes + cond (flushes_in op) 1 0 }
+        ensures fences { self.new.fences ≡ self.old.fences + cond (fences_in op) 1 0 }
         ensures one { self.new.stores + self.new.flushes + self.new.fences ≤ self.old.stores + self.old.flushes + self.old.fences + 1 }
     {
-        match op {
-            Op::Store(_) => self.stores += 1,
-            Op::Clwb(_) | Op::ClflushOpt(_) | Op::Clflush(_) => self.flushes += 1,
-            Op::Sfence | Op::Mfence => self.fences += 1,
-            Op::IsPersist(_) | Op::IsOrderedBefore(_, _) => {}
-        }
+        self.stores += is_store(&op) as usize;
+        self.flushes += is_flush(&op) as usize;
+        self.fences += is_fence(&op) as usize;
     }
+}
+
+fn is_store(op: &Op) -> bool
+    ensures { result ≡ stores_in op.now }
+{
+    matches!(op, Op::Store(_))
+}
+
+fn is_flush(op: &Op) -> bool
+    ensures { result ≡ flushes_in op.now }
+{
+    matches!(op, Op::Clwb(_) | Op::ClflushOpt(_) | Op::Clflush(_))
+}
+
+fn is_fence(op: &Op) -> bool
+    ensures { result ≡ fences_in op.now }
+{
+    matches!(op, Op::Sfence | Op::Mfence)
 }
 
 // The counts of these events, in one pass.

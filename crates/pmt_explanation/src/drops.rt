@@ -1,6 +1,6 @@
-//! What an explanation has of flushes and fences that are dropped.
+//! What an explanation has of flushes and fences that are dropped, and what threads and labels have.
 ghost use Rattle.std.specs.Prelude.{IfOk};
-ghost use Rattle.pmt_explanation.specs.Finding.{AreDrops};
+ghost use Rattle.pmt_explanation.specs.Finding.{AreDrops, AreRows};
 
 use crate::asking::asked_drops;
 use pmt_asked::{Labels, Options};
@@ -9,13 +9,18 @@ use pmt_dropping::Dropped;
 use pmt_model::{OutOfMemory, Trace};
 use std::alloc::Global;
 
-/// The flushes and fences that are dropped, and for whom.
+/// The flushes and fences that are dropped.
 #[derive(Drop)]
 pub(crate) struct Drops {
     /// Those that are asked for, by rising event number.
     pub(crate) asked: Vec<Dropped>,
     /// These in groups by place, word and reason.
     pub(crate) groups: Vec<Group<DroppedKey>>,
+}
+
+/// What threads and labels have.
+#[derive(Drop)]
+pub(crate) struct Rows {
     /// What each thread has in the trace.
     pub(crate) threads: Vec<Row<u8>>,
     /// What each label has in the trace, by its number.
@@ -35,12 +40,19 @@ pub(crate) fn drops_of(
 {
     let asked = asked_drops(alloc, trace, labels, &options.choice, dropped)?;
     let groups = dropped_groups(alloc, trace, numbers, asked.as_slice())?;
+    Ok(Drops { asked, groups })
+}
+
+// What each thread and each label has in the trace, where these are dropped, and its events have these numbers of labels.
+pub(crate) fn rows_of(
+    alloc: Global,
+    trace: &Trace,
+    dropped: &[Dropped],
+    numbers: &[Option<u64>],
+) -> Result<Rows, OutOfMemory>
+    ensures { IfOk result (AreRows trace.now numbers.now dropped.now) }
+{
     let threads = thread_table(alloc, trace, dropped)?;
     let labelled = label_table(alloc, trace, numbers, dropped)?;
-    Ok(Drops {
-        asked,
-        groups,
-        threads,
-        labelled,
-    })
+    Ok(Rows { threads, labelled })
 }

@@ -155,11 +155,13 @@ fn explained(analysis: Analysis, limit: usize, parts: Parts) -> Explanation
     let Found {
         firsts,
         drops,
+        rows,
         hints,
         table,
         risks,
     } = found;
     let Risks {
+        stores,
         lost,
         failed,
         unwritten,
@@ -174,7 +176,7 @@ fn explained(analysis: Analysis, limit: usize, parts: Parts) -> Explanation
         causes: failed.causes,
         counts: failed.counts,
         failures: failed.shown,
-        stores: firsts.stores,
+        stores,
         ignored_never_persisted: lost.ignored_stores,
         lost: lost.groups,
         lost_causes: lost.causes,
@@ -183,8 +185,8 @@ fn explained(analysis: Analysis, limit: usize, parts: Parts) -> Explanation
         dropped_groups: drops.groups,
         late: firsts.late,
         waited: firsts.waited,
-        threads: drops.threads,
-        labelled: drops.labelled,
+        threads: rows.threads,
+        labelled: rows.labelled,
         places: table.places,
         left_paths: table.left_paths,
         hints,

@@ -3,7 +3,6 @@ ghost use Rattle.std.specs.Prelude.{◌≡◌, IfOk};
 ghost use Rattle.pmt_explanation.specs.Finding.{AreFirsts};
 
 use crate::causing::{AskedLate, asked_late};
-use crate::losing::lost_stores;
 use pmt_analysis::Analysis;
 use pmt_asked::{Labels, Options};
 use pmt_causes::{Group, LateSpot};
@@ -22,8 +21,6 @@ pub(crate) struct Firsts {
     pub(crate) waited: Vec<u64>,
     /// The late stores that are asked for, by place.
     pub(crate) late: Vec<Group<LateSpot>>,
-    /// The stores that are never persisted, by rising event number, without those that are ignored.
-    pub(crate) stores: Vec<u64>,
 }
 
 // What is found first in the trace that was analysed, where its events have these numbers of innermost frames.
@@ -51,12 +48,9 @@ pub(crate) fn firsts_of<R: Threads + Sync>(
         waited,
         groups: late,
     } = late?;
-    let findings = analysis.findings();
-    let stores = lost_stores(alloc, analysis.trace(), labels, &options.ignored, findings)?;
     Ok(Firsts {
         dropped,
         waited,
         late,
-        stores,
     })
 }

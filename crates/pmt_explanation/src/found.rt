@@ -1,12 +1,12 @@
-//! What is found in an analysed trace, by up to four threads side by side.
+//! What is found in an analysed trace, by up to four threads side by side: first what the analysis alone tells, and then what needs that.
 ghost use Rattle.std.specs.Prelude.{◌≡◌, IfOk};
 ghost use Rattle.std.specs.Thread.{IsSync};
-ghost use Rattle.pmt_explanation.specs.Finding.{AreDrops, AreFirsts, AreFound, AreRisks, ArePlacesOf};
-ghost use Rattle.pmt_explanation.specs.Hinting.{AreHints};
+ghost use Rattle.pmt_explanation.specs.Finding.{AreBegun, AreDrops, AreFirsts, AreFound, ArePlacesOf, AreRisks, AreRows};
+ghost use Rattle.pmt_explanation.specs.Hinting.{AreEarly, AreLate};
 
-use crate::drops::{Drops, drops_of};
+use crate::drops::{Drops, Rows, drops_of, rows_of};
 use crate::firsts::{Firsts, firsts_of};
-use crate::hinting::hints_asked;
+use crate::hinting::{EarlyHints, LateHints, early_hints, hints_in_order, late_hints};
 use crate::risks::{Risks, risks_of};
 use pmt_analysis::Analysis;
 use pmt_asked::{Labels, Options};
@@ -20,10 +20,12 @@ use std::thread::{Threads, join_mut};
 /// What is found in a trace.
 #[derive(Drop)]
 pub(crate) struct Found {
-    /// What the others need.
+    /// What others need.
     pub(crate) firsts: Firsts,
     /// What is told of flushes and fences that are dropped.
     pub(crate) drops: Drops,
+    /// What threads and labels have.
+    pub(crate) rows: Rows,
     /// The hints that are asked for.
     pub(crate) hints: Vec<Hint>,
     /// What each place has.
@@ -32,11 +34,28 @@ pub(crate) struct Found {
     pub(crate) risks: Risks,
 }
 
-// What is told of flushes, and the hints.
-type Flushed = (Result<Drops, OutOfMemory>, Result<Vec<Hint>, OutOfMemory>);
+/// What is found by the analysis alone.
+#[derive(Drop)]
+pub(crate) struct Begun {
+    /// What others need.
+    pub(crate) firsts: Firsts,
+    /// What a crash may lose.
+    pub(crate) risks: Risks,
+    /// Hints that need none of it.
+    pub(crate) early: EarlyHints,
+}
 
-// What each place has, and what a crash may lose.
-type Placed = (Result<PlaceTable, OutOfMemory>, Result<Risks, OutOfMemory>);
+// What a crash may lose, and hints.
+type Risked = (Result<Risks, OutOfMemory>, Result<EarlyHints, OutOfMemory>);
+
+// What is told of flushes, and what threads and labels have.
+type Listed = (Result<Drops, OutOfMemory>, Result<Rows, OutOfMemory>);
+
+// What each place has, and the other hints.
+type Placed = (
+    Result<PlaceTable, OutOfMemory>,
+    Result<LateHints, OutOfMemory>,
+);
 
 // What is found in the trace that was analysed, where its events have these numbers of labels and of innermost frames. Where the system
 // refuses a thread, its part is done by another one.
@@ -53,44 +72,59 @@ pub(crate) fn found_of<R: Threads + Sync>(
     requires { safe.now.trace.now ≡ analysis.now.trace }
     ensures { IfOk result (AreFound analysis.now labels.now numbers.now frames.now options.now) }
 {
-    let found = firsts_of(rt, alloc, analysis, safe, labels, frames, options)?;
-    let firsts = &found;
-    let ((drops, hints), (table, risks)) = join_mut(
+    let found = begun_of(rt, alloc, analysis, safe, labels, numbers, frames, options)?;
+    let begun = &found;
+    let ((drops, rows), (table, late)) = join_mut(
         rt,
-        &mut || -> Flushed
-            requires { IsSync R.row × (safe.now.trace.now ≡ analysis.now.trace) × AreFirsts analysis.now labels.now frames.now options.now firsts.now }
-            ensures drops { IfOk result.0 (AreDrops analysis.entry.now.trace labels.entry.now numbers.entry.now options.entry.now firsts.entry.now.dropped.items) }
-            ensures hints { IfOk result.1 (λ hints. AreHints analysis.entry.now.trace labels.entry.now frames.entry.now numbers.entry.now options.entry.now.choice hints.items) }
-        {
-            flushed_of(
-                rt, alloc, analysis, safe, labels, numbers, frames, options, firsts,
-            )
-        },
+        &mut || -> Listed
+            requires { IsSync R.row }
+            ensures drops { IfOk result.0 (AreDrops analysis.entry.now.trace labels.entry.now numbers.entry.now options.entry.now begun.entry.now.firsts.dropped.items) }
+            ensures rows { IfOk result.1 (AreRows analysis.entry.now.trace numbers.entry.now begun.entry.now.firsts.dropped.items) }
+        { listed_of(rt, alloc, analysis, labels, numbers, options, begun) },
         &mut || -> Placed
-            requires { IsSync R.row × (safe.now.trace.now ≡ analysis.now.trace) × AreFirsts analysis.now labels.now frames.now options.now firsts.now }
-            ensures table { IfOk result.0 (ArePlacesOf analysis.entry.now.trace numbers.entry.now frames.entry.now firsts.entry.now) }
-            ensures risks { IfOk result.1 (AreRisks analysis.entry.now labels.entry.now numbers.entry.now frames.entry.now options.entry.now firsts.entry.now.stores.items) }
+            requires { IsSync R.row × (safe.now.trace.now ≡ analysis.now.trace) × AreBegun analysis.now labels.now numbers.now frames.now options.now begun.now }
+            ensures table { IfOk result.0 (ArePlacesOf analysis.entry.now.trace numbers.entry.now frames.entry.now begun.entry.now.risks.stores.items begun.entry.now.firsts.dropped.items) }
+            ensures late { IfOk result.1 (AreLate analysis.entry.now.trace labels.entry.now frames.entry.now options.entry.now.choice) }
         {
             placed_of(
-                rt, alloc, analysis, safe, labels, numbers, frames, options, firsts,
+                rt, alloc, analysis, safe, labels, numbers, frames, options, begun,
             )
         },
     );
     let drops = drops?;
-    let hints = hints?;
+    let rows = rows?;
     let table = table?;
-    let risks = risks?;
-    Ok(Found {
-        firsts: found,
+    let late = late?;
+    let hints = hints_in_order(alloc, &begun.early, &late)?;
+    Ok(joined(found, drops, rows, hints, table))
+}
+
+// All of it.
+fn joined(begun: Begun, drops: Drops, rows: Rows, hints: Vec<Hint>, table: PlaceTable) -> Found
+    ensures firsts { result.firsts ≡ begun.firsts }
+    ensures drops { result.drops ≡ drops }
+    ensures rows { result.rows ≡ rows }
+    ensures hints { result.hints ≡ hints }
+    ensures table { result.table ≡ table }
+    ensures risks { result.risks ≡ begun.risks }
+{
+    let Begun {
+        firsts,
+        risks,
+        early: _,
+    } = begun;
+    Found {
+        firsts,
         drops,
+        rows,
         hints,
         table,
         risks,
-    })
+    }
 }
 
-// What is told of dropped flushes and fences, beside the hints.
-fn flushed_of<R: Threads + Sync>(
+// What the analysis alone tells.
+fn begun_of<R: Threads + Sync>(
     rt: &R,
     alloc: Global,
     analysis: &Analysis,
@@ -99,27 +133,78 @@ fn flushed_of<R: Threads + Sync>(
     numbers: &[Option<u64>],
     frames: &[Option<u64>],
     options: &Options,
-    firsts: &Firsts,
-) -> Flushed
-    requires same { safe.now.trace.now ≡ analysis.now.trace }
-    requires firsts { AreFirsts analysis.now labels.now frames.now options.now firsts.now }
-    ensures drops { IfOk result.0 (AreDrops analysis.now.trace labels.now numbers.now options.now firsts.now.dropped.items) }
-    ensures hints { IfOk result.1 (λ hints. AreHints analysis.now.trace labels.now frames.now numbers.now options.now.choice hints.items) }
+) -> Result<Begun, OutOfMemory>
+    requires { safe.now.trace.now ≡ analysis.now.trace }
+    ensures { IfOk result (AreBegun analysis.now labels.now numbers.now frames.now options.now) }
 {
-    let trace = analysis.trace();
-    let dropped = firsts.dropped.as_slice();
-    let waited = firsts.waited.as_slice();
+    let (firsts, (risks, early)) = join_mut(
+        rt,
+        &mut || -> Result<Firsts, OutOfMemory>
+            requires { IsSync R.row × (safe.now.trace.now ≡ analysis.now.trace) }
+            ensures { IfOk result (AreFirsts analysis.entry.now labels.entry.now frames.entry.now options.entry.now) }
+        { firsts_of(rt, alloc, analysis, safe, labels, frames, options) },
+        &mut || -> Risked
+            requires { IsSync R.row × (safe.now.trace.now ≡ analysis.now.trace) }
+            ensures risks { IfOk result.0 (AreRisks analysis.entry.now labels.entry.now numbers.entry.now frames.entry.now options.entry.now) }
+            ensures early { IfOk result.1 (AreEarly analysis.entry.now.trace labels.entry.now frames.entry.now numbers.entry.now options.entry.now.choice) }
+        { risked_of(rt, alloc, analysis, safe, labels, numbers, frames, options) },
+    );
+    let firsts = firsts?;
+    let risks = risks?;
+    let early = early?;
+    Ok(Begun {
+        firsts,
+        risks,
+        early,
+    })
+}
+
+// What a crash may lose, beside hints that need none of it.
+fn risked_of<R: Threads + Sync>(
+    rt: &R,
+    alloc: Global,
+    analysis: &Analysis,
+    safe: &SafePlaces<'_>,
+    labels: &Labels,
+    numbers: &[Option<u64>],
+    frames: &[Option<u64>],
+    options: &Options,
+) -> Risked
+    requires { safe.now.trace.now ≡ analysis.now.trace }
+    ensures risks { IfOk result.0 (AreRisks analysis.now labels.now numbers.now frames.now options.now) }
+    ensures early { IfOk result.1 (AreEarly analysis.now.trace labels.now frames.now numbers.now options.now.choice) }
+{
     let choice = &options.choice;
     join_mut(
         rt,
-        &mut || drops_of(alloc, trace, dropped, labels, numbers, options),
-        &mut || hints_asked(
-            alloc, analysis, safe, waited, labels, frames, numbers, choice,
-        ),
+        &mut || risks_of(alloc, analysis, safe, labels, numbers, frames, options),
+        &mut || early_hints(alloc, analysis, labels, frames, numbers, choice),
     )
 }
 
-// What each place has, beside what a crash may lose.
+// What is told of dropped flushes and fences, beside what threads and labels have.
+fn listed_of<R: Threads + Sync>(
+    rt: &R,
+    alloc: Global,
+    analysis: &Analysis,
+    labels: &Labels,
+    numbers: &[Option<u64>],
+    options: &Options,
+    begun: &Begun,
+) -> Listed
+    ensures drops { IfOk result.0 (AreDrops analysis.now.trace labels.now numbers.now options.now begun.now.firsts.dropped.items) }
+    ensures rows { IfOk result.1 (AreRows analysis.now.trace numbers.now begun.now.firsts.dropped.items) }
+{
+    let trace = analysis.trace();
+    let dropped = begun.firsts.dropped.as_slice();
+    join_mut(
+        rt,
+        &mut || drops_of(alloc, trace, dropped, labels, numbers, options),
+        &mut || rows_of(alloc, trace, dropped, numbers),
+    )
+}
+
+// What each place has, beside the other hints.
 fn placed_of<R: Threads + Sync>(
     rt: &R,
     alloc: Global,
@@ -129,21 +214,20 @@ fn placed_of<R: Threads + Sync>(
     numbers: &[Option<u64>],
     frames: &[Option<u64>],
     options: &Options,
-    firsts: &Firsts,
+    begun: &Begun,
 ) -> Placed
     requires same { safe.now.trace.now ≡ analysis.now.trace }
-    requires firsts { AreFirsts analysis.now labels.now frames.now options.now firsts.now }
-    ensures table { IfOk result.0 (ArePlacesOf analysis.now.trace numbers.now frames.now firsts.now) }
-    ensures risks { IfOk result.1 (AreRisks analysis.now labels.now numbers.now frames.now options.now firsts.now.stores.items) }
+    requires begun { AreBegun analysis.now labels.now numbers.now frames.now options.now begun.now }
+    ensures table { IfOk result.0 (ArePlacesOf analysis.now.trace numbers.now frames.now begun.now.risks.stores.items begun.now.firsts.dropped.items) }
+    ensures late { IfOk result.1 (AreLate analysis.now.trace labels.now frames.now options.now.choice) }
 {
-    let dropped = firsts.dropped.as_slice();
-    let waited = firsts.waited.as_slice();
-    let stores = firsts.stores.as_slice();
+    let dropped = begun.firsts.dropped.as_slice();
+    let waited = begun.firsts.waited.as_slice();
+    let stores = begun.risks.stores.as_slice();
+    let choice = &options.choice;
     join_mut(
         rt,
         &mut || place_table(alloc, safe, waited, frames, numbers, stores, dropped),
-        &mut || risks_of(
-            alloc, analysis, safe, labels, numbers, frames, options, stores,
-        ),
+        &mut || late_hints(alloc, safe, waited, labels, frames, choice),
     )
 }

@@ -1,9 +1,10 @@
 //! The hints that are asked for.
-ghost use Rattle.std.specs.Prelude.{◌≡◌, IfOk};
+ghost use Rattle.std.specs.Prelude.{◌≡◌, ◌++◌, IfOk};
 ghost use Rattle.pmt_causes.specs.Late.{AreWaited};
 ghost use Rattle.pmt_hints.specs.Placing.{AreHintsOf, ArePathHintsOf};
 ghost use Rattle.pmt_explanation.specs.Asking.{asked_numbers as numbers_asked};
-ghost use Rattle.pmt_explanation.specs.Hinting.{AreAllHints, AreFlushHints, AreHints, AreOpenHints, AreStoreHints};
+ghost use Rattle.pmt_explanation.specs.Hinting.{AreEarly, AreEarlyHints, AreLate, AreLateHints, AreOpenHints};
+ghost use Rattle.pmt_asked.specs.Choosing.{is_kind_chosen};
 ghost use Rattle.pmt_asked.specs.declared.choosing.Kind.TheVariants as kinds;
 
 use crate::asking::asked_numbers;
@@ -17,93 +18,136 @@ use pmt_hints::{
 use pmt_model::{OutOfMemory, Selection, Trace};
 use std::alloc::Global;
 
-// The hints of the trace that was analysed, if these are the safe places of its stores, its events wait for so many fences, and they have
-// these numbers of innermost frames and of whole labels. The trace is looked at only if hints are asked for.
-pub(crate) fn hints_asked(
+/// The hints that are found by the trace and what is kept of it alone.
+#[derive(Drop)]
+pub(crate) struct EarlyHints {
+    /// Those of words in two lines.
+    pub(crate) words: Vec<Hint>,
+    /// Those of flushes that are open at a store.
+    pub(crate) flushes: Vec<Hint>,
+}
+
+/// The hints that need to know for how many fences each event waits.
+#[derive(Drop)]
+pub(crate) struct LateHints {
+    /// Those of stores after their flush.
+    pub(crate) stores: Vec<Hint>,
+    /// Those of flushes that are one line short.
+    pub(crate) runs: Vec<Hint>,
+}
+
+// The first hints of the trace that was analysed, if its events have these numbers of innermost frames and of whole labels. The trace is
+// looked at only if hints are asked for.
+pub(crate) fn early_hints(
     alloc: Global,
     analysis: &Analysis,
-    safe: &SafePlaces<'_>,
-    waited: &[u64],
     labels: &Labels,
     frames: &[Option<u64>],
     paths: &[Option<u64>],
     choice: &Choice,
-) -> Result<Vec<Hint>, OutOfMemory>
-    requires same { safe.now.trace.now ≡ analysis.now.trace }
-    requires waited { AreWaited safe.now.trace.now waited.now }
-    ensures { IfOk result (λ hints. AreHints analysis.now.trace labels.now frames.now paths.now choice.now hints.items) }
+) -> Result<EarlyHints, OutOfMemory>
+    ensures { IfOk result (AreEarly analysis.now.trace labels.now frames.now paths.now choice.now) }
 {
-    if !is_asked(choice, Kind::Hint) {
-        return Ok(Vec::new(alloc));
+    if !are_asked(choice) {
+        return Ok(EarlyHints {
+            words: Vec::new(alloc),
+            flushes: Vec::new(alloc),
+        });
     }
-    all_hints(alloc, analysis, safe, waited, labels, frames, paths, choice)
+    all_early(alloc, analysis, labels, frames, paths, choice)
 }
 
-// The hints of each kind: first those of stores, and then those of flushes.
-fn all_hints(
+// Whether hints are asked for.
+fn are_asked(choice: &Choice) -> bool
+    ensures { result ≡ is_kind_chosen choice.now kinds.Hint }
+{
+    is_asked(choice, Kind::Hint)
+}
+
+// All of them.
+fn all_early(
     alloc: Global,
     analysis: &Analysis,
-    safe: &SafePlaces<'_>,
-    waited: &[u64],
     labels: &Labels,
     frames: &[Option<u64>],
     paths: &[Option<u64>],
     choice: &Choice,
-) -> Result<Vec<Hint>, OutOfMemory>
-    requires same { safe.now.trace.now ≡ analysis.now.trace }
-    requires waited { AreWaited safe.now.trace.now waited.now }
-    ensures { IfOk result (λ hints. AreAllHints safe.now.trace.now labels.now frames.now paths.now choice.now hints.items) }
+) -> Result<EarlyHints, OutOfMemory>
+    ensures { IfOk result (AreEarlyHints analysis.now.trace labels.now frames.now paths.now choice.now) }
 {
-    let mut hints = store_hints(alloc, safe, waited, labels, frames, choice)?;
-    let more = flush_hints(alloc, analysis, safe, waited, labels, frames, paths, choice)?;
-    hints.extend_from_slice(more.as_slice())?;
-    Ok(hints)
-}
-
-// Those of stores: first the words in two lines, and then the stores after their flush.
-fn store_hints(
-    alloc: Global,
-    safe: &SafePlaces<'_>,
-    waited: &[u64],
-    labels: &Labels,
-    frames: &[Option<u64>],
-    choice: &Choice,
-) -> Result<Vec<Hint>, OutOfMemory>
-    requires { AreWaited safe.now.trace.now waited.now }
-    ensures { IfOk result (λ hints. AreStoreHints safe.now.trace.now labels.now frames.now choice.now hints.items) }
-{
-    let trace = safe.trace();
+    let trace = analysis.trace();
     let split = split_words(alloc, trace, frames)?;
     let kind = HintKind::SplitWord;
-    let mut hints = hints_at(alloc, trace, labels, frames, choice, kind, &split)?;
-    let after = stored_after_flush(alloc, safe, waited)?;
-    let kind = HintKind::StoredAfterFlush;
-    let more = hints_at(alloc, trace, labels, frames, choice, kind, &after)?;
-    hints.extend_from_slice(more.as_slice())?;
-    Ok(hints)
+    let words = hints_at(alloc, trace, labels, frames, choice, kind, &split)?;
+    let flushes = open_hints(alloc, analysis, trace, labels, frames, paths, choice)?;
+    Ok(EarlyHints { words, flushes })
 }
 
-// Those of flushes: first those that are one line short, and then those that are open at a store.
-fn flush_hints(
+// The other hints of the trace of these safe places, if its events wait for so many fences. The trace is looked at only if hints are asked
+// for.
+pub(crate) fn late_hints(
     alloc: Global,
-    analysis: &Analysis,
     safe: &SafePlaces<'_>,
     waited: &[u64],
     labels: &Labels,
     frames: &[Option<u64>],
-    paths: &[Option<u64>],
     choice: &Choice,
-) -> Result<Vec<Hint>, OutOfMemory>
-    requires same { safe.now.trace.now ≡ analysis.now.trace }
-    requires waited { AreWaited safe.now.trace.now waited.now }
-    ensures { IfOk result (λ hints. AreFlushHints safe.now.trace.now labels.now frames.now paths.now choice.now hints.items) }
+) -> Result<LateHints, OutOfMemory>
+    requires { AreWaited safe.now.trace.now waited.now }
+    ensures { IfOk result (AreLate safe.now.trace.now labels.now frames.now choice.now) }
+{
+    if !are_asked(choice) {
+        return Ok(LateHints {
+            stores: Vec::new(alloc),
+            runs: Vec::new(alloc),
+        });
+    }
+    all_late(alloc, safe, waited, labels, frames, choice)
+}
+
+// All of them.
+fn all_late(
+    alloc: Global,
+    safe: &SafePlaces<'_>,
+    waited: &[u64],
+    labels: &Labels,
+    frames: &[Option<u64>],
+    choice: &Choice,
+) -> Result<LateHints, OutOfMemory>
+    requires { AreWaited safe.now.trace.now waited.now }
+    ensures { IfOk result (AreLateHints safe.now.trace.now labels.now frames.now choice.now) }
 {
     let trace = safe.trace();
+    let after = stored_after_flush(alloc, safe, waited)?;
+    let kind = HintKind::StoredAfterFlush;
+    let stores = hints_at(alloc, trace, labels, frames, choice, kind, &after)?;
     let short = one_line_short(alloc, safe, waited, frames)?;
     let kind = HintKind::OneLineShort;
-    let mut hints = hints_at(alloc, trace, labels, frames, choice, kind, &short)?;
-    let more = open_hints(alloc, analysis, trace, labels, frames, paths, choice)?;
+    let runs = hints_at(alloc, trace, labels, frames, choice, kind, &short)?;
+    Ok(LateHints { stores, runs })
+}
+
+// Both in the order in which they are told: first those of stores, and then those of flushes.
+pub(crate) fn hints_in_order(
+    alloc: Global,
+    early: &EarlyHints,
+    late: &LateHints,
+) -> Result<Vec<Hint>, OutOfMemory>
+    ensures { IfOk result (λ hints. hints.items ≡ (early.now.words.items ++ late.now.stores.items) ++ (late.now.runs.items ++ early.now.flushes.items)) }
+{
+    let mut hints = joined(alloc, &early.words, &late.stores)?;
+    let more = joined(alloc, &late.runs, &early.flushes)?;
     hints.extend_from_slice(more.as_slice())?;
+    Ok(hints)
+}
+
+// These hints, and then those.
+fn joined(alloc: Global, these: &Vec<Hint>, those: &Vec<Hint>) -> Result<Vec<Hint>, OutOfMemory>
+    ensures { IfOk result (λ hints. hints.items ≡ these.now.items ++ those.now.items) }
+{
+    let mut hints = Vec::new(alloc);
+    hints.extend_from_slice(these.as_slice())?;
+    hints.extend_from_slice(those.as_slice())?;
     Ok(hints)
 }
 

@@ -6,6 +6,7 @@ ghost use Rattle.pmt_failures.specs.Unwriting.{unwritten_of};
 
 use crate::asking::asked_unwrittens;
 use crate::failed::{Failed, failed_of};
+use crate::losing::lost_stores;
 use crate::losses::{Losses, losses_of};
 use pmt_analysis::Analysis;
 use pmt_asked::{Choice, Labels, Options};
@@ -17,6 +18,8 @@ use std::alloc::Global;
 /// What a crash may lose.
 #[derive(Drop)]
 pub(crate) struct Risks {
+    /// The stores that are never persisted, by rising event number, without those that are ignored.
+    pub(crate) stores: Vec<u64>,
     /// Stores that are never persisted or overwritten.
     pub(crate) lost: Losses,
     /// Assertions that fail.
@@ -25,8 +28,7 @@ pub(crate) struct Risks {
     pub(crate) unwritten: Vec<Unwritten>,
 }
 
-// What a crash may lose in the trace that was analysed, where its events have these numbers of labels and of innermost frames, and these
-// stores are told as never persisted.
+// What a crash may lose in the trace that was analysed, where its events have these numbers of labels and of innermost frames.
 pub(crate) fn risks_of(
     alloc: Global,
     analysis: &Analysis,
@@ -35,12 +37,13 @@ pub(crate) fn risks_of(
     numbers: &[Option<u64>],
     frames: &[Option<u64>],
     options: &Options,
-    stores: &[u64],
 ) -> Result<Risks, OutOfMemory>
     requires { safe.now.trace.now ≡ analysis.now.trace }
-    ensures { IfOk result (AreRisks analysis.now labels.now numbers.now frames.now options.now stores.now) }
+    ensures { IfOk result (AreRisks analysis.now labels.now numbers.now frames.now options.now) }
 {
-    let lost = losses_of(alloc, analysis, labels, frames, options, stores)?;
+    let findings = analysis.findings();
+    let stores = lost_stores(alloc, analysis.trace(), labels, &options.ignored, findings)?;
+    let lost = losses_of(alloc, analysis, labels, frames, options, stores.as_slice())?;
     let failed = failed_of(
         alloc,
         safe,
@@ -52,6 +55,7 @@ pub(crate) fn risks_of(
     )?;
     let unwritten = unwritten_asked(alloc, analysis.trace(), labels, &options.choice)?;
     Ok(Risks {
+        stores,
         lost,
         failed,
         unwritten,

@@ -9,6 +9,4 @@ pub returns : goal.returns
 returns c = record {
   asked = c.in_ok-asked.ensures;
   groups = subst (λ (ds : List Dropped). AreGrouped (filter_map (dropped_item c.args.trace.now c.args.numbers.now) ds) c.in_ok-groups.groups.items) c.as_slice.ensures.value c.in_ok-groups.ensures;
-  threads = c.in_ok-threads.ensures;
-  labelled = c.in_ok-labelled.ensures;
 }

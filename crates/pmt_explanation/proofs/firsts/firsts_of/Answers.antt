@@ -1,13 +1,11 @@
-use Rattle.std.proofs.Common.{rules, ◌≡◌, List, subst}
+use Rattle.std.proofs.Common.{rules, subst}
 use Rattle.std.specs.Prelude.{IfOk}
 use Rattle.pmt_model.specs.Traces.{Recording}
-use Rattle.pmt_model.specs.declared.finding.Finding.{Finding}
 use Rattle.pmt_dropping.specs.Dropping.{AreDropped}
 use Rattle.pmt_causes.specs.Late.{AreWaited}
 use Rattle.pmt_asked.specs.declared.choosing.Kind.TheVariants as kinds
 use Rattle.pmt_asked.specs.Choosing.{is_asked_for}
 use Rattle.pmt_explanation.specs.Causing.{AreAskedLate}
-use Rattle.pmt_explanation.specs.Losing.{told_stores}
 use Rattle.pmt_explanation.proofs.firsts.firsts_of.Goals as goal
 
 pub returns : goal.returns
@@ -24,6 +22,4 @@ returns g c =
       waited = subst (λ (U : Recording). AreWaited U c.in_ok-waited.field-0.waited.items) c.requires (subst (λ r. IfOk r (λ l. AreWaited T l.waited.items)) c.in_ok-waited.was waited);
       late = subst (λ (U : Recording). AreAskedLate U frames (is_asked_for U labels o.choice kinds.Late) c.in_ok-waited.field-0.groups.items) c.requires
           (subst (λ r. IfOk r (λ l. AreAskedLate T frames (is_asked_for T labels o.choice kinds.Late) l.groups.items)) c.in_ok-waited.was late);
-      stores = subst (λ (U : Recording). c.in_ok-stores.stores.items ≡ told_stores U labels o.ignored c.args.analysis.now.findings) c.trace.ensures.value
-          (subst (λ (fs : List Finding). c.in_ok-stores.stores.items ≡ told_stores c.trace.result.now labels o.ignored fs) c.findings-findings.ensures.value c.in_ok-stores.ensures);
     }
