@@ -1,5 +1,7 @@
 //! `explain`: what is wrong in a trace, why, and what to do.
 ghost use Rattle.std.specs.Prelude.{◌≤◌, IfOk};
+ghost use Rattle.std.specs.Thread.{IsSync};
+ghost use Rattle.pmt_explain_run.specs.Sweeping.{IsSweptTrace};
 
 use crate::colors::colored;
 use crate::sources::sources_of;
@@ -11,7 +13,7 @@ use command_page::page_of;
 use command_requests::{Color, ExplainWords, Form};
 use pmt_asked::{Cut, Labels};
 use pmt_explain_json::json_text;
-use pmt_explain_run::explain;
+use pmt_explain_run::{SweptTrace, explained, swept_trace};
 use pmt_explain_text::{Screen, source_places, text};
 use pmt_explanation::{Explanation, has_failed};
 use pmt_model::OutOfMemory;
@@ -20,7 +22,7 @@ use pmt_taking::TakeError;
 use pmt_text::{Counted, TextSource};
 use std::alloc::{AllocError, Global};
 use std::io::{Read, Write};
-use std::thread::Threads;
+use std::thread::{Threads, join};
 
 // The lines of a text where the words don't say how many entries are shown.
 const ROWS: usize = 40;
@@ -61,16 +63,7 @@ where
         cut,
         colors: is_colored(words, colors),
     };
-    explain_bytes(
-        rt,
-        alloc,
-        files,
-        words,
-        &known,
-        bytes.as_slice(),
-        out,
-        watch,
-    )
+    explain_bytes(rt, alloc, files, words, &known, bytes, out, watch)
 }
 
 // Adds what the files tell to ignore.
@@ -117,42 +110,67 @@ fn explain_bytes<T: Threads + Sync, O: Opener, W: Write, P: Watch>(
     files: &O,
     words: &ExplainWords<'_>,
     known: &Known,
-    bytes: &[u8],
+    bytes: Vec<u8>,
     out: &mut W,
     watch: &mut P,
 ) -> Result<u8, Fault>
     ensures { IfOk result (λ status. status ≤ 1) }
 {
-    match explained(rt, alloc, words, &known.labels, bytes, watch) {
-        Ok(mut explanation) => tell(
-            alloc,
-            files,
-            words,
-            known,
-            bytes,
-            &mut explanation,
-            out,
-            watch,
-        ),
+    let mut text = bytes;
+    let swept = match swept_text(alloc, text.as_slice(), watch) {
+        Ok(swept) => swept,
         Err(error) => {
             let input = Input::new("explain", words.file);
-            Err(taken_fault(alloc, input, bytes, error)?)
+            return Err(taken_fault(alloc, input, text.as_slice(), error)?);
         }
-    }
+    };
+    let mut explanation = explained_beside(rt, alloc, swept, words, &known.labels, &mut text)?;
+    tell(
+        alloc,
+        files,
+        words,
+        known,
+        text.as_slice(),
+        &mut explanation,
+        out,
+        watch,
+    )
 }
 
-// The explanation of the trace with this text.
-fn explained<T: Threads + Sync, P: Watch>(
-    rt: &T,
-    alloc: Global,
-    words: &ExplainWords<'_>,
-    labels: &Labels,
-    bytes: &[u8],
-    watch: &mut P,
-) -> Result<Explanation, TakeError> {
+// The trace with this text, swept.
+fn swept_text<P: Watch>(alloc: Global, bytes: &[u8], watch: &mut P) -> Result<SweptTrace, TakeError>
+    ensures { IfOk result IsSweptTrace }
+{
     let text = WatchedText::new(bytes, watch);
     let mut source = TextSource::new(alloc, Counted::new(text));
-    explain(rt, alloc, &mut source, labels, &words.options)
+    swept_trace(alloc, &mut source)
+}
+
+// The explanation of the trace that was swept. A thread beside it lets go of the text, if no page is to show it.
+fn explained_beside<T: Threads + Sync>(
+    rt: &T,
+    alloc: Global,
+    swept: SweptTrace,
+    words: &ExplainWords<'_>,
+    labels: &Labels,
+    text: &mut Vec<u8>,
+) -> Result<Explanation, OutOfMemory>
+    requires { IsSweptTrace swept }
+{
+    let options = &words.options;
+    let is_shown = matches!(words.form, Form::Page);
+    let ((), explanation) = join(
+        rt,
+        || {
+            if !is_shown {
+                *text = Vec::new(alloc);
+            }
+        },
+        move || -> Result<Explanation, OutOfMemory>
+            requires { IsSync T.row × IsSweptTrace swept }
+        { explained(rt, alloc, swept, labels, options) },
+    );
+    explanation
 }
 
 // Writes what is asked for of the explained trace with this text.

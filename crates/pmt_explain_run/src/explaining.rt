@@ -4,18 +4,23 @@ ghost use Rattle.pmt_text.specs.Coming.{ComesWhole};
 ghost use Rattle.pmt_text.specs.Sources.{CountsReads};
 ghost use Rattle.pmt_taking.specs.Sourcing.{IsFaultOf, TellsTaken, told_by};
 ghost use Rattle.pmt_analysis.specs.Analysing.{IsAnalysed};
-ghost use Rattle.pmt_ending.specs.SafePlaces.{AreSafePlaces};
+ghost use Rattle.pmt_explain.specs.Saving.{AreSafePlaces};
+ghost use Rattle.pmt_explain_run.specs.Sweeping.{IsSweptTrace};
 ghost use Rattle.pmt_explanation.specs.Explaining.{IsExplanation};
 
 use crate::places::places_of;
+use crate::sweeping::{SweptTrace, swept_trace};
+use pmt_analysis::Analysis;
 use pmt_asked::{Labels, Options};
+use pmt_ending::all_told;
 use pmt_explanation::{Explanation, explanation_of};
+use pmt_flags::marked_numbers;
 use pmt_model::OutOfMemory;
-use pmt_report::{Placed, swept_places};
+use pmt_pass::Swept;
 use pmt_taking::TakeError;
 use pmt_text::EventSource;
 use std::alloc::Global;
-use std::thread::Threads;
+use std::thread::{Threads, join_mut};
 
 /// Explains the trace whose events the source has still to give, with these labels of its events.
 ///
@@ -37,26 +42,67 @@ pub fn explain<T: Threads + Sync, S: EventSource>(
     ensures told { TellsTaken (S.state source.old) result (S.state source.new) }
     ensures failures { CountsReads (S.failures source.old) (told_by result) (S.failures source.new) }
 {
-    let placed = swept_places(alloc, source)?;
-    let explanation = explained(rt, alloc, placed, labels, options)?;
+    let swept = swept_trace(alloc, source)?;
+    let explanation = explained(rt, alloc, swept, labels, options)?;
     Ok(explanation)
 }
 
-// The explanation of the trace that was analysed.
-fn explained<T: Threads + Sync>(
+/// Explains the trace that was swept, with these labels of its events. Two threads find the numbers of the events that are kept and the
+/// places from which stores are safe.
+///
+/// # Errors
+/// Where memory was refused.
+pub fn explained<T: Threads + Sync>(
     rt: &T,
     alloc: Global,
-    placed: Placed,
+    swept: SweptTrace,
     labels: &Labels,
     options: &Options,
 ) -> Result<Explanation, OutOfMemory>
-    requires { AreSafePlaces placed.analysis.trace placed.safe }
-    ensures explained { IfOk result (IsExplanation placed.analysis labels.now options.now) }
-    ensures analysis { IfOk result (λ x. x.analysis ≡ placed.analysis) }
+    requires { IsSweptTrace swept }
+    ensures explained { IfOk result (λ x. IsExplanation x.analysis labels.now options.now x) }
+    ensures analysed { IfOk result (λ x. IsAnalysed x.analysis) }
+    ensures trace { IfOk result (λ x. x.analysis.trace ≡ swept.trace) }
     ensures limit { IfOk result (λ x. x.limit ≡ options.now.limit) }
 {
-    let Placed { analysis, safe } = placed;
-    let places = places_of(alloc, analysis.trace(), &safe)?;
-    drop(safe);
+    let Placed { analysis, places } = placed_of(rt, alloc, swept)?;
     explanation_of(rt, alloc, analysis, places, labels, options)
+}
+
+// The analysis of a trace, and from which place on each of its stores is safe.
+#[derive(Drop)]
+struct Placed {
+    analysis: Analysis,
+    places: Vec<u64>,
+}
+
+// Those of the trace that was swept.
+fn placed_of<T: Threads + Sync>(
+    rt: &T,
+    alloc: Global,
+    swept: SweptTrace,
+) -> Result<Placed, OutOfMemory>
+    requires { IsSweptTrace swept }
+    ensures trace { IfOk result (λ p. p.analysis.trace ≡ swept.trace) }
+    ensures places { IfOk result (λ p. AreSafePlaces p.analysis.trace p.places.items) }
+{
+    let SweptTrace { trace, swept } = swept;
+    let Swept {
+        lines,
+        findings,
+        verdicts,
+        kept,
+        safe,
+    } = swept;
+    let flags = kept.as_slice();
+    let (selection, places) = join_mut(
+        rt,
+        &mut || marked_numbers(alloc, flags),
+        &mut || places_of(alloc, &trace, &safe),
+    );
+    let selection = selection?;
+    let places = places?;
+    let findings = all_told(alloc, findings.as_slice())?;
+    let analysis = Analysis::new(trace, lines, findings, verdicts, selection);
+    Ok(Placed { analysis, places })
 }
