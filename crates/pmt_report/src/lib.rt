@@ -24,5 +24,5 @@ pub use crate::check::{failed, report_text, run_check};
 pub use crate::fault::{RunError, fault_text, run_error};
 pub use crate::fronts_run::run_fronts;
 pub use crate::record_fault::RecordFault;
-pub use crate::sweeping::{Placed, swept, swept_places};
+pub use crate::sweeping::swept;
 pub use crate::trim::run_trim;

@@ -4,23 +4,15 @@ ghost use Rattle.pmt_text.specs.Coming.{ComesWhole};
 ghost use Rattle.pmt_text.specs.Sources.{CountsReads};
 ghost use Rattle.pmt_taking.specs.Sourcing.{IsFaultOf, TellsTaken, told_by};
 ghost use Rattle.pmt_analysis.specs.Analysing.{IsAnalysed};
-ghost use Rattle.pmt_ending.specs.SafePlaces.{AreSafePlaces};
 
 use pmt_analysis::Analysis;
-use pmt_ending::{SafePlaces, all_told};
+use pmt_ending::all_told;
 use pmt_flags::marked_numbers;
 use pmt_model::{OutOfMemory, Trace};
 use pmt_pass::{Swept, sweep};
 use pmt_taking::{TakeError, take_trace};
 use pmt_text::EventSource;
 use std::alloc::Global;
-
-/// The analysis of a trace, and from which place on each of its stores is safe.
-#[derive(Drop)]
-pub struct Placed {
-    pub analysis: Analysis,
-    pub safe: SafePlaces,
-}
 
 /// The analysis of the trace whose events the source has still to give, by one thread.
 ///
@@ -35,44 +27,24 @@ pub fn swept<S: EventSource>(alloc: Global, source: &mut S) -> Result<Analysis, 
     ensures failures { CountsReads (S.failures source.old) (told_by result) (S.failures source.new) }
 {
     let trace = take_trace(alloc, source)?;
-    let placed = swept_trace(alloc, trace)?;
-    let Placed { analysis, safe } = placed;
-    drop(safe);
+    let analysis = swept_trace(alloc, trace)?;
     Ok(analysis)
 }
 
-/// What `swept` gives, and from which place on each store of the trace is safe, which the same pass finds.
-///
-/// # Errors
-/// As those of `swept`.
-pub fn swept_places<S: EventSource>(alloc: Global, source: &mut S) -> Result<Placed, TakeError>
-    ensures right { IfOk result (λ p. IsAnalysed p.analysis) }
-    ensures safe { IfOk result (λ p. AreSafePlaces p.analysis.trace p.safe) }
-    ensures whole { IfOk result (λ p. ComesWhole (S.coming source.old) p.analysis.trace) }
-    ensures fault { IfErr (told_by result) (λ e. IfSome (S.coming source.old) (λ c. IsFaultOf c e)) }
-    ensures told { TellsTaken (S.state source.old) result (S.state source.new) }
-    ensures failures { CountsReads (S.failures source.old) (told_by result) (S.failures source.new) }
-{
-    let trace = take_trace(alloc, source)?;
-    let placed = swept_trace(alloc, trace)?;
-    Ok(placed)
-}
-
-// The analysis of the trace: one pass finds what is wrong, judges, and finds what is kept and from which place on each store is safe.
-fn swept_trace(alloc: Global, trace: Trace) -> Result<Placed, OutOfMemory>
-    ensures trace { IfOk result (λ p. p.analysis.trace ≡ trace) }
-    ensures right { IfOk result (λ p. IsAnalysed p.analysis) }
-    ensures safe { IfOk result (λ p. AreSafePlaces trace p.safe) }
+// The analysis of the trace: one pass finds what is wrong, judges, and finds what is kept.
+fn swept_trace(alloc: Global, trace: Trace) -> Result<Analysis, OutOfMemory>
+    ensures trace { IfOk result (λ a. a.trace ≡ trace) }
+    ensures right { IfOk result IsAnalysed }
 {
     let Swept {
         lines,
         findings,
         verdicts,
         kept,
-        safe,
+        safe: _,
     } = sweep(alloc, &trace)?;
     let findings = all_told(alloc, findings.as_slice())?;
     let selection = marked_numbers(alloc, kept.as_slice())?;
     let analysis = Analysis::new(trace, lines, findings, verdicts, selection);
-    Ok(Placed { analysis, safe })
+    Ok(analysis)
 }
