@@ -1,8 +1,8 @@
 //! Findings in eight bytes each: a trace may have as many as it has events.
-ghost use Rattle.std.specs.Prelude.{◌≡◌, [], ◌∷◌, ◌++◌, IfOk, IfSome, OnOk};
+ghost use Rattle.std.specs.Prelude.{◌≡◌, ◌≤◌, [], ◌∷◌, ◌++◌, IfNone, IfOk, IfSome, OnOk};
 ghost use Rattle.pmt_model.specs.Analyses.{reported_at};
 ghost use Rattle.pmt_model.specs.declared.finding.Finding.TheVariants.{NeverPersisted};
-ghost use Rattle.pmt_ending.specs.Noting.{finding_from};
+ghost use Rattle.pmt_ending.specs.Noting.{LacksRoom, finding_from, first_without_room};
 
 use pmt_model::{Finding, OutOfMemory};
 use std::alloc::{AllocError, Global};
@@ -44,10 +44,11 @@ impl Model for Noted {
 }
 
 impl Noted {
-    /// The finding, if its events have room.
+    /// The finding, or none where one of its events has a number from 2^31 on.
     #[inline(always)]
     pub fn of(finding: Finding) -> Option<Noted>
-        ensures { IfSome result (λ noted. noted ≡ finding) }
+        ensures value { IfSome result (λ noted. noted ≡ finding) }
+        ensures none { IfNone result (LacksRoom finding) }
     {
         match finding {
             Finding::Overwritten { earlier, later } => {
@@ -113,7 +114,8 @@ fn lost(event: u64, flushed: bool) -> Finding
 // The finding of that kind and event, if the event has room.
 #[inline(always)]
 fn noted_at(event: u64, told: u32) -> Option<Noted>
-    ensures { IfSome result (λ noted. noted ≡ finding_from event told) }
+    ensures value { IfSome result (λ noted. noted ≡ finding_from event told) }
+    ensures none { IfNone result (first_without_room ≤ event) }
 {
     if event >= FIRST_WITHOUT_ROOM {
         return None;
@@ -127,7 +129,8 @@ fn noted_at(event: u64, told: u32) -> Option<Noted>
 // That the store is never persisted, if it has room.
 #[inline(always)]
 fn noted_lost(event: u64, flushed: bool) -> Option<Noted>
-    ensures { IfSome result (λ noted. noted ≡ NeverPersisted event flushed) }
+    ensures value { IfSome result (λ noted. noted ≡ NeverPersisted event flushed) }
+    ensures none { IfNone result (first_without_room ≤ event) }
 {
     if flushed {
         return noted_at(event, NEVER_FENCED);

@@ -1,5 +1,5 @@
 -- What is known of the first events of a trace stays known where more events follow.
-use Rattle.std.proofs.Common.{◌≡◌, ℕ, suc, ◌+◌, ◌-◌, ◌<◌, ◌≤◌, inl, inr, Bool, true, false, List, [], length, get_or, map, Some, refl, sym, ap, subst, ◌∙◌, true≢false, arith}
+use Rattle.std.proofs.Common.{◌≡◌, ℕ, suc, ◌+◌, ◌-◌, ◌<◌, ◌≤◌, inl, inr, Bool, false, List, length, get_or, map, Some, refl, sym, ap, subst, ◌∙◌, true≢false, arith}
 use Rattle.std.specs.Prelude.{◌↔◌, IsTrue, slice_get, slice_index, unwrap_or}
 use Rattle.std.proofs.lemmas.Bool.{cases_lt}
 use Rattle.std.proofs.lemmas.List.{get_or-append-add, length-append}
@@ -9,7 +9,7 @@ use Rattle.pmt_model.specs.declared.finding.Finding.{Finding}
 use Rattle.pmt_model.specs.declared.finding.Finding.TheVariants.{Overwritten, NeverPersisted, RedundantFlush, FenceWithoutFlush}
 use Rattle.pmt_model.specs.declared.finding.Verdict.{Verdict}
 use Rattle.pmt_model.specs.Values.{Layout, Written}
-use Rattle.pmt_model.specs.Machine.{Act, Stores, Flushes, Clflushes, Fences, Ends, count}
+use Rattle.pmt_model.specs.Machine.{Stores, Flushes, Clflushes, Fences, Ends, count}
 use Rattle.pmt_model.specs.Pushing.{empty, with_events}
 use Rattle.pmt_model.specs.Traces.{Recording, IsTrace, IsAct, history, lines_of}
 use Rattle.pmt_model.specs.Assertions.{PersistPasses, OrderedPasses}

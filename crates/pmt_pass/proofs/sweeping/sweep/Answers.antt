@@ -1,5 +1,4 @@
 use Rattle.pmt_model.specs.Pushing.{empty}
-use Rattle.pmt_pass.specs.Passing.{HasSwept}
 use Rattle.pmt_pass.proofs.GrowingLemmas.{swept-whole}
 use Rattle.pmt_pass.proofs.sweeping.sweep.Goals as goal
 
