@@ -135,19 +135,19 @@ pub(crate) fn hints_in_order(
 ) -> Result<Vec<Hint>, OutOfMemory>
     ensures { IfOk result (λ hints. hints.items ≡ (early.now.words.items ++ late.now.stores.items) ++ (late.now.runs.items ++ early.now.flushes.items)) }
 {
-    let mut hints = joined(alloc, &early.words, &late.stores)?;
-    let more = joined(alloc, &late.runs, &early.flushes)?;
+    let mut hints = joined(alloc, early.words.as_slice(), late.stores.as_slice())?;
+    let more = joined(alloc, late.runs.as_slice(), early.flushes.as_slice())?;
     hints.extend_from_slice(more.as_slice())?;
     Ok(hints)
 }
 
 // These hints, and then those.
-fn joined(alloc: Global, these: &Vec<Hint>, those: &Vec<Hint>) -> Result<Vec<Hint>, OutOfMemory>
-    ensures { IfOk result (λ hints. hints.items ≡ these.now.items ++ those.now.items) }
+fn joined(alloc: Global, these: &[Hint], those: &[Hint]) -> Result<Vec<Hint>, OutOfMemory>
+    ensures { IfOk result (λ hints. hints.items ≡ these.now ++ those.now) }
 {
     let mut hints = Vec::new(alloc);
-    hints.extend_from_slice(these.as_slice())?;
-    hints.extend_from_slice(those.as_slice())?;
+    hints.extend_from_slice(these)?;
+    hints.extend_from_slice(those)?;
     Ok(hints)
 }
 
