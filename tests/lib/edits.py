@@ -4,8 +4,9 @@
 An edit turns the meaning of a function. It is refused where the prover says of a line of that function that a goal is not proved, or of
 a line of its proof that it proves no goal. A proof that only names what is gone says nothing of the contract. A function is proved by its
 own body and the contracts of those that it calls. So the edits of a crate are tried in one check, in which the other functions have neither
-body nor proof, but a hole, which stands for what their contracts promise; those that turn one function are tried in several, and an edit of
-no function, as of a constant, alone. The crates below are taken as they were built last.
+body nor proof, but a hole, which stands for what their contracts promise. Where two turn one function, the second is made in a twin, a function
+of another name behind it; of a method of a trait, which can have none, it is tried in a check of its own. An edit of no function, as of a
+constant, is tried alone. The crates below are taken as they were built last.
 What was refused is kept by the sum of all that was read: the crate, its edits, the libraries below, the kit, and what tells what an edit turns.
 The last line is 'N passed, M failed'.
 """
@@ -43,13 +44,15 @@ pub {name}_spec : {{M : Type 1}} → statement M
 
 
 class Function(NamedTuple):
-    """A function of a crate: its file, the path by which the prover names it, its lines, and the one that opens its body, if it has one."""
+    """A function of a crate: its file, the path by which the prover names it, its lines, the one that opens its body, if it has one, and
+    whether it is of no trait."""
 
     file: str
     path: str
     first: int
     last: int
     body: int | None
+    is_own: bool
 
     def has(self, file, line):
         """Whether this line of this file is one of its lines, or of its proof."""
@@ -67,11 +70,12 @@ class Change(NamedTuple):
 
 
 class Edit(NamedTuple):
-    """An edit: its name, what it changes, and the functions that it touches."""
+    """An edit: its name, what it changes, the functions that it touches, and whether it can be made in a twin of the one that it touches."""
 
     name: str
     changes: list[Change]
     functions: frozenset[Function]
+    has_twin: bool
 
     def paths(self):
         """What a check of it looks at: its functions, or the modules of its files."""
@@ -91,6 +95,10 @@ class Goal(NamedTuple):
 
     def told(self):
         return f"{self.file}:{self.line}: {self.what}"
+
+    def back_in(self, function, copied):
+        """The same goal of the crate, where this function of it stands so in a copy."""
+        return self._replace(line=self.line - copied.first + function.first) if self.file == copied.file else self
 
 
 class Fault(Exception):
@@ -118,7 +126,7 @@ def functions_of(crate):
                 beside = [] if item.trait or (item.owner, path) in homes else [home for name, home in homes if name == item.owner]
                 home = str(beside[0].relative_to(crate)) if len(beside) == 1 else file
                 path_below = "::".join(filter(None, (module_of(home), block, item.name)))
-                yield Function(file, path_below, first + 1, item.last + 1, opening_of(lines, item))
+                yield Function(file, path_below, first + 1, item.last + 1, opening_of(lines, item), not item.trait)
 
 
 def opening_of(lines, item):
@@ -131,7 +139,7 @@ def opening_of(lines, item):
 
 def read_edit(crate, path, functions):
     """An edit, from its file: a line 'file: F', and then pairs of lines 'old: TEXT' and 'new: TEXT'."""
-    file, old, changes, touched = "", "", [], set()
+    file, old, changes, touched, within = "", "", [], set(), True
     for line in path.read_text().splitlines():
         key, _, value = line.partition(":")
         value = value.removeprefix(" ")
@@ -145,20 +153,20 @@ def read_edit(crate, path, functions):
                 raise Fault(f"{path.stem}: BAD EDIT: {file} has '{old}' {text.count(old)} times, and not once")
             first = text.index(old)
             changes.append(Change(file, first, first + len(old), value))
-            touched |= {function for function in functions if function.has(file, text.count("\n", 0, first) + 1)}
-            old = ""
+            here = {function for function in functions if function.has(file, text.count("\n", 0, first) + 1)}
+            touched, within, old = touched | here, within and bool(here), ""
         elif line:
             raise Fault(f"{path.stem}: BAD EDIT: a line begins with none of 'file: ', 'old: ', 'new: ': {line}")
     if old or not changes:
         raise Fault(f"{path.stem}: BAD EDIT: an 'old: ' has no 'new: ', or there is none")
-    return Edit(path.stem, changes, frozenset(touched))
+    return Edit(path.stem, changes, frozenset(touched), within and len(touched) == 1 and all(function.is_own for function in touched))
 
 
 def rounds_of(edits):
-    """The edits in rounds: in none do two touch one function, and one that touches none is alone."""
+    """The edits in rounds: in none do two touch one function, but for those that a twin has, and one that touches none is alone."""
     rounds = []
     for edit in edits:
-        fits = (beside for beside in rounds if edit.functions and all(it.functions and not it.functions & edit.functions for it in beside))
+        fits = (beside for beside in rounds if edit.functions and all(it.functions and (edit.has_twin or not it.functions & edit.functions) for it in beside))
         if (beside := next(fits, None)) is not None:
             beside.append(edit)
         else:
@@ -166,19 +174,62 @@ def rounds_of(edits):
     return rounds
 
 
+def edited(crate, file, changes):
+    """The text of a file of the crate with those of these changes that are of it."""
+    text = (crate / file).read_text()
+    for change in sorted((change for change in changes if change.file == file), key=lambda it: -it.first):
+        text = text[: change.first] + change.new + text[change.last :]
+    return text
+
+
 def write_edited(crate, copy, functions, edits):
-    """Makes the copy what the crate is with these edits, without the bodies and proofs of the functions that they don't turn."""
+    """Makes the copy what the crate is with these edits, without the bodies and proofs of the functions that they don't turn. Of each edit
+    it returns the paths that the copy has for what it looks at."""
     for part in PARTS:
         shutil.rmtree(copy / part, ignore_errors=True)
         if (crate / part).is_dir():
             shutil.copytree(crate / part, copy / part)
-    for change in sorted((change for edit in edits for change in edit.changes), key=lambda it: -it.first):
-        text = (copy / change.file).read_text()
-        (copy / change.file).write_text(text[: change.first] + change.new + text[change.last :])
-    turned = {path for edit in edits for path in edit.paths()}
+    paths, touched, twins = [], set(), []
+    for edit in edits:
+        if edit.functions & touched:
+            twins.append(edit)
+            paths.append({twin_path(edit)})
+        else:
+            touched |= edit.functions
+            paths.append(edit.paths())
+    changes = [change for edit in edits if edit not in twins for change in edit.changes]
+    for file in {change.file for change in changes}:
+        (copy / file).write_text(edited(crate, file, changes))
+    turned = {path for here in paths for path in here}
     for function in functions:
         if function.body and not any(function.path == path or function.path.startswith(f"{path}::") for path in turned):
             take_body(crate.name, copy, function)
+    for edit in sorted(twins, key=lambda it: -next(iter(it.functions)).last):
+        add_twin(crate, copy, edit)
+    return paths
+
+
+def twin_path(edit):
+    """The path of the twin in which an edit is made."""
+    return f"{next(iter(edit.functions)).path}_{edit.name}"
+
+
+def add_twin(crate, copy, edit):
+    """Adds to a copy, behind the function that the edit turns, what it makes of that, under another name and with a proof of its own. What
+    stands before the function in the copy has as many lines as in the crate."""
+    function = next(iter(edit.functions))
+    name, twin = (path.split("::")[-1] for path in (function.path, twin_path(edit)))
+    text = "\n".join(edited(crate, function.file, edit.changes).splitlines()[function.first - 1 : function.last])
+    lines = (copy / function.file).read_text().splitlines()
+    lines.insert(function.last, re.sub(rf"\bfn {name}\b", f"fn {twin}", text, count=1))
+    (copy / function.file).write_text("\n".join(lines) + "\n")
+    proof = pathlib.Path("proofs", *function.path.split("::"))
+    if (crate / proof).is_dir():
+        (copy / proof.with_name(twin)).mkdir()
+        for file in (crate / proof).iterdir():
+            text = edited(crate, str(proof / file.name), edit.changes).replace(f"{name}_spec", f"{twin}_spec")
+            text = text.replace(".".join(proof.parts) + ".", ".".join(proof.with_name(twin).parts) + ".")
+            (copy / proof.with_name(twin) / file.name).write_text(text)
 
 
 def take_body(crate, copy, function):
@@ -262,11 +313,15 @@ def try_edits(crate, command, copy):
     edits = [read_edit(crate, path, functions) for path in paths]
     told, wrong = [], []
     for beside in rounds_of(edits):
-        write_edited(crate, copy, functions, beside)
-        goals = check(command, copy, {path for edit in beside for path in edit.paths()})
-        wrong += [f"{goal.told()}, where no edit is" for goal in goals if not any(goal.is_of(edit) for edit in beside)]
-        for edit in beside:
-            refusal = next((goal for goal in goals if goal.is_of(edit)), None)
+        looked = write_edited(crate, copy, functions, beside)
+        copied = {function.path: function for function in functions_of(copy)}
+        placed = [edit._replace(functions=frozenset(copied[path] for path in here if edit.functions)) for edit, here in zip(beside, looked)]
+        goals = check(command, copy, set().union(*looked))
+        wrong += [f"{goal.told()}, where no edit is" for goal in goals if not any(goal.is_of(edit) for edit in placed)]
+        for edit, there in zip(beside, placed):
+            refusal = next((goal for goal in goals if goal.is_of(there)), None)
+            if refusal and len(edit.functions) == 1:
+                refusal = refusal.back_in(*edit.functions, *there.functions)
             (told if refusal else wrong).append(f"{edit.name}: {'refused: ' + refusal.told() if refusal else 'NOT REFUSED'}")
     return told, wrong
 
