@@ -20,6 +20,7 @@ use pmt_taking::TakeError;
 use pmt_text::EventSource;
 use pmt_text::write::{LINE_ROOM, push_header, spell_event};
 use std::alloc::Global;
+use std::mem;
 
 /// The most events of a block: a read gives about a hundred.
 const BLOCK_ROOM: usize = 512;
@@ -104,7 +105,7 @@ impl Whole {
         ensures { (T : Recording) → IsWholeOf T self.old → OnOk result (IsWholeOf (with_events T events.now) self.new) }
     {
         self.take_block(alloc, events, lines)?;
-        self.leave();
+        self.leave(alloc);
         Ok(())
     }
 
@@ -158,14 +159,17 @@ impl Whole {
 
     // The events before the first flush whose thread has not fenced since leave.
     #[inline(never)]
-    fn leave(&mut self)
+    fn leave(&mut self, alloc: Global)
         requires whole { IsWhole self.old }
         requires room { taken self.old.pass ≤ event_limit }
         ensures { (T : Recording) → IsWholeOf T self.old → IsWholeOf T self.new }
     {
-        let count = pop_decided(&mut self.held, self.pass.marks());
+        let none = HeldLines::new(alloc, Vec::new(alloc));
+        let held = mem::replace(&mut self.held, none);
+        let (mut held, count) = pop_decided(held, self.pass.marks());
         self.pass.give_out(count);
-        self.held.give_up_room();
+        held.give_up_room();
+        self.held = held;
     }
 
     // All has come: the text of the kept events.
@@ -178,20 +182,22 @@ impl Whole {
     }
 }
 
-// The lines before the first whose mark is that of an open flush leave: how many these are.
+// The lines once those before the first whose mark is that of an open flush have left, and how many these are. They are moved here and back,
+// so that what the loop counts stays in registers.
 #[inline(always)]
-fn pop_decided(held: &mut HeldLines, marks: &[Mark]) -> usize
-    ensures within { result ≤ length marks.now }
-    ensures left { (T : Recording) (place : ℕ) (waiting : List Event) → AreMarks T place marks.now → place + length marks.now ≤ length T.events → IsHeldAt T place waiting held.old → HasLeftTo T (place + result) held.new }
-    ensures decided { (T : Recording) (place : ℕ) → AreMarks T place marks.now → AreDecidedFrom T place (place + result) }
+fn pop_decided(held: HeldLines, marks: &[Mark]) -> (HeldLines, usize)
+    ensures within { result.1 ≤ length marks.now }
+    ensures left { (T : Recording) (place : ℕ) (waiting : List Event) → AreMarks T place marks.now → place + length marks.now ≤ length T.events → IsHeldAt T place waiting held → HasLeftTo T (place + result.1) result.0 }
+    ensures decided { (T : Recording) (place : ℕ) → AreMarks T place marks.now → AreDecidedFrom T place (place + result.1) }
 {
+    let mut left = held;
     for index in 0..marks.len() {
         match decision(marks[index]) {
-            Some(kept) => held.pop(kept),
-            None => return index,
+            Some(kept) => left.pop(kept),
+            None => return (left, index),
         }
     }
-    marks.len()
+    (left, marks.len())
 }
 
 // Puts the lines whose mark is that of a kept event at the end of the text.

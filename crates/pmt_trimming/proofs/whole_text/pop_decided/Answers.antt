@@ -6,7 +6,7 @@ use Rattle.pmt_trimming.proofs.whole_text.pop_decided.Goals as goal
 pub loop-index-init : goal.loop-index-init
 loop-index-init c = (
   omega arith,
-  λ T place waiting are many held. none-gone T place waiting c.args.held.now held,
+  λ T place waiting are many held. none-gone T place waiting c.args.held held,
   λ T place are k low high. absurd (omega (arith, low, high)),
 )
 
@@ -17,7 +17,7 @@ loop-index-preserved c =
     let ms = c.args.marks.now in (
       omega (arith, c.loop-index-test.true),
       λ T place waiting are many held.
-          held-popped T place i ms _ c.in-Some.kept _ c.loop-index.held c.pop.new.self c.loop-index-test.true c.decision.ensures c.in-Some.is many are c.pop.ensures (before.1 T place waiting are many held),
+          held-popped T place i ms _ c.in-Some.kept _ c.loop-index.left c.pop.new.self c.loop-index-test.true c.decision.ensures c.in-Some.is many are c.pop.ensures (before.1 T place waiting are many held),
       λ T place are. decided-more T place i ms _ c.in-Some.kept _ c.loop-index-test.true c.decision.ensures c.in-Some.is are (before.2 T place are),
     )
 
@@ -30,7 +30,7 @@ returns-in-None-clause-decided c = c.loop-index.invariant.2
 pub returns-clause-left : goal.returns-clause-left
 returns-clause-left c = λ T place waiting are many held.
     let all : c.loop-index.index ≡ length c.args.marks.now = omega (arith, c.loop-index-test.false, c.loop-index.invariant.0) in
-    all-gone T place c.loop-index.index (length c.args.marks.now) c.loop-index.held all (c.loop-index.invariant.1 T place waiting are many held)
+    all-gone T place c.loop-index.index (length c.args.marks.now) c.loop-index.left all (c.loop-index.invariant.1 T place waiting are many held)
 
 pub returns-clause-decided : goal.returns-clause-decided
 returns-clause-decided c = λ T place are.

@@ -1,5 +1,5 @@
 use Rattle.std.proofs.Common.{ℕ, List, sum, ap, ap₂, ◌∙◌, arith}
-use Rattle.pmt_trimming.specs.LineQueues.{Queued, cut_by}
+use Rattle.pmt_trimming.specs.LineQueues.{cut_by}
 use Rattle.pmt_trimming.proofs.held_lines.HeldLines.give_up_room.Goals as goal
 
 pub invariant_of-self : goal.invariant_of-self
