@@ -9,12 +9,15 @@ use pmt_model::OutOfMemory;
 use std::alloc::{AllocError, Global};
 use std::marker::Model;
 
+// How many places are remembered: 8 KiB of them, a quarter of a processor's nearest cache.
+const RECENT: usize = 2048;
+
 /// Lines, each with a place: that of its first appearance. A line takes 16 bytes, and some 6 to 11 more of the index.
 #[derive(Drop)]
 pub struct LinePlaces {
     lines: IndexSet<u64>,
     // By the lowest bits of lines the places that were found last: mostly the next line is one of these. Nothing is promised of them.
-    recent: [u32; 256],
+    recent: [u32; RECENT],
 }
 
 impl Model for LinePlaces {
@@ -34,7 +37,7 @@ impl LinePlaces {
     {
         LinePlaces {
             lines: IndexSet::new(alloc),
-            recent: [0; 256],
+            recent: [0; RECENT],
         }
     }
 
@@ -58,7 +61,7 @@ impl LinePlaces {
         ensures place { IfSome result (λ place. IsPlaceOf line place self.now) }
         ensures small { IfSome result (λ place. place < 2 ^ 32) }
     {
-        let place = self.recent[line as usize % 256] as usize;
+        let place = self.recent[line as usize % RECENT] as usize;
         match self.lines.as_slice().get(place) {
             Some(known) if *known == line => Some(place),
             _ => None,
@@ -84,7 +87,7 @@ impl LinePlaces {
         let Ok((place, is_new)) = self.lines.insert_full(line) else {
             return Err(AllocError);
         };
-        self.recent[line as usize % 256] = place as u32;
+        self.recent[line as usize % RECENT] = place as u32;
         Ok((place, is_new))
     }
 
