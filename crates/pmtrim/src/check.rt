@@ -1,6 +1,7 @@
 //! `check`: the report of a trace.
 ghost use Rattle.std.specs.Prelude.{◌≤◌, IfOk};
 
+use crate::buffered::buffered;
 use crate::faults::run_fault;
 use crate::places::placed;
 use command_inputs::{
@@ -94,6 +95,7 @@ where
     ensures { IfOk result (λ status. status ≤ 1) }
 {
     let alloc = rt.alloc();
+    let reader = buffered(alloc, reader)?;
     let reader = Counted::new(Recalling::new(alloc, reader, recalls));
     let mut writer = Counted::new(Recalling::new(alloc, out, recalls));
     let (reader, done) = run_check(rt, alloc, words.workers, reader, &mut writer);
@@ -116,6 +118,7 @@ fn analysed<R: Read + Drop>(
     reader: R,
     recalls: Recalls,
 ) -> Result<Analysis, Fault> {
+    let reader = buffered(alloc, reader)?;
     let reader = Counted::new(Recalling::new(alloc, reader, recalls));
     let mut source = TextSource::new(alloc, reader);
     match swept(alloc, &mut source) {

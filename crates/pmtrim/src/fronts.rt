@@ -1,6 +1,7 @@
 //! `fronts`: how many stores of each line are safe at a place.
 ghost use Rattle.std.specs.Prelude.{◌≤◌, IfOk};
 
+use crate::buffered::buffered;
 use crate::faults::run_fault;
 use command_inputs::{Fault, Input, Opener, Recalling, Recalls, open_input};
 use command_requests::FrontsWords;
@@ -45,6 +46,7 @@ fn fronts_of<R: Read + Drop, W: Write>(
 ) -> Result<u8, Fault>
     ensures { IfOk result (λ status. status ≤ 1) }
 {
+    let reader = buffered(alloc, reader)?;
     let reader = Counted::new(Recalling::new(alloc, reader, recalls));
     let mut writer = Counted::new(Recalling::new(alloc, out, recalls));
     let (reader, done) = run_fronts(alloc, words.place, reader, &mut writer);

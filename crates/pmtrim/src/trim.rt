@@ -1,6 +1,7 @@
 //! `trim`: the trace without the flushes and fences that no crash can show.
 ghost use Rattle.std.specs.Prelude.{◌≤◌, IfOk};
 
+use crate::buffered::buffered;
 use crate::faults::run_fault;
 use command_inputs::{Fault, Input, Opener, Recalling, Recalls, open_input};
 use command_requests::TraceWords;
@@ -54,6 +55,7 @@ where
     ensures { IfOk result (λ status. status ≤ 1) }
 {
     let alloc = rt.alloc();
+    let reader = buffered(alloc, reader)?;
     let reader = Counted::new(Recalling::new(alloc, reader, recalls));
     let mut writer = Counted::new(Recalling::new(alloc, out, recalls));
     let (reader, done) = run_trim(rt, alloc, words.workers, reader, &mut writer);
@@ -104,6 +106,7 @@ fn stream_reader<R: Read + Drop, W: Write>(
 ) -> Result<u8, Fault>
     ensures { IfOk result (λ status. status ≤ 1) }
 {
+    let reader = buffered(alloc, reader)?;
     let reader = Counted::new(Recalling::new(alloc, reader, recalls));
     let mut source = TextSource::new(alloc, reader);
     let mut writer = Counted::new(Recalling::new(alloc, out, recalls));
