@@ -1,4 +1,5 @@
 """Threads under pmtrim-record: that they meet by the seed, at what cost, and their numbers. The programs are the kinds of threads.c."""
+import pathlib
 import re
 import resource
 import subprocess
@@ -7,6 +8,7 @@ import time
 from valgrind_runs import drawn
 
 SAVE_EVENTS = 3
+KERNEL = pathlib.Path("/proc/sys/kernel")
 
 
 def switches_of(events):
@@ -17,6 +19,15 @@ def switches_of(events):
 def told_switches(faults):
     found = re.search(r" events? of (\d+) threads?.*, (\d+) switch(?:es)? between threads", faults)
     return tuple(map(int, found.groups())) if found else None
+
+
+def leave_numbers(left):
+    """Has the kernel begin its numbers of threads anew after so many, where it may be told to."""
+    last = int((KERNEL / "pid_max").read_text()) - left
+    try:
+        (KERNEL / "ns_last_pid").write_text(str(last))
+    except OSError:
+        print("threads are not numbered anew: the kernel may not be told to")
 
 
 class Threads:
@@ -40,6 +51,7 @@ class Threads:
         self.meet()
         self.log()
         self.piped()
+        self.numbered_anew()
         self.numbers()
         self.cost()
 
@@ -65,6 +77,14 @@ class Threads:
         texts = [drawn(lambda: self.record("piped", 12, 60, "--seed", 3))[0] for _ in range(6)]
         self.expect("threads that wake each other: one seed, one run", all(text == texts[0] for text in texts), "they differ")
         self.expect("threads that wake each other: all is recorded", len(texts[0]) == SAVE_EVENTS * 12 * 60, len(texts[0]))
+
+    def numbered_anew(self):
+        """The kernel's numbers of threads begin anew before, while and after a program starts some: one seed, one run."""
+        texts = []
+        for left in range(2, 18, 2):
+            leave_numbers(left)
+            texts.append(drawn(lambda: self.record("locked", 4, 40, "--seed", 7))[0])
+        self.expect("threads that are numbered anew: one seed, one run", all(text == texts[0] for text in texts), "they differ")
 
     def numbers(self):
         """A number is free again when its thread has ended without an open flush."""

@@ -4,6 +4,8 @@ import collections
 import random
 import re
 
+from valgrind_runs import drawn
+
 PROGRAMS, STEPS, LINES, LINE = 10, 120, 6, 64
 POOL = 4096
 CARRIED = """\
@@ -214,8 +216,11 @@ class Windows:
             self.expect(f"window {seed}: its base", base == Run(whole[: first - 1]).safe_bytes(), f"it differs at event {first}")
 
     def record(self, name, words, *options):
-        words[1].write_bytes(bytes(POOL))
-        return self.events_of(self.tests.record(name, words, *options, accepted=False)[0])
+        def begun_anew():
+            words[1].write_bytes(bytes(POOL))
+            return self.tests.record(name, words, *options, accepted=False)
+
+        return self.events_of(drawn(begun_anew)[0])
 
     def compare(self, seed, whole, window):
         """The verdicts that the program gives the window's claims are those of the whole run."""

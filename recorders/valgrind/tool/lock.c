@@ -26,8 +26,9 @@ ULong undrawn_turns;
 /* All that follows is read and written within the guard, but by the thread that has the lock. */
 static UInt guard;
 static Runner places[MOST_RUNNERS];
-static Runner *runners[MOST_RUNNERS]; /* by the kernel's numbers, rising: by the order of their creation */
+static Runner *runners[MOST_RUNNERS]; /* by the order of their creation */
 static Int runner_count, expected;
+static Int settled; /* so many of them, the first ones, had come when nobody was expected */
 static Runner *owner;
 /* The thread that has the next turn if it comes back from its call; and who sees to it that somebody has it. */
 static Runner *reserved, *arbiter;
@@ -55,33 +56,37 @@ static void remove_runner(Int number) {
     VG_(close)(runners[number]->descriptor);
     runners[number]->kernel_thread = 0;
     runner_count--;
+    settled -= number < settled;
     VG_(memmove)(&runners[number], &runners[number + 1], (SizeT)(runner_count - number) * sizeof *runners);
 }
 
+static void settle(void) {
+    if (expected == 0)
+        settled = runner_count;
+}
+
+/* Those that were expected together come in any order: the kernel's numbers tell which was created first. */
 static Runner *add_runner(Int kernel_thread) {
     Int number, at = runner_count;
     for (number = 0; places[number].kernel_thread != 0; number++)
         tl_assert(number + 1 < MOST_RUNNERS);
     places[number] = (Runner){.kernel_thread = kernel_thread, .descriptor = open_doing(kernel_thread), .where = AWAY};
-    for (; at > 0 && runners[at - 1]->kernel_thread > kernel_thread; at--)
+    for (; at > settled && is_numbered_before(kernel_thread, runners[at - 1]->kernel_thread); at--)
         runners[at] = runners[at - 1];
     runners[at] = &places[number];
     runner_count++;
     if (expected > 0)
         expected--;
+    settle();
     return &places[number];
 }
 
 static Runner *runner_with(Int kernel_thread) {
-    Int low = 0, high = runner_count;
-    while (low < high) {
-        Int middle = (low + high) / 2;
-        if (runners[middle]->kernel_thread < kernel_thread)
-            low = middle + 1;
-        else
-            high = middle;
-    }
-    return low < runner_count && runners[low]->kernel_thread == kernel_thread ? runners[low] : add_runner(kernel_thread);
+    Int number;
+    for (number = 0; number < runner_count; number++)
+        if (runners[number]->kernel_thread == kernel_thread)
+            return runners[number];
+    return add_runner(kernel_thread);
 }
 
 static Int count_waiting(void) {
@@ -220,7 +225,7 @@ struct sched_lock *vgModuleLocal_create_sched_lock(void) {
     while (runner_count > 0)
         remove_runner(0);
     VG_(memset)(places, 0, sizeof places);
-    expected = 0;
+    expected = settled = 0;
     owner = reserved = arbiter = NULL;
     guard = 0;
     return &only;
@@ -341,6 +346,7 @@ void lock_expects_thread(void) {
 void lock_misses_thread(void) {
     enter();
     expected--;
+    settle();
     leave();
 }
 

@@ -1,7 +1,29 @@
 #include "rest.h"
 #include "descriptors.h"
 
-enum { PATH_BYTES = 64 };
+/* MOST_NUMBERS is the most that Linux can be told (PID_MAX_LIMIT). */
+enum { PATH_BYTES = 64, MOST_NUMBERS = 1 << 22 };
+
+/* After how many numbers of threads the kernel begins anew. */
+static Int read_numbers(void) {
+    HChar text[16];
+    SysRes opened = VG_(open)("/proc/sys/kernel/pid_max", VKI_O_RDONLY, 0);
+    if (sr_isError(opened))
+        return MOST_NUMBERS;
+    Int length = VG_(read)((Int)sr_Res(opened), text, sizeof text - 1);
+    VG_(close)((Int)sr_Res(opened));
+    text[length < 0 ? 0 : length] = '\0';
+    Int numbers = (Int)VG_(strtoll10)(text, NULL);
+    return numbers > 0 ? numbers : MOST_NUMBERS;
+}
+
+Bool is_numbered_before(Int kernel_thread, Int other) {
+    static Int numbers;
+    if (numbers == 0)
+        numbers = read_numbers();
+    Int ahead = other - kernel_thread;
+    return (ahead < 0 ? ahead + numbers : ahead) < numbers / 2;
+}
 
 static Doing read_doing(Int descriptor) {
     HChar text[128];

@@ -4,6 +4,10 @@
 
 #include "core.h"
 
+/* Whether, of two threads that were created soon after each other, this one was created first. The kernel gives rising numbers, and after
+ * the highest one small ones again. */
+Bool is_numbered_before(Int kernel_thread, Int other);
+
 /* It will go on by itself, it sleeps till something comes, or the kernel has no such thread any more. */
 typedef enum { RUNS_THERE, SLEEPS_THERE, GONE } Doing;
 
