@@ -1,4 +1,5 @@
-use Rattle.std.proofs.Common.{◌≡◌, ◌+◌, ◌-◌, ◌≤◌, length, sym, subst, ap, arith, None, Some}
+use Rattle.std.proofs.Common.{◌≡◌, ◌+◌, ◌-◌, ◌≤◌, length, sym, subst, ap, None, Some, arith}
+use Rattle.std.proofs.lemmas.Grind.{elements}
 use Rattle.pmt_model.specs.Machine.{Flushes}
 use Rattle.pmt_reasons.specs.Reasons.{IsReason}
 use Rattle.pmt_laws.proofs.Histories.{act-within}
@@ -35,3 +36,6 @@ returns-clause-tells c =
     let next = subst (λ U. IsFirst (IsSoughtAfter U t (Some l) i) fence c.next_of-again.result) c.trace-trace.ensures c.next_of-again.ensures.first in
     let late : c.args.number ≤ c.place_from-place.result = omega (arith, c.if-place-number.false) in
     subst (IsReason T i) (sym c.reason_of_marking.ensures) (flush-told T t l i c.place_from-place.result fence c.next_of-again.result (c.len.result + 1) c.requires.is c.requires.dropped from late past first next)
+
+pub last_store-store-requires-clause-high : goal.last_store-store-requires-clause-high
+last_store-store-requires-clause-high c = grind (arith, elements)

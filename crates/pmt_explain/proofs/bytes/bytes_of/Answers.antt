@@ -1,4 +1,5 @@
 use Rattle.std.proofs.Common.{◌+◌, get_or, arith}
+use Rattle.std.proofs.lemmas.Grind.{elements}
 use Rattle.pmt_explain.specs.Kept.{IsReadOf}
 use Rattle.pmt_explain.proofs.KeptLemmas.{bytes-pushed, length-pushed}
 use Rattle.pmt_explain.proofs.bytes.bytes_of.Goals as goal
@@ -18,3 +19,6 @@ loop-index-preserved c =
 
 pub returns : goal.returns
 returns c = record { size = omega (arith, c.loop-index.invariant.size, c.loop-index-test.false, c.loop-index.auto.index-end); each = c.loop-index.invariant.each }
+
+pub loop-index-init : goal.loop-index-init
+loop-index-init c = grind (arith, elements)

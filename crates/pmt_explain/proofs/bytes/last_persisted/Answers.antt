@@ -1,4 +1,5 @@
-use Rattle.std.proofs.Common.{◌≡◌, ℕ, ◌+◌, ◌<◌, length, get_or, sym, ap, subst, ◌∙◌, add-one, arith, Some}
+use Rattle.std.proofs.Common.{◌≡◌, ℕ, ◌+◌, ◌<◌, length, get_or, sym, ap, subst, ◌∙◌, add-one, Some, arith}
+use Rattle.std.proofs.lemmas.Grind.{elements}
 use Rattle.std.specs.Prelude.{if◌then◌else◌}
 use Rattle.std.proofs.lemmas.Option.{slice_get-get_or}
 use Rattle.pmt_model.specs.Traces.{act_of}
@@ -29,3 +30,9 @@ loop-index-preserved c =
       size = ap (λ xs. length xs) same ∙ long ∙ c.loop-index.invariant.size;
       last = subst (λ ys. AreLastKept T crash first (n + 1) ys) (sym same) next;
     }
+
+pub loop-index-init : goal.loop-index-init
+loop-index-init c = grind (arith, elements)
+
+pub bounds-events-index : goal.bounds-events-index
+bounds-events-index c = grind (arith, elements)

@@ -1,4 +1,5 @@
 use Rattle.std.proofs.Common.{arith}
+use Rattle.std.proofs.lemmas.Grind.{elements}
 use Rattle.pmt_explain.proofs.failing.failure_of_ordered.Goals as goal
 
 pub ordered_failure-requires-clause-first : goal.ordered_failure-requires-clause-first
@@ -16,3 +17,6 @@ ordered_failure-requires-clause-second c = record {
   low = omega (arith, c.in_ok-go_to.ensures.low, c.between-writers.ensures.low, c.get-other.ensures.value, c.addr-2.ensures, c.min.ensures);
   high = omega (arith, c.in_ok-go_to.ensures.high, c.between-writers.ensures.high, c.get-other.ensures.value, c.addr-2.ensures, c.len-2.ensures.value, c.max.ensures);
 }
+
+pub returns-in_err-go_to : goal.returns-in_err-go_to
+returns-in_err-go_to c = grind (arith, elements)

@@ -1,4 +1,5 @@
-use Rattle.std.proofs.Common.{◌≡◌, ◌==◌, true, length, sym, ap, subst, arith, ◌∙◌}
+use Rattle.std.proofs.Common.{◌≡◌, ◌==◌, true, length, sym, ap, subst, ◌∙◌, arith}
+use Rattle.std.proofs.lemmas.Grind.{elements}
 use Rattle.std.specs.Prelude.{◌||◌, nat_lt}
 use Rattle.std.proofs.lemmas.Option.{slice_get_within}
 use Rattle.pmt_explain.specs.FirstIn.{IsBlockIn}
@@ -22,3 +23,9 @@ pub returns : goal.returns
 returns c = λ i knows.
     c.first_with_words.ensures i
     (subst (λ ws. IsBlockIn c.args.search.now i ws c.args.place c.args.block) (sym c.words.ensures) (block-known c.args.search.now c.requires.search i c.args.writers.now c.args.block knows c.args.place c.requires.place))
+
+pub first_store-requires : goal.first_store-requires
+first_store-requires c = grind (arith, elements)
+
+pub last_store-requires : goal.last_store-requires
+last_store-requires c = grind (arith, elements)

@@ -1,4 +1,5 @@
 use Rattle.std.proofs.Common.{◌≡◌, suc, length, get_or, true, Some, ap, sym, subst, ◌∙◌, arith}
+use Rattle.std.proofs.lemmas.Grind.{elements}
 use Rattle.std.specs.Prelude.{◌↔◌, ◌&&◌, nat_lt, slice_get}
 use Rattle.pmt_hints.specs.Numbers.{of_thread}
 use Rattle.std.proofs.lemmas.List.{length-set}
@@ -72,3 +73,6 @@ judged-requires-clause-size c =
     let slice : length c.as_slice.result.now ≡ length c.loop-index.earlier.items = ap (λ xs. length xs) c.as_slice.ensures.value in
     let long : length c.events-events.result.now ≡ length c.args.trace.now.events = ap (λ xs. length xs) c.events-events.ensures.value in
     omega (arith, slice, long, c.loop-index.invariant.size)
+
+pub returns-in_err-push_if : goal.returns-in_err-push_if
+returns-in_err-push_if c = grind (arith, elements)

@@ -1,4 +1,5 @@
-use Rattle.std.proofs.Common.{◌≡◌, [], sym, subst, ◌∙◌}
+use Rattle.std.proofs.Common.{◌≡◌, [], sym, subst, ◌∙◌, arith}
+use Rattle.std.proofs.lemmas.Grind.{elements}
 use Rattle.pmt_hints.specs.Hints.{AreThose, IsOneLineShort}
 use Rattle.pmt_hints.proofs.ShortLemmas.{none-goes, none-missed}
 use Rattle.pmt_hints.proofs.short_runs.one_line_short.Goals.{then-not-is_any_missed-via-then-not-is_any_missed, then-not-is_any_missed-via-else-not-is_any_missed+then-not-has_rest}
@@ -17,3 +18,12 @@ returns-then-not-is_any_missed c =
           let none = none-goes c.trace-trace.result.now labels (w.has_rest.ensures w.if-not-has_rest.true) in
           subst (λ U. AreThose (IsOneLineShort U labels) c.selection_of.result) c.trace-trace.ensures (subst (AreThose (IsOneLineShort c.trace-trace.result.now labels)) (sym is) none)
     ]
+
+pub has_rest-requires-clause-waited : goal.has_rest-requires-clause-waited
+has_rest-requires-clause-waited c = grind (arith, elements)
+
+pub short_numbers-requires-clause-waited : goal.short_numbers-requires-clause-waited
+short_numbers-requires-clause-waited c = grind (arith, elements)
+
+pub returns : goal.returns
+returns c = grind (arith, elements)

@@ -1,4 +1,5 @@
 use Rattle.std.proofs.Common.{◌≡◌, suc, ◌+◌, length, get_or, Some, ap, sym, subst, ◌∙◌, arith}
+use Rattle.std.proofs.lemmas.Grind.{elements}
 use Rattle.std.specs.Prelude.{slice_get}
 use Rattle.std.proofs.lemmas.Option.{slice_get-get_or}
 use Rattle.pmt_model.specs.Traces.{act, act_of, event}
@@ -69,3 +70,6 @@ returns c =
     let long : length c.events-events.result.now ≡ length T.events = ap (λ xs. length xs) c.events-events.ensures.value in
     let all : c.loop-index.index ≡ length T.events = omega (arith, long) in
     upto-those P (length T.events) c.loop-index.numbers.items (λ i p. (short-bound T labels i p).1) (subst (λ n. AreUpTo P n c.loop-index.numbers.items) all c.loop-index.invariant.numbers)
+
+pub returns-in_err-push_if : goal.returns-in_err-push_if
+returns-in_err-push_if c = grind (arith, elements)

@@ -1,4 +1,5 @@
 use Rattle.std.proofs.Common.{◌≡◌, ◌+◌, ◌++◌, suc, length, Some, ap, sym, subst, ◌∙◌, arith}
+use Rattle.std.proofs.lemmas.Grind.{elements}
 use Rattle.std.specs.Prelude.{◌||◌, ◌&&◌, slice_get}
 use Rattle.std.proofs.lemmas.Option.{slice_get-get_or}
 use Rattle.pmt_model.specs.Traces.{event}
@@ -43,3 +44,6 @@ loop-index-preserved c =
 
 pub returns : goal.returns
 returns c = sifted-all c.args.trace.now c.args.labels.now c.args.numbers.now c.loop-index.index c.loop-index.passed.items c.loop-index.closed (omega (arith, ap (λ xs. length xs) c.events-events.ensures.value)) c.loop-index.invariant.sifted
+
+pub returns-in_err-push_if : goal.returns-in_err-push_if
+returns-in_err-push_if c = grind (arith, elements)

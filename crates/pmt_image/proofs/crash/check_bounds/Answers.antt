@@ -1,4 +1,4 @@
-use Rattle.std.proofs.Common.{◌<◌, ◌≤◌, List, length, get_or, sym, subst, arith}
+use Rattle.std.proofs.Common.{◌<◌, ◌≤◌, List, length, get_or, sym, subst, rules, arith}
 use Rattle.std.specs.List.{AllByRecursion}
 use Rattle.std.proofs.lemmas.List.{drop_more}
 use Rattle.pmt_image.specs.declared.crash.LineStores.{LineStores}
@@ -19,3 +19,6 @@ loop-index-preserved c = λ rest.
     let few : count_in c.args.least.now x.line ≤ x.stores = omega (arith, c.count_of-few.ensures, c.if-line-few.false) in
     let many : x.stores ≤ count_in c.args.greatest.now x.line = omega (arith, c.count_of-many.ensures, c.if-many-line.false) in
     c.loop-index.invariant (subst P (sym (drop_more xs i none inside)) ((few, many), rest))
+
+pub returns-then-many-line-clause-fault : goal.returns-then-many-line-clause-fault
+returns-then-many-line-clause-fault c = search rules

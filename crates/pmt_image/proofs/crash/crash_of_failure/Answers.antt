@@ -1,4 +1,4 @@
-use Rattle.std.proofs.Common.{ap, ◌∙◌, List, map}
+use Rattle.std.proofs.Common.{ap, ◌∙◌, List, map, arith}
 use Rattle.pmt_reasons.specs.Failures.{persisted_at}
 use Rattle.pmt_explain.specs.Crashes.{full_line}
 use Rattle.pmt_explain.specs.declared.lines.LineCount.{LineCount}
@@ -20,3 +20,6 @@ returns-clause-may c =
     let full = full_line T c.args.failure.now.kept in
     box-may T n (λ l. persisted_at T n full l) (λ l. count_in c.in_ok-persisted.persisted l)
     (λ l. c.in_ok-persisted.ensures l ∙ ap (λ (xs : List LineCount). with_counts (map persisted_entry xs) (λ _. 0) l) c.as_slice.ensures.value ∙ failure-told T n l full c.in_ok-lines.lines.items c.in_ok-lines.ensures) (failure-box T n full)
+
+pub returns-clause-place : goal.returns-clause-place
+returns-clause-place c = grind arith

@@ -1,4 +1,5 @@
 use Rattle.std.proofs.Common.{List, ℕ, get_or, sym, ap, subst, ◌∙◌, arith}
+use Rattle.std.proofs.lemmas.Grind.{elements}
 use Rattle.std.specs.Prelude.{nat_eq}
 use Rattle.std.specs.List.{IsDistinct}
 use Rattle.indexmap.specs.IndexSet.{insert_key}
@@ -11,3 +12,6 @@ loop-line-preserved c = λ once.
     let i = c.loop-line.line-index in
     c.in_ok-insert.ensures.lines ∙ ap (λ (ks : List ℕ). insert_key nat_eq ks (get_or lines i 0)) (c.loop-line.invariant once)
     ∙ inserted-next lines i (subst (IsDistinct nat_eq) (sym c.lines-line-items.ensures) once) (omega arith)
+
+pub returns : goal.returns
+returns c = grind (arith, elements)

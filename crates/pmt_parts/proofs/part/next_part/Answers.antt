@@ -19,3 +19,6 @@ returns-clause-part c T it =
     let numbers : c.in_ok-numbers.numbers.items ≡ through p.numbers.items S =
     c.in_ok-numbers.ensures ∙ ap (λ ks. through ks c.numbers.result.now) c.as_slice-2.ensures.value ∙ ap (through p.numbers.items) c.numbers.ensures.value in
     next-is T c.args.ranges.now p _ S from by refl refl c.in_ok-chosen.ensures.rising (subst (λ m. AreChosen p.trace c.args.ranges.now m S) own c.in_ok-chosen.ensures.chosen) numbers c.in_ok-trace.ensures it
+
+pub returns-clause-place : goal.returns-clause-place
+returns-clause-place c = grind arith

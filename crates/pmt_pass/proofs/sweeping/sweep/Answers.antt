@@ -1,3 +1,4 @@
+use Rattle.std.proofs.Common.{arith}
 use Rattle.pmt_model.specs.Pushing.{empty}
 use Rattle.pmt_pass.proofs.GrowingLemmas.{swept-whole}
 use Rattle.pmt_pass.proofs.sweeping.sweep.Goals as goal
@@ -25,3 +26,6 @@ returns-clause-kept c =
 pub returns-clause-safe : goal.returns-clause-safe
 returns-clause-safe c =
     c.finish.ensures.safe c.args.trace.now (swept-whole c.args.trace.now c.format.result c.events.result.now _ c.format.ensures.value c.events.ensures.value c.events.ensures.is_trace (c.in_ok-take.ensures (empty c.format.result) c.in_ok-sweeper.ensures))
+
+pub take-requires : goal.take-requires
+take-requires c = grind arith

@@ -1,4 +1,5 @@
 use Rattle.std.proofs.Common.{◌<◌, arith}
+use Rattle.std.proofs.lemmas.Grind.{elements}
 use Rattle.std.proofs.lemmas.Bool.{eq-eqb, leb-true}
 use Rattle.pmt_verdicts.proofs.LineLemmas.{oldest-least, oldest-none, oldest-reached}
 use Rattle.pmt_verdicts.proofs.OrderLemmas.{bare-ordered, ordered-before, ordered-from, ordered-others}
@@ -40,3 +41,6 @@ returns-else-of_others-oldest c = λ T n A B it first is.
         ordered-others T n l links A B trace it.line.known.entries c.args.latest.now c.of_others.result oldest is (c.of_others.ensures is.told is.latest) (oldest-reached T n l B c.bytes-bytes.result trace are oldest told some) some ordered,
       )),
     )
+
+pub oldest-oldest-requires-clause-within : goal.oldest-oldest-requires-clause-within
+oldest-oldest-requires-clause-within c = grind (arith, elements)

@@ -1,4 +1,5 @@
-use Rattle.std.proofs.Common.{refl}
+use Rattle.std.proofs.Common.{refl, arith}
+use Rattle.std.proofs.lemmas.Grind.{elements}
 use Rattle.pmt_verdicts.proofs.LineLemmas.{at-line, bare-unplaced}
 use Rattle.pmt_verdicts.proofs.OrderLemmas.{bare-ordered}
 use Rattle.pmt_verdicts.proofs.order.is_placed_ordered.Goals as goal
@@ -11,3 +12,6 @@ pub returns-in-None : goal.returns-in-None
 returns-in-None c = λ T n A B are spanned is.
     let k = c.args.known.now in
     (λ told. bare-ordered T n c.args.line k.links A B (bare-unplaced T n c.args.line B k are.known (c.in-None.ensures.found T n are.known)), λ ordered. refl)
+
+pub is_line_ordered-requires : goal.is_line_ordered-requires
+is_line_ordered-requires c = grind (arith, elements)

@@ -1,4 +1,5 @@
 use Rattle.std.proofs.Common.{◌≡◌, inl, inr, ◌∙◌, sym, refl, subst, arith}
+use Rattle.std.proofs.lemmas.Grind.{elements}
 use Rattle.std.proofs.lemmas.Bool.{cases_lt}
 use Rattle.pmt_spans.specs.Spans.{IsSpanned}
 use Rattle.pmt_verdicts.specs.Lines.{IsLineSafe}
@@ -39,3 +40,6 @@ returns c = λ T n known.
       ]),
       λ passes. refl,
     )
+
+pub loop-line-init : goal.loop-line-init
+loop-line-init c = grind (arith, elements)

@@ -1,4 +1,5 @@
-use Rattle.std.proofs.Common.{refl}
+use Rattle.std.proofs.Common.{refl, arith}
+use Rattle.std.proofs.lemmas.Grind.{elements}
 use Rattle.pmt_verdicts.proofs.LineLemmas.{at-line, bare-safe, bare-unplaced}
 use Rattle.pmt_verdicts.proofs.persist.is_placed_persisted.Goals as goal
 
@@ -7,3 +8,6 @@ returns-in-Some c = λ T n A are. c.is_line_persisted.ensures T n A (at-line T n
 
 pub returns-in-None : goal.returns-in-None
 returns-in-None c = λ T n A are. (λ told. bare-safe T n c.args.line A (bare-unplaced T n c.args.line A c.args.known.now are.known (c.in-None.ensures.found T n are.known)), λ safe. refl)
+
+pub is_line_persisted-requires : goal.is_line_persisted-requires
+is_line_persisted-requires c = grind (arith, elements)

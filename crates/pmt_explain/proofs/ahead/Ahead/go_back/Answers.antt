@@ -1,4 +1,5 @@
-use Rattle.std.proofs.Common.{◌≡◌, ◌∙◌, suc, sym, ap, subst}
+use Rattle.std.proofs.Common.{◌≡◌, ◌∙◌, suc, sym, ap, subst, arith}
+use Rattle.std.proofs.lemmas.Grind.{elements}
 use Rattle.pmt_model.specs.Values.{line_of}
 use Rattle.pmt_model.specs.Machine.{Stores}
 use Rattle.pmt_model.specs.Traces.{IsAct, act_of}
@@ -27,3 +28,15 @@ returns-in-Store-clause-safe c = λ T n is before.
     let at : IsAct T (suc n) (Stores (line_of c.args.format c.in-Store.store.addr) c.in-Store.store) = subst (λ o. IsAct T (suc n) (act_of c.args.format c.args.thread o)) c.in-Store.is is in
     let own : IsAct T (suc n) (Stores c.line_of-in-Store.result c.in-Store.store) = subst (λ k. IsAct T (suc n) (Stores k c.in-Store.store)) line at in
     safe-at T (suc n) c.line_of-in-Store.result c.over_store.result c.in-Store.store own (c.over_store.ensures T n c.in-Store.store own before)
+
+pub returns-in-ClflushOpt-clause-safe : goal.returns-in-ClflushOpt-clause-safe
+returns-in-ClflushOpt-clause-safe c = grind (arith, elements)
+
+pub returns-in-ClflushOpt-clause-ahead : goal.returns-in-ClflushOpt-clause-ahead
+returns-in-ClflushOpt-clause-ahead c = grind (arith, elements)
+
+pub returns-in-Clflush-clause-safe : goal.returns-in-Clflush-clause-safe
+returns-in-Clflush-clause-safe c = grind (arith, elements)
+
+pub returns-in-Clflush-clause-ahead : goal.returns-in-Clflush-clause-ahead
+returns-in-Clflush-clause-ahead c = grind (arith, elements)

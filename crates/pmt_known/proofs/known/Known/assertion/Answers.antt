@@ -1,4 +1,5 @@
-use Rattle.std.proofs.Common.{◌≡◌, suc, ◌∙◌}
+use Rattle.std.proofs.Common.{◌≡◌, suc, ◌∙◌, arith}
+use Rattle.std.proofs.lemmas.Grind.{elements}
 use Rattle.pmt_model.specs.Machine.{Asserts}
 use Rattle.pmt_model.specs.Traces.{history, lines_of}
 use Rattle.pmt_known.specs.Known.{IsKnownAmong}
@@ -24,3 +25,6 @@ returns c = λ T n known next.
       waiting = judged-waiting T n lines k known next;
     } in
     known-next T n Asserts new next is
+
+pub overflow_cast-next : goal.overflow_cast-next
+overflow_cast-next c = grind (arith, elements)

@@ -1,4 +1,5 @@
-use Rattle.std.proofs.Common.{◌≡◌, suc, sym, ap, ◌∙◌}
+use Rattle.std.proofs.Common.{◌≡◌, suc, sym, ap, ◌∙◌, arith}
+use Rattle.std.proofs.lemmas.Grind.{elements}
 use Rattle.pmt_model.specs.Machine.{Clflushes}
 use Rattle.pmt_model.specs.Traces.{history, lines_of, with_line}
 use Rattle.pmt_safety.specs.Safety.{safe_store_at}
@@ -63,3 +64,12 @@ returns-clause-redundant c = λ T n l it.
     let safe = ap (λ (y : Row). y.safe) row in
     let last = ap (λ (y : Row). y.last_store) row in
     clears-redundant T n l place lines k it.known it.is it.at c.row-row.result.safe c.row-row.result.last_store safe last
+
+pub overflow_cast-number : goal.overflow_cast-number
+overflow_cast-number c = grind (arith, elements)
+
+pub row-row-requires : goal.row-row-requires
+row-row-requires c = grind (arith, elements)
+
+pub clflush-requires : goal.clflush-requires
+clflush-requires c = grind (arith, elements)

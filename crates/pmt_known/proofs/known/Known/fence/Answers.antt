@@ -1,4 +1,5 @@
-use Rattle.std.proofs.Common.{◌≡◌, suc, ◌∙◌}
+use Rattle.std.proofs.Common.{◌≡◌, suc, ◌∙◌, arith}
+use Rattle.std.proofs.lemmas.Grind.{elements}
 use Rattle.pmt_model.specs.Machine.{Fences}
 use Rattle.pmt_model.specs.Traces.{history, lines_of}
 use Rattle.pmt_safety.specs.Safety.{safe_store_at}
@@ -77,3 +78,6 @@ returns-in_err-push-clause-flags c = λ T n known next.
     let flushes = c.of-flushes.result.now in
     let at = at-fence T n c.args.thread lines k known next c.len-number.result flushes numbered c.of-flushes.ensures in
     fence-flags T n c.args.thread lines k known next flushes c.args.kept.now c.fence-rises.new.kept c.of-flushes.ensures (c.fence-rises.ensures.flags T lines n (λ m. safe_store_at T m n) at)
+
+pub overflow_cast-number : goal.overflow_cast-number
+overflow_cast-number c = grind (arith, elements)

@@ -1,4 +1,5 @@
 use Rattle.std.proofs.Common.{◌≡◌, suc, ◌==◌, refl, sym, ap, ◌∙◌, arith}
+use Rattle.std.proofs.lemmas.Grind.{elements}
 use Rattle.std.specs.Prelude.{◌||◌, nat_eq}
 use Rattle.pmt_model.specs.Machine.{Flushes}
 use Rattle.pmt_model.specs.Traces.{history, lines_of, with_line}
@@ -71,3 +72,12 @@ returns-else-again-clause-tells c = λ T n l it.
     let marked = ap (λ (y : Row). y.last_store) row in
     flushed-tells T n l t place lines k it.known it.is it.at c.in_ok-again.again (nat_eq c.row-row.result.safe c.row-row.result.last_store) c.row-row.result.safe c.row-row.result.last_store c.in_ok-again.ensures.tells (omega (arith, c.ranges.thread.fits)) (ap (λ (y : Row). y.safe) row) marked
     (ap (λ b. b || (c.row-row.result.safe == c.row-row.result.last_store)) (sym c.if-again.false))
+
+pub overflow_cast-number : goal.overflow_cast-number
+overflow_cast-number c = grind (arith, elements)
+
+pub row-row-requires : goal.row-row-requires
+row-row-requires c = grind (arith, elements)
+
+pub flush-requires-2 : goal.flush-requires-2
+flush-requires-2 c = grind (arith, elements)

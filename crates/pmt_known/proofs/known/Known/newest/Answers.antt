@@ -1,4 +1,5 @@
-use Rattle.std.proofs.Common.{◌≡◌, ap, ◌∙◌}
+use Rattle.std.proofs.Common.{◌≡◌, ap, ◌∙◌, arith}
+use Rattle.std.proofs.lemmas.Grind.{elements}
 use Rattle.pmt_model.specs.Traces.{history, lines_of}
 use Rattle.pmt_rows.specs.declared.rows.Row.{Row}
 use Rattle.pmt_rows.specs.Known.{row_after}
@@ -10,3 +11,6 @@ pub returns-then-high-low : goal.returns-then-high-low
 returns-then-high-low c = λ T n l it.
     let row : c.row.result ≡ row_after (λ m. safe_store_at T m n) (history T n) l = c.row.ensures (lines_of (history T n)) (history T n) (λ m. safe_store_at T m n) l it.at it.known.rows in
     newest-of_whole T n l c.args.place c.args.self.now it c.args.low c.args.high c.row.result.last_store c.requires.some c.requires.within (c.if-high-low.true ∙ c.line_size.ensures.value) (ap (λ (y : Row). y.last_store) row)
+
+pub row-requires : goal.row-requires
+row-requires c = grind (arith, elements)

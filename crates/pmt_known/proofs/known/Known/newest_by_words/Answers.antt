@@ -1,4 +1,5 @@
 use Rattle.std.proofs.Common.{◌+◌, ◌*◌, subst, sym, arith}
+use Rattle.std.proofs.lemmas.Grind.{elements}
 use Rattle.pmt_words.specs.Lasts.{last_at}
 use Rattle.pmt_known.specs.Reading.{last_in_line}
 use Rattle.pmt_known.proofs.ReadingLemmas.{IsNewestBelow, newest-all, newest-next, word-same}
@@ -14,3 +15,9 @@ loop-word-preserved c = λ T n k it.
 
 pub returns : goal.returns
 returns c = λ T n l it. newest-all c.args.low c.args.high (c.loop-word.word * 8) c.loop-word.newest (last_in_line T n l) (omega (arith, c.loop-word-test.false, c.requires.some)) (c.loop-word.invariant T n l it)
+
+pub overflow_mul-first : goal.overflow_mul-first
+overflow_mul-first c = grind (arith, elements)
+
+pub newest-found-requires-clause-within : goal.newest-found-requires-clause-within
+newest-found-requires-clause-within c = grind (arith, elements)

@@ -1,4 +1,5 @@
 use Rattle.std.proofs.Common.{◌+◌, ◌*◌, arith}
+use Rattle.std.proofs.lemmas.Grind.{elements}
 use Rattle.pmt_words.specs.Lasts.{last_at}
 use Rattle.pmt_known.specs.Reading.{last_in_line}
 use Rattle.pmt_known.proofs.ReadingLemmas.{oldest-all, oldest-next, word-same}
@@ -14,3 +15,15 @@ loop-word-preserved c = λ T n k it.
 
 pub returns : goal.returns
 returns c = λ T n l it. oldest-all c.args.low c.args.high (c.loop-word.word * 8) c.loop-word.oldest (last_in_line T n l) (omega (arith, c.loop-word-test.false, c.requires.some)) (c.loop-word.invariant T n l it)
+
+pub overflow_mul-first : goal.overflow_mul-first
+overflow_mul-first c = grind (arith, elements)
+
+pub loop-word-init : goal.loop-word-init
+loop-word-init c = grind (arith, elements)
+
+pub overflow_add-first : goal.overflow_add-first
+overflow_add-first c = grind (arith, elements)
+
+pub oldest-found-requires-clause-within : goal.oldest-found-requires-clause-within
+oldest-found-requires-clause-within c = grind (arith, elements)

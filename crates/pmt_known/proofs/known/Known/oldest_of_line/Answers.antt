@@ -1,4 +1,5 @@
 use Rattle.std.proofs.Common.{◌+◌, ◌*◌, ◌≤◌, arith}
+use Rattle.std.proofs.lemmas.Grind.{elements}
 use Rattle.pmt_words.specs.Lasts.{last_at}
 use Rattle.pmt_known.specs.Reading.{last_in_line}
 use Rattle.pmt_known.proofs.ReadingLemmas.{all-of_word, line-size, oldest-all, oldest-next, word-same}
@@ -15,3 +16,12 @@ loop-word-preserved c = λ T n k it.
 
 pub returns : goal.returns
 returns c = λ T n l it. oldest-all 0 c.args.self.now.format.line_size (c.loop-word.word * 8) c.loop-word.oldest (last_in_line T n l) (omega (arith, c.loop-word-test.false, line-size T n l c.args.place c.args.self.now it)) (c.loop-word.invariant T n l it)
+
+pub loop-word-init : goal.loop-word-init
+loop-word-init c = grind (arith, elements)
+
+pub overflow_add-first : goal.overflow_add-first
+overflow_add-first c = grind (arith, elements)
+
+pub oldest_of_all-requires : goal.oldest_of_all-requires
+oldest_of_all-requires c = grind (arith, elements)

@@ -1,4 +1,5 @@
-use Rattle.std.proofs.Common.{◌≡◌, ℕ, suc, ◌+◌, ◌*◌, ◌<◌, length, sym, ap, subst, ◌∙◌}
+use Rattle.std.proofs.Common.{◌≡◌, ℕ, suc, ◌+◌, ◌*◌, ◌<◌, length, sym, ap, subst, ◌∙◌, arith}
+use Rattle.std.proofs.lemmas.Grind.{elements}
 use Rattle.pmt_model.specs.Machine.{Stores}
 use Rattle.pmt_model.specs.Traces.{history, lines_of, with_line}
 use Rattle.pmt_safety.specs.Safety.{safe_store_at}
@@ -41,3 +42,18 @@ returns-clause-tells c = λ T n l w it.
     let numbered : c.len-number.result ≡ suc n = c.len-number.ensures ∙ it.known.entries.many in
     stored-over T n l c.args.place b.word b.low b.high w lines k it.known it.is it.at it.word it.eight it.writes c.len-number.result c.row-row.result.last_flush c.args.over.now.items c.store.new.over.items numbered (ap (λ (y : Row). y.last_flush) row)
     c.in_ok-store.ensures.over
+
+pub overflow_cast-number : goal.overflow_cast-number
+overflow_cast-number c = grind (arith, elements)
+
+pub row-row-requires : goal.row-row-requires
+row-row-requires c = grind (arith, elements)
+
+pub store-requires-clause-within : goal.store-requires-clause-within
+store-requires-clause-within c = grind (arith, elements)
+
+pub store-requires-clause-small : goal.store-requires-clause-small
+store-requires-clause-small c = grind (arith, elements)
+
+pub store-requires-2 : goal.store-requires-2
+store-requires-2 c = grind (arith, elements)

@@ -1,4 +1,5 @@
-use Rattle.std.proofs.Common.{◌<◌, length, ◌∙◌, arith, ap}
+use Rattle.std.proofs.Common.{◌<◌, length, ◌∙◌, ap, arith}
+use Rattle.std.proofs.lemmas.Grind.{common_steps, elements}
 use Rattle.pmt_live.proofs.OpenLemmas.{set-own, set-others}
 use Rattle.pmt_live.proofs.open.OpenFlushes.take.Goals as goal
 
@@ -10,3 +11,12 @@ returns-then-thread-len-clause-own c =
 
 pub returns-then-thread-len-clause-others : goal.returns-then-thread-len-clause-others
 returns-then-thread-len-clause-others c = λ t other. rw (← c.self.view_is) (set-others (λ v. v.items) c.self.inside.lists.items c.args.thread t c.swap.new.x other)
+
+pub returns-then-thread-len-clause-taken : goal.returns-then-thread-len-clause-taken
+returns-then-thread-len-clause-taken c = grind (arith, elements)
+
+pub returns-else-thread-len-clause-taken : goal.returns-else-thread-len-clause-taken
+returns-else-thread-len-clause-taken c = grind (arith, common_steps)
+
+pub returns-else-thread-len-clause-own : goal.returns-else-thread-len-clause-own
+returns-else-thread-len-clause-own c = grind (arith, common_steps)

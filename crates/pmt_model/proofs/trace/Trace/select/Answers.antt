@@ -1,4 +1,5 @@
-use Rattle.std.proofs.Common.{◌≡◌, ℕ, ◌+◌, ◌-◌, ◌<◌, ◌≤◌, List, [], ◌∷◌, ◌++◌, length, refl, Some, sym, ◌∙◌, ap, subst, arith, get_or, take}
+use Rattle.std.proofs.Common.{◌≡◌, ℕ, ◌+◌, ◌-◌, ◌<◌, ◌≤◌, List, [], ◌∷◌, ◌++◌, length, refl, Some, sym, ◌∙◌, ap, subst, get_or, take, arith}
+use Rattle.std.proofs.lemmas.Grind.{common_steps}
 use Rattle.std.proofs.lemmas.List.{take_all}
 use Rattle.std.specs.List.{AllByRecursion, filter_map}
 use Rattle.pmt_model.specs.declared.event.Event.{Event}
@@ -36,3 +37,6 @@ invariant_of-result c =
     let events : c.loop-number.events.items ≡ filter_map (event T) K = c.loop-number.invariant.0 ∙ ap (λ (ks : List ℕ). filter_map (event T) ks) all in
     let same : cut T K ≡ record { format = c.self.inside.format; events = c.loop-number.events.items } = cc in
     subst (λ (R : Recording). IsTrace R) same (cut-is-trace T K is rising within)
+
+pub index-requires : goal.index-requires
+index-requires c = grind (arith, common_steps)

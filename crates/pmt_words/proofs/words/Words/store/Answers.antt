@@ -1,4 +1,5 @@
 use Rattle.std.proofs.Common.{◌≡◌, ◌<◌, true, inl, rules, arith}
+use Rattle.std.proofs.lemmas.Grind.{common_steps, elements}
 use Rattle.std.specs.Prelude.{nat_lt, nat_le, ◌&&◌}
 use Rattle.std.proofs.lemmas.Bool.{ltb-true, and_parts}
 use Rattle.pmt_words.specs.Packed.{first_table, is_covered, IsWhole, low_of, high_of}
@@ -20,3 +21,15 @@ returns-clause-over c =
     let less : c.index-old.result.now < first_table = ltb-true c.index-old.result.now first_table parts.0 in
     adds-same c.args.flush c.args.number c.args.low c.args.high _ _ c.args.over.now.items c.push_whole.new.over.items (λ k from to. read-whole c.args.self.now c.self.inside.words.items c.self.inside.tables.items c.self.view_is c.self.invariant c.args.word
     c.index-old.result.now c.requires.within c.index-old.ensures less k (omega (arith, to, c.requires.eight))) c.in_ok-push_whole.ensures
+
+pub index-old-requires : goal.index-old-requires
+index-old-requires c = grind (arith, common_steps)
+
+pub push_whole-requires-clause-whole : goal.push_whole-requires-clause-whole
+push_whole-requires-clause-whole c = grind (arith, elements)
+
+pub index_mut-requires : goal.index_mut-requires
+index_mut-requires c = grind (arith, elements)
+
+pub returns-clause-many : goal.returns-clause-many
+returns-clause-many c = grind (arith, elements)

@@ -1,0 +1,9 @@
+use Rattle.std.proofs.Common.{arith}
+use Rattle.std.proofs.lemmas.Grind.{common_steps, elements}
+use Rattle.pmt_slices.proofs.choosing.only.Goals as goal
+
+pub returns-clause-size : goal.returns-clause-size
+returns-clause-size c = grind (arith, elements)
+
+pub returns-clause-just : goal.returns-clause-just
+returns-clause-just c = grind (arith, common_steps)

@@ -1,0 +1,9 @@
+use Rattle.std.proofs.Common.{arith}
+use Rattle.std.proofs.lemmas.Grind.{elements}
+use Rattle.pmt_slices.proofs.store_slicing.store_sliced.Goals as goal
+
+pub slice_if_lost-requires : goal.slice_if_lost-requires
+slice_if_lost-requires c = grind (arith, elements)
+
+pub returns-in-Store : goal.returns-in-Store
+returns-in-Store c = grind arith
