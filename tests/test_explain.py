@@ -353,6 +353,19 @@ class Explain(Checks):
         cut = [line for line in lines if line.endswith("\u2026")]
         self.expect("cut lines", [len(line) for line in cut[:1]] == [100] and cut[0].startswith("error: "), "\n".join(lines))
 
+    def test_many_labels(self):
+        """A labels file of more bytes than a trace may have."""
+        folder = self.new_folder()
+        with open(folder / "l", "w") as labels:
+            labels.writelines(f"{number} save.c:3 {80 * 'x'}\n" for number in range(1, 1_000_000))
+            labels.write("1000000 claim.c:7 check\n")
+        stores = 999_999 * "store 0 0x1000 01\n"
+        (folder / "t").write_text(f"pmtrace 1\n{stores}isPersist 0 0x1000 1\n")
+        answer = self.explain("--json", "--only", "failure", "--labels", folder / "l", folder / "t").stdout
+        told = [json.loads(line) for line in answer.splitlines()]
+        labels = [(row["event"]["label"], row["lost"]["store"]["label"]) for row in told if row["kind"] == "failure"]
+        self.expect_equal("labels of 96 MB", labels, [("claim.c:7 check", f"save.c:3 {80 * 'x'}")])
+
     def test_many_failures(self):
         """How much is told where much fails."""
         count = len(self.told(many_failures()).splitlines())

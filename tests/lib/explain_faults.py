@@ -66,6 +66,10 @@ BAD_LABELS = [
         b"1 a\r\n",
         f"l:1: the text of the label has bytes that can not be shown\n    1 a\\r\na text is UTF-8 without control characters\n{CARRIAGE}",
     ),
+    (
+        b"1 a\n2 " + b"b" * 1048576 + b"\n",
+        "l:2: the line is too long\n    2 " + "b" * 78 + "...\na line of a labels file has at most 1048576 bytes, with its LF\n",
+    ),
     (b"1 \xff\n", "l:1: the text of the label has bytes that can not be shown\n    1 \\xff\na text is UTF-8 without control characters\n"),
 ]
 
@@ -85,6 +89,7 @@ BAD_RANGES = [
     (b"labels a\n", f"r:1: {NO_LINE}\n    labels a\n{RANGE}"),
     (b"label a\tb\n", f"r:1: {NO_LINE}\n    label a\\tb\n{RANGE}"),
     (b"label \xff\n", f"r:1: {NO_LINE}\n    label \\xff\n{RANGE}"),
+    (b"0x1000:8\n" * 7456541, "r: the file is too long: it has more than 67108864 bytes\n"),
     (b"label a", "r:1: the line does not end\n    label a\neach line ends with LF, the last one too; the file may have been cut off here\n"),
     (b"0x1000:8", "r:1: the line does not end\n    0x1000:8\neach line ends with LF, the last one too; the file may have been cut off here\n"),
 ]

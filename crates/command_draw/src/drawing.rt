@@ -1,7 +1,9 @@
 //! Drawing a trace.
 ghost use Rattle.std.specs.Prelude.{◌≡◌, IfOk};
 
-use command_inputs::{Fault, Input, Opener, bytes_of, labels_of, taken_fault, write_named};
+use command_inputs::{
+    Fault, Input, Opener, Recalls, labels_of, opened, recalled, untaken_fault, write_named,
+};
 use command_requests::{AskedEvents, Drawing};
 use pmt_asked::{Choice, Ignored, Kind, Labels, Options};
 use pmt_causes::Group;
@@ -15,10 +17,9 @@ use pmt_picture::{
     Known, Picture, Refusal, Subject, about_of, first_subject, lines_of_addresses, picture_of,
     refusal_of,
 };
-use pmt_taking::TakeError;
 use pmt_text::{Counted, TextSource};
 use std::alloc::{AllocError, Global};
-use std::io::{Cursor, Read, Write};
+use std::io::{Read, Write};
 use std::thread::Threads;
 
 /// Draws the trace of the file, or that of `input` where none is named, into the file that is named or to `out`. The status is 0.
@@ -41,51 +42,48 @@ where
     ensures { IfOk result (λ status. status ≡ 0) }
 {
     let labels = labels_of(alloc, files, drawing.labels)?;
-    let bytes = bytes_of(alloc, Input::new("draw", drawing.file), files, input)?;
-    let text = svg_asked(rt, alloc, drawing, &labels, bytes.as_slice())?;
+    let explanation = match drawing.file {
+        Some(name) => {
+            let reader = opened(alloc, files, name)?;
+            explained(rt, alloc, drawing, &labels, reader)?
+        }
+        None => explained(rt, alloc, drawing, &labels, input)?,
+    };
+    let text = svg_of(
+        alloc,
+        &explanation,
+        drawing.events,
+        drawing.lines.as_slice(),
+        &labels,
+    )?;
     let read = [drawing.file, drawing.labels];
     write_named(alloc, files, drawing.out, &read, text.into_bytes(), out)?;
     Ok(0)
 }
 
-// The text of the picture that is asked for, of the trace with this text.
-fn svg_asked<T: Threads + Sync>(
+// The explanation of the trace that the reader gives, with what the picture that is asked for needs.
+fn explained<T: Threads + Sync, R: Read + Drop>(
     rt: &T,
     alloc: Global,
     drawing: &Drawing<'_>,
     labels: &Labels,
-    bytes: &[u8],
-) -> Result<String, Fault> {
-    match explained(rt, alloc, labels, drawing.events, bytes) {
-        Ok(explanation) => svg_of(
-            alloc,
-            &explanation,
-            drawing.events,
-            drawing.lines.as_slice(),
-            labels,
-        ),
-        Err(error) => {
-            let input = Input::new("draw", drawing.file);
-            Err(taken_fault(alloc, input, bytes, error)?)
-        }
-    }
-}
-
-// The explanation of the trace with this text, with what a picture of these events needs.
-fn explained<T: Threads + Sync>(
-    rt: &T,
-    alloc: Global,
-    labels: &Labels,
-    asked: AskedEvents,
-    bytes: &[u8],
-) -> Result<Explanation, TakeError> {
+    reader: R,
+) -> Result<Explanation, Fault> {
     let options = Options {
         ignored: Ignored::new(alloc),
         limit: 0,
-        choice: needed_by(asked),
+        choice: needed_by(drawing.events),
     };
-    let mut source = TextSource::new(alloc, Counted::new(Cursor::new(bytes)));
-    explain(rt, alloc, &mut source, labels, &options)
+    let reader = recalled(alloc, reader, Recalls::LastLines)?;
+    let mut source = TextSource::new(alloc, Counted::new(reader));
+    match explain(rt, alloc, &mut source, labels, &options) {
+        Ok(explanation) => Ok(explanation),
+        Err(error) => {
+            let reader = source.into_input().into_inner();
+            let input = Input::new("draw", drawing.file);
+            Err(untaken_fault(alloc, input, error, reader.memory())?)
+        }
+    }
 }
 
 // The findings that a picture of these events needs: to draw what is told first all of them, and else those of the signs.

@@ -1,28 +1,26 @@
 //! `explain`: what is wrong in a trace, why, and what to do.
 ghost use Rattle.std.specs.Prelude.{◌≤◌, IfOk};
-ghost use Rattle.std.specs.Thread.{IsSync};
 ghost use Rattle.pmt_explain_run.specs.Sweeping.{IsSweptTrace};
 
 use crate::colors::colored;
 use crate::sources::sources_of;
+use crate::taking::{Taken, taken_of};
 use command_inputs::{
-    Doing, Fault, Input, Opener, Watch, WatchedText, bytes_of, cut_of, labels_of, no_failure,
-    read_file, read_ignored, taken_fault, write_named,
+    Doing, Fault, Opener, Watch, cut_of, labels_of, no_failure, read_file, read_ignored,
+    write_named,
 };
 use command_page::page_of;
 use command_requests::{Color, ExplainWords, Form};
 use pmt_asked::{Cut, Labels};
 use pmt_explain_json::json_text;
-use pmt_explain_run::{SweptTrace, explained, swept_trace};
+use pmt_explain_run::explained;
 use pmt_explain_text::{Screen, source_places, text};
 use pmt_explanation::{Explanation, has_failed};
 use pmt_model::OutOfMemory;
 use pmt_sources::Sources;
-use pmt_taking::TakeError;
-use pmt_text::{Counted, TextSource};
 use std::alloc::{AllocError, Global};
 use std::io::{Read, Write};
-use std::thread::{Threads, join};
+use std::thread::Threads;
 
 // The lines of a text where the words don't say how many entries are shown.
 const ROWS: usize = 40;
@@ -56,14 +54,14 @@ where
     add_ignored(alloc, files, words)?;
     let labels = labels_of(alloc, files, words.labels)?;
     watch.tell(Doing::Waiting);
-    let bytes = bytes_of(alloc, Input::new("explain", words.file), files, input)?;
+    let taken = taken_of(alloc, files, words, input, watch)?;
     let cut = cut_of(alloc, files, words.file)?;
     let known = Known {
         labels,
         cut,
         colors: is_colored(words, colors),
     };
-    explain_bytes(rt, alloc, files, words, &known, bytes, out, watch)
+    explain_taken(rt, alloc, files, words, &known, taken, out, watch)
 }
 
 // Adds what the files tell to ignore.
@@ -103,28 +101,22 @@ fn is_colored(words: &ExplainWords<'_>, colors: bool) -> bool {
     }
 }
 
-// Explains the trace with this text. The status is 1 where an assertion fails, or a store is never persisted that is not ignored.
-fn explain_bytes<T: Threads + Sync, O: Opener, W: Write, P: Watch>(
+// Explains the trace that was taken. The status is 1 where an assertion fails, or a store is never persisted that is not ignored.
+fn explain_taken<T: Threads + Sync, O: Opener, W: Write, P: Watch>(
     rt: &T,
     alloc: Global,
     files: &O,
     words: &ExplainWords<'_>,
     known: &Known,
-    bytes: Vec<u8>,
+    taken: Taken,
     out: &mut W,
     watch: &mut P,
 ) -> Result<u8, Fault>
+    requires { IsSweptTrace taken.swept }
     ensures { IfOk result (λ status. status ≤ 1) }
 {
-    let mut text = bytes;
-    let swept = match swept_text(alloc, text.as_slice(), watch) {
-        Ok(swept) => swept,
-        Err(error) => {
-            let input = Input::new("explain", words.file);
-            return Err(taken_fault(alloc, input, text.as_slice(), error)?);
-        }
-    };
-    let mut explanation = explained_beside(rt, alloc, swept, words, &known.labels, &mut text)?;
+    let Taken { swept, text } = taken;
+    let mut explanation = explained(rt, alloc, swept, &known.labels, &words.options)?;
     tell(
         alloc,
         files,
@@ -135,42 +127,6 @@ fn explain_bytes<T: Threads + Sync, O: Opener, W: Write, P: Watch>(
         out,
         watch,
     )
-}
-
-// The trace with this text, swept.
-fn swept_text<P: Watch>(alloc: Global, bytes: &[u8], watch: &mut P) -> Result<SweptTrace, TakeError>
-    ensures { IfOk result IsSweptTrace }
-{
-    let text = WatchedText::new(bytes, watch);
-    let mut source = TextSource::new(alloc, Counted::new(text));
-    swept_trace(alloc, &mut source)
-}
-
-// The explanation of the trace that was swept. A thread beside it lets go of the text, if no page is to show it.
-fn explained_beside<T: Threads + Sync>(
-    rt: &T,
-    alloc: Global,
-    swept: SweptTrace,
-    words: &ExplainWords<'_>,
-    labels: &Labels,
-    text: &mut Vec<u8>,
-) -> Result<Explanation, OutOfMemory>
-    requires { IsSweptTrace swept }
-{
-    let options = &words.options;
-    let is_shown = matches!(words.form, Form::Page);
-    let ((), explanation) = join(
-        rt,
-        || {
-            if !is_shown {
-                *text = Vec::new(alloc);
-            }
-        },
-        move || -> Result<Explanation, OutOfMemory>
-            requires { IsSync T.row × IsSweptTrace swept }
-        { explained(rt, alloc, swept, labels, options) },
-    );
-    explanation
 }
 
 // Writes what is asked for of the explained trace with this text.

@@ -4,5 +4,6 @@
 mod colors;
 mod explain;
 mod sources;
+mod taking;
 
 pub use crate::explain::run_explain;

@@ -1,5 +1,6 @@
 //! The file that a recorder writes beside a trace that is not all of what happened.
 
+use crate::bytes::has_control;
 use crate::fault::Fault;
 use crate::inputs::{open_fault, read_file};
 use crate::opener::{OpenError, Opener};
@@ -78,11 +79,6 @@ fn judged(line: &[u8]) -> Option<(u64, &str)> {
         Ok(why) if !has_control(why.as_bytes()) => Some((event, why)),
         _ => None,
     }
-}
-
-// Whether a control character stands in the text.
-fn has_control(bytes: &[u8]) -> bool {
-    bytes.iter().any(|byte| *byte < b' ' || *byte == 0x7f)
 }
 
 // The fault of the line that is refused.

@@ -1,7 +1,7 @@
 //! The stores that words and files tell to ignore: ranges of bytes, and places of the source.
 
+use crate::bytes::has_control;
 use crate::fault::Fault;
-use crate::labels::has_control;
 use crate::ranges::range_of;
 use crate::refused::{Wrong, refused_line, split_line};
 use pmt_asked::{Ignored, IgnoredPlace, frame_of};

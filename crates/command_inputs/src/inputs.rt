@@ -1,38 +1,24 @@
-//! The inputs of a command: named files and standard input, read whole, and what is told of one that is refused.
+//! The inputs of a command: named files and standard input, and what is told of one that is refused.
 
+use crate::buffering::buffered;
 use crate::diagnosis::diagnosed;
 use crate::fault::Fault;
 use crate::foreign::{Foreign, foreign_fault, foreign_of};
 use crate::forms::Grammar;
-use crate::input::{Input, STANDARD_INPUT};
+use crate::input::Input;
 use crate::labels::read_labels;
 use crate::opener::{OpenError, Opener};
 use crate::reading::{read_whole, system_fault};
+use crate::reasons::untaken_fault;
+use crate::recalling::{Recalling, Recalls};
 use crate::refused::{line_of_text, refused_line};
 use pmt_asked::Labels;
 use pmt_model::Trace;
-use pmt_report::RunError;
-use pmt_taking::{TakeError, take_trace};
+use pmt_taking::take_trace;
 use pmt_text::header::judge_header;
-use pmt_text::{Counted, SourceError, TextError, TextSource};
+use pmt_text::{Counted, TextError, TextSource};
 use std::alloc::{AllocError, Global};
-use std::io::{Cursor, Read};
-
-/// The bytes of the file, or those of `reader` where none is named.
-///
-/// # Errors
-/// The fault of the file or of the read, which names it; `OutOfMemory`.
-pub fn bytes_of<O: Opener, I: Read>(
-    alloc: Global,
-    input: Input<'_>,
-    files: &O,
-    reader: &mut I,
-) -> Result<Vec<u8>, Fault> {
-    match input.file {
-        Some(name) => read_file(alloc, files, name),
-        None => read_whole(alloc, STANDARD_INPUT, reader),
-    }
-}
+use std::io::{BufReader, Read};
 
 /// The trace of the file or of `reader`.
 ///
@@ -44,20 +30,39 @@ pub fn trace_of<O: Opener, I: Read>(
     files: &O,
     reader: &mut I,
 ) -> Result<Trace, Fault> {
-    let bytes = bytes_of(alloc, input, files, reader)?;
-    match text_trace(alloc, bytes.as_slice()) {
-        Ok(trace) => Ok(trace),
-        Err(error) => Err(taken_fault(alloc, input, bytes.as_slice(), error)?),
+    match input.file {
+        Some(name) => {
+            let reader = opened(alloc, files, name)?;
+            read_trace(alloc, input, reader)
+        }
+        None => read_trace(alloc, input, reader),
     }
 }
 
-/// The trace with this text.
+// The trace that the reader gives.
+fn read_trace<R: Read + Drop>(alloc: Global, input: Input<'_>, reader: R) -> Result<Trace, Fault> {
+    let reader = recalled(alloc, reader, Recalls::LastLines)?;
+    let mut source = TextSource::new(alloc, Counted::new(reader));
+    match take_trace(alloc, &mut source) {
+        Ok(trace) => Ok(trace),
+        Err(error) => {
+            let reader = source.into_input().into_inner();
+            Err(untaken_fault(alloc, input, error, reader.memory())?)
+        }
+    }
+}
+
+/// The reader behind a buffer, which recalls this.
 ///
 /// # Errors
-/// `Source` with the fault of the text, `OutOfMemory`.
-pub fn text_trace(alloc: Global, bytes: &[u8]) -> Result<Trace, TakeError> {
-    let mut source = TextSource::new(alloc, Counted::new(Cursor::new(bytes)));
-    take_trace(alloc, &mut source)
+/// `OutOfMemory`.
+pub fn recalled<R: Read + Drop>(
+    alloc: Global,
+    reader: R,
+    recalls: Recalls,
+) -> Result<Recalling<BufReader<R>>, Fault> {
+    let reader = buffered(alloc, reader)?;
+    Ok(Recalling::new(alloc, reader, recalls))
 }
 
 /// The labels of the named file; none, where none is named.
@@ -67,8 +72,8 @@ pub fn text_trace(alloc: Global, bytes: &[u8]) -> Result<Trace, TakeError> {
 pub fn labels_of<O: Opener>(alloc: Global, files: &O, name: Option<&str>) -> Result<Labels, Fault> {
     match name {
         Some(name) => {
-            let bytes = read_file(alloc, files, name)?;
-            read_labels(alloc, name, bytes.as_slice())
+            let reader = opened(alloc, files, name)?;
+            read_labels(alloc, name, reader)
         }
         None => Ok(Labels::new(alloc)),
     }
@@ -113,29 +118,6 @@ pub fn create_fault(alloc: Global, name: &str, error: OpenError) -> Result<Fault
     match error {
         OpenError::System(error) => system_fault(alloc, "cannot create", name, error),
         OpenError::OutOfMemory => Ok(Fault::OutOfMemory),
-    }
-}
-
-/// The fault of the input with this text, whose events were not taken for this: of a refused line its place, its text, and what is
-/// allowed there.
-///
-/// # Errors
-/// `OutOfMemory`.
-pub fn taken_fault(
-    alloc: Global,
-    input: Input<'_>,
-    text: &[u8],
-    error: TakeError,
-) -> Result<Fault, Fault> {
-    match error {
-        TakeError::Source(SourceError::Text(fault)) => piece_fault(alloc, input, text, 0, fault),
-        TakeError::Source(SourceError::TooMany) => Ok(too_long(alloc, input)?),
-        TakeError::Source(SourceError::Read | SourceError::Failed) => {
-            Ok(Fault::Run(RunError::Read))
-        }
-        TakeError::Source(SourceError::OutOfMemory) | TakeError::OutOfMemory => {
-            Ok(Fault::OutOfMemory)
-        }
     }
 }
 

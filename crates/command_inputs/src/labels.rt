@@ -1,17 +1,26 @@
 //! The labels file: what a person calls each event, as a recorder writes it.
 
+use crate::buffering::buffered;
+use crate::bytes::has_control;
 use crate::fault::Fault;
+use crate::reading::system_fault;
 use crate::refused::{Wrong, refused_line, shown, split_line};
 use pmt_asked::Labels;
 use pmt_text::fields::split_field;
 use pmt_text::number::read_number;
 use std::alloc::{AllocError, Global};
+use std::io::{BufRead, Read};
+
+// The most bytes of a line that are read, with its LF.
+const MOST_BYTES: u64 = 1_048_576;
 
 // Why a line of a labels file is refused.
 #[derive(Clone, Copy)]
 enum LabelError<'a> {
     // It does not end.
     Truncated,
+    // It has more bytes than are read.
+    Long,
     // This field is no number of an event of a trace.
     Event(&'a [u8]),
     // This field is no number of an event, however many there are.
@@ -32,6 +41,11 @@ impl LabelError<'_> {
                 alloc,
                 "the line does not end",
                 "each line ends with LF, the last one too; the file may have been cut off here",
+            ),
+            LabelError::Long => Wrong::new(
+                alloc,
+                "the line is too long",
+                "a line of a labels file has at most 1048576 bytes, with its LF",
             ),
             LabelError::Event(field) => {
                 let shown = shown(alloc, field)?;
@@ -69,31 +83,67 @@ impl LabelError<'_> {
     }
 }
 
-/// The labels of a file with this name and text: lines `EVENT TEXT` by rising number of the event.
+/// The labels of a file with this name, which the reader gives: lines `EVENT TEXT` by rising number of the event.
 ///
 /// # Errors
-/// A fault that names the first faulty line and what is wrong there; `OutOfMemory`.
-pub fn read_labels(alloc: Global, name: &str, text: &[u8]) -> Result<Labels, Fault> {
+/// A fault of the read, with the system's reason, or one that names the first faulty line and what is wrong there; `OutOfMemory`.
+pub fn read_labels<R: Read + Drop>(alloc: Global, name: &str, reader: R) -> Result<Labels, Fault> {
     let mut labels = Labels::new(alloc);
-    let mut rest = text;
+    let mut reader = buffered(alloc, reader)?;
+    let mut line = Vec::new(alloc);
     let mut before = 0;
     for number in 1..=u64::MAX {
-        if rest.is_empty() {
+        line.clear();
+        read_line(alloc, name, &mut reader, &mut line)?;
+        if line.is_empty() {
             break;
         }
-        let Some((line, later)) = split_line(rest) else {
-            return Err(refused(alloc, name, number, rest, LabelError::Truncated));
-        };
-        match trace_label(line, before) {
-            Ok((event, label)) => {
-                insert(alloc, &mut labels, event, label)?;
-                before = event;
-            }
-            Err(error) => return Err(refused(alloc, name, number, line, error)),
-        }
-        rest = later;
+        before = take_line(alloc, &mut labels, name, number, line.as_slice(), before)?;
     }
     Ok(labels)
+}
+
+// Reads the next line, with its LF. Nothing where there is none.
+fn read_line<R: BufRead>(
+    alloc: Global,
+    name: &str,
+    reader: &mut R,
+    line: &mut Vec<u8>,
+) -> Result<(), Fault> {
+    match reader.by_ref().take(MOST_BYTES).read_until(b'\n', line) {
+        Ok(_) => Ok(()),
+        Err(error) => Err(system_fault(alloc, "cannot read", name, error)?),
+    }
+}
+
+// Adds the label of the line with this number, whose event comes after this one. The event.
+fn take_line(
+    alloc: Global,
+    labels: &mut Labels,
+    name: &str,
+    number: u64,
+    line: &[u8],
+    before: u64,
+) -> Result<u64, Fault> {
+    let Some((text, _)) = split_line(line) else {
+        return Err(refused(alloc, name, number, line, unended(line)));
+    };
+    match trace_label(text, before) {
+        Ok((event, label)) => {
+            labels.insert(alloc, event, label)?;
+            Ok(event)
+        }
+        Err(error) => Err(refused(alloc, name, number, text, error)),
+    }
+}
+
+// Why a line without LF is refused.
+fn unended(line: &[u8]) -> LabelError<'_> {
+    if (line.len() as u64) < MOST_BYTES {
+        LabelError::Truncated
+    } else {
+        LabelError::Long
+    }
 }
 
 /// The event and the text of this line of a labels file, whose number, from 1, comes after this one. There may be any number of events.
@@ -118,42 +168,34 @@ pub fn label_of<'a>(
 
 // The event and the text of a line, which is of an event of a trace.
 fn trace_label(line: &[u8], before: u64) -> Result<(u64, &str), LabelError<'_>> {
-    let (field, _) = split_field(line);
+    let (field, rest) = split_field(line);
     match read_number(10, field) {
-        Some(event) if event >= 1 && event <= 1_000_000 => label_in(line, before),
+        Some(event) if event >= 1 && event <= 1_000_000 => label_text(event, rest, before),
         _ => Err(LabelError::Event(field)),
     }
 }
 
-// The event and the text of a line, where its number comes after this one.
+// The event and the text of a line, of an event of any number.
 fn label_in(line: &[u8], before: u64) -> Result<(u64, &str), LabelError<'_>> {
     let (field, rest) = split_field(line);
-    let event = match read_number(10, field) {
-        Some(event) if event >= 1 => event,
-        _ => return Err(LabelError::Number(field)),
-    };
+    match read_number(10, field) {
+        Some(event) if event >= 1 => label_text(event, rest, before),
+        _ => Err(LabelError::Number(field)),
+    }
+}
+
+// The event with the text that follows it, where its number comes after this one.
+fn label_text(event: u64, rest: Option<&[u8]>, before: u64) -> Result<(u64, &str), LabelError<'_>> {
     if event <= before {
         return Err(LabelError::Order(before));
     }
-    let Some(bytes) = rest else {
-        return Err(LabelError::NoText);
-    };
-    if bytes.is_empty() {
-        return Err(LabelError::NoText);
+    match rest {
+        Some(bytes) if !bytes.is_empty() => match str::from_utf8(bytes) {
+            Ok(label) if !has_control(bytes) => Ok((event, label)),
+            _ => Err(LabelError::Text),
+        },
+        _ => Err(LabelError::NoText),
     }
-    match str::from_utf8(bytes) {
-        Ok(label) if !has_control(bytes) => Ok((event, label)),
-        _ => Err(LabelError::Text),
-    }
-}
-
-/// Whether a control character stands in the text.
-pub fn has_control(bytes: &[u8]) -> bool {
-    bytes.iter().any(|byte| *byte < b' ' || *byte == 0x7f)
-}
-
-fn insert(alloc: Global, labels: &mut Labels, event: u64, label: &str) -> Result<(), AllocError> {
-    labels.insert(event, String::from_str(alloc, label)?)
 }
 
 // The fault of the line that is refused.

@@ -1,22 +1,35 @@
-//! Reading an input whole, so that a refused line of it can be shown.
+//! Reading a file whole, so that a refused line of it can be shown.
 
 use crate::fault::Fault;
-use std::alloc::Global;
+use std::alloc::{AllocError, Global};
 use std::io::{self, ErrorKind, Read};
 
-// As many bytes as are judged.
+// The most bytes of a file that is read whole.
 const BYTE_LIMIT: u64 = 67_108_864;
 
-/// The bytes that the reader gives, but at most one more than are judged.
+/// The bytes that the reader of this file gives.
 ///
 /// # Errors
-/// A fault that names the input and the system's reason, where a read failed; `OutOfMemory`.
-pub fn read_whole<R: Read + Drop>(alloc: Global, name: &str, reader: R) -> Result<Vec<u8>, Fault> {
+/// A fault that names the file, where a read failed, with the system's reason, or where it has more bytes than are read; `OutOfMemory`.
+pub(crate) fn read_whole<R: Read + Drop>(
+    alloc: Global,
+    name: &str,
+    reader: R,
+) -> Result<Vec<u8>, Fault> {
     let mut bytes = Vec::new(alloc);
     match reader.take(BYTE_LIMIT + 1).read_to_end(&mut bytes) {
+        Ok(count) if count as u64 > BYTE_LIMIT => Err(too_long(alloc, name)?),
         Ok(_) => Ok(bytes),
         Err(error) => Err(system_fault(alloc, "cannot read", name, error)?),
     }
+}
+
+// The fault of a file with more bytes than are read.
+fn too_long(alloc: Global, name: &str) -> Result<Fault, AllocError> {
+    let line = format!(in alloc;
+        "{name}: the file is too long: it has more than {BYTE_LIMIT} bytes\n"
+    )?;
+    Ok(Fault::Refused(line))
 }
 
 /// The fault that says what could not be done with what, and the system's reason.

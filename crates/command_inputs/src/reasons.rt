@@ -8,7 +8,8 @@ use crate::opener::{OpenError, Opener};
 use crate::reading::system_fault;
 use crate::recalling::{Memory, Recalling, Recalls};
 use crate::writing::write_whole;
-use pmt_report::{RecordFault, RunError};
+use pmt_report::{RecordFault, RunError, run_error};
+use pmt_taking::TakeError;
 use pmt_text::TextError;
 use std::alloc::Global;
 use std::io::{self, Write};
@@ -28,6 +29,27 @@ pub fn reasoned(
     match reason {
         Some(reason) => fault.with_reason(alloc, &reason),
         None => fault,
+    }
+}
+
+/// The fault of the input whose events were not taken for this, by what its reader recalls: of a refused line its place, its text, and what
+/// is allowed there; of a read that failed the system's reason.
+///
+/// # Errors
+/// `OutOfMemory`.
+pub fn untaken_fault(
+    alloc: Global,
+    input: Input<'_>,
+    error: TakeError,
+    read: Option<&Memory>,
+) -> Result<Fault, Fault> {
+    let TakeError::Source(error) = error else {
+        return Ok(Fault::OutOfMemory);
+    };
+    let fault = Fault::Run(run_error(error));
+    match reason_of(alloc, &fault, input, read, None)? {
+        Some(reason) => Ok(reason),
+        None => Ok(fault),
     }
 }
 

@@ -1,7 +1,8 @@
 //! Devices that recall what a person is told of their faults.
 
+use crate::bytes::line_ends;
 use crate::refused::line_of_text;
-use memchr::{memchr_iter, memrchr};
+use memchr::memrchr;
 use std::alloc::{AllocError, Global};
 use std::io::{self, ErrorKind, Read, Write};
 
@@ -46,6 +47,8 @@ pub struct Memory {
     recalls: Recalls,
     // The first bytes.
     first: Vec<u8>,
+    // How many lines ended so far.
+    ended: u64,
     // How many lines end before `last` begins.
     lines: u64,
     // What was read last, from the beginning of a line on.
@@ -71,6 +74,14 @@ impl<D> Recalling<D> {
     /// What is recalled, if anything.
     pub fn memory(&self) -> Option<&Memory> {
         self.memory.as_ref()
+    }
+
+    /// What is recalled, if anything. The device is let go.
+    pub fn into_memory(self) -> Option<Memory>
+    where
+        D: Drop,
+    {
+        self.memory
     }
 
     /// Why the last call failed that did, if that is recalled.
@@ -135,11 +146,28 @@ impl Memory {
         Memory {
             recalls,
             first: Vec::new(alloc),
+            ended: 0,
             lines: 0,
             last: Vec::new(alloc),
             is_torn: false,
             error: None,
         }
+    }
+
+    /// How many lines were read to their ends, where lines are recalled.
+    pub fn ended(&self) -> u64 {
+        self.ended
+    }
+
+    /// What was read last, or all that was read, where that is recalled.
+    ///
+    /// # Errors
+    /// Where memory was refused to it.
+    pub fn into_text(self) -> Result<Vec<u8>, AllocError> {
+        if self.is_torn {
+            return Err(AllocError);
+        }
+        Ok(self.last)
     }
 
     /// The first line, or its beginning.
@@ -164,7 +192,7 @@ impl Memory {
         let done = match self.recalls {
             Recalls::Nothing | Recalls::Errors => Ok(()),
             Recalls::LastLines => self.recall_last(piece),
-            Recalls::AllLines => self.last.extend_from_slice(piece),
+            Recalls::AllLines => self.recall_all(piece),
         };
         if done.is_err() {
             self.is_torn = true;
@@ -178,10 +206,16 @@ impl Memory {
         Ok(())
     }
 
-    fn recall_last(&mut self, piece: &[u8]) -> Result<(), AllocError> {
+    fn recall_all(&mut self, piece: &[u8]) -> Result<(), AllocError> {
+        self.ended = self.ended.saturating_add(line_ends(piece));
         self.recall_first(piece)?;
-        let ended = memchr_iter(b'\n', self.last.as_slice()).count();
-        self.lines = self.lines.saturating_add(ended as u64);
+        self.last.extend_from_slice(piece)
+    }
+
+    fn recall_last(&mut self, piece: &[u8]) -> Result<(), AllocError> {
+        self.lines = self.ended;
+        self.ended = self.ended.saturating_add(line_ends(piece));
+        self.recall_first(piece)?;
         keep_begun(&mut self.last);
         self.last.extend_from_slice(piece)
     }

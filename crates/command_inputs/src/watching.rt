@@ -1,11 +1,7 @@
 //! Watching what a run is doing.
 
-use memchr::memchr_iter;
-use std::io::{self, Cursor, Read};
-use std::simd::prelude::*;
-
-// So many bytes are looked at together.
-const LANES: usize = 16;
+use crate::recalling::Recalling;
+use std::io::{self, Read};
 
 /// What a run is doing.
 #[derive(Clone, Copy, PartialEq, Eq)]
@@ -43,33 +39,38 @@ impl Watch for Unwatched {
     fn end(&mut self) {}
 }
 
-/// The text of a trace, which tells how many of its events are read.
+/// The reader of a trace, which tells how many of its events are read.
 #[derive(Drop)]
-pub struct WatchedText<'a, W> {
-    text: Cursor<&'a [u8]>,
-    // How many lines are read.
-    lines: u64,
+pub struct WatchedReader<'a, R, W> {
+    reader: Recalling<R>,
     watch: &'a mut W,
 }
 
-impl<'a, W: Watch> WatchedText<'a, W> {
-    /// The text, of which nothing is read yet.
-    pub fn new(text: &'a [u8], watch: &'a mut W) -> Self {
-        WatchedText {
-            text: Cursor::new(text),
-            lines: 0,
-            watch,
+impl<'a, R, W> WatchedReader<'a, R, W> {
+    /// The reader, which recalls lines, and of which nothing is read yet.
+    pub fn new(reader: Recalling<R>, watch: &'a mut W) -> Self {
+        WatchedReader { reader, watch }
+    }
+
+    /// The reader.
+    pub fn into_inner(self) -> Recalling<R> {
+        self.reader
+    }
+
+    // How many events are read, one for each line but the header.
+    fn events(&self) -> u64 {
+        match self.reader.memory() {
+            Some(memory) => memory.ended().saturating_sub(1),
+            None => 0,
         }
     }
 }
 
-impl<W: Watch> Read for WatchedText<'_, W> {
+impl<R: Read, W: Watch> Read for WatchedReader<'_, R, W> {
     fn read(&mut self, buf: &mut [u8]) -> io::Result<usize> {
-        match self.text.read(buf) {
+        match self.reader.read(buf) {
             Ok(count) => {
-                let ended = line_ends(&buf[..count]);
-                self.lines = self.lines.saturating_add(ended);
-                let events = self.lines.saturating_sub(1);
+                let events = self.events();
                 self.watch.tell(if count == 0 {
                     Doing::Judging(events)
                 } else {
@@ -80,17 +81,4 @@ impl<W: Watch> Read for WatchedText<'_, W> {
             Err(error) => Err(error),
         }
     }
-}
-
-// How many lines end in these bytes.
-fn line_ends(bytes: &[u8]) -> u64 {
-    let parts = bytes.len() / LANES;
-    let mut ends = 0u64;
-    for part in 0..parts {
-        let ended = u8x16::from_slice(&bytes[part * LANES..]).simd_eq(u8x16::splat(b'\n'));
-        let count = ended.select(u8x16::splat(1), u8x16::splat(0)).reduce_sum();
-        ends = ends.saturating_add(count as u64);
-    }
-    let rest = memchr_iter(b'\n', &bytes[parts * LANES..]).count();
-    ends.saturating_add(rest as u64)
 }

@@ -55,10 +55,8 @@ pub fn page_labels<'a>(
 
 // How many of the first so many events have a label.
 fn labelled(labels: &Labels, events: u64) -> u64 {
-    labels
-        .texts
-        .iter()
-        .filter(|(event, _)| **event <= events)
+    (1..=events)
+        .filter(|event| labels.get(*event).is_some())
         .count() as u64
 }
 
@@ -72,15 +70,15 @@ fn labels_within<'a>(
     let mut seen: BTreeSet<&'a str> = BTreeSet::new(alloc);
     let mut list = Vec::new(alloc);
     let mut left_out: u64 = 0;
-    for (event, text) in labels.texts.iter() {
-        if *event > events {
-            break;
-        }
+    for event in 1..=events {
+        let Some(text) = labels.get(event) else {
+            continue;
+        };
         let short = cut(text.as_str());
         let has_room = take_room(&mut seen, &mut room, short)?;
         left_out = left_out.saturating_add(if has_room { 0 } else { 1 });
         list.push(Label {
-            event: *event,
+            event,
             text: if has_room { short } else { LEFT_OUT },
         })?;
     }

@@ -2,16 +2,18 @@
 
 use crate::reading::piece_error;
 use command_inputs::{Fault, Opener, label_of, opened};
-use pmt_asked::Labels;
 use pmt_parts::Pieces;
 use pmt_text::write::push_number;
 use std::alloc::{AllocError, Global};
+use std::collections::BTreeMap;
 use std::io::Read;
+
+// Labels by the numbers that their events have in the whole.
+type Labels = BTreeMap<u64, String>;
 
 /// The labels of the events of a part, and the file that has those of later ones.
 #[derive(Drop)]
 pub(crate) struct PartLabels<'a, R> {
-    // by the numbers that the events have in the whole
     held: Labels,
     // none where no file is named, or its end was read
     file: Option<LabelFile<'a, R>>,
@@ -82,7 +84,7 @@ impl<'a, R: Read + Drop> PartLabels<'a, R> {
     pub(crate) fn keep(&mut self, alloc: Global, numbers: &[u64]) -> Result<(), AllocError> {
         let mut kept = Labels::new(alloc);
         for number in numbers {
-            if let Some(text) = self.held.get(*number) {
+            if let Some(text) = self.held.get(number) {
                 kept.insert(*number, text.clone()?)?;
             }
         }
@@ -97,7 +99,7 @@ impl<'a, R: Read + Drop> PartLabels<'a, R> {
     pub(crate) fn text(&self, alloc: Global, numbers: &[u64]) -> Result<Vec<u8>, AllocError> {
         let mut text = Vec::new(alloc);
         for (index, number) in numbers.iter().enumerate() {
-            if let Some(label) = self.held.get(*number) {
+            if let Some(label) = self.held.get(number) {
                 push_number(&mut text, 10, index as u64 + 1)?;
                 text.push(b' ')?;
                 text.extend_from_slice(label.as_bytes())?;
@@ -148,9 +150,15 @@ impl<R: Read> LabelFile<'_, R> {
         if event > end {
             return Ok(false);
         }
-        held.insert(event, String::from_str(alloc, text)?)?;
+        hold(held, event, String::from_str(alloc, text)?)?;
         self.event = event;
         self.line.clear();
         Ok(true)
     }
+}
+
+// Holds the label of the event.
+fn hold(held: &mut Labels, event: u64, text: String) -> Result<(), AllocError> {
+    held.insert(event, text)?;
+    Ok(())
 }

@@ -1,6 +1,8 @@
 //! What is measured of a trace.
 
-use command_inputs::{Fault, Input, Opener, bytes_of, cut_of, labels_of, taken_fault};
+use command_inputs::{
+    Fault, Input, Opener, Recalls, cut_of, labels_of, opened, recalled, untaken_fault,
+};
 use pmt_asked::{Choice, Cut, Ignored, Kind, Labels, Options, frame_of};
 use pmt_causes::Origin;
 use pmt_explain_run::explain;
@@ -8,11 +10,10 @@ use pmt_explanation::{Explanation, Summary, summary_of};
 use pmt_fates::PlaceRow;
 use pmt_model::OutOfMemory;
 use pmt_stat::{Cost, Figures, PlaceCost, cost_of, figures_of, sort_places};
-use pmt_taking::TakeError;
 use pmt_text::{Counted, TextSource};
 use std::alloc::Global;
 use std::collections::BTreeMap;
-use std::io::{Cursor, Read};
+use std::io::Read;
 use std::thread::Threads;
 
 // What is measured of a trace.
@@ -40,23 +41,41 @@ pub(crate) fn measured_of<T: Threads + Sync, O: Opener, I: Read>(
     labels: Option<&str>,
 ) -> Result<Measured, Fault> {
     let labels = labels_of(alloc, files, labels)?;
-    let source = Input::new("stat", file);
-    let bytes = bytes_of(alloc, source, files, input)?;
+    let explanation = match file {
+        Some(name) => {
+            let reader = opened(alloc, files, name)?;
+            explained(rt, alloc, &labels, file, reader)?
+        }
+        None => explained(rt, alloc, &labels, file, input)?,
+    };
     let cut = cut_of(alloc, files, file)?;
-    match explained(rt, alloc, &labels, bytes.as_slice()) {
-        Ok(explanation) => Ok(measures_of(alloc, &explanation, &labels, cut)?),
-        Err(error) => Err(taken_fault(alloc, source, bytes.as_slice(), error)?),
-    }
+    Ok(measures_of(alloc, &explanation, &labels, cut)?)
 }
 
-// The explanation of the trace with this text, of which nothing is asked but what each place has.
-fn explained<T: Threads + Sync>(
+// The explanation of the trace that the reader gives, of which nothing is asked but what each place has.
+fn explained<T: Threads + Sync, R: Read + Drop>(
     rt: &T,
     alloc: Global,
     labels: &Labels,
-    bytes: &[u8],
-) -> Result<Explanation, TakeError> {
-    let options = Options {
+    file: Option<&str>,
+    reader: R,
+) -> Result<Explanation, Fault> {
+    let options = options_of(alloc);
+    let reader = recalled(alloc, reader, Recalls::LastLines)?;
+    let mut source = TextSource::new(alloc, Counted::new(reader));
+    match explain(rt, alloc, &mut source, labels, &options) {
+        Ok(explanation) => Ok(explanation),
+        Err(error) => {
+            let reader = source.into_input().into_inner();
+            let input = Input::new("stat", file);
+            Err(untaken_fault(alloc, input, error, reader.memory())?)
+        }
+    }
+}
+
+// That nothing is asked but what each place has.
+fn options_of(alloc: Global) -> Options {
+    Options {
         ignored: Ignored::new(alloc),
         limit: 0,
         choice: Choice {
@@ -67,9 +86,7 @@ fn explained<T: Threads + Sync>(
             to: None,
             label: None,
         },
-    };
-    let mut source = TextSource::new(alloc, Counted::new(Cursor::new(bytes)));
-    explain(rt, alloc, &mut source, labels, &options)
+    }
 }
 
 // What is measured of the explained trace.

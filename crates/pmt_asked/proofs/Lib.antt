@@ -1,3 +1,3 @@
 pub mod CallerLemmas
+pub mod EventTextsLemmas
 pub mod IgnoringLemmas
-pub mod LabellingLemmas

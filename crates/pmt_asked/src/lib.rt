@@ -5,6 +5,7 @@
 
 pub mod choosing;
 mod cut;
+mod event_texts;
 pub mod frames;
 pub mod ignoring;
 pub mod labels;

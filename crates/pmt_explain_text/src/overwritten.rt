@@ -12,7 +12,7 @@ use std::alloc::Global;
 // cache line.
 pub(crate) fn overwritten_section(told: &Telling<'_>) -> Section {
     let is_brief = told.screen.rows.is_some() && told.screen.choice.only.is_none();
-    if is_brief && !told.labels.texts.is_empty() {
+    if is_brief && !told.labels.is_empty() {
         return places_section_of(told);
     }
     let groups = told.explanation.overwritten.as_slice();

@@ -19,7 +19,7 @@ pub(crate) fn label_numbers(
 ) -> Result<Vec<Option<u64>>, OutOfMemory>
     ensures { IfOk result (λ numbers. AreLabelNumbers labels.now events numbers.items) }
 {
-    if labels.texts.is_empty() {
+    if labels.is_empty() {
         return Ok(Vec::new(alloc));
     }
     let mut firsts = HashMap::new(alloc);

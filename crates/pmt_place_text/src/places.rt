@@ -45,7 +45,7 @@ pub fn places_section(
     strayed: &mut Vec<Strayed>,
 ) -> Section {
     let rows = troubled(told.explanation, told.screen.choice);
-    let heading = if told.labels.texts.is_empty() {
+    let heading = if told.labels.is_empty() {
         THREADS
     } else {
         LABELLED

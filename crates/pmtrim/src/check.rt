@@ -1,11 +1,11 @@
 //! `check`: the report of a trace.
 ghost use Rattle.std.specs.Prelude.{◌≤◌, IfOk};
 
-use crate::buffered::buffered;
 use crate::faults::run_fault;
 use crate::places::placed;
 use command_inputs::{
-    Fault, Input, Opener, Recalling, Recalls, labels_of, open_input, reasoned, write_output,
+    Fault, Input, Opener, Recalling, Recalls, buffered, labels_of, open_input, reasoned,
+    write_output,
 };
 use command_requests::{CheckWords, TraceWords};
 use pmt_analysis::Analysis;

@@ -1,9 +1,8 @@
 //! `fronts`: how many stores of each line are safe at a place.
 ghost use Rattle.std.specs.Prelude.{◌≤◌, IfOk};
 
-use crate::buffered::buffered;
 use crate::faults::run_fault;
-use command_inputs::{Fault, Input, Opener, Recalling, Recalls, open_input};
+use command_inputs::{Fault, Input, Opener, Recalling, Recalls, buffered, open_input};
 use command_requests::FrontsWords;
 use pmt_report::run_fronts;
 use pmt_text::Counted;

@@ -1,9 +1,8 @@
 //! `trim`: the trace without the flushes and fences that no crash can show.
 ghost use Rattle.std.specs.Prelude.{◌≤◌, IfOk};
 
-use crate::buffered::buffered;
 use crate::faults::run_fault;
-use command_inputs::{Fault, Input, Opener, Recalling, Recalls, open_input};
+use command_inputs::{Fault, Input, Opener, Recalling, Recalls, buffered, open_input};
 use command_requests::TraceWords;
 use pmt_report::{RunError, run_error, run_trim};
 use pmt_text::{Counted, TextSource};

@@ -1,6 +1,6 @@
 //! Readers of traces behind a buffer.
 
-use command_inputs::Fault;
+use crate::fault::Fault;
 use std::alloc::Global;
 use std::io::{BufReader, Read};
 
@@ -11,7 +11,7 @@ const BUFFER_SIZE: usize = 32_768;
 ///
 /// # Errors
 /// `OutOfMemory`.
-pub(crate) fn buffered<R: Read + Drop>(alloc: Global, reader: R) -> Result<BufReader<R>, Fault> {
+pub fn buffered<R: Read + Drop>(alloc: Global, reader: R) -> Result<BufReader<R>, Fault> {
     match BufReader::with_capacity(alloc, BUFFER_SIZE, reader) {
         Ok(reader) => Ok(reader),
         Err(_) => Err(Fault::OutOfMemory),

@@ -1,0 +1,6 @@
+use Rattle.std.proofs.Common.{string_bytes}
+use Rattle.pmt_asked.proofs.EventTextsLemmas.{told-found}
+use Rattle.pmt_asked.proofs.event_texts.number_of.Goals as goal
+
+pub returns-in-Some-clause-told : goal.returns-in-Some-clause-told
+returns-in-Some-clause-told c = told-found (λ s. string_bytes s) c.args.text.now c.args.texts.now.keys c.in-Some.place c.in-Some.ensures.index
