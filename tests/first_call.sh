@@ -57,14 +57,17 @@ cp tests/lib/first_call/low.rt.txt "$top/crates/low/src/lib.rt"
 cp tests/lib/first_call/main.rt.txt "$top/crates/pmtrim/src/main.rt"
 printf abc | tee "$top/crates/pmtrim/stdin" > "$folder/input"
 printf abcde > "$folder/five"
+head -c 1048577 /dev/zero > "$folder/large"
 
-# An interrupt while the proof works: as from a terminal, all that stands in the foreground gets it.
-setsid "$top/pmtrim" "$folder/five" < /dev/null > "$folder/out" 2> "$folder/told" &
+# An interrupt while the proof works: as from a terminal, all that stands in the foreground gets it. No build without proofs reads so large
+# a file, so that the proof begins at once.
+setsid "$top/pmtrim" "$folder/large" < /dev/null > "$folder/out" 2> "$folder/told" &
 caller=$!
 until grep -q 'every function is being proved' "$folder/told" || ! kill -0 "$caller" 2> /dev/null; do sleep 0.1; done
 kill -TERM -- "-$caller"
 wait "$caller"
 status=$?
+holds 'a file of more than 1 MiB is not answered first' tells "that build can't answer here"
 holds 'an interrupt ends the call' ends_with 130
 holds 'an interrupt is told' tells 'interrupted; the program is not built'
 holds 'an interrupt leaves nothing half built' is_clean
