@@ -8,7 +8,7 @@ use crate::labels::Labels;
 use pmt_model::{Addr, Format, Op, Range, Trace, line_of};
 
 /// A kind of what is told.
-#[derive(Clone, Copy, Debug, PartialEq, Eq)]
+#[derive(Clone, Copy)]
 pub enum Kind {
     /// Assertions that fail.
     Failure,

@@ -8,7 +8,7 @@ use pmt_model::{Op, Trace, WordStore};
 use std::alloc::Global;
 
 /// The `len` bytes from `addr` on: a store all of whose bytes lie in such ranges is ignored.
-#[derive(Clone, Copy, Debug, PartialEq, Eq)]
+#[derive(Clone, Copy)]
 pub struct ByteRange {
     /// The address of the first byte.
     pub addr: u64,

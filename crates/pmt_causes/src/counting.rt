@@ -13,7 +13,7 @@ use std::hash::Hash;
 const FEW: usize = 5;
 
 /// A value, and how many have it.
-#[derive(Clone, Copy, Debug, PartialEq, Eq)]
+#[derive(Clone, Copy)]
 pub struct Count<K> {
     /// The value.
     pub key: K,

@@ -13,7 +13,7 @@ use pmt_model::{Format, Op, OutOfMemory, Range, Trace};
 use std::alloc::Global;
 
 /// Where a line lies in a range.
-#[derive(Clone, Copy, Debug, PartialEq, Eq, Hash)]
+#[derive(Clone, Copy, PartialEq, Eq, Hash)]
 pub enum RangePart {
     /// It is the range's only line.
     Only,
@@ -26,7 +26,7 @@ pub enum RangePart {
 }
 
 /// Who makes an event, and where.
-#[derive(Clone, Copy, Debug, PartialEq, Eq, Hash)]
+#[derive(Clone, Copy, PartialEq, Eq, Hash)]
 pub enum Maker {
     /// There is no such event.
     Nobody,
@@ -51,7 +51,7 @@ pub struct CauseCounts {
 }
 
 // What an event is to a failed assertion.
-#[derive(Clone, Copy, Debug, PartialEq, Eq)]
+#[derive(Clone, Copy)]
 pub(crate) enum Role {
     // It is the assertion.
     Claim,

@@ -14,7 +14,7 @@ use pmt_reasons::Reason;
 use std::alloc::Global;
 
 /// Where a flush or a fence stands.
-#[derive(Clone, Copy, Debug, PartialEq, Eq, Hash)]
+#[derive(Clone, Copy, PartialEq, Eq, Hash)]
 pub enum Spot {
     /// At the place in the program with this label, by its number.
     Label(u64),
@@ -25,7 +25,7 @@ pub enum Spot {
 }
 
 /// The word of a flush or a fence.
-#[derive(Clone, Copy, Debug, PartialEq, Eq, Hash)]
+#[derive(Clone, Copy, PartialEq, Eq, Hash)]
 pub enum DropWord {
     Clwb,
     ClflushOpt,
@@ -35,7 +35,7 @@ pub enum DropWord {
 }
 
 /// Why a flush or a fence is dropped, without the event that does so.
-#[derive(Clone, Copy, Debug, PartialEq, Eq, Hash)]
+#[derive(Clone, Copy, PartialEq, Eq, Hash)]
 pub enum ReasonKind {
     Safe,
     Unfenced,
@@ -46,7 +46,7 @@ pub enum ReasonKind {
 }
 
 /// What dropped events of one group have in common.
-#[derive(Clone, Copy, Debug, PartialEq, Eq, Hash)]
+#[derive(Clone, Copy, PartialEq, Eq, Hash)]
 pub struct DroppedKey {
     /// Where they stand.
     pub spot: Spot,

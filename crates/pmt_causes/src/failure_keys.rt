@@ -7,7 +7,7 @@ use crate::labels::label_of;
 use pmt_reasons::Failure;
 
 /// Whence an event comes.
-#[derive(Clone, Copy, Debug, PartialEq, Eq, Hash)]
+#[derive(Clone, Copy, PartialEq, Eq, Hash)]
 pub enum Origin {
     /// From the place in the program with this label, by the number that the caller gave it.
     Label(u64),
@@ -16,7 +16,7 @@ pub enum Origin {
 }
 
 /// The kind of an assertion.
-#[derive(Clone, Copy, Debug, PartialEq, Eq, Hash)]
+#[derive(Clone, Copy, PartialEq, Eq, Hash)]
 pub enum AssertionKind {
     /// isPersist.
     Persist,
@@ -25,7 +25,7 @@ pub enum AssertionKind {
 }
 
 /// The kind of a cause.
-#[derive(Clone, Copy, Debug, PartialEq, Eq, Hash)]
+#[derive(Clone, Copy, PartialEq, Eq, Hash)]
 pub enum CauseKind {
     /// The store comes after the place.
     Later,
@@ -36,7 +36,7 @@ pub enum CauseKind {
 }
 
 /// What failed assertions of one group have in common.
-#[derive(Clone, Copy, Debug, PartialEq, Eq, Hash)]
+#[derive(Clone, Copy, PartialEq, Eq, Hash)]
 pub struct FailureKey {
     /// The kind of the assertions.
     pub kind: AssertionKind,

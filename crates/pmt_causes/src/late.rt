@@ -18,7 +18,7 @@ use std::alloc::Global;
 const NEAR: usize = 4;
 
 /// Where late stores stand.
-#[derive(Clone, Copy, Debug, PartialEq, Eq, Hash)]
+#[derive(Clone, Copy, PartialEq, Eq, Hash)]
 pub enum LateSpot {
     /// At the place in the program with this label, by its number.
     Label(u64),

@@ -14,7 +14,7 @@ use pmt_reasons::Cause;
 use std::alloc::Global;
 
 /// What stores that are never persisted have in common, whichever lines they are to.
-#[derive(Clone, Copy, Debug, PartialEq, Eq, Hash)]
+#[derive(Clone, Copy, PartialEq, Eq, Hash)]
 pub struct LostKey {
     /// The kind of the cause for which they are lost.
     pub cause: CauseKind,

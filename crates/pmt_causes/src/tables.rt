@@ -17,7 +17,7 @@ use std::alloc::Global;
 use std::collections::{BTreeMap, HashMap};
 
 /// What one thread or one label has in the trace.
-#[derive(Clone, Copy, Debug, PartialEq, Eq)]
+#[derive(Clone, Copy)]
 pub struct Row<K> {
     /// The thread, or the label by its number.
     pub key: K,

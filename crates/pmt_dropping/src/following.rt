@@ -18,7 +18,7 @@ const ROOM: usize = 64;
 type NextFlushes = IndexMap<u64, u32>;
 
 /// What comes after a flush, by numbers of events; one more than the last number where there is no such event.
-#[derive(Clone, Copy, Debug, PartialEq, Eq)]
+#[derive(Clone, Copy)]
 pub(crate) struct Following {
     /// The next fence of its thread.
     pub(crate) fence: u32,

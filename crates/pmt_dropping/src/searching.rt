@@ -15,7 +15,7 @@ use pmt_model::{Op, Trace, line_of};
 use pmt_reasons::Reason;
 
 /// Why an event is dropped, if it is, and at how many events at most it took a look to tell that.
-#[derive(Clone, Copy, Debug, PartialEq, Eq)]
+#[derive(Clone, Copy)]
 pub(crate) struct Search {
     pub(crate) reason: Option<Reason>,
     pub(crate) looks: u64,

@@ -14,7 +14,7 @@ use pmt_reasons::Failure;
 use std::alloc::Global;
 
 /// A byte that a store wrote.
-#[derive(Clone, Copy, Debug, PartialEq, Eq)]
+#[derive(Clone, Copy)]
 pub struct StoredByte {
     /// The store's number, from 1.
     pub store: u64,
@@ -23,7 +23,7 @@ pub struct StoredByte {
 }
 
 /// What memory holds at a byte after a crash.
-#[derive(Clone, Copy, Debug, PartialEq, Eq)]
+#[derive(Clone, Copy)]
 pub struct CrashByte {
     /// The byte's address.
     pub byte: u64,

@@ -14,7 +14,7 @@ use pmt_reasons::Failure;
 use std::alloc::{AllocError, Global};
 
 /// How many stores of a line a crash leaves persisted.
-#[derive(Clone, Copy, Debug, PartialEq, Eq)]
+#[derive(Clone, Copy)]
 pub struct LineCount {
     /// The line, that is its first address divided by the line size.
     pub line: u64,

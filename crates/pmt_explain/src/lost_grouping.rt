@@ -18,7 +18,7 @@ use std::alloc::Global;
 const ROOM: usize = 1 << 16;
 
 /// Stores to one line that are never persisted for the same cause.
-#[derive(Clone, Copy, Debug, PartialEq, Eq)]
+#[derive(Clone, Copy)]
 pub struct LostGroup {
     /// The number of the line.
     pub line: u64,

@@ -14,14 +14,14 @@ use pmt_model::{Op, OutOfMemory, Trace, WordStore, line_of};
 use std::alloc::Global;
 
 /// Two stores by their numbers, the later of which writes over bytes of the earlier.
-#[derive(Clone, Copy, Debug, PartialEq, Eq)]
+#[derive(Clone, Copy)]
 pub struct Overwriting {
     pub earlier: u64,
     pub later: u64,
 }
 
 /// Stores to one line whose bytes are written over before they can be persisted.
-#[derive(Clone, Copy, Debug, PartialEq, Eq)]
+#[derive(Clone, Copy)]
 pub struct OverwrittenGroup {
     /// The number of the line.
     pub line: u64,

@@ -10,7 +10,7 @@ use pmt_model::Trace;
 use pmt_reasons::ByteStore;
 
 /// Which stores are wanted.
-#[derive(Clone, Copy, Debug, PartialEq, Eq)]
+#[derive(Clone, Copy)]
 pub(crate) enum Wanted {
     /// Those that the crash at the place loses, with all stores to the full line.
     Lost { place: u64, full: Option<u64> },

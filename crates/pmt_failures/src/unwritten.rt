@@ -10,7 +10,7 @@ use pmt_model::{Op, OutOfMemory, Range, Trace};
 use std::alloc::Global;
 
 /// An assertion of which no store has written a byte of a range by then: that range demands nothing.
-#[derive(Clone, Copy, Debug, PartialEq, Eq)]
+#[derive(Clone, Copy)]
 pub struct Unwritten {
     /// The assertion's event.
     pub event: u64,

@@ -7,7 +7,7 @@ use crate::saved_before::SavedBefore;
 use pmt_causes::Origin;
 
 /// What becomes of what one place of the source stores, flushes and fences.
-#[derive(Clone, Copy, Debug, PartialEq, Eq)]
+#[derive(Clone, Copy)]
 pub struct PlaceRow {
     /// The place: the label of its events, by the number that the caller gave it, or the thread of those without one.
     pub place: Origin,

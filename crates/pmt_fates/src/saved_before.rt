@@ -14,7 +14,7 @@ use pmt_model::{Op, OutOfMemory, Trace};
 use std::alloc::Global;
 
 /// A store that a crash keeps, though it can lose another one that was made before it was safe.
-#[derive(Clone, Copy, Debug, PartialEq, Eq)]
+#[derive(Clone, Copy)]
 pub struct SavedBefore {
     /// The crash comes after so many events.
     pub place: u64,

@@ -6,7 +6,7 @@ ghost use Rattle.pmt_fates.specs.Standings.{most as most_in, rank, share, standi
 use crate::place_row::PlaceRow;
 
 /// How a place stands by what becomes of its stores, without those that are left out.
-#[derive(Clone, Copy, Debug, PartialEq, Eq)]
+#[derive(Clone, Copy)]
 pub enum Standing {
     /// Some are never persisted, others are.
     LosesSome,

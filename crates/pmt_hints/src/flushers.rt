@@ -9,7 +9,7 @@ use pmt_model::{Format, Op, OutOfMemory, line_of};
 use std::collections::HashMap;
 
 /// A thread that flushed a line.
-#[derive(Clone, Copy, Debug, PartialEq, Eq, Hash)]
+#[derive(Clone, Copy, PartialEq, Eq, Hash)]
 pub(crate) struct Flusher {
     pub(crate) thread: u8,
     pub(crate) line: u64,

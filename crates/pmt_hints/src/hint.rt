@@ -10,7 +10,7 @@ use pmt_model::{OutOfMemory, Trace};
 use std::alloc::Global;
 
 /// A kind of hint.
-#[derive(Clone, Copy, Debug, PartialEq, Eq)]
+#[derive(Clone, Copy)]
 pub enum HintKind {
     /// Each kept flush of the place is not fenced when its thread stores to another line.
     OpenAtStore,
@@ -26,7 +26,7 @@ pub enum HintKind {
 const LEAST: usize = 3;
 
 /// The events of one kind of hint that come from one place.
-#[derive(Clone, Copy, Debug, PartialEq, Eq)]
+#[derive(Clone, Copy)]
 pub struct Hint {
     /// What they have in common.
     pub kind: HintKind,

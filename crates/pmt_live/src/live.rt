@@ -16,7 +16,7 @@ use pmt_places::LinePlaces;
 use std::alloc::Global;
 
 /// The number of stores to a line, and its front.
-#[derive(Clone, Copy, Debug, PartialEq, Eq)]
+#[derive(Clone, Copy)]
 pub(crate) struct LineRow {
     pub(crate) count: u32,
     pub(crate) front: u32,

@@ -9,7 +9,7 @@ use std::mem::swap;
 
 /// A flush (clwb, clflushopt) by its number, the first event having the number 1, with the place of its line and the number of stores to
 /// that so far.
-#[derive(Clone, Copy, Debug, PartialEq, Eq)]
+#[derive(Clone, Copy)]
 pub struct OpenFlush {
     /// Its number.
     pub number: u32,

@@ -71,7 +71,7 @@ fn push_value(text: &mut Vec<u8>, op: &Op) -> Result<(), OutOfMemory>
 }
 
 /// A column of numbers.
-#[derive(Clone, Copy, PartialEq, Eq)]
+#[derive(Clone, Copy)]
 pub(crate) enum NumberColumn {
     /// The thread of each event.
     Thread,

@@ -3,7 +3,7 @@ use pmt_dropping::Dropped;
 use pmt_model::Verdict;
 
 /// From which place on no crash loses a store. Place p is right after the first p events.
-#[derive(Clone, Copy, Debug, PartialEq, Eq)]
+#[derive(Clone, Copy)]
 pub struct SafePlace {
     /// The store's number, from 1.
     pub store: u64,
@@ -23,7 +23,7 @@ pub struct Found<'a> {
 }
 
 /// What of a trace is in its columns.
-#[derive(Clone, Copy, Debug, PartialEq, Eq)]
+#[derive(Clone, Copy)]
 pub enum Kept {
     /// All.
     Whole,

@@ -34,7 +34,7 @@ pub trait PartTaker {
 }
 
 /// Why no more parts are made of a text.
-#[derive(Debug, Drop)]
+#[derive(Drop)]
 pub enum PartError {
     /// The reader's own fault.
     Read(io::Error),
@@ -47,7 +47,7 @@ pub enum PartError {
 }
 
 /// A piece of a text that is refused.
-#[derive(Debug, Drop)]
+#[derive(Drop)]
 pub struct Refusal {
     /// The header of the text, and the lines of the piece.
     pub text: Vec<u8>,

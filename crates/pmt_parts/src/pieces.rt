@@ -13,7 +13,7 @@ const MOST_BYTES: usize = 67_108_864;
 const READ_SIZE: usize = 4096;
 
 /// Why no piece was given.
-#[derive(Clone, Copy, Debug)]
+#[derive(Clone, Copy)]
 pub enum PieceError {
     /// The reader's own fault.
     Read(io::Error),

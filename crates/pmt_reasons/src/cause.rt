@@ -1,7 +1,7 @@
 //! Why a store is not safe at a place.
 
 /// Why a store is not safe at a place. Events go by their numbers, from 1 (own profile, in the manner of pmemcheck's reports).
-#[derive(Clone, Copy, Debug, PartialEq, Eq)]
+#[derive(Clone, Copy, PartialEq, Eq)]
 pub enum Cause {
     /// The store comes after the place.
     Later,

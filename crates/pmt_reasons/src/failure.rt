@@ -1,7 +1,7 @@
 //! The crash that violates a failed assertion.
 
 /// A byte and the last store to it. Events go by their numbers, from 1 (own profile, in the manner of pmemcheck's reports).
-#[derive(Clone, Copy, Debug, PartialEq, Eq)]
+#[derive(Clone, Copy)]
 pub struct ByteStore {
     /// The store's number.
     pub store: u64,
@@ -11,7 +11,7 @@ pub struct ByteStore {
 
 /// A crash that violates an assertion. Each line has as many stores persisted as are safe at the place, but the line of the kept
 /// store has all of them.
-#[derive(Clone, Copy, Debug, PartialEq, Eq)]
+#[derive(Clone, Copy)]
 pub struct Failure {
     /// The crash comes right after so many events.
     pub place: u64,

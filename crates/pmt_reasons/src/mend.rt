@@ -2,7 +2,7 @@
 
 /// What makes a store safe before event `before`, or before the end of the trace where that is none. Events go by their numbers, from
 /// 1, and lines by theirs (own profile, in the manner of pmemcheck's reports).
-#[derive(Clone, Copy, Debug, PartialEq, Eq)]
+#[derive(Clone, Copy)]
 pub enum Mend {
     /// The thread has to fence after event `after`, its flush.
     Fence {

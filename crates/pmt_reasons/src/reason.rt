@@ -2,7 +2,7 @@
 
 /// Why a flush or a fence is dropped: the first of these that holds of it. Events go by their numbers, from 1 (own profile, in the
 /// manner of pmemcheck's reports).
-#[derive(Clone, Copy, Debug, PartialEq, Eq)]
+#[derive(Clone, Copy)]
 pub enum Reason {
     /// A flush or clflush: every store to its line is safe when it comes.
     Safe,

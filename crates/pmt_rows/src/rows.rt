@@ -13,7 +13,7 @@ use pmt_places::LinePlaces;
 use std::alloc::Global;
 
 /// Of a line the numbers of its last store, of its last store that is safe, and of its last flush or clflush: 0 where there is none.
-#[derive(Clone, Copy, Debug, PartialEq, Eq)]
+#[derive(Clone, Copy)]
 pub struct Row {
     pub last_store: u32,
     pub safe: u32,

@@ -3,7 +3,7 @@
 ghost use Rattle.std.specs.Prelude.{◌≡◌, ◌<◌, ◌≤◌};
 
 /// Numbers of events after a place, up to that of an assertion; one more than the assertion's where there is no such event.
-#[derive(Clone, Copy, Debug, PartialEq, Eq)]
+#[derive(Clone, Copy)]
 pub(crate) struct Coming {
     /// The first flush of the line.
     pub(crate) flush: u64,

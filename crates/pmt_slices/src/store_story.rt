@@ -21,7 +21,7 @@ use std::alloc::Global;
 const FEW: usize = 3;
 
 /// What an event is in the story of a store; of several, the one that stands first here.
-#[derive(Clone, Copy, Debug, PartialEq, Eq)]
+#[derive(Clone, Copy)]
 pub enum StorePart {
     /// The store.
     Store,

@@ -19,7 +19,7 @@ use pmt_reasons::Failure;
 use std::alloc::Global;
 
 /// What an event is in a story; of several, the one that stands first here.
-#[derive(Clone, Copy, Debug, PartialEq, Eq)]
+#[derive(Clone, Copy)]
 pub enum Part {
     /// The assertion that fails.
     Assertion,

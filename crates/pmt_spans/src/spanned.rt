@@ -6,7 +6,7 @@ ghost use Rattle.pmt_spans.specs.Spans.{AreBytesOf, IsSpanned};
 use pmt_model::{Format, Range};
 
 /// A range of bytes, with the first and the last line that it meets: it meets all lines from the one to the other.
-#[derive(Clone, Copy, Debug, PartialEq, Eq)]
+#[derive(Clone, Copy)]
 pub struct Spanned {
     /// The first line.
     pub first: u64,
@@ -19,7 +19,7 @@ pub struct Spanned {
 }
 
 /// Bytes of a line, by how far they lie from its first one: from `low` up to the one before `high`.
-#[derive(Clone, Copy, Debug, PartialEq, Eq)]
+#[derive(Clone, Copy)]
 pub struct LineBytes {
     pub low: u32,
     pub high: u32,

@@ -6,7 +6,7 @@ ghost use Rattle.pmt_stat.specs.Counting.{AreFew, counts_of, with_op};
 use pmt_model::Op;
 
 /// How many events of each kind there are, and how many bytes they store.
-#[derive(Clone, Copy, Debug, PartialEq, Eq)]
+#[derive(Clone, Copy)]
 pub struct Counts {
     /// All events.
     pub events: u64,

@@ -11,7 +11,7 @@ use pmt_model::Op;
 pub const BARS: usize = 7;
 
 /// How many flushes fences wait for: of each fence those of its thread since its fence before. A clflush waits for no fence.
-#[derive(Clone, Copy, Debug, PartialEq, Eq)]
+#[derive(Clone, Copy)]
 pub struct FenceSizes {
     /// How many fences 0, 1, 2, 3 to 4, 5 to 8, 9 to 16, and more flushes wait for.
     pub bars: [u64; BARS],

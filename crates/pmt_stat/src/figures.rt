@@ -22,7 +22,7 @@ pub struct Figures {
 }
 
 /// What one thread has.
-#[derive(Clone, Copy, Debug, PartialEq, Eq)]
+#[derive(Clone, Copy)]
 pub struct ThreadCounts {
     /// The thread.
     pub thread: u8,

@@ -16,7 +16,7 @@ use pmt_model::{Event, Format, Op, OutOfMemory, line_of};
 use std::alloc::Global;
 
 /// What is known of an event.
-#[derive(Clone, Copy, Debug, PartialEq, Eq)]
+#[derive(Clone, Copy)]
 pub(crate) enum Mark {
     /// It is a flush whose thread has not fenced since.
     Open,

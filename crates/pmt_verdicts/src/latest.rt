@@ -3,7 +3,7 @@ ghost use Rattle.std.specs.Prelude.{ℕ, Option};
 ghost use Rattle.pmt_verdicts.specs.Latest.{IsLatest, IsLatestBut, Tells, none_told};
 
 // Of lines that each have a number the greatest number with its line, and the greatest of all other lines: 0 where there is none.
-#[derive(Clone, Copy, Debug, PartialEq, Eq)]
+#[derive(Clone, Copy)]
 pub(crate) struct Latest {
     pub(crate) line: u64,
     pub(crate) first: u32,

@@ -7,7 +7,7 @@ use std::alloc::Global;
 use std::marker::Model;
 
 /// A flush (clwb, clflushopt) by its number, with the place of its line and the last store to that so far, or 0.
-#[derive(Clone, Copy, Debug, PartialEq, Eq)]
+#[derive(Clone, Copy)]
 pub struct OpenFlush {
     pub number: u32,
     pub place: u32,
