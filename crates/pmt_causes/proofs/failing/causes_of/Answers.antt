@@ -1,4 +1,5 @@
-use Rattle.std.proofs.Common.{List, sym, subst, ap, take, ◌∙◌}
+use Rattle.std.proofs.Common.{arith, List, sym, subst, ap, take, ◌∙◌}
+use Rattle.std.proofs.lemmas.Grind.{elements}
 use Rattle.pmt_causes.specs.declared.details.Facts.{Facts}
 use Rattle.pmt_causes.specs.declared.failure_keys.FailureKey.{FailureKey}
 use Rattle.pmt_causes.specs.declared.grouping.Group.{Group}
@@ -39,3 +40,21 @@ returns-clause-counts c =
     (subst (AreNextFences T) (sym c.as_slice-5.ensures.value) c.in_ok-fences.ensures) (subst (λ xs. AreGrouped xs groups) c.as_slice-2.ensures.value c.in_ok-groups.ensures)
     (subst (AreLosing T items) (sym c.as_slice-3.ensures.value) c.in_ok-failures.ensures.lost)
     (subst (λ (gs : List (Group FailureKey)). AreInsideBy F gs c.in_ok-counts.counts.items) shown c.in_ok-counts.ensures)
+
+pub returns-in_err-failures-clause-groups : goal.returns-in_err-failures-clause-groups
+returns-in_err-failures-clause-groups c = grind (arith, elements)
+
+pub returns-in_err-failures-clause-counts : goal.returns-in_err-failures-clause-counts
+returns-in_err-failures-clause-counts c = grind (arith, elements)
+
+pub returns-in_err-groups-clause-groups : goal.returns-in_err-groups-clause-groups
+returns-in_err-groups-clause-groups c = grind (arith, elements)
+
+pub returns-in_err-groups-clause-counts : goal.returns-in_err-groups-clause-counts
+returns-in_err-groups-clause-counts c = grind (arith, elements)
+
+pub returns-in_err-counts-clause-groups : goal.returns-in_err-counts-clause-groups
+returns-in_err-counts-clause-groups c = grind (arith, elements)
+
+pub returns-in_err-counts-clause-counts : goal.returns-in_err-counts-clause-counts
+returns-in_err-counts-clause-counts c = grind (arith, elements)

@@ -1,4 +1,5 @@
 use Rattle.std.proofs.Common.{◌++◌, ◌∷◌, [], length, take, get_or, sym, subst, ap, ◌∙◌, arith}
+use Rattle.std.proofs.lemmas.Grind.{elements}
 use Rattle.std.proofs.lemmas.List.{take_all, take_more}
 use Rattle.pmt_causes.specs.FailureKeys.{AreKeyed}
 use Rattle.pmt_causes.specs.Losing.{AreLosing}
@@ -33,3 +34,18 @@ returns c = record {
   size = c.loop-number.invariant.size;
   lost = c.loop-number.invariant.losing;
 }
+
+pub returns-in_err-lost : goal.returns-in_err-lost
+returns-in_err-lost c = grind (arith, elements)
+
+pub offset_bounds-numbers-number-index : goal.offset_bounds-numbers-number-index
+offset_bounds-numbers-number-index c = grind (arith, elements)
+
+pub loss_at-requires-clause-safe : goal.loss_at-requires-clause-safe
+loss_at-requires-clause-safe c = grind (arith, elements)
+
+pub returns-in_err-loss : goal.returns-in_err-loss
+returns-in_err-loss c = grind (arith, elements)
+
+pub returns-in_err-push_loss : goal.returns-in_err-push_loss
+returns-in_err-push_loss c = grind (arith, elements)

@@ -1,4 +1,5 @@
-use Rattle.std.proofs.Common.{rules, ◌≡◌, ◌≤◌, length, Option, None, Some, MatchOption, refl, subst, sym}
+use Rattle.std.proofs.Common.{arith, rules, ◌≡◌, ◌≤◌, length, Option, None, Some, MatchOption, refl, subst, sym}
+use Rattle.std.proofs.lemmas.Grind.{elements}
 use Rattle.pmt_model.specs.Traces.{event, act}
 use Rattle.pmt_laws.proofs.Histories.{act-within}
 use Rattle.pmt_reasons.specs.Failures.{IsFailureAt}
@@ -25,3 +26,36 @@ returns-in_ok-found-in-IsOrderedBefore-clause-loss c =
     subst (λ (o : Option Loss). MatchOption o (IsFailureAt T i None) (IsLoss T c.args.labels.now i)) (sym c.loss_of-in-IsOrderedBefore.ensures)
     (ordered-keyed T c.args.labels.now c.args.flushes.now i c.in-Some.event c.in-IsOrderedBefore.range c.in-IsOrderedBefore.second c.in_ok-found-in-IsOrderedBefore.found is c.in-IsOrderedBefore.is
     c.requires.flushes c.in_ok-found-in-IsOrderedBefore.ensures.failure)
+
+pub returns-in_default-clause-loss : goal.returns-in_default-clause-loss
+returns-in_default-clause-loss c = grind (arith, elements)
+
+pub persist_at-requires-clause-number : goal.persist_at-requires-clause-number
+persist_at-requires-clause-number c = grind (arith, elements)
+
+pub persist_at-requires-clause-safe : goal.persist_at-requires-clause-safe
+persist_at-requires-clause-safe c = grind (arith, elements)
+
+pub persist_at-requires-clause-writers : goal.persist_at-requires-clause-writers
+persist_at-requires-clause-writers c = grind (arith, elements)
+
+pub returns-in_err-found-in-IsPersist-clause-loss : goal.returns-in_err-found-in-IsPersist-clause-loss
+returns-in_err-found-in-IsPersist-clause-loss c = grind (arith, elements)
+
+pub returns-in_err-found-in-IsPersist-clause-writers : goal.returns-in_err-found-in-IsPersist-clause-writers
+returns-in_err-found-in-IsPersist-clause-writers c = grind (arith, elements)
+
+pub ordered_at-requires-clause-number : goal.ordered_at-requires-clause-number
+ordered_at-requires-clause-number c = grind (arith, elements)
+
+pub returns-in_err-found-in-IsOrderedBefore-clause-loss : goal.returns-in_err-found-in-IsOrderedBefore-clause-loss
+returns-in_err-found-in-IsOrderedBefore-clause-loss c = grind (arith, elements)
+
+pub returns-in_ok-found-in-IsPersist-clause-writers : goal.returns-in_ok-found-in-IsPersist-clause-writers
+returns-in_ok-found-in-IsPersist-clause-writers c = grind (arith, elements)
+
+pub returns-in_ok-found-in-IsOrderedBefore-clause-writers : goal.returns-in_ok-found-in-IsOrderedBefore-clause-writers
+returns-in_ok-found-in-IsOrderedBefore-clause-writers c = grind (arith, elements)
+
+pub returns-in-Store-clause-loss : goal.returns-in-Store-clause-loss
+returns-in-Store-clause-loss c = grind (arith, elements)

@@ -1,4 +1,5 @@
 use Rattle.std.proofs.Common.{◌≡◌, ◌<◌, ◌+◌, suc, length, Some, get_or, set, get_or-set_same, refl, ap, sym, subst, ◌∙◌, arith}
+use Rattle.std.proofs.lemmas.Grind.{elements}
 use Rattle.std.specs.Prelude.{slice_get, slice_index}
 use Rattle.std.specs.List.Sorted.{IsNonDecreasingBy}
 use Rattle.std.proofs.lemmas.List.{get_or-replicate, length-map, length-set}
@@ -81,3 +82,45 @@ returns-clause-items c =
     let T = c.args.trace.now in
     let all : c.loop-index.index ≡ length T.events = omega (arith, ap (λ xs. length xs) c.events-events.ensures.value) in
     (c.loop-index.waited.items, returns-clause-waited c, subst (λ n. c.loop-index.items.items ≡ late_items T c.args.labels.now c.loop-index.waited.items n) all c.loop-index.invariant.items)
+
+pub returns-in_err-waited-clause-waited : goal.returns-in_err-waited-clause-waited
+returns-in_err-waited-clause-waited c = grind (arith, elements)
+
+pub returns-in_err-waited-clause-items : goal.returns-in_err-waited-clause-items
+returns-in_err-waited-clause-items c = grind (arith, elements)
+
+pub offset_bounds-events-index : goal.offset_bounds-events-index
+offset_bounds-events-index c = omega arith
+
+pub bounds-events-index : goal.bounds-events-index
+bounds-events-index c = grind (arith, elements)
+
+pub overflow_add-number : goal.overflow_add-number
+overflow_add-number c = grind (arith, elements)
+
+pub overflow_cast-from : goal.overflow_cast-from
+overflow_cast-from c = grind (arith, elements)
+
+pub offset_bounds-passed-event : goal.offset_bounds-passed-event
+offset_bounds-passed-event c = grind (arith, elements)
+
+pub bounds-passed-event : goal.bounds-passed-event
+bounds-passed-event c = grind (arith, elements)
+
+pub offset_bounds-safe-index : goal.offset_bounds-safe-index
+offset_bounds-safe-index c = omega arith
+
+pub bounds-safe-index : goal.bounds-safe-index
+bounds-safe-index c = grind (arith, elements)
+
+pub index_mut-requires : goal.index_mut-requires
+index_mut-requires c = grind (arith, elements)
+
+pub returns-in_err-push_spot-clause-waited : goal.returns-in_err-push_spot-clause-waited
+returns-in_err-push_spot-clause-waited c = grind (arith, elements)
+
+pub returns-in_err-push_spot-clause-items : goal.returns-in_err-push_spot-clause-items
+returns-in_err-push_spot-clause-items c = grind (arith, elements)
+
+pub loop-index-smaller : goal.loop-index-smaller
+loop-index-smaller c = grind (arith, elements)

@@ -1,4 +1,5 @@
 use Rattle.std.proofs.Common.{◌≡◌, ◌+◌, ◌-◌, suc, ◌<◌, length, subst, sym, ap, ◌∙◌, arith}
+use Rattle.std.proofs.lemmas.Grind.{elements}
 use Rattle.pmt_explain.proofs.FollowingLemmas.{event-at}
 use Rattle.pmt_dropping.specs.Behind.{IsBehind}
 use Rattle.pmt_dropping.specs.Dropping.{TellsReason}
@@ -66,3 +67,6 @@ returns c =
     let T = c.args.safe.now.trace.now in
     let all : length c.events-events.result.now ≡ length T.events = ap (λ xs. length xs) (c.events-events.ensures.value ∙ ap (λ U. U.events) c.trace-2.ensures) in
     dropped-all T c.loop-index.index c.loop-index.list.items (omega (arith, c.loop-index-test.false, all)) c.loop-index.invariant.listed
+
+pub returns-in_err-go_on : goal.returns-in_err-go_on
+returns-in_err-go_on c = grind (arith, elements)

@@ -1,4 +1,5 @@
 use Rattle.std.proofs.Common.{◌≡◌, ◌+◌, suc, ◌<◌, length, refl, sym, subst, ap, ◌∙◌, arith}
+use Rattle.std.proofs.lemmas.Grind.{elements}
 use Rattle.pmt_dropping.specs.Dropping.{TellsReason}
 use Rattle.pmt_dropping.specs.Searching.{IsPast}
 use Rattle.pmt_explain.proofs.FollowingLemmas.{event-at}
@@ -48,3 +49,6 @@ returns c =
     let T = c.args.safe.now.trace.now in
     let all : length c.events-events.result.now ≡ length T.events = ap (λ xs. length xs) (c.events-events.ensures.value ∙ ap (λ U. U.events) c.trace.ensures) in
     dropped-all T c.loop-index.index c.loop-index.list.items (omega (arith, c.loop-index-test.false, all)) c.loop-index.invariant.listed
+
+pub searched-told-requires-clause-is : goal.searched-told-requires-clause-is
+searched-told-requires-clause-is c = grind (arith, elements)

@@ -1,4 +1,5 @@
 use Rattle.std.proofs.Common.{sym, subst, arith}
+use Rattle.std.proofs.lemmas.Grind.{elements}
 use Rattle.pmt_model.specs.Machine.{Fences}
 use Rattle.pmt_laws.proofs.Histories.{act-within}
 use Rattle.pmt_reasons.specs.Reasons.{IsReason}
@@ -12,3 +13,6 @@ returns-clause-tells c =
 
 pub returns-clause-few : goal.returns-clause-few
 returns-clause-few c = omega (arith, (act-within c.args.trace.now c.args.number (Fences c.args.thread) c.requires.is).1)
+
+pub last_flush-stop-requires-clause-high : goal.last_flush-stop-requires-clause-high
+last_flush-stop-requires-clause-high c = grind (arith, elements)

@@ -8,3 +8,6 @@ loop-index-preserved c = told-next c.args.list.now c.loop-index.findings.items c
 
 pub returns : goal.returns
 returns c = c.loop-index.invariant ∙ take_all c.loop-index.index c.args.list.now (omega (arith, c.loop-index-test.false))
+
+pub returns-in_err-push : goal.returns-in_err-push
+returns-in_err-push c = grind arith

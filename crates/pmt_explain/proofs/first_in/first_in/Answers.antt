@@ -1,4 +1,5 @@
 use Rattle.std.proofs.Common.{◌+◌, subst, sym, arith, ◌∙◌}
+use Rattle.std.proofs.lemmas.Grind.{elements}
 use Rattle.std.specs.Prelude.{nat_le}
 use Rattle.pmt_writers.specs.Writers.{Knows}
 use Rattle.pmt_explain.specs.declared.first_in.Search.{Search}
@@ -16,3 +17,6 @@ returns c = λ i knows.
     let same = range-is c.args.range c.get-low.result (c.get-low.result + c.len.result) (c.get-low.ensures.value ∙ c.addr.ensures) (omega (arith, c.get-low.ensures.value, c.addr.ensures, c.len.ensures.value)) in
     in-all S (omega (arith, c.len.ensures.value, c.len.ensures.is_range.some)) i c.loop-block.block c.args.range c.loop-block.first same (omega (arith, c.loop-block-test.false))
     (c.loop-block.invariant i (subst (λ A. Knows c.args.trace.now i A c.args.writers.now) (sym same) knows))
+
+pub first_with_block-first-requires-clause-search : goal.first_with_block-first-requires-clause-search
+first_with_block-first-requires-clause-search c = grind (arith, elements)

@@ -1,4 +1,5 @@
-use Rattle.std.proofs.Common.{◌≡◌, sym, ap₂, subst, ◌∙◌}
+use Rattle.std.proofs.Common.{arith, ◌≡◌, sym, ap₂, subst, ◌∙◌}
+use Rattle.std.proofs.lemmas.Grind.{elements}
 use Rattle.pmt_model.specs.Values.{line_of}
 use Rattle.pmt_model.specs.Machine.{Stores}
 use Rattle.pmt_model.specs.Traces.{IsAct}
@@ -21,3 +22,6 @@ returns-clause-alone c =
     pair-alone T c.args.pair c.line_of-line.result c.line_of.result c.from.result w v c.repeats.result
     (subst (λ l. IsAct T c.args.pair.earlier (Stores l w)) line (c.in_ok-earlier.ensures {u = tt})) (subst (λ l. IsAct T c.args.pair.later (Stores l v)) other (c.in_ok-later.ensures {u = tt}))
     c.if-line_of-line.false c.repeats.ensures c.from.ensures
+
+pub returns-then-line_of-line-clause-alone : goal.returns-then-line_of-line-clause-alone
+returns-then-line_of-line-clause-alone c = grind (arith, elements)

@@ -1,4 +1,5 @@
-use Rattle.std.proofs.Common.{rules, ◌≡◌, ℕ, ◌<◌, ◌+◌, List, [], ◌∷◌, ◌++◌, length, take, get_or, Some, None, Option, subst, sym}
+use Rattle.std.proofs.Common.{arith, rules, ◌≡◌, ℕ, ◌<◌, ◌+◌, List, [], ◌∷◌, ◌++◌, length, take, get_or, Some, None, Option, subst, sym}
+use Rattle.std.proofs.lemmas.Grind.{elements}
 use Rattle.std.specs.Prelude.{MatchOption}
 use Rattle.std.proofs.lemmas.List.{take_more}
 use Rattle.pmt_reasons.specs.Failures.{IsFailureAt}
@@ -29,3 +30,12 @@ loop-number-preserved c =
           let same : older ≡ c.match-branch-2.shown.items = search rules in
           subst (AreShown T (take i few ++ n ∷ [])) same (shown-passing T (take i few) older n c.loop-number.invariant here)
     ])
+
+pub loop-number-init : goal.loop-number-init
+loop-number-init c = grind (arith, elements)
+
+pub returns-in_err-found : goal.returns-in_err-found
+returns-in_err-found c = grind (arith, elements)
+
+pub returns : goal.returns
+returns c = grind (arith, elements)

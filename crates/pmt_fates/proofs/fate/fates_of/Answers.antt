@@ -1,4 +1,5 @@
 use Rattle.std.proofs.Common.{◌≡◌, ◌<◌, suc, length, map, Some, ap, sym, ◌∙◌, arith}
+use Rattle.std.proofs.lemmas.Grind.{elements}
 use Rattle.std.specs.Prelude.{slice_get, slice_index}
 use Rattle.std.proofs.lemmas.Option.{slice_get-get_or, slice_get_within}
 use Rattle.pmt_model.specs.Traces.{event}
@@ -41,3 +42,15 @@ returns c =
       size = omega (arith, size, c.loop-index.invariant.size);
       each = λ n e at. c.loop-index.invariant.each n e (omega (arith, size, slice_get_within c.args.trace.now.events n e at)) at;
     }
+
+pub index-lost-requires : goal.index-lost-requires
+index-lost-requires c = grind (arith, elements)
+
+pub index-idle-requires : goal.index-idle-requires
+index-idle-requires c = grind (arith, elements)
+
+pub bounds-safe-index : goal.bounds-safe-index
+bounds-safe-index c = grind (arith, elements)
+
+pub bounds-waited-index : goal.bounds-waited-index
+bounds-waited-index c = grind (arith, elements)

@@ -1,4 +1,5 @@
 use Rattle.std.proofs.Common.{map, subst, arith}
+use Rattle.std.proofs.lemmas.Grind.{elements}
 use Rattle.std.proofs.lemmas.List.{take_all}
 use Rattle.pmt_dropping.specs.Dropping.{event_of}
 use Rattle.pmt_causes.proofs.GroupLemmas.{map-length}
@@ -17,3 +18,6 @@ pub returns : goal.returns
 returns c =
     let list = c.args.dropped.now in
     subst (λ xs. AreMarks c.args.count xs c.loop-entry.marks.items) (take_all c.loop-entry.entry-index (map event_of list) (omega (arith, map-length event_of list))) c.loop-entry.invariant
+
+pub loop-entry-init : goal.loop-entry-init
+loop-entry-init c = grind (arith, elements)

@@ -1,4 +1,5 @@
 use Rattle.std.proofs.Common.{refl, subst, arith}
+use Rattle.std.proofs.lemmas.Grind.{elements}
 use Rattle.std.proofs.lemmas.List.{take_all}
 use Rattle.pmt_fates.specs.Marks.{AreMarks}
 use Rattle.pmt_fates.proofs.MarkLemmas.{marks-more}
@@ -10,3 +11,6 @@ loop-number-preserved c =
 
 pub returns : goal.returns
 returns c = subst (λ xs. AreMarks c.args.count xs c.loop-number.marks.items) (take_all c.loop-number.number-index c.args.list.now (omega arith)) c.loop-number.invariant
+
+pub loop-number-init : goal.loop-number-init
+loop-number-init c = grind (arith, elements)

@@ -1,4 +1,5 @@
 use Rattle.std.proofs.Common.{◌≡◌, ℕ, Option, ◌+◌, ◌-◌, ◌^◌, ◌<◌, [], ◌∷◌, ◌++◌, suc, length, set, Some, refl, sym, ap, subst, ◌∙◌, arith}
+use Rattle.std.proofs.lemmas.Grind.{elements}
 use Rattle.std.specs.Prelude.{slice_get}
 use Rattle.std.proofs.lemmas.Option.{slice_get-get_or}
 use Rattle.pmt_model.specs.Traces.{event}
@@ -80,3 +81,6 @@ returns c =
     let all : c.loop-index.index ≡ length c.args.trace.now.events = omega (arith, ap (λ xs. length xs) c.events-events.ensures.value) in
     rows-told fates saved (place_items T labels (length T.events)) c.loop-index.rows.items (row_place c.loop-index.places)
     (subst (λ m. AreSoFar fates saved (place_items T labels m) c.loop-index.rows.items (row_place c.loop-index.places)) all c.loop-index.invariant)
+
+pub bounds-fates-index : goal.bounds-fates-index
+bounds-fates-index c = grind (arith, elements)

@@ -1,4 +1,5 @@
 use Rattle.std.proofs.Common.{◌≡◌, ap, arith}
+use Rattle.std.proofs.lemmas.Grind.{elements}
 use Rattle.pmt_model.specs.Traces.{history}
 use Rattle.pmt_rows.specs.declared.rows.Row.{Row}
 use Rattle.pmt_fencing.proofs.FencingLemmas.{line_in, placed, stays-at, chain-read, raises-at, rises-not, rises-so}
@@ -35,3 +36,9 @@ returns-clause-tells c = λ T lines n safe at able.
     let there = placed T lines n safe c.args.rows.now c.args.links.now c.args.flush at able in
     let read : c.row-safe.result.safe ≡ safe (line_in lines c.args.flush) = ap (λ (y : Row). y.safe) (c.row-safe.ensures lines (history T n) safe (line_in lines c.args.flush) there at.rows) in
     rises-so (safe (line_in lines c.args.flush)) c.args.flush.store c.row-safe.result.safe read (omega (arith, c.if-flush-safe.false))
+
+pub row-safe-requires : goal.row-safe-requires
+row-safe-requires c = grind (arith, elements)
+
+pub raise-requires-2 : goal.raise-requires-2
+raise-requires-2 c = grind (arith, elements)

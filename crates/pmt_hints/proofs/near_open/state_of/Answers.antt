@@ -1,4 +1,5 @@
 use Rattle.std.proofs.Common.{◌≡◌, ◌<◌, suc, length, Some, ap, sym, subst, ◌∙◌, arith}
+use Rattle.std.proofs.lemmas.Grind.{elements}
 use Rattle.std.specs.Prelude.{slice_get}
 use Rattle.std.proofs.lemmas.Option.{slice_get-get_or}
 use Rattle.pmt_model.specs.Traces.{act, act_of, event}
@@ -24,3 +25,9 @@ returns-in-Some-flushed_line c =
     (λ s is. subst (λ m. IsState T m s) same
     (state-line T (suc i) line e a s at own (flush-thread c.format.result e.thread e.op) (sym c.flushed_line.ensures ∙ c.in-Some-flushed_line.is)
     (some-told c.flush_state.result (IsPassedSo T e.thread line (suc i)) s c.flush_state.ensures is)))
+
+pub returns-then-events-index : goal.returns-then-events-index
+returns-then-events-index c = grind (arith, elements)
+
+pub returns-in-None : goal.returns-in-None
+returns-in-None c = grind (arith, elements)

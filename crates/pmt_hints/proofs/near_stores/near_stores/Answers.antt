@@ -76,3 +76,12 @@ judged-requires-clause-size c =
 
 pub returns-in_err-push_if : goal.returns-in_err-push_if
 returns-in_err-push_if c = grind (arith, elements)
+
+pub line_to_judge-line-requires-clause-waited : goal.line_to_judge-line-requires-clause-waited
+line_to_judge-line-requires-clause-waited c = grind (arith, elements)
+
+pub judged-requires-clause-within : goal.judged-requires-clause-within
+judged-requires-clause-within c = grind (arith, elements)
+
+pub index_mut-requires : goal.index_mut-requires
+index_mut-requires c = grind (arith, elements)

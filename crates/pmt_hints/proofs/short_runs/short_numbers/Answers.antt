@@ -73,3 +73,15 @@ returns c =
 
 pub returns-in_err-push_if : goal.returns-in_err-push_if
 returns-in_err-push_if c = grind (arith, elements)
+
+pub is_missed-missed-requires-clause-waited : goal.is_missed-missed-requires-clause-waited
+is_missed-missed-requires-clause-waited c = grind (arith, elements)
+
+pub is_missed-missed-requires-clause-places : goal.is_missed-missed-requires-clause-places
+is_missed-missed-requires-clause-places c = grind (arith, elements)
+
+pub returns-in_err-note_line : goal.returns-in_err-note_line
+returns-in_err-note_line c = grind (arith, elements)
+
+pub returns-in_err-note_line-2 : goal.returns-in_err-note_line-2
+returns-in_err-note_line-2 c = grind (arith, elements)

@@ -1,4 +1,5 @@
 use Rattle.std.proofs.Common.{◌≡◌, ◌+◌, ◌-◌, suc, ◌<◌, Bool, true, false, get_or, length, Some, ap, refl, sym, subst, ◌∙◌, arith}
+use Rattle.std.proofs.lemmas.Grind.{elements}
 use Rattle.std.specs.Prelude.{◌↔◌, ◌&&◌, slice_get}
 use Rattle.std.proofs.lemmas.List.{length-set}
 use Rattle.std.proofs.lemmas.Option.{slice_get-get_or, slice_get_within}
@@ -61,3 +62,9 @@ loop-index-preserved c =
 
 pub returns : goal.returns
 returns c = record { size = c.loop-index.invariant.size; each = λ k b is. c.loop-index.invariant.each k b (omega arith) is }
+
+pub index_mut-requires : goal.index_mut-requires
+index_mut-requires c = grind (arith, elements)
+
+pub returns-in_err-note_next : goal.returns-in_err-note_next
+returns-in_err-note_next c = grind (arith, elements)

@@ -1,4 +1,5 @@
-use Rattle.std.proofs.Common.{◌≡◌, [], sym, subst, ◌∙◌}
+use Rattle.std.proofs.Common.{arith, ◌≡◌, [], sym, subst, ◌∙◌}
+use Rattle.std.proofs.lemmas.Grind.{elements}
 use Rattle.pmt_hints.specs.Hints.{AreThose, IsStoredAfterFlush}
 use Rattle.pmt_hints.proofs.LeftLemmas.{none-unsafe}
 use Rattle.pmt_hints.proofs.NearLemmas.{some-told}
@@ -17,3 +18,6 @@ pub returns-in-Some : goal.returns-in-Some
 returns-in-Some c =
     let told = some-told c.in_ok-numbers.field-0 (λ ns. AreThose (IsStoredAfterFlush c.trace-trace.result.now) ns.items) c.in-Some.numbers c.in_ok-numbers.ensures c.in-Some.is in
     subst (λ T. AreThose (IsStoredAfterFlush T) c.selection_of-in-Some.result) c.trace-trace.ensures (subst (AreThose (IsStoredAfterFlush c.trace-trace.result.now)) (sym c.selection_of-in-Some.ensures) told)
+
+pub near_stores-requires-clause-waited : goal.near_stores-requires-clause-waited
+near_stores-requires-clause-waited c = grind (arith, elements)

@@ -1,4 +1,5 @@
 use Rattle.std.proofs.Common.{◌≡◌, ◌≤◌, ℕ, List, length, take, reverse, sym, subst, arith}
+use Rattle.std.proofs.lemmas.Grind.{elements}
 use Rattle.std.proofs.lemmas.List.{take-take, length-take}
 use Rattle.std.specs.Io.KnownBytes.{Appends}
 use Rattle.pmt_text.specs.Counting.{inner_device}
@@ -40,3 +41,21 @@ returns-in-Err-write_all_counted-clause-copied g c =
       copied-piece (written_by (reverse c.args.stores.now)) c.args.at n k read laid _ _ old new within c.lay_stores.ensures few c.in-Ok.ensures.bytes out,
       tt,
     )
+
+pub returns-then-count-eq0-clause-read_failures : goal.returns-then-count-eq0-clause-read_failures
+returns-then-count-eq0-clause-read_failures g c = grind (arith, elements)
+
+pub returns-then-count-eq0-clause-write_failures : goal.returns-then-count-eq0-clause-write_failures
+returns-then-count-eq0-clause-write_failures g c = grind (arith, elements)
+
+pub slice_bounds-write_all_counted-end : goal.slice_bounds-write_all_counted-end
+slice_bounds-write_all_counted-end g c = grind (arith, elements)
+
+pub slice_bounds-write_all_counted-end-2 : goal.slice_bounds-write_all_counted-end-2
+slice_bounds-write_all_counted-end-2 g c = grind (arith, elements)
+
+pub returns-in-Err-write_all_counted-clause-read_failures : goal.returns-in-Err-write_all_counted-clause-read_failures
+returns-in-Err-write_all_counted-clause-read_failures g c = grind (arith, elements)
+
+pub returns-in-Err-write_all_counted-clause-write_failures : goal.returns-in-Err-write_all_counted-clause-write_failures
+returns-in-Err-write_all_counted-clause-write_failures g c = grind (arith, elements)

@@ -1,4 +1,5 @@
 use Rattle.std.proofs.Common.{◌++◌, reverse, arith, length-append}
+use Rattle.std.proofs.lemmas.Grind.{elements}
 use Rattle.pmt_image.specs.Persisting.{written_by}
 use Rattle.pmt_image.proofs.CopyLemmas.{copied-more, ended-more}
 use Rattle.pmt_image.proofs.copying.copy_pool.Goals as goal
@@ -28,3 +29,21 @@ returns-in-Err-clause-copied g c =
       copied-more (written_by (reverse c.args.stores.now)) c.args.pool.origin c.loop-done.done x.0 y.0 c.in-Err.fault.written _ _ _ _ _ _ x.1 x.2 y.2,
       ended-more c.in-Err.fault.stop c.args.pool.size c.loop-done.done c.in-Err.fault.written x.0 y.0 _ x.1 c.loop-done-test.true y.3,
     )
+
+pub loop-done-init : goal.loop-done-init
+loop-done-init g c = grind (arith, elements)
+
+pub overflow_add-done : goal.overflow_add-done
+overflow_add-done g c = grind (arith, elements)
+
+pub loop-done-smaller : goal.loop-done-smaller
+loop-done-smaller g c = grind (arith, elements)
+
+pub overflow_add-result : goal.overflow_add-result
+overflow_add-result g c = grind (arith, elements)
+
+pub returns-in-Err-clause-write_failures : goal.returns-in-Err-clause-write_failures
+returns-in-Err-clause-write_failures g c = grind (arith, elements)
+
+pub returns-in-Err-flush-clause-write_failures : goal.returns-in-Err-flush-clause-write_failures
+returns-in-Err-flush-clause-write_failures g c = grind (arith, elements)

@@ -1,4 +1,5 @@
 use Rattle.std.proofs.Common.{arith}
+use Rattle.std.proofs.lemmas.Grind.{elements}
 use Rattle.pmt_image.proofs.CopyLemmas.{image-written, image-refused, refused-counts, image-reads, image-writes}
 use Rattle.pmt_image.proofs.copying.write_image.Goals as goal
 
@@ -21,3 +22,27 @@ returns-in-Err-clause-read_failures g c = (refused-counts _ c.in-Err.fault c.ref
 
 pub returns-in-Err-clause-write_failures : goal.returns-in-Err-clause-write_failures
 returns-in-Err-clause-write_failures g c = (refused-counts _ c.in-Err.fault c.refusal.result c.refusal.ensures).1
+
+pub persisted_stores-requires : goal.persisted_stores-requires
+persisted_stores-requires g c = omega arith
+
+pub returns-in_err-buffer-clause-image : goal.returns-in_err-buffer-clause-image
+returns-in_err-buffer-clause-image g c = grind (arith, elements)
+
+pub returns-in_err-buffer-clause-read_failures : goal.returns-in_err-buffer-clause-read_failures
+returns-in_err-buffer-clause-read_failures g c = grind (arith, elements)
+
+pub returns-in_err-buffer-clause-write_failures : goal.returns-in_err-buffer-clause-write_failures
+returns-in_err-buffer-clause-write_failures g c = grind (arith, elements)
+
+pub copy_pool-done-requires-clause-pool : goal.copy_pool-done-requires-clause-pool
+copy_pool-done-requires-clause-pool g c = omega arith
+
+pub copy_pool-done-requires-clause-room : goal.copy_pool-done-requires-clause-room
+copy_pool-done-requires-clause-room g c = grind (arith, elements)
+
+pub copy_pool-done-requires-clause-reads : goal.copy_pool-done-requires-clause-reads
+copy_pool-done-requires-clause-reads g c = omega arith
+
+pub copy_pool-done-requires-clause-writes : goal.copy_pool-done-requires-clause-writes
+copy_pool-done-requires-clause-writes g c = grind (arith, elements)

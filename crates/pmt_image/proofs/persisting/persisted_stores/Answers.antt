@@ -1,4 +1,5 @@
 use Rattle.std.proofs.Common.{◌<◌, ◌≤◌, length, sym, ap, ◌∙◌, add-one, arith, Some}
+use Rattle.std.proofs.lemmas.Grind.{elements}
 use Rattle.std.proofs.lemmas.Option.{slice_get-get_or}
 use Rattle.pmt_image.specs.Crashes.{persisted_by}
 use Rattle.pmt_image.proofs.StoreLemmas.{count-few, found-next, fault-found}
@@ -27,3 +28,9 @@ returns-in-Err-clause-fault c =
     let inside : n < length es = omega (arith, c.loop-index-test.true, c.min-place.ensures, c.len.ensures.value, ap (λ xs. length xs) c.events-events.ensures.value) in
     fault-found c.args.trace.now c.format-format.result es n _ c.args.crash.now.place e c.args.pool c.in-Err.fault c.format-format.ensures.value c.events-events.ensures.value (add-one n)
     (slice_get-get_or es n e inside ∙ ap Some (sym c.index-events-index.is)) (omega (arith, c.loop-index-test.true, c.min-place.ensures)) c.loop-index.invariant.inside c.in-Err.ensures.fault
+
+pub returns-clause-inside : goal.returns-clause-inside
+returns-clause-inside c = grind (arith, elements)
+
+pub returns-clause-image : goal.returns-clause-image
+returns-clause-image c = grind (arith, elements)

@@ -1,4 +1,5 @@
 use Rattle.std.proofs.Common.{ℕ, suc, ◌+◌, ◌<◌, ◌≤◌, List, [], ◌∷◌, length, Some, subst, sym, ap, ◌∙◌, add-one, arith}
+use Rattle.std.proofs.lemmas.Grind.{elements}
 use Rattle.std.proofs.lemmas.Option.{slice_get-get_or}
 use Rattle.std.proofs.lemmas.List.{length-append}
 use Rattle.pmt_model.specs.Machine.{Act}
@@ -42,3 +43,15 @@ loop-index-preserved c =
 
 pub returns : goal.returns
 returns c = record { size = omega (arith, c.loop-index.invariant.size, c.loop-index-test.false, c.loop-index-test, ap (λ xs. length xs) c.events-events.ensures.value); each = c.loop-index.invariant.each }
+
+pub loop-index-init : goal.loop-index-init
+loop-index-init c = grind (arith, elements)
+
+pub index-place-requires : goal.index-place-requires
+index-place-requires c = grind (arith, elements)
+
+pub returns-in_err-span : goal.returns-in_err-span
+returns-in_err-span c = grind (arith, elements)
+
+pub returns-in_err-push : goal.returns-in_err-push
+returns-in_err-push c = grind (arith, elements)

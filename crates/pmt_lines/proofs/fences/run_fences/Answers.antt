@@ -1,4 +1,5 @@
 use Rattle.std.proofs.Common.{◌≡◌, ◌+◌, ◌<◌, false, not, get_or, drop, refl, sym, ◌∙◌, arith}
+use Rattle.std.proofs.lemmas.Grind.{elements}
 use Rattle.std.proofs.lemmas.List.{get_or-replicate}
 use Rattle.std.proofs.lemmas.Bool.{and_from, and_left, and_right, not_from_true, not_from_false}
 use Rattle.pmt_lines.specs.Steps.{AreSteps, is_fence}
@@ -55,3 +56,9 @@ invariant_of-result c = right c
 
 pub returns-clause-right : goal.returns-clause-right
 returns-clause-right c = right (goal.at.returns-clause-right c).After-loop-step
+
+pub returns-in_err-push-clause-job : goal.returns-in_err-push-clause-job
+returns-in_err-push-clause-job c = grind (arith, elements)
+
+pub returns-in_err-push-clause-right : goal.returns-in_err-push-clause-right
+returns-in_err-push-clause-right c = grind (arith, elements)

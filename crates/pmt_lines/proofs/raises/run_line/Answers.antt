@@ -1,4 +1,5 @@
 use Rattle.std.proofs.Common.{◌+◌, ◌∙◌, [], drop, ap, arith}
+use Rattle.std.proofs.lemmas.Grind.{elements}
 use Rattle.std.proofs.lemmas.Bool.{both_ways}
 use Rattle.pmt_model.specs.Traces.{Recording}
 use Rattle.pmt_lines.specs.Jobs.{IsJobOf}
@@ -58,3 +59,6 @@ invariant_of-result c = right c
 
 pub returns-clause-right : goal.returns-clause-right
 returns-clause-right c = right (goal.at.returns-clause-right c).In_ok-findings
+
+pub same-job : goal.same-job
+same-job c = grind (arith, elements)

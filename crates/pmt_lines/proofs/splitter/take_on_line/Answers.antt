@@ -1,4 +1,5 @@
 use Rattle.std.proofs.Common.{◌≡◌, [], get_or, set, sym, ap, subst, ◌∙◌, arith}
+use Rattle.std.proofs.lemmas.Grind.{elements}
 use Rattle.std.specs.Prelude.{nat_eq, slice_get}
 use Rattle.std.specs.List.{IsDistinct}
 use Rattle.std.proofs.lemmas.List.{get_or_default}
@@ -56,3 +57,6 @@ returns c =
     let added : set c.if-is_new.jobs.items place c.push-2.new.self ≡ set (with_job l keys jobs) place (with_step (get_or (with_job l keys jobs) place blank) c.args.step.now) =
     ap (λ js. set js place c.push-2.new.self) (jobs_then a) ∙ ap (set (with_job l keys jobs) place) (c.in_ok-push-2.ensures.ok ∙ ap (λ j. with_step j c.args.step.now) same) in
     rw (added, keys_then a) (taken a)
+
+pub index_mut-requires : goal.index_mut-requires
+index_mut-requires c = grind (arith, elements)

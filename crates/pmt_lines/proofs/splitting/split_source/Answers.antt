@@ -1,4 +1,5 @@
-use Rattle.std.proofs.Common.{◌≡◌, Err, rules}
+use Rattle.std.proofs.Common.{arith, ◌≡◌, Err, rules}
+use Rattle.std.proofs.lemmas.Grind.{elements}
 use Rattle.pmt_taking.specs.declared.taking.TakeError.TheVariants.{OutOfMemory}
 use Rattle.pmt_taking.specs.Blocks.{shown_by}
 use Rattle.pmt_taking.proofs.SourceRunLemmas.{counts-refused, so_far-more, so_far-none, so_far-all}
@@ -52,3 +53,9 @@ returns-in_err-take_into-in-Some-clause-failures g c =
     let counted = rw c.in-Some.is at c.in_ok-event.ensures.failures in
     let refused : c.from_residual-in_err-take_into-in-Some.result ≡ Err OutOfMemory = search rules in
     counts-refused (reads c.args.source.now) (reads c.all.source) (reads c.next.new.self) _ _ c.all.invariant.0.same_reads counted refused
+
+pub take_into-requires-clause-room : goal.take_into-requires-clause-room
+take_into-requires-clause-room g c = grind (arith, elements)
+
+pub take_into-requires-clause-known : goal.take_into-requires-clause-known
+take_into-requires-clause-known g c = grind (arith, elements)

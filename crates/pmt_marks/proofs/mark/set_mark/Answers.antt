@@ -1,4 +1,4 @@
-use Rattle.std.proofs.Common.{◌≡◌, Some, length, set, sym, ap, subst, ◌∙◌}
+use Rattle.std.proofs.Common.{arith, ◌≡◌, Some, length, set, sym, ap, subst, ◌∙◌}
 use Rattle.std.proofs.lemmas.List.{length-set}
 use Rattle.pmt_marks.specs.Lines.{ChangesMark, KeepsMarks, IsPlaceOf, IsGapFor}
 use Rattle.pmt_marks.proofs.MarkLemmas.{refill-all, mark_in-gap, changes-set, keeps-set, changes-insert, keeps-insert}
@@ -49,3 +49,6 @@ pub returns-in_ok-insert-in-Err-clause-kept : goal.returns-in_ok-insert-in-Err-c
 returns-in_ok-insert-in-Err-clause-kept c = λ limit h.
     let inserted = c.in_ok-insert-in-Err.ensures in
     rw inserted.ok (keeps-insert c.args.mark c.args.marks.now.items c.in-Err.place (in_gap (goal.at.returns-in_ok-insert-in-Err-clause-kept c).In-Err) limit h)
+
+pub returns-in_err-insert-in-Err-clause-kept : goal.returns-in_err-insert-in-Err-clause-kept
+returns-in_err-insert-in-Err-clause-kept c = grind arith

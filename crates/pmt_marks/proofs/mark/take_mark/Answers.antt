@@ -1,4 +1,4 @@
-use Rattle.std.proofs.Common.{◌≡◌, Some, refl, sym, ap, subst, ◌∙◌}
+use Rattle.std.proofs.Common.{arith, ◌≡◌, Some, refl, sym, ap, subst, ◌∙◌}
 use Rattle.std.proofs.lemmas.List.{get_or_default}
 use Rattle.pmt_marks.specs.declared.mark.Mark.{Mark}
 use Rattle.pmt_marks.specs.Lines.{IsPlaceOf, IsGapFor}
@@ -39,3 +39,9 @@ returns-in-Err-clause-value c = sym (mark_in-gap c.args.thread c.args.marks.now.
 pub returns-in-Err-clause-taken : goal.returns-in-Err-clause-taken
 returns-in-Err-clause-taken c =
     record { mark = mark_in-gap c.args.thread c.args.marks.now.items _ (in_gap (goal.at.returns-in-Err-clause-taken c).In-Err); others = λ u other. refl }
+
+pub search-requires : goal.search-requires
+search-requires c = grind arith
+
+pub remove-requires : goal.remove-requires
+remove-requires c = grind arith

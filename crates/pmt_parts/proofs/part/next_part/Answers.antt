@@ -1,4 +1,5 @@
 use Rattle.std.proofs.Common.{◌≡◌, ◌-◌, ◌≤◌, min, refl, subst, ap, ◌∙◌, arith}
+use Rattle.std.proofs.lemmas.Grind.{elements}
 use Rattle.pmt_model.specs.Selections.{matching_place}
 use Rattle.pmt_parts.specs.Picking.{through, AreChosen}
 use Rattle.pmt_parts.proofs.FollowLemmas.{next-is, chosen-within}
@@ -22,3 +23,9 @@ returns-clause-part c T it =
 
 pub returns-clause-place : goal.returns-clause-place
 returns-clause-place c = grind arith
+
+pub returns-in_err-trace-clause-part : goal.returns-in_err-trace-clause-part
+returns-in_err-trace-clause-part c = grind (arith, elements)
+
+pub returns-in_err-trace-clause-end : goal.returns-in_err-trace-clause-end
+returns-in_err-trace-clause-end c = grind (arith, elements)

@@ -1,4 +1,5 @@
 use Rattle.std.proofs.Common.{inr, arith}
+use Rattle.std.proofs.lemmas.Grind.{elements}
 use Rattle.pmt_parts.proofs.ChosenLemmas.{stretch-pushed}
 use Rattle.pmt_parts.proofs.part.push_stretch.Goals as goal
 
@@ -10,3 +11,6 @@ loop-number-preserved c =
       from = omega (arith, l.invariant.from);
       by = inr (omega (arith, c.loop-number-test.true));
     }
+
+pub returns-in_err-push : goal.returns-in_err-push
+returns-in_err-push c = grind (arith, elements)

@@ -1,4 +1,5 @@
-use Rattle.std.proofs.Common.{map, ◌∙◌, sym, IfOk, IfErr}
+use Rattle.std.proofs.Common.{arith, map, ◌∙◌, sym, IfOk, IfErr}
+use Rattle.std.proofs.lemmas.Grind.{elements}
 use Rattle.std.proofs.lemmas.List.{length-map}
 use Rattle.pmt_model.specs.Formats.{first_version}
 use Rattle.pmt_recorder.specs.Scripts.{IsRecorded, RecordFails}
@@ -40,3 +41,6 @@ returns-clause-err g c = (at_end g c).1
 pub returns-clause-count : goal.returns-clause-count
 returns-clause-count g c =
     (λ is. absurd (torn-not_count g.L.Roll.tapes c.in-Ok-tapes_of.tapes.items c.finish.result c.finish.ensures.torn is), λ bad. absurd (made-not_told c.start.result c.in-Ok.started BadCount c.in-Ok.is c.start.ensures.count bad))
+
+pub returns-in-Err-BadCount-clause-err : goal.returns-in-Err-BadCount-clause-err
+returns-in-Err-BadCount-clause-err g c = grind (arith, elements)

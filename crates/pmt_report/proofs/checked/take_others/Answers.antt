@@ -1,4 +1,5 @@
 use Rattle.std.proofs.Common.{rules, ◌≡◌, Ok, Err, sym, subst, arith}
+use Rattle.std.proofs.lemmas.Grind.{elements}
 use Rattle.std.proofs.lemmas.List.{length-append}
 use Rattle.pmt_model.specs.Pushing.{empty, with_events}
 use Rattle.pmt_model.specs.Traces.{Recording}
@@ -154,3 +155,6 @@ returns-clause-taken g c = λ before known.
       omega (arith, c.take.invariant.4, length-append T.events c.take.block.events),
       all.comes,
     )
+
+pub returns-clause-told : goal.returns-clause-told
+returns-clause-told g c = grind (arith, elements)

@@ -1,4 +1,5 @@
 use Rattle.std.proofs.Common.{◌≡◌, ◌<◌, Err, length, sym, subst, arith, rules}
+use Rattle.std.proofs.lemmas.Grind.{elements}
 use Rattle.pmt_model.specs.Pushing.{empty, with_event}
 use Rattle.pmt_model.specs.Values.{Layout}
 use Rattle.pmt_model.specs.Traces.{IsEventIn}
@@ -76,3 +77,12 @@ returns-in_err-take-in-Some-clause-failures g c =
     let counted = rw c.in-Some.is at c.in_ok-event.ensures.failures in
     let refused : c.from_residual-in_err-take-in-Some.result ≡ Err OutOfMemory = search rules in
     counts-refused (reads c.args.source.now) (reads c.first.source) (reads c.next.new.self) _ _ c.first.invariant.1.same_reads counted refused
+
+pub first-smaller : goal.first-smaller
+first-smaller g c = grind (arith, elements)
+
+pub returns-in-None-clause-failures : goal.returns-in-None-clause-failures
+returns-in-None-clause-failures g c = grind (arith, elements)
+
+pub returns-clause-failures : goal.returns-clause-failures
+returns-clause-failures g c = grind (arith, elements)

@@ -1,4 +1,5 @@
-use Rattle.std.proofs.Common.{◌≡◌, ℕ, ◌*◌, List, ◌++◌, length, ap, ◌∙◌, subst, OnOk}
+use Rattle.std.proofs.Common.{arith, ◌≡◌, ℕ, ◌*◌, List, ◌++◌, length, ap, ◌∙◌, subst, OnOk}
+use Rattle.std.proofs.lemmas.Grind.{elements}
 use Rattle.pmt_model.specs.Values.{Layout}
 use Rattle.pmt_model.specs.Traces.{history, count_at, lines_of}
 use Rattle.pmt_model.specs.Fronts.{front_at}
@@ -25,3 +26,6 @@ returns c = λ T known.
     ∙ ap (λ (f : ℕ). front_entry (l * T.format.line_size) f c.count-count.result) front
     ∙ ap (λ (k : ℕ). front_entry (l * T.format.line_size) (front_at T l n) k) count in
     subst (λ (bytes : List ℕ). OnOk c.push_front_entry.result (c.push_front_entry.new.text.items ≡ c.args.text.now.items ++ bytes)) entry c.push_front_entry.ensures
+
+pub overflow_mul-addr : goal.overflow_mul-addr
+overflow_mul-addr c = grind (arith, elements)

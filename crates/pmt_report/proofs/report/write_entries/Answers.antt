@@ -1,4 +1,5 @@
 use Rattle.std.proofs.Common.{ℕ, ◌+◌, ◌≤◌, List, ◌++◌, length, ap, sym, ◌∙◌, arith}
+use Rattle.std.proofs.lemmas.Grind.{elements}
 use Rattle.pmt_report.specs.Entries.{entries}
 use Rattle.pmt_report.proofs.ChunkLemmas.{all-few, all-put, line-fails, way-on}
 use Rattle.pmt_report.proofs.NextLemmas.{none-left}
@@ -50,3 +51,6 @@ returns-clause-bound g c =
     let verdicts = c.if-verdicts-gt0.false in
     all-few given.0 _ given.1 _ _ _ c.loop-findings.chunks (c.loop-findings.invariant.1 given.0 given.1 given.3 given.2)
     (none-left c.loop-findings.findings.now c.loop-findings.verdicts.now (omega (arith, findings)) (omega (arith, verdicts)))
+
+pub loop-findings-init : goal.loop-findings-init
+loop-findings-init g c = grind (arith, elements)

@@ -1,4 +1,5 @@
 use Rattle.std.proofs.Common.{[], ◌++◌, refl, sym, ◌∙◌, append_assoc, append-nil, arith}
+use Rattle.std.proofs.lemmas.Grind.{elements}
 use Rattle.std.proofs.lemmas.List.{length-append}
 use Rattle.pmt_text.specs.Counting.{inner_device}
 use Rattle.pmt_report.specs.Entries.{entries}
@@ -84,3 +85,15 @@ returns-clause-written g c =
     let third = c.in_default-put-2.ensures.put known (head ++ middle) second in
     report-ends known _ (head ++ middle ++ last) _ _ (c.finish.ensures.written known (head ++ middle ++ last) third)
     (is-report c.args.events c.args.lines c.args.kept c.args.findings.now c.args.verdicts.now head last (c.spelled.ensures.is ∙ c.spell_head-start.ensures.told) (c.spelled-2.ensures.is ∙ c.spell_end-start.ensures.told))
+
+pub put-requires-2-clause-writes : goal.put-requires-2-clause-writes
+put-requires-2-clause-writes g c = grind (arith, elements)
+
+pub returns-in-Err-put-clause-failures : goal.returns-in-Err-put-clause-failures
+returns-in-Err-put-clause-failures g c = grind (arith, elements)
+
+pub finish-requires-clause-writes : goal.finish-requires-clause-writes
+finish-requires-clause-writes g c = grind (arith, elements)
+
+pub returns-clause-failures : goal.returns-clause-failures
+returns-clause-failures g c = grind (arith, elements)

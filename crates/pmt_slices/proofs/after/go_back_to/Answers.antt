@@ -1,4 +1,5 @@
 use Rattle.std.proofs.Common.{◌≡◌, ◌-◌, ◌<◌, suc, length, ap, subst, arith}
+use Rattle.std.proofs.lemmas.Grind.{elements}
 use Rattle.pmt_explain.proofs.FollowingLemmas.{event-at}
 use Rattle.pmt_slices.specs.Scanning.{IsScan}
 use Rattle.pmt_slices.proofs.after.go_back_to.Goals as goal
@@ -21,3 +22,6 @@ pub returns : goal.returns
 returns c = λ A begins.
     let start : c.loop-index.index ≡ c.args.number = omega arith in
     subst (λ m. IsScan c.args.trace.now A m (suc c.args.place) c.loop-index.scan) start (c.loop-index.invariant.back A begins)
+
+pub format-format-requires : goal.format-format-requires
+format-format-requires c = grind (arith, elements)

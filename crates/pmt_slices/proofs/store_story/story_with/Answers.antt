@@ -1,4 +1,5 @@
 use Rattle.std.proofs.Common.{◌≡◌, length, refl, sym, ap, subst, ◌∙◌, arith}
+use Rattle.std.proofs.lemmas.Grind.{elements}
 use Rattle.pmt_model.specs.Values.{line_of}
 use Rattle.pmt_slices.specs.Scanning.{IsChosen}
 use Rattle.pmt_slices.specs.Choosing.{Chooses}
@@ -27,3 +28,6 @@ returns c =
     store-story-made T t j w _ flags.items ws c.requires.store refl c.len-2.ensures.value c.in_ok-fate.ensures are c.in_ok-numbers.ensures.rising
     (λ k. let just = c.in_ok-numbers.ensures.just k in (λ has. subst (λ xs. IsChosen xs k) seen (just.0 has), λ own. just.1 (subst (λ xs. IsChosen xs k) (sym seen) own)))
     c.in_ok-chosen.ensures.none (c.in_ok-chosen.ensures.size ∙ c.len.ensures.value) chooses
+
+pub returns-in_err-numbers : goal.returns-in_err-numbers
+returns-in_err-numbers c = grind (arith, elements)

@@ -1,4 +1,5 @@
 use Rattle.std.proofs.Common.{◌<◌, length, arith}
+use Rattle.std.proofs.lemmas.Grind.{elements}
 use Rattle.pmt_taking.specs.Blocks.{LeavesRest, shown_by}
 use Rattle.pmt_taking.proofs.SourceRunLemmas.{BlockSoFar, block-more, block-ready, block-ended, event-leaves, refused-leaves, still-leaves}
 use Rattle.pmt_taking.proofs.taking.take_block.Goals as goal
@@ -54,3 +55,15 @@ returns-in_err-take_ready-2-clause-rest g c =
     let refused = c.in_err-take_ready-2.ensures in
     refused-leaves c.args.most (shown c.args.source.now) (shown c.take_ready-in-block.new.self) c.from_residual-in_err-take_ready-2.result
     (still-leaves c.args.most (shown c.args.source.now) (shown c.next.new.self) (shown c.take_ready-in-block.new.self) left refused.refused refused.refused_room)
+
+pub format-requires : goal.format-requires
+format-requires g c = grind (arith, elements)
+
+pub add-requires-clause-room : goal.add-requires-clause-room
+add-requires-clause-room g c = grind (arith, elements)
+
+pub take_ready-requires-in-block-clause-roomy : goal.take_ready-requires-in-block-clause-roomy
+take_ready-requires-in-block-clause-roomy g c = grind (arith, elements)
+
+pub block-smaller : goal.block-smaller
+block-smaller g c = grind (arith, elements)

@@ -1,5 +1,6 @@
 -- The thread, the address and the bytes stand after the word.
-use Rattle.std.proofs.Common.{◌≡◌, ℕ, ◌*◌, List, [], ◌∷◌, ◌++◌, take, drop, refl, sym, ap, ◌∙◌}
+use Rattle.std.proofs.Common.{arith, ◌≡◌, ℕ, ◌*◌, List, [], ◌∷◌, ◌++◌, take, drop, refl, sym, ap, ◌∙◌}
+use Rattle.std.proofs.lemmas.Grind.{elements}
 use Rattle.std.proofs.lemmas.List.{take_rest}
 use Rattle.std.specs.Int.{to_le_bytes, w64}
 use Rattle.pmt_text.specs.Spelling.{address, hex_bytes}
@@ -21,3 +22,6 @@ returns-clause-spelled c =
     let last = c.in_ok-text.ensures ∙ ap (λ (xs : List ℕ). 32 ∷ xs) read ∙ spaced-more hex [] (10 ∷ rest) (10 ∷ rest) refl in
     let both = c.in_ok-take_space.ensures ∙ ap (λ (xs : List ℕ). 32 ∷ xs) c.in_ok-addr.ensures ∙ spaced-more (address a) (hex ∷ []) c.in_ok-addr.text.now (10 ∷ rest) last in
     thread-spaced c.in_ok-thread.thread (address a ∷ hex ∷ []) c.args.text.now c.in_ok-thread.text.now rest c.in_ok-thread.ensures both
+
+pub returns-clause-few : goal.returns-clause-few
+returns-clause-few c = grind (arith, elements)

@@ -1,4 +1,5 @@
 use Rattle.std.proofs.Common.{List, ℕ, ap, subst, length, rules, arith}
+use Rattle.std.proofs.lemmas.Grind.{elements}
 use Rattle.std.specs.Io.KnownBytes.{Appends}
 use Rattle.pmt_model.specs.Pushing.{empty}
 use Rattle.pmt_text.specs.Counting.{inner_device}
@@ -112,3 +113,9 @@ take-requires-clause-room g c =
 
 pub take-requires-clause-stream : goal.take-requires-clause-stream
 take-requires-clause-stream g c = let f = c.take.invariant in (f.trace, f.text, f.stream.stream)
+
+pub format-requires : goal.format-requires
+format-requires g c = grind (arith, elements)
+
+pub take-smaller : goal.take-smaller
+take-smaller g c = grind (arith, elements)

@@ -1,4 +1,5 @@
 use Rattle.std.proofs.Common.{◌≡◌, ◌<◌, ◌≤◌, length, get_or, ap, subst, ◌∙◌, arith}
+use Rattle.std.proofs.lemmas.Grind.{elements}
 use Rattle.std.proofs.lemmas.Result.{IfOk-weaker}
 use Rattle.pmt_trimming.specs.Passing.{IsPassOf, AreFlags}
 use Rattle.pmt_trimming.proofs.TrimmingLemmas.{first_events, first-more, first-all}
@@ -23,3 +24,6 @@ returns c =
     let past : length T.events ≤ c.loop-event.event-index = omega (arith, c.loop-event-test.false, ap length c.events-event-items.ensures.value) in
     let all = subst (λ R. IsPassOf R c.loop-event.pass) (first-all T c.loop-event.event-index past) c.loop-event.invariant.passing in
     IfOk-weaker c.finish.result _ _ (λ flags are. subst (λ s. AreFlags T s flags.items) c.loop-event.invariant.settled (are T all)) c.finish.ensures
+
+pub loop-event-init : goal.loop-event-init
+loop-event-init c = grind (arith, elements)

@@ -1,4 +1,5 @@
 use Rattle.std.proofs.Common.{subst, ◌∙◌, arith}
+use Rattle.std.proofs.lemmas.Grind.{elements}
 use Rattle.pmt_trimming.specs.Passing.{IsPassOf}
 use Rattle.pmt_trimming.proofs.LengthLemmas.{length-next}
 use Rattle.pmt_trimming.proofs.TrimmingLemmas.{events-next}
@@ -19,3 +20,15 @@ loop-event-preserved c =
 
 pub push_reserved-requires : goal.push_reserved-requires
 push_reserved-requires c = let before = c.loop-event.invariant in omega (arith, before.len, before.room, c.loop-event-test.true)
+
+pub take-requires-clause-room : goal.take-requires-clause-room
+take-requires-clause-room c = grind (arith, elements)
+
+pub returns-in_err-take-clause-settled : goal.returns-in_err-take-clause-settled
+returns-in_err-take-clause-settled c = grind (arith, elements)
+
+pub returns-clause-follows : goal.returns-clause-follows
+returns-clause-follows c = grind (arith, elements)
+
+pub returns-clause-lengths : goal.returns-clause-lengths
+returns-clause-lengths c = grind (arith, elements)

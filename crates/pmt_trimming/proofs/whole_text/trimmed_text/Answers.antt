@@ -1,4 +1,5 @@
 use Rattle.std.proofs.Common.{◌≡◌, List, length, Err, refl, ap, subst, ◌∙◌, rules, arith}
+use Rattle.std.proofs.lemmas.Grind.{elements}
 use Rattle.pmt_model.specs.declared.event.Event.{Event}
 use Rattle.pmt_model.specs.Values.{Layout}
 use Rattle.pmt_model.specs.Traces.{Recording}
@@ -164,3 +165,9 @@ returns-in_err-block-2-clause-failures g c =
     let one = so_far-more (shown c.args.source.now) (shown c.loop-block.source) (shown c.next.new.self) of.0 c.in-Some.event of.1 (rw c.in-Some.is at said.taken) (rw c.in-Some.is at said.told) said.kept (rw c.in-Some.is at said.failures) (rw c.in-Some.is at said.room) in
     let refused : c.from_residual-in_err-block-2.result ≡ Err OutOfMemory = search rules in
     refused-counted (shown c.args.source.now) (shown c.next.new.self) _ _ _ one c.in_ok-take_ready.ensures.failures refused
+
+pub take_ready-requires-clause-roomy : goal.take_ready-requires-clause-roomy
+take_ready-requires-clause-roomy g c = grind (arith, elements)
+
+pub returns-in_err-take_ready-clause-fault : goal.returns-in_err-take_ready-clause-fault
+returns-in_err-take_ready-clause-fault g c = grind (arith, elements)

@@ -1,4 +1,5 @@
-use Rattle.std.proofs.Common.{rules, ◌≡◌, ℕ, None, refl, ap, ◌∙◌, slice_get, string_bytes, unwrap_or, set}
+use Rattle.std.proofs.Common.{arith, rules, ◌≡◌, ℕ, None, refl, ap, ◌∙◌, slice_get, string_bytes, unwrap_or, set}
+use Rattle.std.proofs.lemmas.Grind.{elements}
 use Rattle.pmt_asked.specs.Texts.{all_told, told_at}
 use Rattle.pmt_asked.proofs.EventTextsLemmas.{told-at, told-kept, number-set, number-apart, numbers-kept, numbers-set}
 use Rattle.pmt_asked.proofs.event_texts.EventTexts.insert.Goals as goal
@@ -37,3 +38,15 @@ returns-clause-others c = λ other apart.
     (c.self.invariant other)
     c.number_of.ensures.same
     ∙ ap (λ v. unwrap_or (slice_get v other) None) c.self.view_is
+
+pub invariant_of-self : goal.invariant_of-self
+invariant_of-self c = omega arith
+
+pub returns-in_err-make_room-clause-others : goal.returns-in_err-make_room-clause-others
+returns-in_err-make_room-clause-others c = grind (arith, elements)
+
+pub returns-in_err-number-clause-others : goal.returns-in_err-number-clause-others
+returns-in_err-number-clause-others c = grind (arith, elements)
+
+pub index_mut-requires : goal.index_mut-requires
+index_mut-requires c = grind (arith, elements)

@@ -1,4 +1,5 @@
 use Rattle.std.proofs.Common.{◌≡◌, ◌+◌, suc, length, sym, ap, subst, ◌∙◌, arith}
+use Rattle.std.proofs.lemmas.Grind.{elements}
 use Rattle.pmt_model.specs.Values.{Layout, line_of}
 use Rattle.pmt_model.specs.Machine.{Flushes}
 use Rattle.pmt_model.specs.Traces.{Recording, act}
@@ -34,3 +35,51 @@ invariant_of-self-in-Err c =
     (with-placed _ h placed (c.in_ok-place.ensures.live c.self.inside.lines.lines h c.self.invariant)) in
     with-placed placed.lines (whole_history c.push.new.trace) c.take_back.new.self
     (subst (λ (R : Recording). IsLiveWith placed.lines (whole_history R) c.take_back.new.self) (sym c.in-Err.ensures.err) (c.take_back.ensures placed.lines h line flushed))
+
+pub format-requires : goal.format-requires
+format-requires c = omega arith
+
+pub invariant_of-self : goal.invariant_of-self
+invariant_of-self c = grind arith
+
+pub returns-in_err-place-clause-ok : goal.returns-in_err-place-clause-ok
+returns-in_err-place-clause-ok c = grind arith
+
+pub returns-in_err-place-clause-err : goal.returns-in_err-place-clause-err
+returns-in_err-place-clause-err c = grind arith
+
+pub len-requires : goal.len-requires
+len-requires c = omega arith
+
+pub overflow_cast-number : goal.overflow_cast-number
+overflow_cast-number c = grind (arith, elements)
+
+pub overflow_add-number : goal.overflow_add-number
+overflow_add-number c = grind arith
+
+pub flush-requires-clause-place : goal.flush-requires-clause-place
+flush-requires-clause-place c = grind (arith, elements)
+
+pub flush-requires-clause-small : goal.flush-requires-clause-small
+flush-requires-clause-small c = grind (arith, elements)
+
+pub returns-in_err-flush-clause-ok : goal.returns-in_err-flush-clause-ok
+returns-in_err-flush-clause-ok c = grind arith
+
+pub returns-in_err-flush-clause-err : goal.returns-in_err-flush-clause-err
+returns-in_err-flush-clause-err c = grind arith
+
+pub push-requires : goal.push-requires
+push-requires c = grind arith
+
+pub take_back-requires : goal.take_back-requires
+take_back-requires c = omega arith
+
+pub returns-in-Ok-clause-ok : goal.returns-in-Ok-clause-ok
+returns-in-Ok-clause-ok c = grind (arith, elements)
+
+pub returns-in-Ok-clause-err : goal.returns-in-Ok-clause-err
+returns-in-Ok-clause-err c = grind arith
+
+pub returns-in-Err-clause-err : goal.returns-in-Err-clause-err
+returns-in-Err-clause-err c = grind arith

@@ -1,4 +1,5 @@
-use Rattle.std.proofs.Common.{◌≡◌, ℕ, sym, ap, ◌∙◌}
+use Rattle.std.proofs.Common.{arith, ◌≡◌, ℕ, sym, ap, ◌∙◌}
+use Rattle.std.proofs.lemmas.Grind.{elements}
 use Rattle.pmt_model.specs.Values.{Layout, line_of}
 use Rattle.pmt_model.specs.Machine.{Stores}
 use Rattle.pmt_model.specs.declared.event.Op.TheVariants.{Store}
@@ -19,3 +20,36 @@ invariant_of-self-2 c =
     keep-event T (event_by c.args.thread (Store store)) (Stores line store) c.push.new.trace placed.lines c.store.new.self c.in_ok-push.ensures.ok
     (ap (λ (l : ℕ). Stores l store) (sym at))
     (c.store.ensures placed.lines h line store c.in_ok-place.ensures.here (with-placed _ h placed (c.in_ok-place.ensures.live c.self.inside.lines.lines h c.self.invariant)))
+
+pub addr-requires : goal.addr-requires
+addr-requires c = omega arith
+
+pub invariant_of-self : goal.invariant_of-self
+invariant_of-self c = grind arith
+
+pub returns-in_err-place-clause-ok : goal.returns-in_err-place-clause-ok
+returns-in_err-place-clause-ok c = grind arith
+
+pub returns-in_err-place-clause-err : goal.returns-in_err-place-clause-err
+returns-in_err-place-clause-err c = grind arith
+
+pub push-requires : goal.push-requires
+push-requires c = grind arith
+
+pub invariant_of-self-in_err-push : goal.invariant_of-self-in_err-push
+invariant_of-self-in_err-push c = grind arith
+
+pub returns-in_err-push-clause-ok : goal.returns-in_err-push-clause-ok
+returns-in_err-push-clause-ok c = grind arith
+
+pub store-requires-clause-place : goal.store-requires-clause-place
+store-requires-clause-place c = grind (arith, elements)
+
+pub store-requires-clause-room : goal.store-requires-clause-room
+store-requires-clause-room c = grind (arith, elements)
+
+pub returns-clause-ok : goal.returns-clause-ok
+returns-clause-ok c = grind (arith, elements)
+
+pub returns-clause-err : goal.returns-clause-err
+returns-clause-err c = grind arith

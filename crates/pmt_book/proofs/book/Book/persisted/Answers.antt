@@ -1,4 +1,5 @@
 use Rattle.std.proofs.Common.{◌≡◌, ◌+◌, ◌-◌, ◌/◌, ℕ, le_trans, refl, sym, ◌∙◌, ap, subst, arith}
+use Rattle.std.proofs.lemmas.Grind.{elements}
 use Rattle.std.proofs.lemmas.Bool.{true≢false}
 use Rattle.pmt_model.specs.Values.{Layout, line_of}
 use Rattle.pmt_model.specs.Traces.{Recording}
@@ -37,3 +38,9 @@ returns c =
     let now = subst P c.self.view_is (passes-from_spared T A first last c.format-format.ensures.is_trace c.len.ensures.is_range from to
     (λ l low high. c.loop-line.invariant l low (le_trans high c.loop-line-test.false))) in
     (λ h. now, λ passes. refl)
+
+pub nonzero_div-last : goal.nonzero_div-last
+nonzero_div-last c = grind arith
+
+pub loop-line-preserved : goal.loop-line-preserved
+loop-line-preserved c = grind (arith, elements)

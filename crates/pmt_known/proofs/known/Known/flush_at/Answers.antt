@@ -81,3 +81,18 @@ row-row-requires c = grind (arith, elements)
 
 pub flush-requires-2 : goal.flush-requires-2
 flush-requires-2 c = grind (arith, elements)
+
+pub returns-in_err-again-clause-known : goal.returns-in_err-again-clause-known
+returns-in_err-again-clause-known c = grind arith
+
+pub returns-in_err-again-clause-tells : goal.returns-in_err-again-clause-tells
+returns-in_err-again-clause-tells c = grind arith
+
+pub returns-in_err-add-clause-tells : goal.returns-in_err-add-clause-tells
+returns-in_err-add-clause-tells c = grind arith
+
+pub returns-in_err-push-clause-known : goal.returns-in_err-push-clause-known
+returns-in_err-push-clause-known c = grind arith
+
+pub returns-in_err-push-clause-tells : goal.returns-in_err-push-clause-tells
+returns-in_err-push-clause-tells c = grind arith

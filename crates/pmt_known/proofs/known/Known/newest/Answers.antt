@@ -14,3 +14,6 @@ returns-then-high-low c = λ T n l it.
 
 pub row-requires : goal.row-requires
 row-requires c = grind (arith, elements)
+
+pub overflow_cast-line_size : goal.overflow_cast-line_size
+overflow_cast-line_size c = grind arith

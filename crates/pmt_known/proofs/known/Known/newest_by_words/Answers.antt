@@ -21,3 +21,15 @@ overflow_mul-first c = grind (arith, elements)
 
 pub newest-found-requires-clause-within : goal.newest-found-requires-clause-within
 newest-found-requires-clause-within c = grind (arith, elements)
+
+pub loop-word-init : goal.loop-word-init
+loop-word-init c = grind (arith, elements)
+
+pub part_of_word-part-requires-clause-to : goal.part_of_word-part-requires-clause-to
+part_of_word-part-requires-clause-to c = grind arith
+
+pub overflow_add-first : goal.overflow_add-first
+overflow_add-first c = grind arith
+
+pub newest-found-requires-clause-some : goal.newest-found-requires-clause-some
+newest-found-requires-clause-some c = grind arith

@@ -25,3 +25,6 @@ overflow_add-first c = grind (arith, elements)
 
 pub oldest_of_all-requires : goal.oldest_of_all-requires
 oldest_of_all-requires c = grind (arith, elements)
+
+pub overflow_mul-first : goal.overflow_mul-first
+overflow_mul-first c = grind (arith, elements)

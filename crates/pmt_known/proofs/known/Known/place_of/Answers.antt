@@ -1,4 +1,5 @@
 use Rattle.std.proofs.Common.{◌<◌, ◌≤◌, length, arith}
+use Rattle.std.proofs.lemmas.Grind.{elements}
 use Rattle.pmt_model.specs.Traces.{history}
 use Rattle.pmt_safety.specs.Safety.{safe_store_at}
 use Rattle.pmt_known.proofs.WordsLemmas.{AreAdded}
@@ -39,3 +40,9 @@ returns-else-is_new-clause-known c = λ T n lines is.
       flushed = placed-flushed T n l lines k c.place_of.new.self is placed;
       waiting = placed-waiting T n l lines k c.place_of.new.self is placed;
     }
+
+pub returns-in_err-add_many-clause-known : goal.returns-in_err-add_many-clause-known
+returns-in_err-add_many-clause-known c = grind (arith, elements)
+
+pub returns-else-is_new-clause-small : goal.returns-else-is_new-clause-small
+returns-else-is_new-clause-small c = grind arith

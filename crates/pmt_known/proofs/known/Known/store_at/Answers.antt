@@ -57,3 +57,18 @@ store-requires-clause-small c = grind (arith, elements)
 
 pub store-requires-2 : goal.store-requires-2
 store-requires-2 c = grind (arith, elements)
+
+pub overflow_mul-word : goal.overflow_mul-word
+overflow_mul-word c = grind arith
+
+pub overflow_add-word : goal.overflow_add-word
+overflow_add-word c = grind arith
+
+pub returns-in_err-store-clause-known : goal.returns-in_err-store-clause-known
+returns-in_err-store-clause-known c = grind arith
+
+pub returns-in_err-push-clause-known : goal.returns-in_err-push-clause-known
+returns-in_err-push-clause-known c = grind arith
+
+pub returns-in_err-push-clause-tells : goal.returns-in_err-push-clause-tells
+returns-in_err-push-clause-tells c = grind arith

@@ -1,4 +1,5 @@
 use Rattle.std.proofs.Common.{arith, ◌∙◌}
+use Rattle.std.proofs.lemmas.Grind.{elements}
 use Rattle.std.proofs.lemmas.List.{length-map}
 use Rattle.pmt_lines.proofs.PlaceLemmas.{get_or-map_none}
 use Rattle.pmt_lines.proofs.open.OpenFlushes.new.Goals as goal
@@ -11,3 +12,6 @@ returns-clause-threads c = length-map c.loop-thread.places.items (λ v. v.items)
 
 pub returns-clause-empty : goal.returns-clause-empty
 returns-clause-empty c = λ t. get_or-map_none (λ v. v.items) c.loop-thread.places.items t c.loop-thread.invariant.1
+
+pub loop-thread-preserved : goal.loop-thread-preserved
+loop-thread-preserved c = grind (arith, elements)

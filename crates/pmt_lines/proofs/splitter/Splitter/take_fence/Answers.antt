@@ -1,4 +1,5 @@
 use Rattle.std.proofs.Common.{◌<◌, arith}
+use Rattle.std.proofs.lemmas.Grind.{elements}
 use Rattle.pmt_taking.proofs.GrownLemmas.{length-grown}
 use Rattle.pmt_lines.proofs.TakeLemmas.{end_before, fences_before, fence-taken}
 use Rattle.pmt_lines.proofs.splitter.Splitter.take_fence.Goals as goal
@@ -26,3 +27,9 @@ returns c = λ T e thread is before.
       so_far = rw (c.clear.ensures, c.in_ok-push.ensures.ok)
           (fence-taken T e s.lines.keys s.jobs.items s.open_flushes s.fences before.so_far c.args.thread _ _ ends (omega (arith, before.taken)) few thread is);
     }
+
+pub returns-in_err-end_intervals : goal.returns-in_err-end_intervals
+returns-in_err-end_intervals c = grind (arith, elements)
+
+pub returns-in_err-push : goal.returns-in_err-push
+returns-in_err-push c = grind (arith, elements)

@@ -1,4 +1,5 @@
-use Rattle.std.proofs.Common.{sym, ap, subst}
+use Rattle.std.proofs.Common.{arith, sym, ap, subst}
+use Rattle.std.proofs.lemmas.Grind.{elements}
 use Rattle.std.specs.Io.KnownBytes.{Consumes, prepend_known}
 use Rattle.pmt_parts.specs.Reading.{coming, held}
 use Rattle.pmt_parts.proofs.PieceLemmas.{consumes-held, added-more}
@@ -14,3 +15,12 @@ loop-left-preserved g c =
     (consumes-held (held c.fill.new.self) x.0 (held c.take_lines.new.self) (R c.fill.new.self.input) x.3) in
     added-more (coming R c.args.self.now) (coming R l.self) (coming R c.fill.new.self) (coming R c.take_lines.new.self) c.args.most l.left c.in_ok-left.field-0 c.args.text.now.items l.text.items c.take_lines.new.piece.items
     (held c.fill.new.self) x.0 l.invariant c.in_ok-fill.ensures.kept takes x.1 x.2
+
+pub overflow_sub-len : goal.overflow_sub-len
+overflow_sub-len g c = grind (arith, elements)
+
+pub loop-left-smaller : goal.loop-left-smaller
+loop-left-smaller g c = grind (arith, elements)
+
+pub returns-else-len-start-le-MOST_BYTES : goal.returns-else-len-start-le-MOST_BYTES
+returns-else-len-start-le-MOST_BYTES g c = grind (arith, elements)

@@ -1,4 +1,5 @@
-use Rattle.std.proofs.Common.{ℕ, ◌+◌, List, ◌<◌, length, take, subst, ap, ◌∙◌}
+use Rattle.std.proofs.Common.{arith, ℕ, ◌+◌, List, ◌<◌, length, take, subst, ap, ◌∙◌}
+use Rattle.std.proofs.lemmas.Grind.{elements}
 use Rattle.std.specs.Io.KnownBytes.{Appends}
 use Rattle.pmt_text.specs.Counting.{inner_device}
 use Rattle.pmt_report.proofs.ChunkLemmas.{waiting-out, waiting-fails}
@@ -18,3 +19,9 @@ returns-in-Err-clause-put g c = λ before text put.
     let n = c.in-Err.fault.written in
     waiting-fails before old new text c.args.self.now n put (subst (λ (l : List ℕ). Appends old new (take n l)) c.as_slice.ensures.value c.in-Err.ensures.out)
     (subst (λ (l : List ℕ). n < length l) c.as_slice.ensures.value c.in-Err.ensures.some_left)
+
+pub overflow_add-self : goal.overflow_add-self
+overflow_add-self g c = grind (arith, elements)
+
+pub overflow_add-result : goal.overflow_add-result
+overflow_add-result g c = grind (arith, elements)

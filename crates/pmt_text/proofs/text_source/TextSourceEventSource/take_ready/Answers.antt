@@ -1,4 +1,5 @@
 use Rattle.std.proofs.Common.{◌≡◌, ◌+◌, ◌-◌, ◌<◌, ◌≤◌, ◌^◌, length, true, is_some, refl, ap, sym, subst, arith}
+use Rattle.std.proofs.lemmas.Grind.{elements}
 use Rattle.pmt_model.specs.Traces.{event_limit}
 use Rattle.pmt_text.specs.Counting.{failure_count}
 use Rattle.pmt_text.proofs.PlainLemmas.{given-few, ready-taken}
@@ -27,3 +28,27 @@ returns-clause-taken g c =
     let few : after ≤ event_limit = omega (arith, count, given-few self.given _ _ c.min.result c.in_ok-take_plain.ensures.few bound self.few) in
     ready-taken g.R.Read.remaining self.lines c.take_plain.new.self c.args.trace.now c.take_plain.new.trace self.given after self.state self.format c.in-Open.is c.requires.known c.in_ok-take_plain.ensures.taken
     c.take_plain.ensures.input c.take_plain.ensures.room count few c.in_ok-take_plain.ensures.last
+
+pub returns-in_err-take_plain-clause-taken : goal.returns-in_err-take_plain-clause-taken
+returns-in_err-take_plain-clause-taken c = grind (arith, elements)
+
+pub returns-in_err-take_plain-clause-few : goal.returns-in_err-take_plain-clause-few
+returns-in_err-take_plain-clause-few c = grind (arith, elements)
+
+pub returns-in_err-take_plain-clause-given : goal.returns-in_err-take_plain-clause-given
+returns-in_err-take_plain-clause-given c = grind (arith, elements)
+
+pub returns-in_err-take_plain-clause-refused : goal.returns-in_err-take_plain-clause-refused
+returns-in_err-take_plain-clause-refused c = grind (arith, elements)
+
+pub overflow_sub-self : goal.overflow_sub-self
+overflow_sub-self c = grind (arith, elements)
+
+pub returns-clause-few : goal.returns-clause-few
+returns-clause-few c = grind (arith, elements)
+
+pub returns-clause-given : goal.returns-clause-given
+returns-clause-given c = grind (arith, elements)
+
+pub returns-clause-room : goal.returns-clause-room
+returns-clause-room c = grind (arith, elements)

@@ -1,4 +1,5 @@
 use Rattle.std.proofs.Common.{drop, ap, ◌∙◌, arith}
+use Rattle.std.proofs.lemmas.Grind.{elements}
 use Rattle.pmt_trimming.specs.LineQueues.{Queued}
 use Rattle.pmt_trimming.proofs.QueueLemmas.{no-line, no-queue, none-cut, none-left}
 use Rattle.pmt_trimming.proofs.line_queue.LineQueue.put.Goals as goal
@@ -17,3 +18,6 @@ pub returns-clause-lines : goal.returns-clause-lines
 returns-clause-lines c =
     let old = c.self.inside in
     none-left old.lengths.items _ (none-cut old.lengths.items (drop old.start old.bytes.items) (ap (λ (q : Queued). q.lines) c.self.view_is ∙ c.requires))
+
+pub returns-clause-text : goal.returns-clause-text
+returns-clause-text c = grind (arith, elements)

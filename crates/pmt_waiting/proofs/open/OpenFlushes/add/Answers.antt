@@ -1,4 +1,5 @@
 use Rattle.std.proofs.Common.{◌<◌, ◌++◌, ◌∷◌, ℕ, [], length, ap, ◌∙◌, arith, rules}
+use Rattle.std.proofs.lemmas.Grind.{elements}
 use Rattle.std.proofs.lemmas.List.{length-map}
 use Rattle.pmt_waiting.specs.Waiting.{list_at}
 use Rattle.pmt_waiting.proofs.OpenLemmas.{set-own, set-others, set-same_list, read-own}
@@ -21,3 +22,6 @@ returns-clause-own c =
 
 pub returns-clause-others : goal.returns-clause-others
 returns-clause-others c = λ t other. set-others (λ v. v.items) c.self.inside.lists.items c.args.thread t c.push.new.self other ∙ ap (list_at t) c.self.view_is ∙ c.reach.ensures.same t
+
+pub index_mut-requires : goal.index_mut-requires
+index_mut-requires c = grind (arith, elements)

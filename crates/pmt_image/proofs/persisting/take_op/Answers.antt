@@ -1,0 +1,9 @@
+use Rattle.std.proofs.Common.{arith}
+use Rattle.std.proofs.lemmas.Grind.{elements}
+use Rattle.pmt_image.proofs.persisting.take_op.Goals as goal
+
+pub returns-in-Some-clause-fault : goal.returns-in-Some-clause-fault
+returns-in-Some-clause-fault c = grind (arith, elements)
+
+pub returns-in_ok-take_store-in-Store-clause-found : goal.returns-in_ok-take_store-in-Store-clause-found
+returns-in_ok-take_store-in-Store-clause-found c = grind (arith, elements)

@@ -1,0 +1,6 @@
+use Rattle.std.proofs.Common.{arith}
+use Rattle.std.proofs.lemmas.Grind.{elements}
+use Rattle.pmt_page.proofs.labels.push_texts.Goals as goal
+
+pub returns-in-empty : goal.returns-in-empty
+returns-in-empty c = grind (arith, elements)
