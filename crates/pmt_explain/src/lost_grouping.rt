@@ -14,7 +14,7 @@ use pmt_model::{OutOfMemory, Trace};
 use pmt_reasons::Cause;
 use std::alloc::Global;
 
-// For how many groups there is room from the start, if there are as many stores.
+// For how many groups there is room from the start, if there are as many stores. Once there are more, there is room for all.
 const ROOM: usize = 1 << 16;
 
 /// Stores to one line that are never persisted for the same cause.
@@ -88,7 +88,7 @@ fn add_all(
 {
     for store in stores {
         if let Some(group) = group_of(trace, start, causes, *store) {
-            add_group(groups, places, group)?;
+            add_group(groups, places, group, stores.len())?;
         }
     }
     Ok(())
@@ -158,17 +158,18 @@ fn group_of(trace: &Trace, start: usize, causes: &[Option<Cause>], store: u64) -
     })
 }
 
-// Puts the store of a group of one into its group, or makes it a new group.
+// Puts the store of a group of one, one of at most so many, into its group, or makes it a new group.
 fn add_group(
     groups: &mut Vec<LostGroup>,
     places: &mut Places,
     one: LostGroup,
+    most: usize,
 ) -> Result<(), OutOfMemory>
     requires stands { (p : ℕ) → place_in places.old (group_key one) ≡ Some p → p < length groups.old.items }
     requires room { All (λ g. g.count + 1 < 2 ^ 64) groups.old.items }
     ensures { OnOk result (AddsStore groups.old.items places.old one groups.new.items places.new) }
 {
-    let place = places.reach(key_of(one.line, one.cause), groups.len())?;
+    let place = places.reach(key_of(one.line, one.cause), groups.len(), most)?;
     if place < groups.len() {
         let group = &mut groups[place];
         group.last = one.last;
@@ -216,29 +217,33 @@ impl Places {
         })
     }
 
-    // Where the group with this key stands, which is the next place if there was none yet.
-    fn reach(&mut self, key: Key, next: usize) -> Result<usize, OutOfMemory>
+    // Where the group with this key stands, which is the next place if there was none yet. There are at most so many.
+    fn reach(&mut self, key: Key, next: usize, most: usize) -> Result<usize, OutOfMemory>
         ensures place { IfOk result (λ place. place ≡ unwrap_or (place_in self.old key) next) }
         ensures here { IfOk result (λ place. place_in self.new key ≡ Some place) }
         ensures others { OnOk result ((k : Key) → (key ≡ k → ⊥) → place_in self.new k ≡ place_in self.old k) }
     {
         match key {
-            Key::Flush(flush) => reach_in(&mut self.unfenced, flush, next),
-            Key::Line(line) => reach_in(&mut self.unflushed, line, next),
+            Key::Flush(flush) => reach_in(&mut self.unfenced, flush, next, most),
+            Key::Line(line) => reach_in(&mut self.unflushed, line, next, most),
         }
     }
 }
 
-// Where the number stands, which is the next place if it stood nowhere yet.
+// Where the number, one of at most so many, stands, which is the next place if it stood nowhere yet.
 fn reach_in(
     places: &mut IndexMap<u64, usize>,
     number: u64,
     next: usize,
+    most: usize,
 ) -> Result<usize, OutOfMemory>
     ensures place { IfOk result (λ place. place ≡ unwrap_or (get nat_eq places.old number) next) }
     ensures here { IfOk result (λ place. get nat_eq places.new number ≡ Some place) }
     ensures others { OnOk result ((k : ℕ) → (number ≡ k → ⊥) → get nat_eq places.new k ≡ get nat_eq places.old k) }
 {
+    if places.len() == ROOM {
+        places.reserve(most)?;
+    }
     let place = places.entry(number)?.or_insert(next);
     Ok(*place)
 }

@@ -19,6 +19,7 @@ pub(crate) enum Wanted {
 }
 
 // Whether the store is wanted.
+#[inline(always)]
 pub(crate) fn is_wanted(trace: &Trace, safe: &[u64], wanted: Wanted, store: u64) -> bool
     requires safe { AreSafePlaces trace.now safe.now }
     requires within { IsWithin trace.now wanted }
