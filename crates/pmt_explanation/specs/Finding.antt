@@ -30,6 +30,8 @@ use Rattle.pmt_explanation.specs.declared.drops.Rows.{Rows}
 use Rattle.pmt_explanation.specs.declared.firsts.Firsts.{Firsts}
 use Rattle.pmt_explanation.specs.declared.found.Begun.{Begun}
 use Rattle.pmt_explanation.specs.declared.found.Found.{Found}
+use Rattle.pmt_explanation.specs.declared.risks.Broken.{Broken}
+use Rattle.pmt_explanation.specs.declared.risks.Lost.{Lost}
 use Rattle.pmt_explanation.specs.declared.risks.Risks.{Risks}
 use Rattle.pmt_explanation.specs.Asking.{asked_dropped, asked_numbers, asked_pairs, asked_unwritten}
 use Rattle.pmt_explanation.specs.Causing.{AreAskedLate, first_members}
@@ -59,20 +61,28 @@ pub record ArePlacesOf (T : Recording) (numbers frames : List (Option ℕ)) (sto
   pub places : ArePlaces T frames stores (map event_of dropped) t.places.items
   pub left_paths : AreLeftPaths T frames numbers stores (map event_of dropped) t.places.items t.left_paths.items
 
--- What a crash may lose.
-pub record AreRisks (a : Analysed) (labels : Labels) (numbers frames : List (Option ℕ)) (o : Options) (r : Risks) : Type 0 where
+-- The stores that are never persisted, and the assertions on bytes that no store has written.
+pub record AreLost (a : Analysed) (labels : Labels) (frames : List (Option ℕ)) (o : Options) (r : Lost) : Type 0 where
   pub stores : r.stores.items ≡ told_stores a.trace labels o.ignored a.findings
+  pub ignored : r.losses.ignored ≡ count_by (λ (f : Finding). is_some (lost_store f)) a.findings - length r.stores.items
+  pub groups : AreLostGroups a.trace (asked_numbers a.trace labels o.choice kinds.NeverPersisted r.stores.items) r.losses.groups.items
+  pub causes : AreGrouped (filter_map (lost_item a.trace frames) r.losses.groups.items) r.losses.causes.items
+  pub unwritten : r.unwritten.items ≡ asked_unwritten a.trace labels o.choice (unwritten_of a.trace)
+
+-- The assertions that fail, and the stores that are overwritten.
+pub record AreBroken (a : Analysed) (labels : Labels) (numbers frames : List (Option ℕ)) (o : Options) (r : Broken) : Type 0 where
   pub failing : r.failed.failing.items ≡ failing_events a.verdicts
   pub asked_failing : r.failed.asked.items ≡ asked_numbers a.trace labels o.choice kinds.Failure r.failed.failing.items
   pub causes : AreFailureGroups a.trace frames r.failed.asked.items r.failed.causes.items
   pub counts : AreInside a.trace frames numbers (take o.limit r.failed.causes.items) r.failed.counts.items
   pub shown : AreShown a.trace (take o.limit (first_members r.failed.causes.items)) r.failed.shown.items
-  pub lost : AreLostGroups a.trace (asked_numbers a.trace labels o.choice kinds.NeverPersisted r.stores.items) r.lost.groups.items
-  pub lost_causes : AreGrouped (filter_map (lost_item a.trace frames) r.lost.groups.items) r.lost.causes.items
-  pub overwritten : AreOverwrittenGroups a.trace (asked_pairs a.trace labels o.choice (told_pairs a.trace labels o.ignored a.findings)) r.lost.overwritten.items
-  pub unwritten : r.unwritten.items ≡ asked_unwritten a.trace labels o.choice (unwritten_of a.trace)
-  pub ignored_stores : r.lost.ignored_stores ≡ count_by (λ (f : Finding). is_some (lost_store f)) a.findings - length r.stores.items
-  pub ignored_pairs : r.lost.ignored_pairs ≡ count_by (λ (f : Finding). is_some (overwriting f)) a.findings - length (told_pairs a.trace labels o.ignored a.findings)
+  pub overwritten : AreOverwrittenGroups a.trace (asked_pairs a.trace labels o.choice (told_pairs a.trace labels o.ignored a.findings)) r.overwrites.groups.items
+  pub ignored_pairs : r.overwrites.ignored ≡ count_by (λ (f : Finding). is_some (overwriting f)) a.findings - length (told_pairs a.trace labels o.ignored a.findings)
+
+-- What a crash may lose.
+pub record AreRisks (a : Analysed) (labels : Labels) (numbers frames : List (Option ℕ)) (o : Options) (r : Risks) : Type 0 where
+  pub lost : AreLost a labels frames o r.lost
+  pub broken : AreBroken a labels numbers frames o r.broken
 
 -- What is found by the analysis alone.
 pub record AreBegun (a : Analysed) (labels : Labels) (numbers frames : List (Option ℕ)) (o : Options) (x : Begun) : Type 0 where
@@ -86,5 +96,5 @@ pub record AreFound (a : Analysed) (labels : Labels) (numbers frames : List (Opt
   pub drops : AreDrops a.trace labels numbers o x.firsts.dropped.items x.drops
   pub rows : AreRows a.trace numbers x.firsts.dropped.items x.rows
   pub hints : AreHints a.trace labels frames numbers o.choice x.hints.items
-  pub table : ArePlacesOf a.trace numbers frames x.risks.stores.items x.firsts.dropped.items x.table
+  pub table : ArePlacesOf a.trace numbers frames x.risks.lost.stores.items x.firsts.dropped.items x.table
   pub risks : AreRisks a labels numbers frames o x.risks

@@ -56,21 +56,16 @@ fn is_pair_asked(trace: &Trace, labels: &Labels, choice: &Choice, pair: Overwrit
         || is_asked_for(trace, labels, choice, Kind::Overwritten, pair.later)
 }
 
-// Those of the pairs of which one store is asked for, in the same order.
-pub(crate) fn asked_pairs(
-    alloc: Global,
+// Of the pairs those are left of which one store is asked for.
+pub(crate) fn keep_asked_pairs(
     trace: &Trace,
     labels: &Labels,
     choice: &Choice,
-    pairs: &[Overwriting],
-) -> Result<Vec<Overwriting>, OutOfMemory>
-    ensures { IfOk result (λ asked. asked.items ≡ pairs_asked trace.now labels.now choice.now pairs.now) }
+    pairs: &mut Vec<Overwriting>,
+)
+    ensures { pairs.new.items ≡ pairs_asked trace.now labels.now choice.now pairs.old.items }
 {
-    pairs
-        .iter()
-        .copied()
-        .filter(|pair| is_pair_asked(trace, labels, choice, *pair))
-        .collect(alloc)
+    pairs.retain(|pair| is_pair_asked(trace, labels, choice, *pair));
 }
 
 // Those of the assertions that are asked for, in the same order.

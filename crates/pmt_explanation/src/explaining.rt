@@ -8,7 +8,7 @@ ghost use Rattle.pmt_explain.specs.Saving.{AreSafePlaces};
 use crate::found::{Found, found_of};
 use crate::frames::frame_numbers;
 use crate::numbering::label_numbers;
-use crate::risks::Risks;
+use crate::risks::{Broken, Lost, Risks};
 use pmt_analysis::Analysis;
 use pmt_asked::{Labels, Options};
 use pmt_causes::{CauseCounts, DroppedKey, FailureKey, Group, LateSpot, LostKey, Row};
@@ -160,12 +160,13 @@ fn explained(analysis: Analysis, limit: usize, parts: Parts) -> Explanation
         table,
         risks,
     } = found;
-    let Risks {
+    let Risks { lost, broken } = risks;
+    let Lost {
         stores,
-        lost,
-        failed,
+        losses,
         unwritten,
-    } = risks;
+    } = lost;
+    let Broken { failed, overwrites } = broken;
     Explanation {
         analysis,
         limit,
@@ -177,9 +178,9 @@ fn explained(analysis: Analysis, limit: usize, parts: Parts) -> Explanation
         counts: failed.counts,
         failures: failed.shown,
         stores,
-        ignored_never_persisted: lost.ignored_stores,
-        lost: lost.groups,
-        lost_causes: lost.causes,
+        ignored_never_persisted: losses.ignored,
+        lost: losses.groups,
+        lost_causes: losses.causes,
         dropped: firsts.dropped,
         asked_dropped: drops.asked,
         dropped_groups: drops.groups,
@@ -190,8 +191,8 @@ fn explained(analysis: Analysis, limit: usize, parts: Parts) -> Explanation
         places: table.places,
         left_paths: table.left_paths,
         hints,
-        overwritten: lost.overwritten,
-        ignored_overwritten: lost.ignored_pairs,
+        overwritten: overwrites.groups,
+        ignored_overwritten: overwrites.ignored,
         unwritten,
     }
 }

@@ -1,13 +1,13 @@
 //! What is found in an analysed trace, by up to four threads side by side: first what the analysis alone tells, and then what needs that.
 ghost use Rattle.std.specs.Prelude.{◌≡◌, IfOk};
 ghost use Rattle.std.specs.Thread.{IsSync};
-ghost use Rattle.pmt_explanation.specs.Finding.{AreBegun, AreDrops, AreFirsts, AreFound, ArePlacesOf, AreRisks, AreRows};
+ghost use Rattle.pmt_explanation.specs.Finding.{AreBegun, AreBroken, AreDrops, AreFirsts, AreFound, AreLost, ArePlacesOf, AreRows};
 ghost use Rattle.pmt_explanation.specs.Hinting.{AreEarly, AreLate};
 
 use crate::drops::{Drops, Rows, drops_of, rows_of};
 use crate::firsts::{Firsts, firsts_of};
 use crate::hinting::{EarlyHints, LateHints, early_hints, hints_in_order, late_hints};
-use crate::risks::{Risks, risks_of};
+use crate::risks::{Broken, Lost, Risks, broken_of, lost_of};
 use pmt_analysis::Analysis;
 use pmt_asked::{Labels, Options};
 use pmt_explain::SafePlaces;
@@ -45,8 +45,11 @@ pub(crate) struct Begun {
     pub(crate) early: EarlyHints,
 }
 
-// What a crash may lose, and hints.
-type Risked = (Result<Risks, OutOfMemory>, Result<EarlyHints, OutOfMemory>);
+// What is lost, and hints.
+type Missed = (Result<Lost, OutOfMemory>, Result<EarlyHints, OutOfMemory>);
+
+// These, and what fails or is overwritten.
+type Risked = (Missed, Result<Broken, OutOfMemory>);
 
 // What is told of flushes, and what threads and labels have.
 type Listed = (Result<Drops, OutOfMemory>, Result<Rows, OutOfMemory>);
@@ -83,7 +86,7 @@ pub(crate) fn found_of<R: Threads + Sync>(
         { listed_of(rt, alloc, analysis, labels, numbers, options, begun) },
         &mut || -> Placed
             requires { IsSync R.row × (safe.now.trace.now ≡ analysis.now.trace) × AreBegun analysis.now labels.now numbers.now frames.now options.now begun.now }
-            ensures table { IfOk result.0 (ArePlacesOf analysis.entry.now.trace numbers.entry.now frames.entry.now begun.entry.now.risks.stores.items begun.entry.now.firsts.dropped.items) }
+            ensures table { IfOk result.0 (ArePlacesOf analysis.entry.now.trace numbers.entry.now frames.entry.now begun.entry.now.risks.lost.stores.items begun.entry.now.firsts.dropped.items) }
             ensures late { IfOk result.1 (AreLate analysis.entry.now.trace labels.entry.now frames.entry.now options.entry.now.choice) }
         {
             placed_of(
@@ -137,7 +140,7 @@ fn begun_of<R: Threads + Sync>(
     requires { safe.now.trace.now ≡ analysis.now.trace }
     ensures { IfOk result (AreBegun analysis.now labels.now numbers.now frames.now options.now) }
 {
-    let (firsts, (risks, early)) = join_mut(
+    let (firsts, ((lost, early), broken)) = join_mut(
         rt,
         &mut || -> Result<Firsts, OutOfMemory>
             requires { IsSync R.row × (safe.now.trace.now ≡ analysis.now.trace) }
@@ -145,21 +148,23 @@ fn begun_of<R: Threads + Sync>(
         { firsts_of(rt, alloc, analysis, safe, labels, frames, options) },
         &mut || -> Risked
             requires { IsSync R.row × (safe.now.trace.now ≡ analysis.now.trace) }
-            ensures risks { IfOk result.0 (AreRisks analysis.entry.now labels.entry.now numbers.entry.now frames.entry.now options.entry.now) }
-            ensures early { IfOk result.1 (AreEarly analysis.entry.now.trace labels.entry.now frames.entry.now numbers.entry.now options.entry.now.choice) }
+            ensures lost { IfOk result.0.0 (AreLost analysis.entry.now labels.entry.now frames.entry.now options.entry.now) }
+            ensures early { IfOk result.0.1 (AreEarly analysis.entry.now.trace labels.entry.now frames.entry.now numbers.entry.now options.entry.now.choice) }
+            ensures broken { IfOk result.1 (AreBroken analysis.entry.now labels.entry.now numbers.entry.now frames.entry.now options.entry.now) }
         { risked_of(rt, alloc, analysis, safe, labels, numbers, frames, options) },
     );
     let firsts = firsts?;
-    let risks = risks?;
+    let lost = lost?;
     let early = early?;
+    let broken = broken?;
     Ok(Begun {
         firsts,
-        risks,
+        risks: Risks { lost, broken },
         early,
     })
 }
 
-// What a crash may lose, beside hints that need none of it.
+// What is lost and hints that need none of it, beside what fails or is overwritten.
 fn risked_of<R: Threads + Sync>(
     rt: &R,
     alloc: Global,
@@ -171,15 +176,32 @@ fn risked_of<R: Threads + Sync>(
     options: &Options,
 ) -> Risked
     requires { safe.now.trace.now ≡ analysis.now.trace }
-    ensures risks { IfOk result.0 (AreRisks analysis.now labels.now numbers.now frames.now options.now) }
-    ensures early { IfOk result.1 (AreEarly analysis.now.trace labels.now frames.now numbers.now options.now.choice) }
+    ensures lost { IfOk result.0.0 (AreLost analysis.now labels.now frames.now options.now) }
+    ensures early { IfOk result.0.1 (AreEarly analysis.now.trace labels.now frames.now numbers.now options.now.choice) }
+    ensures broken { IfOk result.1 (AreBroken analysis.now labels.now numbers.now frames.now options.now) }
 {
-    let choice = &options.choice;
     join_mut(
         rt,
-        &mut || risks_of(alloc, analysis, safe, labels, numbers, frames, options),
-        &mut || early_hints(alloc, analysis, labels, frames, numbers, choice),
+        &mut || missed_of(alloc, analysis, labels, numbers, frames, options),
+        &mut || broken_of(alloc, analysis, safe, labels, numbers, frames, options),
     )
+}
+
+// What is lost, and then hints.
+fn missed_of(
+    alloc: Global,
+    analysis: &Analysis,
+    labels: &Labels,
+    numbers: &[Option<u64>],
+    frames: &[Option<u64>],
+    options: &Options,
+) -> Missed
+    ensures lost { IfOk result.0 (AreLost analysis.now labels.now frames.now options.now) }
+    ensures early { IfOk result.1 (AreEarly analysis.now.trace labels.now frames.now numbers.now options.now.choice) }
+{
+    let lost = lost_of(alloc, analysis, labels, frames, options);
+    let early = early_hints(alloc, analysis, labels, frames, numbers, &options.choice);
+    (lost, early)
 }
 
 // What is told of dropped flushes and fences, beside what threads and labels have.
@@ -218,12 +240,12 @@ fn placed_of<R: Threads + Sync>(
 ) -> Placed
     requires same { safe.now.trace.now ≡ analysis.now.trace }
     requires begun { AreBegun analysis.now labels.now numbers.now frames.now options.now begun.now }
-    ensures table { IfOk result.0 (ArePlacesOf analysis.now.trace numbers.now frames.now begun.now.risks.stores.items begun.now.firsts.dropped.items) }
+    ensures table { IfOk result.0 (ArePlacesOf analysis.now.trace numbers.now frames.now begun.now.risks.lost.stores.items begun.now.firsts.dropped.items) }
     ensures late { IfOk result.1 (AreLate analysis.now.trace labels.now frames.now options.now.choice) }
 {
     let dropped = begun.firsts.dropped.as_slice();
     let waited = begun.firsts.waited.as_slice();
-    let stores = begun.risks.stores.as_slice();
+    let stores = begun.risks.lost.stores.as_slice();
     let choice = &options.choice;
     join_mut(
         rt,

@@ -16,6 +16,7 @@ mod hinting;
 mod losing;
 mod losses;
 mod numbering;
+mod overwrites;
 mod risks;
 pub mod summing;
 

@@ -1,13 +1,14 @@
-//! What an explanation has of what a crash may lose.
+//! What an explanation has of what a crash may lose, in two parts that need nothing of each other.
 ghost use Rattle.std.specs.Prelude.{◌≡◌, IfOk};
 ghost use Rattle.pmt_explanation.specs.Asking.{asked_unwritten};
-ghost use Rattle.pmt_explanation.specs.Finding.{AreRisks};
+ghost use Rattle.pmt_explanation.specs.Finding.{AreBroken, AreLost};
 ghost use Rattle.pmt_failures.specs.Unwriting.{unwritten_of};
 
 use crate::asking::asked_unwrittens;
 use crate::failed::{Failed, failed_of};
 use crate::losing::lost_stores;
 use crate::losses::{Losses, losses_of};
+use crate::overwrites::{Overwrites, overwrites_of};
 use pmt_analysis::Analysis;
 use pmt_asked::{Choice, Labels, Options};
 use pmt_explain::SafePlaces;
@@ -18,18 +19,59 @@ use std::alloc::Global;
 /// What a crash may lose.
 #[derive(Drop)]
 pub(crate) struct Risks {
+    /// Stores that are never persisted, and assertions on bytes that no store has written.
+    pub(crate) lost: Lost,
+    /// Assertions that fail, and stores that are overwritten.
+    pub(crate) broken: Broken,
+}
+
+/// Stores that are never persisted, and assertions on bytes that no store has written.
+#[derive(Drop)]
+pub(crate) struct Lost {
     /// The stores that are never persisted, by rising event number, without those that are ignored.
     pub(crate) stores: Vec<u64>,
-    /// Stores that are never persisted or overwritten.
-    pub(crate) lost: Losses,
-    /// Assertions that fail.
-    pub(crate) failed: Failed,
+    /// What is told of them.
+    pub(crate) losses: Losses,
     /// The assertions on bytes that no store has written, where they are asked for.
     pub(crate) unwritten: Vec<Unwritten>,
 }
 
-// What a crash may lose in the trace that was analysed, where its events have these numbers of labels and of innermost frames.
-pub(crate) fn risks_of(
+/// Assertions that fail, and stores that are overwritten.
+#[derive(Drop)]
+pub(crate) struct Broken {
+    /// Assertions that fail.
+    pub(crate) failed: Failed,
+    /// Stores that are overwritten.
+    pub(crate) overwrites: Overwrites,
+}
+
+// The stores that are never persisted in the trace that was analysed, where its events have these numbers of innermost frames, and its
+// assertions on bytes that no store has written.
+pub(crate) fn lost_of(
+    alloc: Global,
+    analysis: &Analysis,
+    labels: &Labels,
+    frames: &[Option<u64>],
+    options: &Options,
+) -> Result<Lost, OutOfMemory>
+    ensures { IfOk result (AreLost analysis.now labels.now frames.now options.now) }
+{
+    let trace = analysis.trace();
+    let choice = &options.choice;
+    let findings = analysis.findings();
+    let stores = lost_stores(alloc, trace, labels, &options.ignored, findings)?;
+    let losses = losses_of(alloc, analysis, labels, frames, choice, stores.as_slice())?;
+    let unwritten = unwritten_asked(alloc, trace, labels, choice)?;
+    Ok(Lost {
+        stores,
+        losses,
+        unwritten,
+    })
+}
+
+// The assertions that fail in the trace that was analysed, where its events have these numbers of labels and of innermost frames, and its
+// stores that are overwritten.
+pub(crate) fn broken_of(
     alloc: Global,
     analysis: &Analysis,
     safe: &SafePlaces<'_>,
@@ -37,13 +79,10 @@ pub(crate) fn risks_of(
     numbers: &[Option<u64>],
     frames: &[Option<u64>],
     options: &Options,
-) -> Result<Risks, OutOfMemory>
+) -> Result<Broken, OutOfMemory>
     requires { safe.now.trace.now ≡ analysis.now.trace }
-    ensures { IfOk result (AreRisks analysis.now labels.now numbers.now frames.now options.now) }
+    ensures { IfOk result (AreBroken analysis.now labels.now numbers.now frames.now options.now) }
 {
-    let findings = analysis.findings();
-    let stores = lost_stores(alloc, analysis.trace(), labels, &options.ignored, findings)?;
-    let lost = losses_of(alloc, analysis, labels, frames, options, stores.as_slice())?;
     let failed = failed_of(
         alloc,
         safe,
@@ -53,13 +92,8 @@ pub(crate) fn risks_of(
         frames,
         options,
     )?;
-    let unwritten = unwritten_asked(alloc, analysis.trace(), labels, &options.choice)?;
-    Ok(Risks {
-        stores,
-        lost,
-        failed,
-        unwritten,
-    })
+    let overwrites = overwrites_of(alloc, analysis, labels, options)?;
+    Ok(Broken { failed, overwrites })
 }
 
 // The assertions on bytes that no store has written, where they are asked for.

@@ -1,23 +1,17 @@
-use Rattle.std.proofs.Common.{◌≡◌, subst, sym, ◌∙◌}
+use Rattle.std.proofs.Common.{subst}
 use Rattle.std.specs.List.{filter_map}
 use Rattle.pmt_causes.specs.Groups.{AreGrouped}
 use Rattle.pmt_causes.specs.LostCauses.{lost_item}
 use Rattle.pmt_explain.specs.LostGroups.{AreLostGroups}
 use Rattle.pmt_explanation.specs.Asking.{asked_numbers}
-use Rattle.pmt_explanation.specs.Losing.{told_pairs}
 use Rattle.pmt_asked.specs.declared.choosing.Kind.TheVariants.{NeverPersisted}
 use Rattle.pmt_explanation.proofs.losses.losses_of.Goals as goal
 
 pub returns-clause-groups : goal.returns-clause-groups
 returns-clause-groups c =
-    subst (λ T. AreLostGroups T (asked_numbers T c.args.labels.now c.args.options.now.choice NeverPersisted c.args.stores.now) c.in_ok-groups.groups.items) c.trace-trace.ensures.value c.in_ok-groups.ensures
+    subst (λ T. AreLostGroups T (asked_numbers T c.args.labels.now c.args.choice.now NeverPersisted c.args.stores.now) c.in_ok-groups.groups.items) c.trace-trace.ensures.value c.in_ok-groups.ensures
 
 pub returns-clause-causes : goal.returns-clause-causes
 returns-clause-causes c =
     subst (λ T. AreGrouped (filter_map (lost_item T c.args.frames.now) c.in_ok-groups.groups.items) c.in_ok-causes.causes.items) c.trace-trace.ensures.value
     (subst (λ gs. AreGrouped (filter_map (lost_item c.trace-trace.result.now c.args.frames.now) gs) c.in_ok-causes.causes.items) c.as_slice.ensures.value c.in_ok-causes.ensures)
-
-pub returns-clause-overwritten : goal.returns-clause-overwritten
-returns-clause-overwritten c =
-    let pairs : c.as_slice-2.result.now ≡ told_pairs c.trace-trace.result.now c.args.labels.now c.args.options.now.ignored c.findings-findings.result.now = c.as_slice-2.ensures.value ∙ c.in_ok-pairs.ensures in
-    rw (sym c.trace-trace.ensures.value, sym c.findings-findings.ensures.value, sym pairs) c.in_ok-overwritten.ensures
