@@ -137,6 +137,21 @@ def answers_of_many_lines(folder):
     yield Case(["fronts", trace, "20001"], {Answer(0, text(fronts, "place 20001 lines 10000"))}, sparse=0.3)
 
 
+def answers_of_two_lines(folder):
+    """Two lines in turns, at one place of the table of those found last: each store looks its line up, till more places are remembered."""
+    rounds = 1100
+    stores = "store 0 0x1000 01; {}store 0 0x21000 01; {}"
+    flushed = stores.format("clwb 0 0x1000; ", "clwb 0 0x21000; ")
+    trace = folder / "two_lines"
+    trace.write_bytes(text(flushed * rounds + "sfence 0"))
+    trimmed = text(stores.format("", "") * (rounds - 1) + flushed + "sfence 0")
+    report = f"events {4 * rounds + 1} lines 2\nkept {2 * rounds + 3} dropped {2 * rounds - 2}\n".encode()
+    fronts = "; ".join(f"line {addr} front {rounds} count {rounds}" for addr in ("0x1000", "0x21000"))
+    yield Case(["trim", trace], {Answer(0, trimmed)})
+    yield Case(["check", trace], {Answer(0, report)})
+    yield Case(["fronts", trace, str(4 * rounds + 1)], {Answer(0, text(fronts, f"place {4 * rounds + 1} lines 2"))})
+
+
 def under_a_limit(program, trace, words):
     """A million events, with too little memory for them: 40 MB of addresses, which hold little more than the text or the lines."""
     limited = ["bash", "-c", 'ulimit -v 40000; exec "$@"', "limited", program, *words, trace]
@@ -338,6 +353,9 @@ class OfTheProgram(Refusals):
 
     def test_many_lines(self):
         self.expect_sweeps(answers_of_many_lines(self.folder))
+
+    def test_two_lines(self):
+        self.expect_sweeps(answers_of_two_lines(self.folder))
 
     def test_examples(self):
         self.expect_sweeps(answers_of_examples())
