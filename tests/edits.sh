@@ -1,9 +1,9 @@
 #!/usr/bin/env bash
 # Whether the prover refuses each must-fail edit in the function that it turns: of the crates that are named, or of all. First it tries
-# itself on three tiny crates. Words go to tests/lib/edits.py. Last line: 'N passed, M failed'.
+# itself on three tiny crates. Words go to tests/harness/edits.py. Last line: 'N passed, M failed'.
 set -u
 cd "$(dirname "$0")/.." || exit 1
-. tests/lib/cases.sh
+. tests/harness/cases.sh
 
 # edit CRATE NAME OLD NEW: an edit of a line of a tiny crate
 edit() { printf 'file: src/lib.rt\nold:     %s\nnew:     %s\n' "$3" "$4" > "$folder/crates/$1/must-fail/$2.edit"; }
@@ -20,7 +20,7 @@ says() {
 
 mkdir -p "$folder"/crates/{low,high,lost}/{src,must-fail}
 printf 'low:\nhigh:\nlost:\n' > "$folder/crates.txt"
-tee "$folder"/crates/{low,high,lost}/src/lib.rt < tests/lib/first_call/low.rt.txt > /dev/null
+tee "$folder"/crates/{low,high,lost}/src/lib.rt < tests/harness/first_call/low.rt.txt > /dev/null
 cat >> "$folder/crates/high/src/lib.rt" << 'END'
 
 /// Two more.
@@ -36,7 +36,7 @@ edit low the_same 'count + 1' '1 + count'
 edit high one_more 'next(next(count))' 'next(count)'
 edit high still_two 'next(next(count))' 'next(count) + 1'
 edit lost not_there 'count + 3' 'count + 4'
-tried() { python3 tests/lib/edits.py --top "$folder" --kept "$folder/kept" > "$folder/told" 2>&1; }
+tried() { python3 tests/harness/edits.py --top "$folder" --kept "$folder/kept" > "$folder/told" 2>&1; }
 tried
 says 'a wrong body is refused' '^low: none_more: refused: src/lib\.rt:[0-9]+: it is not proved that what the function ensures holds'
 says 'a body that means the same is not' '^low: the_same: NOT REFUSED$'
@@ -53,7 +53,7 @@ echo '// One line more.' >> "$folder/crates/low/src/lib.rt"
 tried
 says 'a refusal is of the text that was tried' '^low: none_more: refused: '
 
-python3 tests/lib/edits.py "$@" | tee "$folder/told"
+python3 tests/harness/edits.py "$@" | tee "$folder/told"
 counts=$(tail -n 1 "$folder/told")
 passed=$((passed + ${counts%% *}))
 counts=${counts#*, }

@@ -3,10 +3,10 @@
 # installed where they may be. Last line: 'N passed, M failed'.
 set -u
 cd "$(dirname "$0")/.." || exit 1
-# shellcheck source=tests/lib/program.sh
-. tests/lib/program.sh
-# shellcheck source=tests/lib/shared.sh
-. tests/lib/shared.sh
+# shellcheck source=tests/harness/program.sh
+. tests/harness/program.sh
+# shellcheck source=tests/harness/shared.sh
+. tests/harness/shared.sh
 if ! [ -e /usr/include/valgrind/pub_tool_basics.h ] || ! command -v valgrind > /dev/null; then
   alone install_packages valgrind
 fi
@@ -18,4 +18,4 @@ if ! alone make -s -C recorders/valgrind; then
   echo "0 passed, 1 failed"
   exit 1
 fi
-exec python3 tests/lib/valgrind_files.py "$program"
+exec python3 tests/recorders/valgrind_files.py "$program"

@@ -3,7 +3,7 @@
 # a library below it. Last line: 'N passed, M failed'.
 set -u
 cd "$(dirname "$0")/.." || exit 1
-. tests/lib/cases.sh
+. tests/harness/cases.sh
 top=$folder/top
 
 # holds NAME COMMAND ..: the command succeeds
@@ -53,8 +53,8 @@ mkdir -p "$top"/crates/{low,pmtrim}/src
 cp pmtrim "$top"
 echo 'Handles allowed: none.' > "$top/HANDLES"
 printf 'low:\npmtrim: low\n' > "$top/crates.txt"
-cp tests/lib/first_call/low.rt.txt "$top/crates/low/src/lib.rt"
-cp tests/lib/first_call/main.rt.txt "$top/crates/pmtrim/src/main.rt"
+cp tests/harness/first_call/low.rt.txt "$top/crates/low/src/lib.rt"
+cp tests/harness/first_call/main.rt.txt "$top/crates/pmtrim/src/main.rt"
 printf abc | tee "$top/crates/pmtrim/stdin" > "$folder/input"
 printf abcde > "$folder/five"
 head -c 1048577 /dev/zero > "$folder/large"

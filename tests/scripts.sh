@@ -3,9 +3,9 @@
 # page's template as it is, and whether the documents keep to their width. Last line: 'N passed, M failed'.
 set -u
 cd "$(dirname "$0")/.." || exit 1
-. tests/lib/cases.sh
-# shellcheck source=tests/lib/shared.sh
-. tests/lib/shared.sh
+. tests/harness/cases.sh
+# shellcheck source=tests/harness/shared.sh
+. tests/harness/shared.sh
 
 if ! command -v shellcheck > /dev/null; then
   alone install_packages shellcheck
@@ -39,7 +39,7 @@ else
 fi
 
 # A line of a document has at most 120 characters, outside of code and tables.
-if git ls-files -z '*.md' | xargs -0 python3 tests/lib/widths.py; then
+if git ls-files -z '*.md' | xargs -0 python3 tests/harness/widths.py; then
   passed=$((passed + 1))
 else
   failed=$((failed + 1))

@@ -1,10 +1,10 @@
 #!/usr/bin/env bash
-# The fixed surface: the client in tests/lib/surface names its calls with their types. It is compiled over the crates,
+# The fixed surface: the client in tests/surface names its calls with their types. It is compiled over the crates,
 # without proofs, and is refused where it gives a call another type. Its files end in .rt.txt, since `rt ci` wants each
 # .rt file in a crate that it checks. Last line: 'N passed, M failed'.
 set -u
 cd "$(dirname "$0")/.." || exit 1
-. tests/lib/cases.sh
+. tests/harness/cases.sh
 client=$folder/crates/surface
 
 compile() {
@@ -14,7 +14,7 @@ compile() {
 # The crates as they stand, without what was built of them, and the client above them.
 tar --exclude=out -c crates | tar -x -C "$folder"
 mkdir -p "$client/src"
-for file in tests/lib/surface/*.rt.txt; do
+for file in tests/surface/*.rt.txt; do
   cp "$file" "$client/src/$(basename "$file" .txt)"
 done
 cp HANDLES "$folder"
@@ -23,7 +23,7 @@ cp HANDLES "$folder"
   echo 'surface: pmt_model pmt_text pmt_marks pmt_lines pmt_book pmt_recorder pmt_asserts pmt_findings pmt_trim pmt_workers pmt_report'
 } > "$folder/crates.txt"
 
-calls=$(cat tests/lib/surface/*.rt.txt | grep -c 'let _: fn(')
+calls=$(cat tests/surface/*.rt.txt | grep -c 'let _: fn(')
 if told=$(compile) && [[ $told == *'run=ended status=0'* ]]; then
   passed=$((passed + calls))
 else

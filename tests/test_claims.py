@@ -1,6 +1,6 @@
 """Compares claims of the documents with the sources.
 
-Each public call is of the fixed surface, whose calls stand in tests/lib/surface, or another crate calls it, or docs/DECISIONS.md names it
+Each public call is of the fixed surface, whose calls stand in tests/surface, or another crate calls it, or docs/DECISIONS.md names it
 in its decision on what is public. Each public function with a contract has a must-fail edit that turns its body, or that of a function of
 the same crate that it calls, or docs/PROOFS.md lists it under "Functions without an edit", which lists no other. Laws have no body. A call
 is known by its name, and if a type stands before it, by its type. rows.py names the worked rows, and what runs each. docs/ARCHITECTURE.md
@@ -53,7 +53,7 @@ def sources_beside(crate):
 
 def fixed_calls():
     """The calls of the fixed surface, with and without the types that they are given."""
-    surface = "\n".join(path.read_text() for path in TOP.glob("tests/lib/surface/*.rt.txt"))
+    surface = "\n".join(path.read_text() for path in TOP.glob("tests/surface/*.rt.txt"))
     found = set(re.findall(r"\w+(?:::<[^;()]*?>)?::\w+|\w+", surface))
     return found | {re.sub(r"::<[^;()]*?>", "", name) for name in found}
 
@@ -160,10 +160,10 @@ def missing_files():
 
 
 def scripts_run():
-    """The scripts and modules of tests, and the files of tests/lib that one of them runs or imports, or such a file does."""
+    """The scripts and modules of tests, and the files of their rooms that one of them runs or imports, or such a file does."""
     run = {path: path.read_text() for pattern in ("*.sh", "test_*.py") for path in TOP.glob(f"tests/{pattern}")}
-    others = {path: path.read_text() for path in TOP.glob("tests/lib/*.py")}
-    while found := [path for path in others if any(re.search(rf"lib/{path.name}|(import|from) {path.stem}\b", text) for text in run.values())]:
+    others = {path: path.read_text() for path in TOP.glob("tests/*/**/*.py")}
+    while found := [path for path in others if any(re.search(rf"/{path.name}|(import|from) {path.stem}\b", text) for text in run.values())]:
         run |= {path: others.pop(path) for path in found}
     return run
 

@@ -315,7 +315,7 @@ class Explain(Checks):
             self.expect(f"at a terminal with {known}", "never persisted" in shown and ("\x1b[1;31merror:" in shown) == wanted, shown[:500])
 
     def at_terminal(self, file, known):
-        words = [sys.executable, TOP / "tests/lib/terminal.py", self.program, "explain", file]
+        words = [sys.executable, TOP / "tests/harness/terminal.py", self.program, "explain", file]
         environment = {name: value for name, value in os.environ.items() if name != "NO_COLOR"} | {"TERM": "xterm"} | known
         return subprocess.run(words, stdin=subprocess.DEVNULL, capture_output=True, env=environment).stdout.decode()
 

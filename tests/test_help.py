@@ -157,7 +157,7 @@ class Help(Checks):
 
 
 class Lines(Checks):
-    """The words of pmtrim-lines; what it does with labels stands in tests/lib/libpmem.py."""
+    """The words of pmtrim-lines; what it does with labels stands in tests/recorders/libpmem.py."""
 
     def test_words(self):
         for words, wanted in (([], "no file is given"), (["--frob"], "there is no option --frob")):

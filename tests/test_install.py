@@ -18,7 +18,7 @@ LINK = re.compile(r"\]\(([^)#:]+)(?:#[^)]*)?\)")
 def setUpModule():
     find()
     if not VALGRIND.exists():
-        run_alone(["bash", "-c", ". tests/lib/shared.sh && install_packages valgrind"])
+        run_alone(["bash", "-c", ". tests/harness/shared.sh && install_packages valgrind"])
 
 
 def install(*words):

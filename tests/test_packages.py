@@ -18,7 +18,7 @@ def setUpModule():
     find()
     need_command("dpkg-deb", "dpkg")
     if not pathlib.Path("/usr/include/valgrind/pub_tool_basics.h").exists():
-        run_alone(["bash", "-c", ". tests/lib/shared.sh && install_packages valgrind"])
+        run_alone(["bash", "-c", ". tests/harness/shared.sh && install_packages valgrind"])
 
 
 class Packages(Checks):

@@ -136,7 +136,7 @@ class Reasons(Checks):
     def test_terminal(self):
         """At a terminal the reason stands there without --verbose."""
         for words in (["check", "none"], ["trim", "none"], ["fronts", "none", "1"], ["record", "none"]):
-            done = subprocess.run([sys.executable, TOP / "tests/lib/terminal.py", self.program, *words], cwd=self.folder, stdin=subprocess.DEVNULL, capture_output=True)
+            done = subprocess.run([sys.executable, TOP / "tests/harness/terminal.py", self.program, *words], cwd=self.folder, stdin=subprocess.DEVNULL, capture_output=True)
             told = done.stdout.decode().replace("\r\n", "\n")
             self.expect(f"{words}", f"file fault\n{MISSING}" in told, told)
 

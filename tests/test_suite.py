@@ -20,7 +20,7 @@ sys.path.insert(0, str(TOP / "suite/lib"))
 from functions import spans_of  # noqa: E402  (the folder is known only now)
 from labels import Places  # noqa: E402
 
-SCHEMA = TOP / "tests/lib/sarif_schema.json"
+SCHEMA = TOP / "tests/oracles/sarif_schema.json"
 ACCEPTED = "a cache, made anew at each start"
 
 

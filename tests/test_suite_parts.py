@@ -189,7 +189,7 @@ class Parts(Checks):
         built = run_alone(["make", "-s", "-C", "recorders/valgrind"])
         self.expect("the recorder is built", built.status == 0, built)
         folder = self.new_folder()
-        (folder / "ends.c").write_text((TOP / "tests/lib/valgrind/ends.c").read_text())
+        (folder / "ends.c").write_text((TOP / "tests/recorders/valgrind/ends.c").read_text())
         built = run(["gcc", "-g", "-O1", "-mclwb", "-I", TOP / "recorders/valgrind", "ends.c", "-o", "ends"], cwd=folder)
         self.expect("the program is built", built.status == 0, built)
         told = suite("record", "runs", "--parts", "--", "./ends", "long", "pool", cwd=folder)

@@ -3,12 +3,12 @@
 # way. Last line: 'N passed, M failed'. tests/truth.sh 20000 does more, tests/truth.sh 20000 1001 those of the seeds from 1001 on.
 set -u
 cd "$(dirname "$0")/.." || exit 1
-# shellcheck source=tests/lib/program.sh
-. tests/lib/program.sh
-# shellcheck source=tests/lib/shared.sh
-. tests/lib/shared.sh
+# shellcheck source=tests/harness/program.sh
+. tests/harness/program.sh
+# shellcheck source=tests/harness/shared.sh
+. tests/harness/shared.sh
 if ! build_recorder; then
   echo "0 passed, 1 failed"
   exit 1
 fi
-exec python3 tests/lib/truth/run.py "$program" "$@"
+exec python3 tests/recorders/truth/run.py "$program" "$@"

@@ -2,8 +2,8 @@
 # Words, statuses and files: what the documents do not show. Last line: 'N passed, M failed'.
 set -u
 cd "$(dirname "$0")/.." || exit 1
-. tests/lib/program.sh
-. tests/lib/cases.sh
+. tests/harness/program.sh
+. tests/harness/cases.sh
 
 # expect STATUS TEXT WORD ..: the program's status with these words, and a part of what it writes to both streams
 expect() {
@@ -144,9 +144,9 @@ judge 'a value after the equals sign' "$?" 0 "$told" 'sfence 0'
 expect 0 'Usage: pmtrim trim' help trim
 expect 0 'Usage: pmtrim explain' help explain
 expect 0 'Usage: pmtrim <' help
-told=$(python3 tests/lib/terminal.py "$program" check)
+told=$(python3 tests/harness/terminal.py "$program" check)
 judge 'a terminal' "$?" 0 "$told" 'reading a trace from the terminal'
-told=$(python3 tests/lib/terminal.py "$program" check examples/one_persist.trace)
+told=$(python3 tests/harness/terminal.py "$program" check examples/one_persist.trace)
 judge 'a terminal that is not read' "$?" 0 "${told/*terminal*/bad}" 'events 3'
 
 echo "$passed passed, $failed failed"

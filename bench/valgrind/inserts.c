@@ -1,5 +1,5 @@
 /* Threads put records into a hash table: inserts POOL TRACE THREADS. With pmtrace.h it is recorded by that; with the header of
- * tests/lib/valgrind/real it is a plain program. About 300,000 events. */
+ * tests/recorders/valgrind/real it is a plain program. About 300,000 events. */
 #define PMTRACE_IMPLEMENTATION
 #define PMTRACE_LABELS
 #include "pmtrace.h"

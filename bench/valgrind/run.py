@@ -21,8 +21,8 @@ TOP = pathlib.Path(__file__).resolve().parents[2]
 HERE = TOP / "bench/valgrind"
 RECORD = TOP / "recorders/valgrind/pmtrim-record"
 BARE = ["valgrind", "--tool=none", "-q", "--fair-sched=yes"]
-PLAIN, RECORDED = ["tests/lib/valgrind/real", "recorders/valgrind"], ["recorders/c"]
-THREADS = TOP / "tests/lib/valgrind/threads.c"
+PLAIN, RECORDED = ["tests/recorders/valgrind/real", "recorders/valgrind"], ["recorders/c"]
+THREADS = TOP / "tests/recorders/valgrind/threads.c"
 SQL = """\
 pragma journal_mode = wal;
 create table words (number integer primary key, word text);

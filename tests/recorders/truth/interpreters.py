@@ -10,7 +10,7 @@ from collections.abc import Callable
 from shapes import make_program, make_safe_program
 
 TOP = pathlib.Path(__file__).resolve().parents[3]
-HERE = TOP / "tests/lib/truth"
+HERE = TOP / "tests/recorders/truth"
 SOURCES = sorted(HERE.glob("*.c"))
 STRICT = ["-Wall", "-Wextra", "-Wpedantic", "-Wshadow", "-Wconversion", "-Wcast-qual", "-Werror", "-pthread", "-I", TOP / "recorders/c"]
 SANITIZED = ["-O1", "-g", "-fno-sanitize-recover=all"]

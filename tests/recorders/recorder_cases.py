@@ -145,7 +145,7 @@ def tells_of_pages():
 
 
 class CaseTests(Tests):
-    """Programs of tests/lib/recorders, and what each case of them must record and tell."""
+    """Programs of tests/recorders/programs, and what each case of them must record and tell."""
 
     def told(self, text, trace):
         """The recorder's own lines on standard error, and what pmtrace_close answered."""

@@ -2,7 +2,7 @@
 """Runs programs under pmtrim-record: valgrind.py PROGRAM. The last line is 'N passed, M failed'.
 
 Every trace must be accepted by PROGRAM. What else must stand in it is written out here, follows from what the programs of
-tests/lib/valgrind do, is the file's last bytes, or is what pmtrace.h wrote of the same program.
+tests/recorders/valgrind do, is the file's last bytes, or is what pmtrace.h wrote of the same program.
 """
 import functools
 import os
@@ -24,7 +24,7 @@ from valgrind_threads import Threads
 from valgrind_windows import Windows
 
 TOP = pathlib.Path(__file__).resolve().parents[2]
-HERE = TOP / "tests/lib/valgrind"
+HERE = TOP / "tests/recorders/valgrind"
 FOLDER = TOP / "recorders/valgrind"
 RECORD = FOLDER / "pmtrim-record"
 SECOND_POOL = 1 << 40
@@ -409,7 +409,7 @@ def installed(tests):
 
 def page(tests):
     """The commands that recorders/valgrind/README.md shows."""
-    status, told, _ = run([sys.executable, TOP / "tests/lib/documents.py", tests.program, "recorders/valgrind/README.md"])
+    status, told, _ = run([sys.executable, TOP / "tests/harness/documents.py", tests.program, "recorders/valgrind/README.md"])
     tests.expect("recorders/valgrind/README.md", status == 0, told)
 
 

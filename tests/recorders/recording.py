@@ -9,7 +9,7 @@ import tempfile
 from counts import Counts
 
 TOP = pathlib.Path(__file__).resolve().parents[2]
-HERE = TOP / "tests/lib/recorders"
+HERE = TOP / "tests/recorders/programs"
 HEADERS = TOP / "recorders/c"
 PYTHON = {**os.environ, "PYTHONPATH": str(TOP / "recorders/python"), "PYTHONDONTWRITEBYTECODE": "1"}
 STRICT = ["-Wall", "-Wextra", "-Wpedantic", "-Wshadow", "-Wconversion", "-Wcast-qual", "-Werror", "-pthread", "-I", str(HEADERS)]
@@ -91,7 +91,7 @@ def has_compiler(command, flags=()):
             if shutil.which(command) and run([command, *flags, probe, "-o", made])[0] == 0 and run([made])[0] == 0:
                 return True
             if attempt == 0:
-                run(["bash", "-c", f". tests/lib/shared.sh && alone install_packages {PACKAGES.get(command, 'gcc g++')}"])
+                run(["bash", "-c", f". tests/harness/shared.sh && alone install_packages {PACKAGES.get(command, 'gcc g++')}"])
     return False
 
 

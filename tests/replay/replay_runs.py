@@ -8,7 +8,7 @@ import subprocess
 from counts import Counts
 
 TOP = pathlib.Path(__file__).resolve().parents[2]
-HERE = TOP / "tests/lib/replay"
+HERE = TOP / "tests/replay"
 REPLAY = TOP / "replay/pmtrim-replay"
 FOUND = re.compile(r"(\d+) crash(?:es)?, (\d+) different images?: (\d+) failed(?: \((\d+) of them in an earlier run\))?")
 

@@ -9,6 +9,9 @@ import unittest
 
 from program import TOP, NotThere
 
+# The folders of tests/ whose modules a test imports by name.
+ROOMS = ("harness", "oracles", "page", "recorders", "recorders/truth", "replay", "traces")
+
 
 class Result(unittest.TestResult):
     """Counts checks, and tells of each that fails at once."""
@@ -66,7 +69,7 @@ def main():
     parser.add_argument("name", metavar="NAME")
     parser.add_argument("-k", metavar="CASE", action="append", help="a part of a test's name, or a pattern of all of it")
     asked = parser.parse_args()
-    sys.path.insert(0, str(TOP / "tests"))
+    sys.path[:0] = [str(TOP / "tests" / room) for room in ("", *ROOMS)]
     suite, result = tests_of(asked.name, asked.k), Result()
     suite.run(result)
     if not result.passed + result.failed:

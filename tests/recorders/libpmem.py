@@ -1,7 +1,7 @@
 #!/usr/bin/env python3
 """Builds and runs programs with the libraries that record libpmem and libpmem2: libpmem.py PROGRAM. Last line: 'N passed, M failed'.
 
-The traces that the programs of tests/lib/libpmem must give are written out here. So are those of the examples that Debian packages
+The traces that the programs of tests/recorders/libpmem must give are written out here. So are those of the examples that Debian packages
 with libpmem and libpmem2, where they are short; of the longer ones the stores must rebuild the file. What the calls answer must be
 what libpmem and libpmem2 themselves answer.
 """
@@ -17,7 +17,7 @@ import recording
 from libpmem_traces import ADOPTS, BOTH, CALLED, CALLS, CALLS2, CHILD, EXAMPLES, FORGETS, POOLS, PRIVATE, REMOVED, SECOND, SHAPES, UNMAPPED, stores
 from recording import TOP, has_compiler, rebuilt, text_of
 
-HERE = TOP / "tests/lib/libpmem"
+HERE = TOP / "tests/recorders/libpmem"
 DEBIAN = pathlib.Path("/usr/share/doc")
 STRICT = ["-Wall", "-Wextra", "-Werror", "-Wcast-qual", "-g"]
 PEDANTIC = "-Wpedantic -Wshadow -Wconversion -Wcast-qual -Werror"
@@ -355,7 +355,7 @@ class Tests(recording.Tests):
 
     def page(self):
         """The commands that recorders/libpmem/README.md shows."""
-        status, told = run([sys.executable, TOP / "tests/lib/documents.py", self.program, "recorders/libpmem/README.md"])
+        status, told = run([sys.executable, TOP / "tests/harness/documents.py", self.program, "recorders/libpmem/README.md"])
         self.expect("recorders/libpmem/README.md", status == 0, told)
 
 

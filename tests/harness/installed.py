@@ -15,7 +15,7 @@ OTHERS = {
     "pmtrim-lines": TOP / "recorders/libpmem/pmtrim-lines",
 }
 # Recorders are built in their place, by one script at a time.
-ALONE = ["bash", "-c", '. tests/lib/shared.sh && alone "$@"', "alone"]
+ALONE = ["bash", "-c", '. tests/harness/shared.sh && alone "$@"', "alone"]
 
 
 class Told(NamedTuple):

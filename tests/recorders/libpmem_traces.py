@@ -1,4 +1,4 @@
-"""The traces that the programs of tests/lib/libpmem and the packaged examples must give, written out by what the pages of libpmem and
+"""The traces that the programs of tests/recorders/libpmem and the packaged examples must give, written out by what the pages of libpmem and
 libpmem2 say of their calls and recorders/README.md of stores: one for each aligned word of 8 bytes. A plain store is noted by the next
 call that looks at its line, and by each fence."""
 

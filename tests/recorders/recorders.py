@@ -2,7 +2,7 @@
 """Builds and runs programs with the recorders: recorders.py PROGRAM. The last line is 'N passed, M failed'.
 
 Every trace must be accepted by PROGRAM. What else must stand in it is written out here, or follows from what the programs of
-tests/lib/recorders do, or is the memory's last bytes.
+tests/recorders/programs do, or is the memory's last bytes.
 """
 import json
 import pathlib
@@ -180,7 +180,7 @@ class RecorderTests(CaseTests, FaultTests, PartTests, ThreadTests):
 
 def page(tests):
     """The commands that recorders/README.md shows."""
-    status, told = run([sys.executable, TOP / "tests/lib/documents.py", tests.program, "recorders/README.md"])
+    status, told = run([sys.executable, TOP / "tests/harness/documents.py", tests.program, "recorders/README.md"])
     tests.expect("recorders/README.md", status == 0, told)
 
 

@@ -4,7 +4,7 @@ line is 'N passed, M failed'.
 
 PROGRAM is pmtrim, which must accept each trace. Threads give way by the seed. The programs are of three kinds: threads without locks,
 threads that take a lock, and one thread that closes the window and opens it again. The steps, and what each of them does, are those of
-tests/lib/valgrind/steps.c: so a thread's events, their order and their bytes are known, but for sums, which must be right by what the
+tests/recorders/valgrind/steps.c: so a thread's events, their order and their bytes are known, but for sums, which must be right by what the
 trace has before them.
 """
 import pathlib
@@ -13,12 +13,12 @@ import subprocess
 import sys
 import tempfile
 
+from valgrind_windows import Run, claim_of
+
 TOP = pathlib.Path(__file__).resolve().parents[3]
-sys.path.insert(0, str(TOP / "tests/lib"))
-from valgrind_windows import Run, claim_of  # noqa: E402
 
 RECORD = TOP / "recorders/valgrind/pmtrim-record"
-SOURCE = TOP / "tests/lib/valgrind/steps.c"
+SOURCE = TOP / "tests/recorders/valgrind/steps.c"
 AT_ONCE, PAGE, LINE, LINES, MARKED = 50, 4096, 64, 8, 4000
 LEAST_SWITCHES = 5  # of a program
 FLUSHES = ("clwb", "clflushopt", "clflush")

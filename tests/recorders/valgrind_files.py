@@ -2,7 +2,7 @@
 """Runs programs under pmtrim-record that write to files, by themselves and through the system: valgrind_files.py PROGRAM. The last line
 is 'N passed, M failed'.
 
-What must stand in a trace follows from what the programs of tests/lib/valgrind do, or is the file's last bytes.
+What must stand in a trace follows from what the programs of tests/recorders/valgrind do, or is the file's last bytes.
 """
 import os
 import pathlib

@@ -54,7 +54,7 @@ def add_tests(case, check, rows):
 
 def install(package):
     """Installs a package of Debian, where it may be."""
-    installing = ["bash", "-c", '. tests/lib/shared.sh && alone install_packages "$@"', "install", package]
+    installing = ["bash", "-c", '. tests/harness/shared.sh && alone install_packages "$@"', "install", package]
     subprocess.run(installing, cwd=TOP, stdin=subprocess.DEVNULL)
 
 

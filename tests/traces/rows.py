@@ -5,7 +5,7 @@ function of a crate of tests, by its module. A file is a script or a module of t
 """
 
 ANSWERS = "tests/test_answers.py"
-REFUSED = "tests/lib/refused_texts.py"
+REFUSED = "tests/traces/refused_texts.py"
 DEVICES = "tests/test_devices.py"
 REFUSALS = "tests/test_refusals.py"
 WORDS = "tests/words.sh"

@@ -1,4 +1,4 @@
-"""What must stand in traces of the programs of tests/lib/valgrind: it follows from what they do."""
+"""What must stand in traces of the programs of tests/recorders/valgrind: it follows from what they do."""
 
 SAVED = "store 0 {:#x} {}\nclwb 0 {:#x}\nsfence 0\n"
 
