@@ -3,7 +3,6 @@ import itertools
 import subprocess
 
 from checks import Checks, add_tests
-from program import find
 from refused_texts import ACCEPTED_TEXTS, REFUSED_EVENTS, REFUSED_TEXTS
 from traces import all_traces, trace_of
 
@@ -78,10 +77,6 @@ STREAMED = {
     "open_flush_before_a_fault": ("pmtrace 1; store 0 0x1000 01; clwb 0 0x1000; store 0 0x1008 02; sfence 256", 3,
                                   "pmtrace 1; store 0 0x1000 01", "trace line 5: out-of-range"),
 }
-
-
-def setUpModule():
-    find()
 
 
 class Answers(Checks):

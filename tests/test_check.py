@@ -2,7 +2,6 @@
 import subprocess
 
 from checks import Checks
-from program import find
 
 TRACE = (
     "pmtrace 1\nstore 0 0x1000 01\nstore 0 0x1000 02\nclwb 0 0x1000\nsfence 1\nisPersist 0 0x1000 1\n"
@@ -21,10 +20,6 @@ ENTRIES = (
     ("redundant-flush 7", " at a.c:7"),
 )
 SAVED = "pmtrace 1\nstore 0 0x1000 01\nclwb 0 0x1000\nsfence 0\n"
-
-
-def setUpModule():
-    find()
 
 
 def report(count=len(ENTRIES), labels=True):

@@ -10,7 +10,6 @@ from typing import NamedTuple
 import faulty
 from checks import Checks
 from faulty import Answer
-from program import find
 from traces import all_traces
 
 FILE_FAULT = Answer(4, b"", b"file fault\n")
@@ -275,10 +274,6 @@ def finds_what_is_wrong(run):
 
 
 TABLES = (every_cut, every_read, every_write, failing_writer, every_write_of_a_fault, hostile_bytes)
-
-
-def setUpModule():
-    find()
 
 
 class Devices(Checks):

@@ -31,7 +31,7 @@ from drawn_rules import (
 )
 from machine import FLUSHES, random_trace, spelled, text_of, verdict
 from page_machine import read_trace
-from program import TOP, find
+from program import TOP
 from slices import Plain, slice_of
 from traces import all_traces
 
@@ -63,10 +63,6 @@ def marks_are_apart(picture):
         if any(base == other and left < right + 1 for (base, _, right), (other, left, _) in zip(places, places[1:])):
             return False
     return True
-
-
-def setUpModule():
-    find()
 
 
 class Drawing(Checks):

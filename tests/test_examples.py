@@ -8,15 +8,10 @@ import subprocess
 import sys
 
 from checks import Checks, add_tests
-from program import find
 from traces import EXAMPLES, all_traces, report_of, trimmed_of
 
 COMMANDS = ["check", "trim"]
 WORKERS = ["1", "2", "4", "8", "16"]
-
-
-def setUpModule():
-    find()
 
 
 def stated(note):

@@ -4,7 +4,6 @@ import os
 import random
 import re
 import subprocess
-import sys
 
 from broken import joined
 from checks import Checks, add_tests
@@ -13,16 +12,13 @@ from explain_lines import NEVER_STORED, lines_of, many_failures, refused
 from explained import KINDS, Explained, judged, with_events
 from explained_text import SCREEN, wrong_screen, wrong_text
 from machine import spelled, text_of
-from program import TOP, find
+from program import TOP
+from terminal import shown_at_a_terminal
 from worked_stories import STORIES
 
 TEXTS = TOP / "examples/explain"
 PLACES = (TOP / "examples", TOP / "tests/traces")
 TRACES = 400
-
-
-def setUpModule():
-    find()
 
 
 def with_halves(choose, trace):
@@ -315,9 +311,8 @@ class Explain(Checks):
             self.expect(f"at a terminal with {known}", "never persisted" in shown and ("\x1b[1;31merror:" in shown) == wanted, shown[:500])
 
     def at_terminal(self, file, known):
-        words = [sys.executable, TOP / "tests/harness/terminal.py", self.program, "explain", file]
-        environment = {name: value for name, value in os.environ.items() if name != "NO_COLOR"} | {"TERM": "xterm"} | known
-        return subprocess.run(words, stdin=subprocess.DEVNULL, capture_output=True, env=environment).stdout.decode()
+        known = [f"{name}={value}" for name, value in ({"TERM": "xterm"} | known).items()]
+        return shown_at_a_terminal(["env", "-u", "NO_COLOR", *known, self.program, "explain", file])[1]
 
     def test_loop(self):
         """A cause with more members than are named."""

@@ -3,11 +3,6 @@ import subprocess
 
 from checks import Checks
 from explain_faults import BAD_LABELS, BAD_RANGES, BAD_WORDS, HEADER, REFUSED, SAVED
-from program import find
-
-
-def setUpModule():
-    find()
 
 
 class Faults(Checks):

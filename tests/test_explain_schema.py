@@ -9,14 +9,8 @@ import tempfile
 from checks import Checks
 from explain_lines import NEVER_STORED, SCHEMA, lines_of, many_failures, refused
 from explained import KINDS
-from program import find
 from schemas import complaints, names_of, wrongs
 from traces import all_traces
-
-
-def setUpModule():
-    find()
-
 
 # Labels of any letters, what is asked for, and traces that reach the bounds of numbers.
 ODD_LABELS = ("\u2028\U0001f600 \"\\ < main", " < main file.c:9", "file.c:7 call", "</script>\x85")

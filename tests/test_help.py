@@ -1,11 +1,11 @@
 """What five programs say by --help, and the man pages and completions that packaging/pages makes of it, in the shells themselves."""
-import pathlib
 import re
-import tempfile
 
-from checks import Checks, need_command
-from installed import OTHERS, commands_of, help_of, options_of, programs, run
-from program import TOP, find
+from checks import Checks
+from installed import OTHERS, commands_of, help_of, options_of, programs
+from needs import need
+from program import TOP
+from running import run
 from terminal import Terminal
 
 WIDEST = 100
@@ -40,10 +40,6 @@ shown() {{ zle -M -- "typed <$BUFFER>" }}; zle -N shown; bindkey '^T' shown; pri
 TABS, SHOW, CLEAR, END = "\t\t", "\x14", "\x15", ">\r"
 
 
-def setUpModule():
-    find()
-
-
 def shown_in(page):
     """What man shows of a page, and its complaints."""
     told = run(["man", "--warnings", "-l", page], {"MANWIDTH": "200", "LC_ALL": "C.UTF-8"})
@@ -55,9 +51,7 @@ class Help(Checks):
 
     @classmethod
     def setUpClass(cls):
-        made = tempfile.TemporaryDirectory()
-        cls.addClassCleanup(made.cleanup)
-        cls.folder = pathlib.Path(made.name)
+        cls.folder = cls.shared_folder()
         cls.made = run([TOP / "packaging/pages", cls.folder, "1.2.3", *programs()])
 
     def helps(self):
@@ -89,8 +83,8 @@ class Help(Checks):
 
     def test_man_pages(self):
         """Each option stands in the part of its command, and the page is shown without a complaint."""
-        need_command("man", "man-db")
-        need_command("groff", "groff")
+        need("man-db", "man")
+        need("groff", "groff")
         shown = {path.name: shown_in(self.folder / f"{path.name}.1") for path in programs()}
         for name, (text, complaints) in shown.items():
             self.expect(f"the man page of {name} is shown", not complaints and "SEE ALSO" in text, complaints)
@@ -123,7 +117,7 @@ class Help(Checks):
         self.expect_equal("bash: a file behind =", self.in_bash(words), ["examples/one_persist.trace"])
 
     def test_bash_style(self):
-        need_command("shellcheck", "shellcheck")
+        need("shellcheck", "shellcheck")
         for path in programs():
             told = run(["shellcheck", "-s", "bash", self.folder / f"{path.name}.bash"])
             self.expect(f"shellcheck of {path.name}.bash", told.status == 0, told.out)
@@ -135,7 +129,7 @@ class Help(Checks):
         return told.err or [line.partition("\t")[0] for line in told.out.splitlines()]
 
     def test_fish(self):
-        need_command("fish", "fish")
+        need("fish", "fish")
         for program, command, text in self.helps():
             words = [program, *([command] if command else []), "--"]
             self.expect_equal(f"fish: {' '.join(words)}", sorted(self.in_fish(words)), sorted(options_of(text)))
@@ -143,7 +137,7 @@ class Help(Checks):
             self.expect_equal(f"fish: {' '.join(words)}", sorted(self.in_fish(words)), wanted)
 
     def test_zsh(self):
-        need_command("zsh", "zsh")
+        need("zsh", "zsh")
         with Terminal(["zsh", "-f", "-i"], {"TERM": "xterm", "EDITOR": "emacs"}) as zsh:
             self.expect("zsh begins", "ready2" in zsh.typed(ZSH.format(folder=self.folder), "ready2"))
             for program, command, text in self.helps():
@@ -157,7 +151,7 @@ class Help(Checks):
 
 
 class Lines(Checks):
-    """The words of pmtrim-lines; what it does with labels stands in tests/recorders/libpmem.py."""
+    """The words of pmtrim-lines; what it does with labels stands in tests/test_libpmem.py."""
 
     def test_words(self):
         for words, wanted in (([], "no file is given"), (["--frob"], "there is no option --frob")):

@@ -19,10 +19,6 @@ SHORT = ("store 0 0x1038 01", "store 0 0x1040 02", "clwb 0 0x1038", "sfence 0")
 LABELS = ("log.c:30 copy < append log.c:12", "log.c:30 copy < append log.c:12", "log.c:40 flush < append log.c:13", "log.c:41 fence < append log.c:14")
 
 
-def setUpModule():
-    find()
-
-
 def record(choose, size, thread, start, lines):
     """The events of one record, with their labels: a store to each of its lines, of which the first is `start`, flushes of all of them or
     of one less, and a fence; at times from another place, with a store elsewhere in the middle, backwards, or without the fence."""

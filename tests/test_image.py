@@ -13,7 +13,6 @@ import faulty
 import machine
 from checks import Checks, add_tests
 from faulty import Answer
-from program import find
 from told_crashes import failing_traces, read_told, told, told_entries, words_of_entry, words_of_text, wrong_story
 from traces import EXAMPLES
 
@@ -405,10 +404,6 @@ def large_pool(program):
         if not pathlib.Path("/dev/full").exists():
             complaints.append("the device was removed")
     return complaints
-
-
-def setUpModule():
-    find()
 
 
 class Images(Checks):

@@ -3,22 +3,20 @@ import os
 import pathlib
 import re
 import shutil
-import tempfile
 import unittest.mock
 
-from checks import Checks, need_command
-from documents import outputs_of
-from installed import files_below, help_of, options_of, programs, run, run_alone
-from program import TOP, find
+from checks import Checks
+from documents import expect_shown
+from installed import files_below, help_of, options_of, programs
+from needs import need, need_valgrind, run_alone
+from program import TOP
+from running import run
 
-VALGRIND = pathlib.Path("/usr/include/valgrind/pub_tool_basics.h")
 LINK = re.compile(r"\]\(([^)#:]+)(?:#[^)]*)?\)")
 
 
 def setUpModule():
-    find()
-    if not VALGRIND.exists():
-        run_alone(["bash", "-c", ". tests/harness/shared.sh && install_packages valgrind"])
+    need_valgrind()
 
 
 def install(*words):
@@ -30,9 +28,7 @@ class Installed(Checks):
 
     @classmethod
     def setUpClass(cls):
-        made = tempfile.TemporaryDirectory()
-        cls.addClassCleanup(made.cleanup)
-        cls.prefix = pathlib.Path(made.name) / "prefix"
+        cls.prefix = cls.shared_folder() / "prefix"
         cls.told = install(cls.prefix)
 
     def test_installed(self):
@@ -60,16 +56,14 @@ class Installed(Checks):
 
     def test_page(self):
         """The commands of docs/INSTALL.md, where builds find the prefix."""
-        need_command("cmake", "cmake")
-        need_command("pkg-config", "pkg-config")
+        need("cmake pkg-config", "cmake", "pkg-config")
         known = {
             "PATH": f"{self.prefix}/bin:{os.environ['PATH']}",
             "PKG_CONFIG_PATH": f"{self.prefix}/share/pkgconfig",
             "CMAKE_PREFIX_PATH": str(self.prefix),
         }
         with unittest.mock.patch.dict(os.environ, known):
-            for command, told, wanted in outputs_of(TOP / "docs/INSTALL.md", self.program):
-                self.expect_equal(command, told, wanted)
+            expect_shown(self, "docs/INSTALL.md")
 
     def test_words_of_the_page(self):
         """The page and the help of ./install have the same options."""
@@ -79,7 +73,7 @@ class Installed(Checks):
             self.expect(f"the page has {option}", option == "--help" or option in page, option)
 
     def test_versions(self):
-        need_command("pkg-config", "pkg-config")
+        need("pkg-config", "pkg-config")
         number = run([self.program, "--version"]).out.split()[1]
         known = {"PKG_CONFIG_PATH": f"{self.prefix}/share/pkgconfig"}
         self.expect_equal("pkg-config has the version", run(["pkg-config", "--modversion", "pmtrace"], known).out.strip(), number)
@@ -90,7 +84,7 @@ class Installed(Checks):
             self.expect(f"CMake and version {wanted}", told.status == status, told)
 
     def test_cpp(self):
-        need_command("pkg-config", "pkg-config")
+        need("pkg-config", "pkg-config")
         folder = self.new_folder()
         block = re.search(r"^```cpp tree.cpp\n(.*?)^```", (TOP / "recorders/README.md").read_text(), re.M | re.S)
         (folder / "tree.cpp").write_text(block[1])
@@ -101,7 +95,7 @@ class Installed(Checks):
 
     def test_libpmem(self):
         """A program finds libpmem of the prefix by pkg-config, and its labels are source lines in the end."""
-        need_command("pkg-config", "pkg-config")
+        need("pkg-config", "pkg-config")
         folder, place = self.new_folder(), self.prefix / "lib/pmtrim/libpmem"
         block = re.search(r"^```c hello.c\n(.*?)^```", (TOP / "recorders/libpmem/README.md").read_text(), re.M | re.S)
         (folder / "hello.c").write_text(block[1])

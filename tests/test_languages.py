@@ -3,13 +3,10 @@ import re
 import shutil
 import sys
 
-from checks import Checks, need_command
-from installed import run
-from program import TOP, find
-
-
-def setUpModule():
-    find()
+from checks import Checks
+from needs import need
+from program import TOP
+from running import run
 
 
 def shown_in(page, language):
@@ -62,7 +59,7 @@ class Languages(Checks):
         self.expect("its trace", told.out.splitlines()[:2] == ["events 8 lines 2", "ordered 8 fail"], told)
 
     def test_rust(self):
-        need_command("cargo", "cargo")
+        need("cargo", "cargo")
         folder = self.new_folder()
         crate = folder / "crate"
         shutil.copytree(TOP / "recorders/rust", crate, ignore=shutil.ignore_patterns("target"))

@@ -8,7 +8,6 @@ from explained import Explained, judged
 from explained_text import wrong_text
 from machine import FENCES, FLUSHES, Trace, entries_at, is_faithful, is_kept, least, none_can_go, random_trace, spelled, text_of
 from planted import ALONE, JSON, TEXT, in_json, in_text
-from program import find
 
 # As many entries as `--limit all` stands for.
 ALL = 1_000_000
@@ -144,10 +143,6 @@ def answers_are_right(program, file, head, trace):
     for (command, *words), wanted in answers(head, trace):
         done = subprocess.run([program, command, file, *words], capture_output=True, timeout=120)
         yield command, (done.returncode, done.stdout) == wanted
-
-
-def setUpModule():
-    find()
 
 
 class Machine(Checks):

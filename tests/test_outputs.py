@@ -2,7 +2,6 @@
 import subprocess
 
 from checks import Checks
-from program import find
 
 TRACE = "pmtrace 1\nstore 0 0x1000 01\nclwb 0 0x1000\nsfence 0\nsfence 0\nisPersist 0 0x1000 1\n"
 LOST = "pmtrace 1\nstore 0 0x1000 01\nisPersist 0 0x1000 1\n"
@@ -19,10 +18,6 @@ WRITTEN = (
     (["fronts", "t", "3"], "", "place 3 lines 1\nline 0x1000 front 1 count 1\n"),
     (["record", "s"], "", "pmtrace 1\nstore 0 0x1000 01\nsfence 0\n"),
 )
-
-
-def setUpModule():
-    find()
 
 
 class Outputs(Checks):

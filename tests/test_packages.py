@@ -3,11 +3,12 @@ import os
 import pathlib
 import re
 import shutil
-import tempfile
 
-from checks import Checks, need_command
-from installed import files_below, run, run_alone
-from program import TOP, find
+from checks import Checks
+from installed import files_below
+from needs import need, need_valgrind, run_alone
+from program import TOP
+from running import run
 
 NAMES = ("pmtrim", "pmtrim-record")
 # dpkg looks for programs that are not on everybody's way.
@@ -15,10 +16,8 @@ KNOWN = {"PATH": f"{os.environ['PATH']}:/usr/sbin:/sbin", "LC_ALL": "C"}
 
 
 def setUpModule():
-    find()
-    need_command("dpkg-deb", "dpkg")
-    if not pathlib.Path("/usr/include/valgrind/pub_tool_basics.h").exists():
-        run_alone(["bash", "-c", ". tests/harness/shared.sh && install_packages valgrind"])
+    need("dpkg", "dpkg-deb")
+    need_valgrind()
 
 
 class Packages(Checks):
@@ -26,9 +25,7 @@ class Packages(Checks):
 
     @classmethod
     def setUpClass(cls):
-        made = tempfile.TemporaryDirectory()
-        cls.addClassCleanup(made.cleanup)
-        cls.folder = pathlib.Path(made.name)
+        cls.folder = cls.shared_folder()
         cls.told = run_alone(["packaging/deb", cls.folder / "built"])
         cls.archives = [pathlib.Path(line) for line in cls.told.out.splitlines()]
 

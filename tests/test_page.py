@@ -3,9 +3,7 @@
 The data of the pages, the crashes and their bytes are compared with the machine of docs/MODEL.md (machine.py, explained.py); what is
 reached by mouse, keys and address is compared with what `explain --json` says. A browser without a window does the walking.
 """
-import pathlib
 import re
-import tempfile
 
 import page_hostile
 import page_large
@@ -16,14 +14,14 @@ import page_sources
 import page_walk
 import page_zoom
 from browser import Browser
-from checks import Checks, add_tests, need_command
+from checks import Checks, add_tests
+from needs import need
 from page_files import Pages
 from program import find
 
 
 def setUpModule():
-    need_command("chromium", "chromium")
-    find()
+    need("chromium", "chromium")
 
 
 class Browsing(Checks):
@@ -31,10 +29,8 @@ class Browsing(Checks):
 
     @classmethod
     def setUpClass(cls):
-        folder = tempfile.TemporaryDirectory()
-        cls.addClassCleanup(folder.cleanup)
         browser = Browser()
-        cls.pages = Pages(find(), pathlib.Path(folder.name), browser.__enter__())
+        cls.pages = Pages(find(), cls.shared_folder(), browser.__enter__())
         cls.addClassCleanup(browser.__exit__, None, None, None)
 
     def walk(self, part, *asked):

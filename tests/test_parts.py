@@ -12,7 +12,6 @@ import machine
 from checks import Checks, add_tests
 from faulty import Answer
 from machine import FENCES, FLUSHES, Trace, spelled
-from program import find
 
 TRACES = 120
 WEIGHTS = {"store": 6, "flush": 8, "fence": 6, "isPersist": 2, "isOrderedBefore": 4}
@@ -489,7 +488,3 @@ class Parts(Checks):
 
 
 add_tests(Parts, Parts.check_fault, {f"faults_of_{kind}": kind for kind in ("read", "write", "nothing_taken", "memory")})
-
-
-def setUpModule():
-    find()

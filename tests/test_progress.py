@@ -7,14 +7,9 @@ import threading
 import time
 
 from checks import Checks
-from program import find
 
 TWO_LOST = "pmtrace 1\nstore 0 0x1000 0102\nstore 3 0x1002 0304\n"
 CLEAR = "\r" + " " * 64 + "\r"
-
-
-def setUpModule():
-    find()
 
 
 def read_all(terminal):

@@ -1,10 +1,9 @@
 """What stands below the fixed line of a fault, at a terminal or with --verbose: the file and the reason, in the words of `explain`."""
 import subprocess
-import sys
 
 from checks import Checks
 from explain_faults import HEADER, REFUSED, SAVED
-from program import TOP, find
+from terminal import shown_at_a_terminal
 
 MISSING = "cannot open none: No such file or directory\n"
 COMMANDS = (["check"], ["check", "-j", "4"], ["trim"], ["trim", "--stream"], ["fronts"])
@@ -40,10 +39,6 @@ SCRIPTS = (
     (b"\x7fELF\x02\x01\x01\n", "script 1 line 1: bad-word\n", "s:1: this is a program\nhint: what it does is recorded by: pmtrim-record ./s\n"),
     (b"#!/bin/sh\n", "script 1 line 1: bad-word\n", "s:1: this is a program, by its first line\nhint: what it does is recorded by: pmtrim-record ./s\n"),
 )
-
-
-def setUpModule():
-    find()
 
 
 class Reasons(Checks):
@@ -136,8 +131,7 @@ class Reasons(Checks):
     def test_terminal(self):
         """At a terminal the reason stands there without --verbose."""
         for words in (["check", "none"], ["trim", "none"], ["fronts", "none", "1"], ["record", "none"]):
-            done = subprocess.run([sys.executable, TOP / "tests/harness/terminal.py", self.program, *words], cwd=self.folder, stdin=subprocess.DEVNULL, capture_output=True)
-            told = done.stdout.decode().replace("\r\n", "\n")
+            told = shown_at_a_terminal([self.program, *words], self.folder)[1].replace("\r\n", "\n")
             self.expect(f"{words}", f"file fault\n{MISSING}" in told, told)
 
     def test_tips(self):

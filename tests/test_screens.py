@@ -6,12 +6,6 @@ from broken import joined
 from checks import Checks
 from delayed import DELAYED, DELAYED_ANSWER, DELAYED_HINT, delayed
 from explained_text import SCREEN
-from program import find
-
-
-def setUpModule():
-    find()
-
 
 # A place that counts what another one saves, its labels, the guess at it, and what the text begins with where it is ignored.
 COUNTED = "pmtrace 1\nstore 0 0x1000 01\nstore 0 0x2000 01\nclwb 0 0x1000\nsfence 0\nstore 0 0x2000 02\nisPersist 0 0x1000 1\n"

@@ -12,9 +12,8 @@ import faulty
 import machine
 from checks import Checks, add_tests
 from faulty import Answer
-from program import find
 from slices import slice_of, standing_of, store_slice_of
-from traces import EXAMPLES, all_traces
+from traces import all_traces
 
 TRACES = 150
 
@@ -313,7 +312,3 @@ class Slices(Checks):
 
 add_tests(Slices, Slices.check_slices_of, {f"slices_of_{file.stem}": file for file in all_traces()})
 add_tests(Slices, Slices.check_fault, {f"faults_of_{kind}": kind for kind in ("read", "write", "nothing_taken", "memory")})
-
-
-def setUpModule():
-    find()

@@ -4,7 +4,6 @@ import re
 import subprocess
 
 from checks import Checks
-from program import find
 
 TRACE = """pmtrace 1
 store 0 0x1000 01
@@ -41,10 +40,6 @@ SHOWN = {
     "gr\u00fc\u00df \u6f22 \U0001f600".encode(): "gr\u00fc\u00df \u6f22 \U0001f600",
     b"a | b": "a | b",
 }
-
-
-def setUpModule():
-    find()
 
 
 def numbered(texts):

@@ -10,7 +10,6 @@ import machine
 from checks import Checks
 from faulty import Answer, short
 from machine import FENCES, FLUSHES
-from program import find
 from traces import EXAMPLES, all_traces
 
 TRACES = 100
@@ -199,10 +198,6 @@ WORDS = {
     ("--frob",): "'--frob'",
     ("a", "b"): "'b'",
 }
-
-
-def setUpModule():
-    find()
 
 
 class Stats(Checks):

@@ -1,17 +1,16 @@
 """pmtrim-suite: ids that last, reports and what is written of them, baselines, shards, and suites of programs that are recorded."""
 import json
 import os
-import pathlib
 import re
 import subprocess
 import sys
-import tempfile
 import xml.etree.ElementTree as tree
 
-from checks import Checks, need_command
-from documents import outputs_of
-from installed import run, run_alone
-from program import TOP, find
+from checks import Checks
+from documents import expect_shown
+from needs import need_recorder
+from program import TOP
+from running import run
 from sarif_types import sarif_schema
 from schemas import complaints
 from suites import CLEAN, KNOWN_BUGS, NEW_BUG, RIGHT, SUITE, Programs, counting_pmtrim, files_in, ids_of, put_run, put_save, report_of, suite
@@ -22,10 +21,6 @@ from labels import Places  # noqa: E402
 
 SCHEMA = TOP / "tests/oracles/sarif_schema.json"
 ACCEPTED = "a cache, made anew at each start"
-
-
-def setUpModule():
-    find()
 
 
 class Ids(Checks):
@@ -301,9 +296,7 @@ class Suites(Checks):
 
     @classmethod
     def setUpClass(cls):
-        made = tempfile.TemporaryDirectory()
-        cls.addClassCleanup(made.cleanup)
-        cls.programs = Programs(pathlib.Path(made.name))
+        cls.programs = Programs(cls.shared_folder())
 
     def record(self, *words):
         return suite("record", "runs", "--own", "--", *words, cwd=self.programs.folder)
@@ -357,9 +350,7 @@ class Suites(Checks):
 
     def test_valgrind(self):
         """Programs as they are: those that map a pool are runs; of one that records itself its own trace is taken."""
-        need_command("valgrind", "valgrind")
-        built = run_alone(["make", "-s", "-C", "recorders/valgrind"])
-        self.expect("the recorder is built", built.status == 0, built)
+        need_recorder()
         page = (TOP / "recorders/valgrind/README.md").read_text()
         (self.programs.folder / "save.c").write_text(page.split("```c save.c\n")[1].split("```")[0])
         self.programs.compile("-g", "-mclwb", "save.c", "-o", "save")
@@ -390,5 +381,4 @@ class Suites(Checks):
 
     def test_page(self):
         """The commands of docs/SUITE.md."""
-        for command, told, wanted in outputs_of(TOP / "docs/SUITE.md", self.program):
-            self.expect_equal(command, told, wanted)
+        expect_shown(self, "docs/SUITE.md")

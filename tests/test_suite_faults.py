@@ -6,12 +6,7 @@ import subprocess
 import time
 
 from checks import Checks
-from program import find
 from suites import CLEAN, SUITE, files_in, put_program, put_run, suite
-
-
-def setUpModule():
-    find()
 
 
 class Faults(Checks):

@@ -2,22 +2,18 @@
 import pathlib
 import random
 import re
-import tempfile
 from functools import partial
 
-from checks import Checks, need_command
-from installed import run, run_alone
-from program import TOP, find
+from checks import Checks
+from needs import need_recorder
+from program import TOP
+from running import run
 from suites import KNOWN_BUGS, Programs, counting_pmtrim, put_save, report_of, suite
 from test_parts import long_trace, parts_at, text_of
 
 TRACES = 24
 KINDS = ("failure", "never_persisted", "overwritten", "unwritten", "dropped")
 UNKNOWN = {"dropped": "whether (?:it does|they do) nothing", "unwritten": "whether (?:its|their) bytes were ever stored"}
-
-
-def setUpModule():
-    find()
 
 
 def random_labels(choose, trace):
@@ -166,9 +162,7 @@ class Parts(Checks):
 
     def test_recorded_by_itself(self):
         """One bug and more events than a trace has: the run in parts has the cause and the count of a short run, and a base for its first part."""
-        made = tempfile.TemporaryDirectory()
-        self.addCleanup(made.cleanup)
-        programs = Programs(pathlib.Path(made.name))
+        programs = Programs(self.new_folder())
         for name, rounds in (("short", 2), ("long", 150_000)):
             body = [f"    for (int round = 0; round < {rounds}; round++) {{", *KNOWN_BUGS["one_fence"], "    }"]
             programs.add(name, body)
@@ -185,9 +179,7 @@ class Parts(Checks):
 
     def test_recorded(self):
         """A program that makes more events than a trace has: it is recorded in parts, and reported as one run beside a clean one."""
-        need_command("valgrind", "valgrind")
-        built = run_alone(["make", "-s", "-C", "recorders/valgrind"])
-        self.expect("the recorder is built", built.status == 0, built)
+        need_recorder()
         folder = self.new_folder()
         (folder / "ends.c").write_text((TOP / "tests/recorders/valgrind/ends.c").read_text())
         built = run(["gcc", "-g", "-O1", "-mclwb", "-I", TOP / "recorders/valgrind", "ends.c", "-o", "ends"], cwd=folder)

@@ -3,9 +3,10 @@ import json
 import os
 import shutil
 
-from checks import Checks, need_command
-from installed import run
-from program import TOP, find
+from checks import Checks
+from needs import need
+from program import TOP
+from running import run
 
 FILES = TOP / "packaging/vim"
 TRACE = """\
@@ -45,8 +46,7 @@ LISTED = "map(getqflist(), {_, it -> [bufname(it.bufnr), it.lnum, it.type, it.te
 
 
 def setUpModule():
-    find()
-    need_command("vim", "vim")
+    need("vim", "vim")
 
 
 class Vim(Checks):

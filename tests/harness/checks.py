@@ -1,14 +1,10 @@
-"""What the tests in Python stand on: a test case of several checks, tests from a table, and packages of Debian."""
+"""What the tests in Python stand on: a test case of several checks, and tests from a table."""
 import os
 import pathlib
-import shutil
-import subprocess
 import tempfile
 import unittest
 from concurrent.futures import ThreadPoolExecutor
 from functools import partialmethod
-
-from program import TOP, NotThere
 
 
 class Checks(unittest.TestCase):
@@ -16,7 +12,7 @@ class Checks(unittest.TestCase):
 
     @property
     def program(self):
-        """The program under test; setUpModule finds it."""
+        """The program under test; the runner finds it."""
         return os.environ["PMTRIM"]
 
     def expect(self, name, right, told=""):
@@ -39,9 +35,18 @@ class Checks(unittest.TestCase):
 
     def new_folder(self):
         """A folder that goes when the test ends."""
-        made = tempfile.TemporaryDirectory()
-        self.addCleanup(made.cleanup)
-        return pathlib.Path(made.name)
+        return folder_until(self.addCleanup)
+
+    @classmethod
+    def shared_folder(cls):
+        """A folder that goes when the last test of the class ends."""
+        return folder_until(cls.addClassCleanup)
+
+
+def folder_until(add_cleanup):
+    made = tempfile.TemporaryDirectory()
+    add_cleanup(made.cleanup)
+    return pathlib.Path(made.name).resolve()
 
 
 def add_tests(case, check, rows):
@@ -50,17 +55,3 @@ def add_tests(case, check, rows):
         if hasattr(case, f"test_{name}"):
             raise ValueError(f"{case.__name__} has a test {name}")
         setattr(case, f"test_{name}", partialmethod(check, row))
-
-
-def install(package):
-    """Installs a package of Debian, where it may be."""
-    installing = ["bash", "-c", '. tests/harness/shared.sh && alone install_packages "$@"', "install", package]
-    subprocess.run(installing, cwd=TOP, stdin=subprocess.DEVNULL)
-
-
-def need_command(command, package):
-    """The command is there, or its package of Debian is installed where it may be. NotThere: it is not."""
-    if shutil.which(command) is None:
-        install(package)
-    if shutil.which(command) is None:
-        raise NotThere(f"there is no {command}; it needs: apt-get install {package}")

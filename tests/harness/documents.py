@@ -1,18 +1,17 @@
-#!/usr/bin/env python3
-"""Runs what documents show, and compares: documents.py PROGRAM FILE.md ..  The last line is 'N passed, M failed'.
+"""Runs what documents show, and compares.
 
 A block fenced as `console` holds commands, each after `$ `, and under each what it writes to both streams. It runs in a folder with
 `pmtrim`, `examples`, `crates`, `recorders`, `replay` and `suite`; `make` while no other script builds there. A block fenced with two
 words, as `c recorder.c`, is written to a file of that name in that folder first.
 """
-import os
+import contextlib
 import pathlib
 import re
-import subprocess
-import sys
 import tempfile
 
+from needs import alone
 from program import TOP
+from running import run_as_shown
 
 SHOWN = ("examples", "crates", "recorders", "replay", "suite")
 BLOCK = re.compile(r"^```(\S+)(?: (\S+))?\n(.*?)^```$", re.M | re.S)
@@ -43,32 +42,15 @@ def outputs_of(path, program):
         for kind, file, block in blocks:
             if kind == "console" and not file:
                 for command, wanted in commands_of(block):
-                    yield command, written_by(command, folder, program), wanted
+                    yield command, written_by(command, folder), wanted
 
 
-def written_by(command, folder, program):
-    streams = {"stdin": subprocess.DEVNULL, "stdout": subprocess.PIPE, "stderr": subprocess.STDOUT}
-    known = {**os.environ, "PMTRIM": str(program)}
-    alone = ["flock", TOP / "tests"] if command.startswith("make ") else []
-    done = subprocess.run([*alone, "bash", "-c", command], cwd=folder, env=known, timeout=1200, **streams)
-    return done.stdout.decode(errors="replace")
+def written_by(command, folder):
+    with alone() if command.startswith("make ") else contextlib.nullcontext():
+        return run_as_shown(["bash", "-c", command], cwd=folder)[1]
 
 
-def main():
-    program = pathlib.Path(sys.argv[1]).resolve()
-    passed = failed = 0
-    for name in sys.argv[2:]:
-        outputs = list(outputs_of(TOP / name, program))
-        for command, told, wanted in outputs:
-            if told != wanted:
-                print(f"{name}: {command}\n--- it wrote\n{told}--- wanted\n{wanted}---")
-        if not outputs:
-            print(f"{name}: shows no command")
-        right = sum(told == wanted for _, told, wanted in outputs)
-        passed, failed = passed + right, failed + (len(outputs) - right or not outputs)
-    print(f"{passed} passed, {failed} failed")
-    return 1 if failed else 0
-
-
-if __name__ == "__main__":
-    sys.exit(main())
+def expect_shown(test, document):
+    """A check for each command of a document: it writes what stands under it."""
+    for command, told, wanted in outputs_of(TOP / document, test.program):
+        test.expect(command, told == wanted, f"\n--- it wrote\n{told}--- wanted\n{wanted}---")

@@ -2,9 +2,7 @@
 import os
 import pathlib
 import subprocess
-import sys
 import tempfile
-from concurrent.futures import ThreadPoolExecutor
 from contextlib import contextmanager
 from typing import NamedTuple
 
@@ -46,18 +44,3 @@ def run(library, program, words, text=b"", **faults):
         with os.fdopen(told, "rb") as pipe:
             failed = len(pipe.read())
     return Answer(done.returncode, done.stdout, done.stderr), failed
-
-
-def judge(judgements):
-    """Makes the calls side by side, each of which gives complaints; prints the complaints and the counts, and ends the process."""
-    passed = failed = 0
-    with ThreadPoolExecutor(os.cpu_count()) as threads:
-        for complaints in threads.map(lambda call: call(), judgements):
-            for complaint in complaints[:3]:
-                print(complaint)
-            if complaints:
-                failed += 1
-            else:
-                passed += 1
-    print(f"{passed} passed, {failed} failed")
-    sys.exit(1 if failed or not passed else 0)

@@ -2,10 +2,9 @@
 import os
 import pathlib
 import re
-import subprocess
-from typing import NamedTuple
 
 from program import TOP
+from running import run
 
 # As they stand in the repository, by their names; pmtrim is the program under test.
 OTHERS = {
@@ -14,29 +13,6 @@ OTHERS = {
     "pmtrim-suite": TOP / "suite/pmtrim-suite",
     "pmtrim-lines": TOP / "recorders/libpmem/pmtrim-lines",
 }
-# Recorders are built in their place, by one script at a time.
-ALONE = ["bash", "-c", '. tests/harness/shared.sh && alone "$@"', "alone"]
-
-
-class Told(NamedTuple):
-    """How a program ended: its status, and what it wrote to its two streams, or to both of them in `out`."""
-
-    status: int
-    out: str
-    err: str = ""
-
-
-def run(words, known=None, **options):
-    """Runs a program, with names for its environment besides those that there are."""
-    options = {"cwd": TOP, "stdin": subprocess.DEVNULL, "timeout": 1800, **options}
-    done = subprocess.run([str(word) for word in words], capture_output=True, env={**os.environ, **(known or {})}, **options)
-    return Told(done.returncode, done.stdout.decode(errors="replace"), done.stderr.decode(errors="replace"))
-
-
-def run_alone(words, known=None):
-    return run([*ALONE, *words], known)
-
-
 def programs():
     """The paths of all, pmtrim first."""
     return [pathlib.Path(os.environ["PMTRIM"]), *OTHERS.values()]

@@ -1,8 +1,4 @@
-#!/usr/bin/env python3
-"""The program under test: the one that PMTRIM names, or the built one, which ./pmtrim proves and builds first where there is none.
-
-program.py prints its path, or says on the last line '0 passed, 1 failed'.
-"""
+"""The program under test: the one that PMTRIM names, or the built one, which ./pmtrim proves and builds first where there is none."""
 import os
 import pathlib
 import subprocess
@@ -47,16 +43,3 @@ def find():
         print(f"test: {BUILT.relative_to(TOP)} is older than its sources", file=sys.stderr)
     os.environ["PMTRIM"] = str(pathlib.Path(named or BUILT).resolve())
     return os.environ["PMTRIM"]
-
-
-def main():
-    try:
-        print(find())
-    except NotThere as fault:
-        print(f"{fault}\n0 passed, 1 failed")
-        return 1
-    return 0
-
-
-if __name__ == "__main__":
-    sys.exit(main())

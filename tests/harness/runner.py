@@ -7,7 +7,7 @@ import sys
 import traceback
 import unittest
 
-from program import TOP, NotThere
+from program import TOP, NotThere, find
 
 # The folders of tests/ whose modules a test imports by name.
 ROOMS = ("harness", "oracles", "page", "recorders", "recorders/truth", "replay", "traces")
@@ -71,7 +71,13 @@ def main():
     asked = parser.parse_args()
     sys.path[:0] = [str(TOP / "tests" / room) for room in ("", *ROOMS)]
     suite, result = tests_of(asked.name, asked.k), Result()
-    suite.run(result)
+    try:
+        if not getattr(sys.modules.get(f"test_{asked.name}"), "NEEDS_NO_PROGRAM", False):
+            find()
+        suite.run(result)
+    except NotThere as fault:
+        print(fault)
+        result.failed += 1
     if not result.passed + result.failed:
         result.failed = 1
         print(f"no test was run; tests/test_{asked.name}.py has", *names_of(tests_of(asked.name)))

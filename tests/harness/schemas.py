@@ -8,10 +8,9 @@ import shutil
 import subprocess
 import sys
 
-from checks import install
-from program import NotThere
+from needs import need
 
-DEBIANS, PACKAGE = "/usr/bin/python3", "python3-jsonschema"
+DEBIANS = "/usr/bin/python3"
 
 
 def has_module(python):
@@ -24,10 +23,7 @@ def python_with_module():
     """This Python or Debian's, where the package is installed if it may be. NotThere: neither has the module."""
     if has_module(sys.executable):
         return sys.executable
-    if not has_module(DEBIANS):
-        install(PACKAGE)
-    if not has_module(DEBIANS):
-        raise NotThere(f"there is no module jsonschema for {DEBIANS}; it needs: apt-get install {PACKAGE}")
+    need("python3-jsonschema", (f"module jsonschema for {DEBIANS}", lambda: has_module(DEBIANS)))
     return DEBIANS
 
 

@@ -2,8 +2,8 @@
 import json
 import os
 
-from installed import run
 from program import TOP
+from running import run
 
 SUITE = TOP / "suite/pmtrim-suite"
 

@@ -1,7 +1,6 @@
 """The traces that tests run: those of examples/ and those of tests/traces/, where the answers to both stand."""
-import pathlib
+from program import TOP
 
-TOP = pathlib.Path(__file__).parents[2]
 EXAMPLES = TOP / "examples"
 WORKED = TOP / "tests/traces"
 

@@ -6,10 +6,8 @@ import json
 import pathlib
 import re
 
-from checks import install
-from program import NotThere
+from needs import need
 
-PACKAGE = "golang-github-haya14busa-go-sarif-dev"
 TYPES = pathlib.Path("/usr/share/gocode/src/github.com/haya14busa/go-sarif/sarif/sarif.go")
 STRUCT = re.compile(r"^type (\w+) struct \{\n(.*?)^\}", re.S | re.M)
 FIELD = re.compile(r'^\s+\w+\s+(\S+)\s+`json:"([^",]+)(,omitempty)?"`', re.M)
@@ -51,8 +49,5 @@ def schema_of(source):
 @functools.cache
 def sarif_schema():
     """The schema, as a text. NotThere: the package is not, and may not be installed."""
-    if not TYPES.exists():
-        install(PACKAGE)
-    if not TYPES.exists():
-        raise NotThere(f"there is no {TYPES}; it needs: apt-get install {PACKAGE}")
+    need("golang-github-haya14busa-go-sarif-dev", str(TYPES))
     return json.dumps(schema_of(TYPES.read_text()))

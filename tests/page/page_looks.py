@@ -1,9 +1,8 @@
 """How pages look and what they do with hostile texts: labels and names, without script, dark and print, for the keyboard and for readers."""
 import json
-import pathlib
 import re
 
-TOP = pathlib.Path(__file__).resolve().parents[2]
+from program import TOP
 
 # Labels that would break a page that takes them for anything but text.
 HOSTILE = [

@@ -1,6 +1,5 @@
 """What pages say, compared with the machine: the columns, the crash of each failure, and what a place leaves."""
 import json
-import pathlib
 import random
 
 from crowded import random_trace
@@ -8,7 +7,6 @@ from explained import Explained
 from machine import FENCES, FLUSHES, Trace, is_kept, least, spelled, text_of
 from slices import Plain, slice_of
 
-TOP = pathlib.Path(__file__).resolve().parents[2]
 TRACES = 8
 LETTERS = {"store": "S", "clwb": "C", "clflushopt": "O", "clflush": "F", "sfence": "s", "mfence": "m", "isPersist": "P", "isOrderedBefore": "B"}
 REASONS = {"safe": "s", "unfenced": "u", "repeated": "r", "overtaken": "o", "empty": "e", "useless": "z"}

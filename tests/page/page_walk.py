@@ -1,13 +1,11 @@
 """Walks through the pages of the examples: each finding by keys and by mouse, the filters, the strip and the address."""
 import json
-import pathlib
 
 from drawn_mends import wanted_marks
 from page_files import KINDS, name_of, number_of
 from page_machine import read_trace, wrong_failure
+from program import TOP
 from slices import Plain
-
-TOP = pathlib.Path(__file__).resolve().parents[2]
 
 # A trace whose findings are known by hand: an assertion of each kind fails, two stores are never persisted, a flush and a fence do nothing.
 KNOWN = """pmtrace 1

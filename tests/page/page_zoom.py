@@ -1,8 +1,7 @@
 """The wheel over the strip and the picture, and the keys that come closer: what stands at the pointer stays there, no end is passed, and the
 wheel alone scrolls the page."""
-import pathlib
+from program import TOP
 
-TOP = pathlib.Path(__file__).resolve().parents[2]
 CTRL, SHIFT = 2, 8
 NOTCH = 100
 

@@ -5,7 +5,9 @@ import re
 import signal
 import subprocess
 
-from recording import AS_CPP, COMPILERS, HERE, SANITIZED, Tests, build, events_of, has_compiler, rebuilt, run, text_of
+from checks import add_tests
+from recording import AS_CPP, COMPILERS, PROGRAMS, SANITIZED, Recording, events_of, need_compiler, text_of
+from running import run_as_shown
 
 PAGE = 4096
 JUMPED = "the trace ends after event 1: a call was left by a jump, or a signal handler came into it"
@@ -144,7 +146,7 @@ def tells_of_pages():
     return version >= (6, 7) and ctypes.CDLL(None).syscall(323, 1) >= 0
 
 
-class CaseTests(Tests):
+class CaseTests(Recording):
     """Programs of tests/recorders/programs, and what each case of them must record and tell."""
 
     def told(self, text, trace):
@@ -156,7 +158,7 @@ class CaseTests(Tests):
 
     def case(self, name, words, trace, wanted, **options):
         events, lines, answer = wanted
-        status, text = run([str(word) for word in words], **options)
+        status, text = run_as_shown([str(word) for word in words], **options)
         self.expect(f"{name}: it ends", status == 0, f"{status} {text}")
         self.expect(f"{name}: what is told", self.told(text, trace) == (lines, [answer]), text)
         made = text_of(trace).splitlines()[1:]
@@ -169,8 +171,9 @@ class CaseTests(Tests):
             words = [word.replace("NUMBER", str(number)) for word in more]
             self.case(f"{name} {case}", [program, trace, *words, case], trace, wanted)
 
-    def with_compiler(self, name, compiler):
+    def with_compiler(self, name):
         """All cases that end well, as one compiler makes them."""
+        compiler = {**COMPILERS, **SANITIZED}[name]
         files = str(self.folder / f"{name}.NUMBER.file")
         self.cases(f"pools.{name}", self.in_c("pools", compiler, f".{name}"), POOLS, [files])
         watching = self.in_c("watching", compiler, f".{name}")
@@ -184,7 +187,7 @@ class CaseTests(Tests):
     def meanwhile(self, name, program):
         """Each value that is noticed is one that the other thread stored."""
         trace = self.folder / f"meanwhile.{name}.trace"
-        status, text = run([program, trace, self.folder / f"meanwhile.{name}", "meanwhile"])
+        status, text = run_as_shown([program, trace, self.folder / f"meanwhile.{name}", "meanwhile"])
         stores = [fields for fields in events_of(trace) if fields[0] == "store"]
         values = {fields[3] for fields in stores}
         right = (status, text) == (0, "closed 0\n") and values <= {"ff" * 8, "00" * 8} and {fields[2] for fields in stores} <= {"0x0"}
@@ -195,9 +198,8 @@ class CaseTests(Tests):
         late, early = [ONE_STORED, "clwb 0 0x0", "sfence 0", "store 0 0x1388 6162"], [ONE_STORED, "clwb 0 0x0", "store 0 0x1388 6162", "sfence 0"]
         trace = self.folder / f"written.{name}.trace"
         words = [program, trace, self.folder / f"written.{name}", "written"]
-        every = {**os.environ, "PMTRACE_WATCH": "all"}
-        self.case(f"watching.{name} all", words, trace, (early, [], 0), env=every)
-        status, text = run(words)
+        self.case(f"watching.{name} all", words, trace, (early, [], 0), known={"PMTRACE_WATCH": "all"})
+        status, text = run_as_shown(words)
         made = text_of(trace).splitlines()[1:]
         # where the system doesn't tell which pages changed, all are looked at
         right = (made, self.told(text, trace)) in ((late, ([OTHERWISE], [-1])), (early, ([], [0])))
@@ -207,7 +209,7 @@ class CaseTests(Tests):
         texts = []
         for number in range(2):
             trace = self.folder / f"atomics.{name}.{number}.trace"
-            status, text = run([program, trace])
+            status, text = run_as_shown([program, trace])
             self.expect(f"atomics.{name}", (status, text) == (0, ""), f"{status} {text}")
             texts.append([event.removeprefix("store 0 ") for event in text_of(trace).splitlines()[1:]])
         first, last = len(ATOMICS), len(ATOMICS) + len(ENTRIES)
@@ -219,7 +221,7 @@ class CaseTests(Tests):
     def numbers(self, name, program):
         """A thousand threads one after another. One in 250 leaves a flush open, and its number is not given again."""
         trace = self.folder / f"numbers.{name}.trace"
-        status, text = run([program, trace])
+        status, text = run_as_shown([program, trace])
         wanted = ["store 0 0x0 0100000000000000"]
         for number in range(1, 1001):
             thread = 1 + (number - 1) // 250
@@ -227,24 +229,24 @@ class CaseTests(Tests):
             wanted += [f"sfence {thread}"] * (number % 250 != 0)
         self.expect(f"numbers.{name}", (status, text) == (0, "") and text_of(trace).splitlines()[1:] == wanted, f"{status} {text}")
 
-    def windows(self):
+    def test_windows(self):
         program = self.in_c("windows", COMPILERS["gcc"], ".gcc")
         self.cases("windows", program, WINDOWS)
         for number, (variables, wanted) in enumerate(BY_ENVIRONMENT):
             trace = self.folder / f"rounds.{number}.trace"
-            self.case(f"windows {variables}", [program, trace, "rounds"], trace, (wanted, [], 0), env={**os.environ, **variables})
+            self.case(f"windows {variables}", [program, trace, "rounds"], trace, (wanted, [], 0), known=variables)
             beside, closed = trace.with_name(f"{trace.name}.cut"), "the window was closed here, and events came after it"
             said = text_of(beside) == (f"{len(wanted)} {closed}\n" if "PMTRACE_STOP" in variables else "")
             self.expect(f"windows {variables}: the end", said, text_of(beside))
-        status, text = run([program, self.folder / "none.trace", "rounds"], env={**os.environ, "PMTRACE_START": "7x"})
+        status, text = run_as_shown([program, self.folder / "none.trace", "rounds"], {"PMTRACE_START": "7x"})
         self.expect("a window that is no number", status == 1 and "PMTRACE_START=7x is no number of events" in text, text)
 
-    def leaving(self):
+    def test_leaving(self):
         """Calls and programs that are left in other ways than by return."""
         program = self.in_c("leaving", COMPILERS["gcc"], ".gcc")
         for case in ("cancel", "cancel-at-once"):
             trace = self.folder / f"{case}.trace"
-            status, text = run([program, trace, case])
+            status, text = run_as_shown([program, trace, case])
             self.expect(f"leaving {case}", (status, text) == (0, "closed 0\n"), f"{status} {text}")
             events = text_of(trace).splitlines()[1:]
             self.expect(f"leaving {case}: the last events", len(events) >= 50 and events[-2:] == ["clwb 0 0x0", "sfence 0"], events[-3:])
@@ -254,42 +256,41 @@ class CaseTests(Tests):
                       "none.trace: a call never returned; nothing is recorded"], -1))
         for case, wanted in (("quick-exit", 3), ("kill", -signal.SIGKILL), ("leave", 0)):
             trace = self.folder / f"{case}.trace"
-            status, _ = run([program, trace, case])
+            status, _ = run_as_shown([program, trace, case])
             if case != "quick-exit":
                 self.cut_last_line(trace)
             self.expect(f"leaving {case}", (status, text_of(trace)) == (wanted, f"pmtrace 2 64\n{ONE_STORED}\n"), f"{status}")
 
     def cut_last_line(self, trace):
         """What the page tells to do about a trace whose program was killed."""
-        status, told = run([self.program, "check", trace])
+        status, told = run_as_shown([self.program, "check", trace])
         self.expect(f"{trace.name} is refused", status == 3 and "truncated" in told, told[:100])
         subprocess.run(["sed", "-i", "$d", trace], check=True)
 
-    def destructors(self):
+    def test_destructors(self):
         built, trace = self.folder / "destructors", self.folder / "destructors.trace"
-        status, text = run([*AS_CPP, HERE / "destructors.cpp", "-o", built])
-        self.expect("destructors.cpp is built", status == 0, text)
-        status, text = run([built, trace])
+        self.expect_built(built, [*AS_CPP, PROGRAMS / "destructors.cpp", "-o", built])
+        status, text = run_as_shown([built, trace])
         events = ["store 0 0x0 0100000000000000", "store 0 0x40 0100000000000000", "clwb 0 0x0", "clwb 0 0x40", "sfence 0"]
         told = self.told(text, trace)[0]
         self.expect("destructors: the shutdown is recorded", (status, text_of(trace).splitlines()[1:]) == (0, events), text)
         self.expect("destructors: what is too late is told", told == ["what comes after the end of the program is not in the trace"], text)
         for compiler in (AS_CPP, COMPILERS["clang++"]):
-            status, text = run([*compiler, "-c", HERE / "nontrivial.cpp", "-o", self.folder / "nontrivial.o"])
+            need_compiler(compiler[0])
+            status, text = run_as_shown([*compiler, "-c", PROGRAMS / "nontrivial.cpp", "-o", self.folder / "nontrivial.o"])
             self.expect("nontrivial.cpp is refused", status != 0 and "this type is not copied by its bytes" in text, text[:300])
 
-    def unloaded(self):
+    def test_unloaded(self):
         """A library that has the recorder, and is unloaded before its threads and the program end."""
         compiler = COMPILERS["gcc"]
         host, plugin, trace = self.folder / "host", self.folder / "plugin.so", self.folder / "plugin.trace"
-        right = build([*compiler, "-fPIC", "-shared", HERE / "plugin.c", "-o", plugin]) and build([*compiler, HERE / "host.c", "-o", host, "-ldl"])
-        self.expect("plugin.so is built", right)
-        status, text = run([host, plugin, trace])
+        self.expect_built(plugin, [*compiler, "-fPIC", "-shared", PROGRAMS / "plugin.c", "-o", plugin], [*compiler, PROGRAMS / "host.c", "-o", host, "-ldl"])
+        status, text = run_as_shown([host, plugin, trace])
         wanted = ["store 0 0x0 0100000000000000", "clwb 0 0x0", "sfence 0", "store 1 0x0 0200000000000000", "clwb 1 0x0", "sfence 1"]
         right = (status, text, text_of(trace).splitlines()[1:]) == (-signal.SIGTERM, "", wanted)
         self.expect("a plugin that is unloaded", right, f"{status} {text}")
 
-    def cost(self):
+    def test_cost(self):
         """A store costs less than a write(2); a watched persist looks at the pages that changed, where the system tells which."""
         program = self.in_c("cost", COMPILERS["gcc"], ".cost", ["-O2"])
         # other programs run beside these, so that one try of five is enough
@@ -307,21 +308,12 @@ class CaseTests(Tests):
         times = []
         for variables in ({}, {"PMTRACE_WATCH": "all"}):
             words = [program, self.folder / "cost.trace", self.folder / "cost.pool"]
-            status, text = run(words, env={**os.environ, **variables})
+            status, text = run_as_shown(words, variables)
             self.expect("cost", status == 0 and len(text.split()) == 3, text)
             times.append([int(word) for word in text.split()] if status == 0 else [0, 0, 0])
         (stores, writes, persists), (_, _, looks) = times
         print(f"a recorded store takes {stores} ns, a write {writes}; a watched persist {persists}, {looks} with all pages")
         return times
 
-    def all_cases(self):
-        for name, compiler in {**COMPILERS, **SANITIZED}.items():
-            if has_compiler(compiler[0], [word for word in compiler if word.startswith("-fsanitize")]):
-                self.with_compiler(name, compiler)
-            else:
-                self.expect(f"{name} works here", False, "apt-get install gcc g++ clang libclang-rt-14-dev")
-        self.windows()
-        self.leaving()
-        self.destructors()
-        self.unloaded()
-        self.cost()
+
+add_tests(CaseTests, CaseTests.with_compiler, {f"cases_{name}": name for name in (*COMPILERS, *SANITIZED)})

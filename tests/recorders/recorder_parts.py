@@ -3,7 +3,8 @@ import random
 import re
 import subprocess
 
-from recording import AS_C, Tests, run, text_of
+from recording import AS_C, Recording, text_of
+from running import run_as_shown
 
 PROGRAMS, CALLS = 80, 60
 LINES, PLACES = range(0, 256, 64), range(0, 24, 8)
@@ -50,10 +51,10 @@ def judged_claims(calls):
     return inside, aside
 
 
-class PartTests(Tests):
+class PartTests(Recording):
     """Whether a claim that passes in a window passes in the whole run."""
 
-    def parts(self):
+    def test_parts(self):
         program, set_aside, failing, passing = self.in_c("parts", AS_C, ".c"), 0, 0, 0
         for seed in range(PROGRAMS):
             calls = random_calls(seed)
@@ -74,5 +75,5 @@ class PartTests(Tests):
         text = "".join(" ".join(map(str, call)) + "\n" for call in calls)
         done = subprocess.run([program, trace, *words], input=text, capture_output=True, text=True, timeout=600, check=False)
         self.expect(f"{name} runs", done.returncode in (0, 1) and text_of(trace) != "", done.stderr)
-        report = run([self.program, "check", trace])[1]
+        report = run_as_shown([self.program, "check", trace])[1]
         return re.findall(r"^(?:persist|ordered) \d+ (\w+)$", report, re.M), done.stderr

@@ -2,7 +2,10 @@
 import collections
 import re
 
-from valgrind_runs import rebuilt, text_of
+from checks import add_tests
+from recording import events_of, rebuilt, text_of
+from running import run
+from valgrind_runs import RECORD, Recorded
 
 LINE, WORD = 64, 8
 RECORDS, LINES = 3 * LINE, (3 + 4096) * LINE
@@ -12,36 +15,22 @@ def value_of(fields):
     return int.from_bytes(bytes.fromhex(fields[3]), "little")
 
 
-class Processes:
-    """The tests of processes, with those that have the folder and the counts."""
+class Processes(Recorded):
+    """Runs of several processes, each of which leaves one trace."""
 
-    def __init__(self, tests, events_of):
-        self.tests = tests
-        self.expect = tests.expect
-        self.events_of = events_of
-        self.program = tests.build("processes", "-Wno-unused-result")
-        self.pool = tests.folder / "processes.pool"
+    def setUp(self):
+        super().setUp()
+        self.processes, self.pool = self.build("processes", "-Wno-unused-result"), self.folder / "processes.pool"
 
-    def record(self, kind, children, times, *options, **more):
+    def record_all(self, kind, children, times, *options, **more):
         """The trace, its events and what was told, of a run that ends by status 0 and leaves nothing behind."""
         self.pool.unlink(missing_ok=True)
-        words = [self.program, kind, self.pool, children, times]
-        trace, status, _, faults = self.tests.record(f"processes.{kind}.{children}", words, "--one-trace", *options, **more)
+        words = [self.processes, kind, self.pool, children, times]
+        trace, status, _, faults = self.record(f"processes.{kind}.{children}", words, "--one-trace", *options, **more)
         self.expect(f"{kind} of {children}: its status", status == 0, faults)
-        beside = sorted(path.name for path in self.tests.folder.iterdir() if path.name.startswith(f"{trace.name}."))
+        beside = sorted(path.name for path in self.folder.iterdir() if path.name.startswith(f"{trace.name}."))
         self.expect(f"{kind} of {children}: nothing else is left", set(beside) <= {f"{trace.name}.labels", f"{trace.name}.cut"}, beside)
-        return trace, self.events_of(trace), faults
-
-    def run(self):
-        for kind in ("forks", "execs"):
-            for children in (2, 5):
-                self.share(kind, children)
-        self.base()
-        self.killed()
-        self.die()
-        self.outlives()
-        self.crowd()
-        self.refused()
+        return trace, events_of(trace), faults
 
     def is_file(self, what, trace):
         last = self.pool.read_bytes()
@@ -60,9 +49,10 @@ class Processes:
             writers[value_of(record)].add(fields[1])
         return writers
 
-    def share(self, kind, children, times=40):
+    def share(self, row, times=40):
+        kind, children = row
         what = f"{kind} of {children}"
-        trace, events, faults = self.record(kind, children, times)
+        trace, events, faults = self.record_all(kind, children, times)
         self.is_file(what, trace)
         writers = self.log(what, events, (children + 1) * times)
         numbers = [thread for threads in writers.values() for thread in threads]
@@ -79,33 +69,33 @@ class Processes:
         labels = text_of(trace.with_name(f"{trace.name}.labels")).splitlines()
         right = [line.split(" ", 2)[0] for line in labels] == [str(number) for number in range(1, len(events) + 1)]
         self.expect(f"{what}: labels", right and all("processes.c:" in line for line in labels), labels[:2])
-        verdicts = re.findall(r"^ordered \d+ (\w+)$", self.tests.accept(trace)[1], re.M)
+        verdicts = re.findall(r"^ordered \d+ (\w+)$", self.report(trace)[1], re.M)
         self.expect(f"{what}: its claims", verdicts == ["pass"] * (children + 1) * times, set(verdicts))
-        self.tests.is_cut(what, trace, None)
+        self.is_cut(what, trace, None)
 
-    def base(self):
+    def test_base(self):
         """A pool that a child maps first has a base, and --file takes what a child writes."""
-        folder = self.tests.folder / "shared"
+        folder = self.folder / "shared"
         folder.mkdir()
         pool = folder / "log"
         pool.write_bytes(b"before")
-        trace = self.tests.folder / "written.trace"
+        trace = self.folder / "written.trace"
         words = ["--one-trace", "--base", f"--file={pool}", "--trace", trace]
         writes = f"printf one >> {pool}; (printf two >> {pool}; sync {pool}); printf three >> {pool}"
-        status, _, faults = self.tests.run([self.tests.recorder, *words, "sh", "-c", writes])
+        status, _, faults = run([RECORD, *words, "sh", "-c", writes])
         base = trace.with_name(f"{trace.name}.base").read_bytes()
         last = rebuilt(trace, base)
         self.expect("a shared file: its base", status == 0 and base == b"before" + bytes(11), f"{base} {faults}")
         self.expect("a shared file: what is written", last == pool.read_bytes() == b"beforeonetwothree", last)
-        flushed = [" ".join(fields[::2]) for fields in self.events_of(trace) if fields[0] in ("clwb", "sfence")]
+        flushed = [" ".join(fields[::2]) for fields in events_of(trace) if fields[0] in ("clwb", "sfence")]
         self.expect("a shared file: what is synchronized", flushed == ["clwb 0x0", "sfence"], flushed)
 
-    def killed(self):
+    def test_killed(self):
         """A process that is killed, at some time while it has the turn: the others go on, and at most its last store is missing."""
         self.expect("killed while it ran: told", any(self.killed_once() for _ in range(6)), "it was never so")
 
     def killed_once(self):
-        trace, events, faults = self.record("killed", 3, 40)
+        trace, events, faults = self.record_all("killed", 3, 40)
         last, place = self.pool.read_bytes(), LINES + LINE
         again = bytearray(rebuilt(trace, bytes(len(last))))
         stored = int.from_bytes(again[place : place + WORD], "little")
@@ -117,41 +107,45 @@ class Processes:
         self.expect("killed: its stores", values == list(range(1, stored + 1)), len(values))
         return "1 process was killed while it ran; the last thing that it did may be missing" in faults
 
-    def die(self, children=260):
+    def test_die(self, children=260):
         """What processes that were killed had of numbers is given again."""
-        trace, events, _ = self.record("die", children, 1)
+        trace, events, _ = self.record_all("die", children, 1)
         self.is_file("die", trace)
         saved = [fields[2] for fields in events if fields[0] == "store" and int(fields[2], 16) > LINES]
         self.expect("die: all are recorded", saved == [f"{LINES + LINE * number:#x}" for number in range(1, children + 1)], len(saved))
-        self.tests.is_cut("die", trace, None)
+        self.is_cut("die", trace, None)
 
-    def outlives(self):
-        trace, events, faults = self.record("outlives", 1, 1)
+    def test_outlives(self):
+        trace, events, faults = self.record_all("outlives", 1, 1)
         stores = [fields[2] for fields in events if fields[0] == "store" and int(fields[2], 16) >= LINES]
         why = "the first process ended here, and 1 other went on"
         self.expect("outlives: what is recorded", stores == [f"{LINES:#x}"], stores)
         self.expect("outlives: told", f"the trace ends after event {len(events)}: {why}\n" in faults, faults)
-        self.tests.is_cut("outlives", trace, f"{len(events)} {why}\n")
+        self.is_cut("outlives", trace, f"{len(events)} {why}\n")
         missing = re.search(r"process \d+; not recorded: events after the end of the trace: 3\n", faults)
         self.expect("outlives: what the child does is told", missing, faults)
 
-    def crowd(self):
-        trace, events, faults = self.record("crowd", 2, 150)
+    def test_crowd(self):
+        trace, events, faults = self.record_all("crowd", 2, 150)
         numbers = {fields[1] for fields in events}
         told = "a trace has at most 256 threads at one time, and here is the 257th"
         self.expect("257 threads of two processes", numbers == {str(number) for number in range(256)} and told in faults, faults)
-        self.tests.is_cut("257 threads of two processes", trace, f"{len(events)} {told}\n")
+        self.is_cut("257 threads of two processes", trace, f"{len(events)} {told}\n")
 
-    def refused(self):
+    def test_refused(self):
         for words, told in (
             (["--start-after", "main"], "--one-trace has no windows"),
             (["--events", "2-"], "--one-trace has no windows"),
             (["--pmdk"], "--one-trace and --pmdk don't go together"),
         ):
-            status, _, faults = self.tests.run([self.tests.recorder, "--one-trace", *words, self.program, "forks", self.pool, 1, 1])
+            status, _, faults = run([RECORD, "--one-trace", *words, self.processes, "forks", self.pool, 1, 1])
             self.expect(f"--one-trace with {words[0]}", status == 2 and told in faults, f"{status} {faults}")
-        _, events, faults = self.record("window", 1, 1)
+        _, events, faults = self.record_all("window", 1, 1)
         stores = [fields[2] for fields in events if fields[0] == "store" and int(fields[2], 16) >= LINES]
         self.expect("a window: all is recorded", stores == [f"{LINES:#x}", f"{LINES + WORD:#x}"], stores)
         told = "windows that the program asked for, which one trace of several processes has not: 2" in faults
         self.expect("a window: told", told, faults)
+
+
+SHARED = {f"{kind}_of_{children}": (kind, children) for kind in ("forks", "execs") for children in (2, 5)}
+add_tests(Processes, Processes.share, SHARED)

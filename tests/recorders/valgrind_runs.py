@@ -1,24 +1,14 @@
-"""For the tests of pmtrim-record: running programs, and reading their traces. The machine may have much else to do, so that what is waited
-for may take long."""
-import subprocess
-import time
+"""Running programs under pmtrim-record, for its tests."""
+from needs import need_recorder
+from program import TOP
+from recording import Recording, text_of
+from running import run
 
+SOURCES = TOP / "tests/recorders/valgrind"
+FOLDER = TOP / "recorders/valgrind"
+RECORD = FOLDER / "pmtrim-record"
+COMPILER = ["gcc", "-O1", "-g", "-mclwb", "-Wall", "-Wextra", "-Werror", "-pthread", "-I", FOLDER]
 UNDRAWN = "turns that were drawn without the seed"
-
-
-def run(words, **options):
-    """The status, standard output and standard error."""
-    options.setdefault("timeout", 1200)
-    done = subprocess.run([str(word) for word in words], stdin=subprocess.DEVNULL, capture_output=True, **options)
-    return done.returncode, done.stdout.decode(errors="replace"), done.stderr.decode(errors="replace")
-
-
-def wait_until(holds, seconds=300):
-    """Whether it holds within so many seconds."""
-    until = time.monotonic() + seconds
-    while not (held := holds()) and time.monotonic() < until:
-        time.sleep(0.01)
-    return held
 
 
 def drawn(record):
@@ -31,25 +21,25 @@ def drawn(record):
     return found
 
 
-def text_of(path):
-    return path.read_text() if path.exists() else ""
+class Recorded(Recording):
+    """Tests of programs that run under pmtrim-record."""
 
+    @classmethod
+    def setUpClass(cls):
+        super().setUpClass()
+        need_recorder()
 
-def events_of(path):
-    """The events of a trace, each with its fields."""
-    return [line.split(" ") for line in text_of(path).splitlines()[1:]]
+    def build(self, name, *flags, source=None):
+        built = self.builds / name
+        return self.expect_built(built, [*COMPILER, *flags, source or SOURCES / f"{name}.c", "-o", built])
 
+    def record(self, name, words, *options, accepted=True, **more):
+        """Runs a program under the recorder: the trace, the status, and what was written."""
+        trace = self.folder / f"{name}.trace"
+        told = run([RECORD, *options, "--trace", trace, *words], **more)
+        if accepted:
+            self.report(trace)
+        return trace, *told
 
-def stores_of(path):
-    """The address and the bytes of each store."""
-    return [(int(fields[2], 16), bytes.fromhex(fields[3])) for fields in events_of(path) if fields[0] == "store"]
-
-
-def rebuilt(path, memory, start=0):
-    """The bytes of a file with the stores of a trace written in order, those from the address `start` on."""
-    memory = bytearray(memory)
-    for address, data in stores_of(path):
-        at = address - start
-        if 0 <= at < len(memory):
-            memory[at : at + len(data)] = data
-    return bytes(memory)
+    def is_text(self, name, trace, wanted):
+        self.expect(name, text_of(trace) == "pmtrace 2 64\n" + wanted, f"\n{text_of(trace)}")

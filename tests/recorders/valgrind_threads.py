@@ -5,7 +5,8 @@ import resource
 import subprocess
 import time
 
-from valgrind_runs import drawn
+from recording import events_of
+from valgrind_runs import RECORD, Recorded, drawn
 
 SAVE_EVENTS = 3
 KERNEL = pathlib.Path("/proc/sys/kernel")
@@ -30,69 +31,58 @@ def leave_numbers(left):
         print("threads are not numbered anew: the kernel may not be told to")
 
 
-class Threads:
-    """The tests of threads, with those that have the folder and the counts."""
+class Threads(Recorded):
+    """Runs of several threads."""
 
-    def __init__(self, tests, events_of):
-        self.tests = tests
-        self.expect = tests.expect
-        self.events_of = events_of
-        self.program = tests.build("threads")
-        self.pool = tests.folder / "threads.pool"
+    def setUp(self):
+        super().setUp()
+        self.threads, self.pool = self.build("threads"), self.folder / "threads.pool"
 
-    def record(self, kind, threads, times, *options, accepted=False):
+    def record_all(self, kind, threads, times, *options, accepted=False):
         self.pool.unlink(missing_ok=True)
-        words = [self.program, kind, self.pool, threads, times]
-        trace, status, told, faults = self.tests.record(f"threads.{kind}", words, *options, accepted=accepted)
+        words = [self.threads, kind, self.pool, threads, times]
+        trace, status, told, faults = self.record(f"threads.{kind}", words, *options, accepted=accepted)
         self.expect(f"{kind}: its status", status == 0, faults)
-        return self.events_of(trace), told, faults
+        return events_of(trace), told, faults
 
-    def run(self):
-        self.meet()
-        self.log()
-        self.piped()
-        self.numbered_anew()
-        self.numbers()
-        self.cost()
-
-    def meet(self):
+    def test_meet(self):
         """Threads under a lock go on between each other's saves, and how often is told."""
         for kind, threads in (("locked", 4), ("spun", 3), ("free", 4), ("calls", 6)):
-            events, _, faults = self.record(kind, threads, 150, accepted=kind == "locked")
+            events, _, faults = self.record_all(kind, threads, 150, accepted=kind == "locked")
             found = switches_of(events)
             self.expect(f"{kind}: all is recorded", len(events) == SAVE_EVENTS * threads * 150, len(events))
             self.expect(f"{kind}: threads meet", found > 40, found)
             self.expect(f"{kind}: it is told", told_switches(faults) == (threads, found), faults)
             self.expect(f"{kind}: no warning", "ran one after another" not in faults, faults)
-        again = [drawn(lambda: self.record("locked", 4, 150, "--seed", seed))[0] for seed in (7, 7, 8)]
+        again = [drawn(lambda: self.record_all("locked", 4, 150, "--seed", seed))[0] for seed in (7, 7, 8)]
         self.expect("a lock: one seed, one run", again[0] == again[1] != again[2], "they differ, or not")
 
-    def log(self):
+    def test_log(self):
         """The fault that shows only where another thread comes between two appends."""
-        found = [int(self.record("log", 2, 60, "--seed", seed)[1]) for seed in range(1, 4)]
+        found = [int(self.record_all("log", 2, 60, "--seed", seed)[1]) for seed in range(1, 4)]
         self.expect("a log under a lock: its fault", max(found) > 0, found)
 
-    def piped(self):
+    def test_piped(self):
         """Whom a call has woken counts among those that may be next, whenever it comes: one seed, one run."""
-        texts = [drawn(lambda: self.record("piped", 12, 60, "--seed", 3))[0] for _ in range(6)]
+        texts = [drawn(lambda: self.record_all("piped", 12, 60, "--seed", 3))[0] for _ in range(6)]
         self.expect("threads that wake each other: one seed, one run", all(text == texts[0] for text in texts), "they differ")
         self.expect("threads that wake each other: all is recorded", len(texts[0]) == SAVE_EVENTS * 12 * 60, len(texts[0]))
 
-    def numbered_anew(self):
+    def test_numbered_anew(self):
         """The kernel's numbers of threads begin anew before, while and after a program starts some: one seed, one run."""
         texts = []
         for left in range(2, 18, 2):
             leave_numbers(left)
-            texts.append(drawn(lambda: self.record("locked", 4, 40, "--seed", 7))[0])
+            texts.append(drawn(lambda: self.record_all("locked", 4, 40, "--seed", 7))[0])
         self.expect("threads that are numbered anew: one seed, one run", all(text == texts[0] for text in texts), "they differ")
 
-    def numbers(self):
+    def test_numbers(self):
         """A number is free again when its thread has ended without an open flush."""
-        events, _, faults = self.record("short", 1000, 1)
+        events, _, faults = self.record_all("short", 1000, 1)
         self.expect("1000 threads", len(events) == SAVE_EVENTS * 1000 - 1 and {fields[1] for fields in events} == {"0"}, len(events))
         told = told_switches(faults)
         self.expect("1000 threads: told", told == (1000, 999) and "the threads ran one after another" in faults, faults)
-        events, _, faults = self.record("window", 300, 1)
+        events, _, faults = self.record_all("window", 300, 1)
         self.expect("threads before the window", [fields[:2] for fields in events] == [["store", "0"], ["clwb", "0"], ["sfence", "0"]], events)
         self.expect("threads before the window: told", "events before the window: 900" in faults, faults)
 
@@ -114,16 +104,16 @@ class Threads:
                 break
         self.expect(name, min(found) < times, found)
 
-    def cost(self):
+    def test_cost(self):
         """Many threads that could all run, a line that is never safe and many that are saved at once cost about what is to be expected."""
-        record = [self.tests.recorder, "--trace", self.tests.folder / "many.trace"]
-        words = [self.program, "barrier", self.pool, 128, 1]
+        record = [RECORD, "--trace", self.folder / "many.trace"]
+        words = [self.threads, "barrier", self.pool, 128, 1]
         self.costs_less("128 threads at a barrier", [*record, *words], ["valgrind", "--tool=none", "-q", "--fair-sched=yes", *words], 5)
-        words = [self.program, "free", self.pool, 64, 125]
+        words = [self.threads, "free", self.pool, 64, 125]
         self.costs_less("64 threads without a lock", [*record, *words], [*record, "--switch-every", 0, *words], 5)
-        saves = lambda events: [*record, self.program, "free", self.pool, 1, events // SAVE_EVENTS]
+        saves = lambda events: [*record, self.threads, "free", self.pool, 1, events // SAVE_EVENTS]
         for options in ([], ["--events", "1000000-"]):
-            words = [*record, *options, self.program, "hot", self.pool, 1, 100000]
+            words = [*record, *options, self.threads, "hot", self.pool, 1, 100000]
             self.costs_less(f"a line that is never safe {options}, against as many events of lines that are", words, saves(200000), 5)
-        words = [*record, self.program, "synced", self.pool, 1, 32000]
+        words = [*record, self.threads, "synced", self.pool, 1, 32000]
         self.costs_less("32,000 lines that one call saves, against as many events of single saves", words, saves(64000), 3)

@@ -4,7 +4,8 @@ import collections
 import random
 import re
 
-from valgrind_runs import drawn
+from recording import events_of
+from valgrind_runs import Recorded, drawn
 
 PROGRAMS, STEPS, LINES, LINE = 10, 120, 6, 64
 POOL = 4096
@@ -146,86 +147,78 @@ def claim_of(fields):
     return "o", int(fields[2], 16), int(fields[3]), int(fields[4], 16), int(fields[5])
 
 
-class Windows:
-    """The tests of windows, with those that have the folder, the program and the counts."""
+class Windows(Recorded):
+    """What a window has, and what its claims say."""
 
-    def __init__(self, tests, events_of):
-        self.tests = tests
-        self.expect = tests.expect
-        self.events_of = events_of
-        self.judged, self.failed = 0, 0
-
-    def run(self):
-        self.carried()
-        self.again()
-        self.inherited()
-        program = self.tests.build("steps")
-        for seed in range(1, PROGRAMS + 1):
-            self.random_program(program, seed)
-        self.expect("random windows: claims", self.judged > 50 and self.failed > 10, (self.judged, self.failed))
-
-    def carried(self):
+    def test_carried(self):
         """A claim fails about a store that was forgotten before the window; the base has what was saved before it alone."""
-        program, pool = self.tests.build("carried"), self.tests.folder / "carried.pool"
+        program, pool = self.build("carried"), self.folder / "carried.pool"
         for name, words, options in (("a request", [], []), ("a function", ["function"], ["--start-after", "set_up"])):
-            trace, _, _, faults = self.tests.record("carried", [program, pool, *words], "--base", *options)
-            self.tests.is_text(f"carried by {name}", trace, CARRIED)
-            status, report = self.tests.accept(trace)
+            trace, _, _, faults = self.record("carried", [program, pool, *words], "--base", *options)
+            self.is_text(f"carried by {name}", trace, CARRIED)
+            status, report = self.report(trace)
             self.expect(f"carried by {name}: its claim", status == 1 and "persist 5 fail" in report, report)
             self.expect(f"carried by {name}: told", "5 events of 1 thread" in faults and ", 1 carried into the window" in faults, faults)
             label = trace.with_name(f"{trace.name}.labels").read_text().splitlines()[0]
             self.expect(f"carried by {name}: its label", re.fullmatch(r"1 carried\.c:\d+ \w+ \(before the window\)", label), label)
             base = trace.with_name(f"{trace.name}.base").read_bytes()
             self.expect(f"carried by {name}: its base", base == bytes(256) + b"\t" + bytes(POOL - 257), "it differs")
-        trace, _, _, faults = self.tests.record("carried", [program, pool, "read"], "--base")
-        self.tests.is_text("carried: a store of the system before", trace, CARRIED)
+        trace, _, _, faults = self.record("carried", [program, pool, "read"], "--base")
+        self.is_text("carried: a store of the system before", trace, CARRIED)
         told = "stores before the window that the base has, though they are not safe: 1" in faults
         self.expect("carried: what is not known is told", told, faults)
 
-    def again(self):
+    def test_again(self):
         """A window by functions opens each time the first one returns."""
-        pool = self.tests.folder / "again.pool"
-        trace, _, _, faults = self.tests.record("again", [self.tests.build("again"), pool], "--start-after", "begin", "--stop-at", "end")
-        self.tests.is_text("a window opens again", trace, AGAIN)
+        pool = self.folder / "again.pool"
+        trace, _, _, faults = self.record("again", [self.build("again"), pool], "--start-after", "begin", "--stop-at", "end")
+        self.is_text("a window opens again", trace, AGAIN)
         self.expect("a window opens again: told", ", 2 carried into the window" in faults and "events after the window: 3" in faults, faults)
 
-    def inherited(self):
+    def test_inherited(self):
         """A child's window has nothing of its parent's: an order of what was stored there can't be judged, and is not claimed."""
-        folder, program = self.tests.folder / "inherited.runs", self.tests.build("inherited")
+        folder, program = self.folder / "inherited.runs", self.build("inherited")
         folder.mkdir()
-        words = [program, self.tests.folder / "inherited.pool"]
-        faults = self.tests.record("inherited.runs/run", words, "--start-after", "begin", "--trace-children", "yes")[3]
+        words = [program, self.folder / "inherited.pool"]
+        faults = self.record("inherited.runs/run", words, "--start-after", "begin", "--trace-children", "yes")[3]
         found = [path.read_text() for path in folder.glob("run.trace.[0-9]*") if path.suffix[1:].isdigit()]
         self.expect("a child's window: its trace", found == ["pmtrace 2 64\n"], found)
         told = "claims that a range is saved before one that was stored to before the window: 1" in faults
         self.expect("a child's window: told", told, faults)
 
+    def test_random_programs(self):
+        program = self.build("steps")
+        self.judged = self.failed = 0
+        for seed in range(1, PROGRAMS + 1):
+            self.random_program(program, seed)
+        self.expect("random windows: claims", self.judged > 50 and self.failed > 10, (self.judged, self.failed))
+
     def random_program(self, program, seed):
-        script, text, pool = Script(seed), self.tests.folder / f"steps.{seed}", self.tests.folder / "steps.pool"
+        script, text, pool = Script(seed), self.folder / f"steps.{seed}", self.folder / "steps.pool"
         text.write_text(script.text())
-        whole = self.record(f"whole.{seed}", [program, pool, text, "whole"], "--seed", seed)
+        whole = self.record_anew(f"whole.{seed}", [program, pool, text, "whole"], "--seed", seed)
         words, options, first = [program, pool, text], ["--seed", seed], None
         if not script.by_requests:
             first = script.random.randrange(2, len(whole) + 1)
             words.append("whole")
             options += ["--base", "--events", f"{first}-{script.random.choice(('', script.random.randrange(first, len(whole) + 1)))}"]
-        window = self.record(f"window.{seed}", words, *options)
+        window = self.record_anew(f"window.{seed}", words, *options)
         self.compare(seed, whole, window)
         if first is not None:
-            base = (self.tests.folder / f"window.{seed}.trace.base").read_bytes()
+            base = (self.folder / f"window.{seed}.trace.base").read_bytes()
             self.expect(f"window {seed}: its base", base == Run(whole[: first - 1]).safe_bytes(), f"it differs at event {first}")
 
-    def record(self, name, words, *options):
+    def record_anew(self, name, words, *options):
         def begun_anew():
             words[1].write_bytes(bytes(POOL))
-            return self.tests.record(name, words, *options, accepted=False)
+            return self.record(name, words, *options, accepted=False)
 
-        return self.events_of(drawn(begun_anew)[0])
+        return events_of(drawn(begun_anew)[0])
 
     def compare(self, seed, whole, window):
         """The verdicts that the program gives the window's claims are those of the whole run."""
         wanted = Run(whole).verdicts
-        _, report = self.tests.accept(self.tests.folder / f"window.{seed}.trace")
+        _, report = self.report(self.folder / f"window.{seed}.trace")
         verdicts = re.findall(r"^(?:persist|ordered) (\d+) (pass|fail)$", report, re.M)
         found = {claim_of(window[int(number) - 1]): word == "pass" for number, word in verdicts}
         wrong = [claim for claim, verdict in found.items() if wanted.get(claim) != verdict]

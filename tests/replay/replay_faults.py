@@ -7,7 +7,8 @@ import signal
 import subprocess
 import time
 
-from replay_runs import REPLAY, Runs, counts_of
+from replay_runs import REPLAY, Replayed, counts_of, write_trace
+from running import wait_until
 
 TWO_LINES = ["store 0 0x0 01", "store 0 0x40 02", "clwb 0 0x0", "sfence 0"]
 IMAGES = {bytes([one] + 63 * [0] + [two] + 63 * [0]) for one, two in ((0, 0), (0, 2), (1, 0), (1, 2))}
@@ -35,17 +36,9 @@ def has_child(process):
     return pathlib.Path(f"/proc/{process.pid}/task/{process.pid}/children").read_text() != ""
 
 
-def within(seconds, holds, pause=0.05):
-    """Whether it holds at some time within so many seconds."""
-    until = time.monotonic() + seconds
-    while not (held := holds()) and time.monotonic() < until:
-        time.sleep(pause)
-    return held
-
-
 def nobody_is_asleep():
     """Whether who was ended is gone, which takes the kernel a while on a machine with much else to do."""
-    return within(60, lambda: not is_asleep())
+    return wait_until(lambda: not is_asleep(), 60)
 
 
 def rows_of(told):
@@ -53,17 +46,14 @@ def rows_of(told):
     return told.split("\n\n", 1)[1:]
 
 
-class FaultTests(Runs):
+class Faults(Replayed):
     """What may go wrong."""
 
-    def fault_tests(self):
-        return self.checkers, self.texts, self.last_kept, self.ignored, self.folders, self.kept_images, self.refusals, self.full, self.stopped, self.stopped_at_once, self.others_results, self.large
-
     def small(self, name="small.trace", lines=(), size=128):
-        self.write_trace(self.folder / name, "pmtrace 2 64", lines or TWO_LINES, bytes(size), 0)
+        write_trace(self.folder / name, "pmtrace 2 64", lines or TWO_LINES, bytes(size), 0)
         return name
 
-    def checkers(self):
+    def test_checkers(self):
         """Each fails in its own way, and the others go on."""
         trace = self.small()
         for script, words, said in (
@@ -83,7 +73,7 @@ class FaultTests(Runs):
             self.expect(f"{script}: time", time.monotonic() - begun < 300, time.monotonic() - begun)
             self.expect(f"{script}: nothing runs on", nobody_is_asleep(), "a child of the checker")
 
-    def texts(self):
+    def test_texts(self):
         """What checkers write that fail on no image: told where it differs, but for paths, which always do."""
         trace, differs = self.small(), "where it did not fail, the checker wrote 2 different texts:"
         for script, texts in (
@@ -103,7 +93,7 @@ class FaultTests(Runs):
             one_each = told.count("1 image, the first is image ") == 2
             self.expect(f"texts that are kept, run {number}", status == 1 and differs in told and one_each, told)
 
-    def last_kept(self):
+    def test_last_kept(self):
         """The last store that a crash keeps is told, be it safe or not, unless it is listed."""
         lines = ["store 0 0x0 01", "clwb 0 0x0", "sfence 0", "store 0 0x8 02", *(f"store 0 0x40 {number:02x}" for number in range(1, 9))]
         trace = self.small("late.trace", lines)
@@ -117,7 +107,7 @@ class FaultTests(Runs):
         status, told, _ = self.replay(["--at", "1", self.small(), *of_shell("false")])
         self.expect("no store is kept", status == 1 and told.count("keeps no store\n") == 1, told)
 
-    def ignored(self):
+    def test_ignored(self):
         """Stores that need no saving are not among those that a crash loses."""
         trace = self.small("locks.trace", ["store 0 0x0 01", "store 0 0x40 0102030405060708", "store 0 0x50 01"])
         ranges = self.folder / "locks.trace.ignore"
@@ -138,7 +128,7 @@ class FaultTests(Runs):
         status, told, faults = self.replay(words)
         self.expect("ranges that are none", (status, told) == (3, "") and "locks.trace.ignore:2: '64 to 68' is no range" in faults, faults)
 
-    def folders(self):
+    def test_folders(self):
         """What a checker leaves is removed. No folder around its own changes, nor what its links lead to."""
         trace, outside, kept = self.small(), self.empty_folder("outside"), self.empty_folder("of_results")
         around = (self.temporary, outside, kept)
@@ -158,7 +148,7 @@ class FaultTests(Runs):
             modes = [folder.stat().st_mode & 0o777 for folder in around]
             self.expect(f"{words} {script}: the folders around", modes == [0o755] * 3, [oct(mode) for mode in modes])
 
-    def kept_images(self):
+    def test_kept_images(self):
         """What the checker does to its image is not seen in others, nor in what is kept."""
         kept = self.folder / "kept"
         words = ["--keep", kept, self.small(), *of_shell('od -An -tx1 -v "$1" | tr -d " \\n"; echo; head -c 200 /dev/urandom > "$1"; false')]
@@ -169,7 +159,7 @@ class FaultTests(Runs):
         self.expect("images are kept", len(found) == 4 and set(found) == IMAGES, found)
         self.expect("nothing else is kept", {path.name for path in kept.iterdir()} == {"state.jsonl", *(f"image{n}" for n in range(1, 5))}, told)
 
-    def refusals(self):
+    def test_refusals(self):
         trace, always = self.small(), of_shell("true")
         short = self.small("short.trace", size=64)
         bad = self.small("bad.trace")
@@ -198,16 +188,16 @@ class FaultTests(Runs):
             self.expect(f"{words}", (status, told) == (wanted, "") and said in faults and faults.count("\n") == 1, f"{status} {told} {faults}")
         self.expect("another's file stays", (other / "mine").read_text() == "of somebody", "it is gone")
 
-    def full(self):
+    def test_full(self):
         """Where no file may be long an image can't be written, and a checker's file neither."""
         large = self.small("wide.trace", size=1 << 20)
-        status, _, faults = self.run(["bash", "-c", 'ulimit -f 100; exec "$@"', "x", REPLAY, large, *of_shell("true")])
+        status, _, faults = self.call(["bash", "-c", 'ulimit -f 100; exec "$@"', "x", REPLAY, large, *of_shell("true")])
         self.expect("no room for an image", status == 4 and "pmtrim image" in faults and faults.count("\n") == 1, faults)
         self.expect("no room: nothing is left", not list(self.temporary.iterdir()), list(self.temporary.iterdir()))
-        status, told, _ = self.run(["bash", "-c", 'ulimit -f 100; exec "$@"', "x", REPLAY, self.small(), *of_shell('head -c 1000000 /dev/zero > "$1"')])
+        status, told, _ = self.call(["bash", "-c", 'ulimit -f 100; exec "$@"', "x", REPLAY, self.small(), *of_shell('head -c 1000000 /dev/zero > "$1"')])
         self.expect("a checker that fills the disk", status == 1 and counts_of(told) == (6, 4, 4, 0), told)
 
-    def stopped(self):
+    def test_stopped(self):
         """A run that is stopped leaves no process and no image, and the same words go on."""
         lines = [line for at in range(8) for line in (f"store 0 {8 * at:#x} 01", "clwb 0 0x0", "sfence 0")]
         trace, gate = self.small("long.trace", lines), self.empty_folder("gate")
@@ -223,9 +213,9 @@ class FaultTests(Runs):
             streams = {"stdout": subprocess.PIPE, "stderr": subprocess.PIPE, "text": True}
             # what runs in the background may have been told to ignore signals
             unignore = functools.partial(signal.signal, number, signal.SIG_DFL)
-            process = subprocess.Popen([str(word) for word in words], cwd=self.folder, env=self.environment, preexec_fn=unignore, **streams)
+            process = subprocess.Popen([str(word) for word in words], cwd=self.folder, env={**os.environ, **self.known}, preexec_fn=unignore, **streams)
             state = kept / "state.jsonl"
-            within(300, lambda: state.exists() and state.read_text().count("\n") >= 4)
+            wait_until(lambda: state.exists() and state.read_text().count("\n") >= 4)
             process.send_signal(number)
             told, faults = process.communicate(timeout=300)
             self.expect(f"{number.name}: status", process.returncode == -number and "stopped" in faults, (process.returncode, told, faults))
@@ -240,7 +230,7 @@ class FaultTests(Runs):
             self.expect(f"{number.name}: it goes on", (status, faults, counts) == (1, "", (24, 9, 3, 3)), told + faults)
             self.expect(f"{number.name}: the same table", rows_of(told) == wanted, told)
 
-    def stopped_at_once(self):
+    def test_stopped_at_once(self):
         """A run that is stopped before there is an image says so too: here pmtrim does not answer. In most runs it is begun just then."""
         for number in range(10):
             self.stop_at_once("as pmtrim begins" if number else "as pmtrim runs", has_child if number else lambda _: is_asleep())
@@ -250,17 +240,17 @@ class FaultTests(Runs):
         slow.write_text(f"#!/bin/sh\nexec sleep {ASLEEP}\n")
         slow.chmod(0o755)
         words = [str(word) for word in (REPLAY, self.small(), *of_shell("true"))]
-        environment = {**self.environment, "PMTRIM": str(slow)}
+        environment = {**os.environ, **self.known, "PMTRIM": str(slow)}
         streams = {"stdout": subprocess.PIPE, "stderr": subprocess.PIPE, "text": True}
         process = subprocess.Popen(words, cwd=self.folder, env=environment, **streams)
-        within(300, lambda: is_time(process), 0)
+        wait_until(lambda: is_time(process), pause=0)
         process.send_signal(signal.SIGTERM)
         told, faults = process.communicate(timeout=300)
         wanted = (-signal.SIGTERM, "small.trace: stopped before the first image\n", "")
         self.expect(f"stopped {when}", (process.returncode, told, faults) == wanted, (process.returncode, told, faults))
         self.expect(f"stopped {when}: what is left", nobody_is_asleep() and not list(self.temporary.iterdir()), "something")
 
-    def others_results(self):
+    def test_others_results(self):
         """Results of another run are not taken for this one's."""
         kept, trace = self.folder / "results", self.small()
         self.expect("results are kept", self.replay(["--keep", kept, trace, *of_shell("true")])[0] == 0, "it failed")
@@ -270,7 +260,7 @@ class FaultTests(Runs):
         status, told, _ = self.replay(["--keep", kept, trace, *of_shell("true")])
         self.expect("all is known", (status, counts_of(told)) == (0, (6, 4, 0, 4)), told)
 
-    def large(self):
+    def test_large(self):
         """A pool of 1 GiB."""
         trace = self.small("large.trace", [f"store 0 {LARGE - 1:#x} 07", f"clwb 0 {LARGE - 64:#x}", "sfence 0"], 0)
         with open(self.folder / "large.trace.base", "wb") as file:

@@ -2,7 +2,7 @@
 import random
 
 from machine import Trace, spelled
-from replay_runs import Runs
+from replay_runs import Replayed, write_trace
 
 TRACES, MOST_OFF = 10, 64
 ORIGIN, POOL_BYTES = 0x1000 - 5, 1100
@@ -31,16 +31,13 @@ def flushed_trace(choose):
     return f"pmtrace 2 {size}", Trace(size, events)
 
 
-class PartTests(Runs):
+class Parts(Replayed):
     """What images of a part hold, upon its base."""
-
-    def part_tests(self):
-        return self.images_of_parts, self.parts_of_two_pools, self.bases_refused
 
     def cut(self, path, *words):
         """The parts of a trace, with their places, the events that they carry and their last events: those before too much is carried."""
         prefix = path.with_suffix("")
-        done = self.run([self.program, "parts", *words, "--out", prefix, path])
+        done = self.call([self.program, "parts", *words, "--out", prefix, path])
         self.expect(f"{path.name} is cut", done[0] == 0 or "more than half of a part" in done[2], done)
         found, number = [], 1
         while (part := prefix.with_name(f"{prefix.name}.{number:04}.trace")).exists():
@@ -49,13 +46,13 @@ class PartTests(Runs):
             number += 1
         return found
 
-    def images_of_parts(self):
+    def test_images_of_parts(self):
         """At each place of a part a crash leaves just the pools that it may leave in the whole at the matching place."""
         choose, compared = random.Random(53), 0
         for number in range(TRACES):
             head, trace = flushed_trace(choose)
             base, path = choose.randbytes(POOL_BYTES), self.folder / f"whole{number}.trace"
-            self.write_trace(path, head, [spelled(event) for event in trace.events], base, ORIGIN)
+            write_trace(path, head, [spelled(event) for event in trace.events], base, ORIGIN)
             for part, place, carried, last in self.cut(path, "--events", str(choose.choice((8, 9, 10))), "--overlap", str(choose.choice((0, 1, 2)))):
                 status, told, faults = self.replay(["--base", part])
                 self.expect(f"{part.name}: its base is made", (status, faults) == (0, "") and f"can lose after event {place}\n" in told, told + faults)
@@ -66,21 +63,21 @@ class PartTests(Runs):
         self.expect("places of parts that carry events", compared > 20, compared)
 
     def images_in_part(self, part, place):
-        listed = self.run([self.program, "image", "--list", "--at", place, "--off", MOST_OFF, part])
+        listed = self.call([self.program, "image", "--list", "--at", place, "--off", MOST_OFF, part])
         self.expect(f"{part.name}: crashes after event {place}", listed[0] == 0, listed)
         found = set()
         for words in listed[1].splitlines():
             image = self.folder / "part.image"
-            done = self.run([self.program, "image", *words.split(" "), "--out", image, part])
+            done = self.call([self.program, "image", *words.split(" "), "--out", image, part])
             self.expect(f"{part.name}: {words}", done[0] == 0, done)
             found.add(image.read_bytes())
         return found
 
-    def parts_of_two_pools(self):
+    def test_parts_of_two_pools(self):
         """Each pool has its own base, made by the parts before; zeros are holes; a replay of the part takes them."""
         lines = ["store 0 0x8 01", "store 0 0x10000000010 02", "clwb 0 0x8", "clwb 0 0x10000000010", "sfence 0", "store 0 0x18 03"] * 2
         path = self.folder / "pools.trace"
-        self.write_trace(path, "pmtrace 2 64", [*lines, "clwb 0 0x18", "sfence 0"], bytes(1 << 20), 0)
+        write_trace(path, "pmtrace 2 64", [*lines, "clwb 0 0x18", "sfence 0"], bytes(1 << 20), 0)
         path.with_name("pools.trace.base2").write_bytes(bytes(100))
         path.with_name("pools.trace.origin2").write_text("0x10000000000\n")
         last = self.cut(path, "--events", "9", "--overlap", "0")[-1][0]
@@ -93,9 +90,9 @@ class PartTests(Runs):
         status, told, faults = self.replay([last, "--", "test", "-s", "{}"])
         self.expect("two pools: a replay of the part", (status, faults) == (0, "") and "0 failed" in told, told + faults)
 
-    def bases_refused(self):
+    def test_bases_refused(self):
         path = self.folder / "alone.trace"
-        self.write_trace(path, "pmtrace 1", ["store 0 0x8 01", "sfence 0"] * 3, bytes(64), 0)
+        write_trace(path, "pmtrace 1", ["store 0 0x8 01", "sfence 0"] * 3, bytes(64), 0)
         (first, *_), (second, *_) = self.cut(path, "--events", "4", "--overlap", "0")[:2]
         status, _, faults = self.replay([second, "--", "true", "{}"])
         self.expect("a replay says what makes the base", status == 4 and f"is not there: pmtrim-replay --base {second} makes it" in faults, faults)

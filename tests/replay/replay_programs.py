@@ -1,7 +1,9 @@
 """Programs that are recorded with the pool's first bytes, and whose own recovery is the checker."""
 import re
 
-from replay_runs import HERE, TOP, Runs, counts_of
+from needs import need_recorder
+from program import TOP
+from replay_runs import HERE, Replayed, counts_of, write_trace
 
 RECORD = TOP / "recorders/valgrind/pmtrim-record"
 LIBPMEM = TOP / "recorders/libpmem/out"
@@ -11,33 +13,38 @@ PLAIN = ["gcc", "-O1", "-g", "-mclwb", "-Wall", "-Wextra", "-Werror"]
 FIRST_FAILURE = ["keeps event 25", "loses event 9", "loses event 19"]
 
 
-class ProgramTests(Runs):
+class Programs(Replayed):
     """A list, a log and a hash table, right and wrong, each by another recorder; the bases; the example."""
 
-    def program_tests(self):
-        return self.structures, self.bases_by_header, self.bases_by_valgrind, self.example, self.two_pools
+    @classmethod
+    def setUpClass(cls):
+        super().setUpClass()
+        need_recorder()
+        need_recorder("recorders/libpmem")
 
     def build(self, name, compiler, words=(), behind=()):
-        program = self.folder / (name + "".join(words))
-        done = self.run([*compiler, *words, HERE / f"{name}.c", "-o", program, *behind], cwd=TOP)
-        self.expect(f"{program.name} is built", done[0] == 0, done)
-        return program
+        made = self.builds / (name + "".join(words))
+        return self.expect_built(made, [*compiler, *words, HERE / f"{name}.c", "-o", made, *behind])
 
-    def structures(self):
+    def test_list(self):
+        self.structure("list", "list.trace", "no node", BY_HEADER)
+
+    def test_log(self):
+        self.structure("log", "log.pool.trace", "is torn", BY_LIBPMEM, ["-L", LIBPMEM / "lib", "-lpmem", "-pthread"])
+
+    def test_table(self):
+        self.structure("table", "table.trace", "another's value", PLAIN, recorder=[RECORD, "--base", "--trace", "table.trace"])
+
+    def structure(self, name, trace, said, compiler, behind=(), recorder=()):
         for words, wrong in (((), False), (("-DWRONG",), True)):
-            program = self.build("list", BY_HEADER, words)
-            self.structure("list.trace", program, [program, "list.pool"], wrong, "no node", {"PMTRACE_BASE": "1"})
-            program = self.build("log", BY_LIBPMEM, words, ["-L", LIBPMEM / "lib", "-lpmem", "-pthread"])
-            (self.folder / "log.pool").unlink(missing_ok=True)
-            self.structure("log.pool.trace", program, [program, "log.pool"], wrong, "is torn", {"PMTRACE_BASE": "1"})
-            program = self.build("table", PLAIN, words)
-            recorder = [RECORD, "--base", "--trace", "table.trace", program, "table.pool"]
-            self.structure("table.trace", program, recorder, wrong, "another's value", {})
+            program, pool = self.build(name, compiler, words, behind), self.folder / f"{name}.pool"
+            pool.unlink(missing_ok=True)
+            done = self.call([*recorder, program, pool.name], {} if recorder else {"PMTRACE_BASE": "1"})
+            self.expect(f"{program.name} is recorded", done[0] == 0, done)
+            self.checked(trace, program, wrong, said)
 
-    def structure(self, trace, program, words, wrong, said, environment):
+    def checked(self, trace, program, wrong, said):
         """The wrong one is refused by its own check of some image, the right one by none."""
-        done = self.run(words, env={**self.environment, **environment})
-        self.expect(f"{program.name} is recorded", done[0] == 0, done)
         status, told, faults = self.replay([trace, "--", program, "check", "{}"])
         name = f"images of {program.name}"
         self.expect(name, (status, faults) == (int(wrong), ""), told + faults)
@@ -46,7 +53,7 @@ class ProgramTests(Runs):
         self.expect(f"{name}: what the checker said", (said in told) == wrong, told)
         self.expect(f"{name}: what is lost", (re.search(r"loses event \d+ at .*: store 0 0x", told) is not None) == wrong, told)
 
-    def bases_by_header(self):
+    def test_bases_by_header(self):
         program = self.build("bases", BY_HEADER)
         first, second = b"a" * 300, b"b" * 100 + bytes(200000 - 101) + b"c"
         self.expect_bases(program, {"PMTRACE_BASE": "1"}, first, second, 0, "")
@@ -59,7 +66,7 @@ class ProgramTests(Runs):
     def expect_bases(self, program, environment, first, second, status, told):
         """Where a file may have few blocks, SIGXFSZ is ignored, so that the write fails."""
         limit = f"trap '' XFSZ; ulimit -f {environment['LIMIT']}; " if "LIMIT" in environment else ""
-        done = self.run(["bash", "-c", f"{limit}exec {program}"], env={**self.environment, **environment})
+        done = self.call(["bash", "-c", f"{limit}exec {program}"], environment)
         self.expect(f"bases {environment}", done[0] == status and told in done[2], done)
         for number, bytes_before, origin in (("", first, "0x0\n"), ("2", second, "0x10000000000\n")):
             base, address = (self.folder / f"bases.trace.{kind}{number}" for kind in ("base", "origin"))
@@ -69,22 +76,22 @@ class ProgramTests(Runs):
             right = base.exists() and base.read_bytes() == bytes_before and address.read_text() == origin
             self.expect(f"base{number} {environment}", right, base.exists() and base.read_bytes()[:400])
 
-    def bases_by_valgrind(self):
+    def test_bases_by_valgrind(self):
         program = self.build("pools", PLAIN)
         before = bytearray(8192)
         before[100:106] = b"before"
         for words in ([], ["--start-after", "format"]):
-            done = self.run([RECORD, "--base", *words, program])
+            done = self.call([RECORD, "--base", *words, program])
             self.expect(f"pools {words} is recorded", done[0] == 0, done)
             if words:
                 before[:64] = b"f" * 64
             self.expect_file(f"pools.trace.base {words}", "pools.trace.base", bytes(before))
             self.expect_file(f"pools.trace.base2 {words}", "pools.trace.base2", b"other" + bytes(4091))
             self.expect_file(f"pools.trace.origin2 {words}", "pools.trace.origin2", b"0x10000000000\n")
-        done = self.run([RECORD, program])
+        done = self.call([RECORD, program])
         self.expect("without --base there is none", done[0] == 0 and not (self.folder / "pools.trace.base").exists(), done)
         self.empty_folder("pools.trace.base")
-        done = self.run([RECORD, "--base", program])
+        done = self.call([RECORD, "--base", program])
         told = "pools.trace.base: Is a directory; there is no base of" in done[2] and "bases of pools: 1" in done[2]
         self.expect("a base that can't be written is told", done[0] == 0 and told, done)
 
@@ -92,10 +99,10 @@ class ProgramTests(Runs):
         path = self.folder / path
         self.expect(name, path.exists() and path.read_bytes() == wanted, path.exists() and path.read_bytes()[:200])
 
-    def two_pools(self):
+    def test_two_pools(self):
         """A checker sees both pools of one crash: what is stored first is saved first."""
         lines = ["store 0 0x8 01", "clwb 0 0x8", "sfence 0", "store 0 0x10000000010 01"]
-        self.write_trace(self.folder / "two.trace", "pmtrace 2 64", lines, bytes(64), 0)
+        write_trace(self.folder / "two.trace", "pmtrace 2 64", lines, bytes(64), 0)
         (self.folder / "two.trace.base2").write_bytes(bytes(100))
         (self.folder / "two.trace.origin2").write_text("0x10000000000\n")
         check = 'one=$(od -An -tu1 -j8 -N1 "$1") two=$(od -An -tu1 -j16 -N1 "$2"); echo "$one$two" >> seen; [ $one -ge $two ]'
@@ -104,14 +111,14 @@ class ProgramTests(Runs):
         seen = sorted((self.folder / "seen").read_text().split("\n"))
         self.expect("two pools: what checkers saw", [line.split() for line in seen if line] == [["0", "0"], ["1", "0"], ["1", "1"]], seen)
 
-    def example(self):
+    def test_example(self):
         """The example's claims hold, its recovery fails, and the mended one does not; its trace is what it records."""
         source = TOP / "examples/undo_log.c"
         for words, status in ((["-DMENDED"], 0), ([], 1)):
             program = self.folder / "undo_log"
-            done = self.run([*BY_HEADER, *words, source.relative_to(TOP), "-o", program], cwd=TOP)
+            done = self.call([*BY_HEADER, *words, source.relative_to(TOP), "-o", program], cwd=TOP)
             self.expect("undo_log is built", done[0] == 0, done)
-            done = self.run([program, "accounts.pool"], env={**self.environment, "PMTRACE_BASE": "1"})
+            done = self.call([program, "accounts.pool"], {"PMTRACE_BASE": "1"})
             self.expect("undo_log is recorded", done[0] == 0, done)
             for ending in ("trace", "trace.base", "trace.origin", "trace.labels"):
                 self.expect_file(f"examples/undo_log.{ending}", f"undo_log.{ending}", (TOP / f"examples/undo_log.{ending}").read_bytes())

@@ -1,21 +1,15 @@
 """Running pmtrim-replay, for its tests."""
-import os
 import pathlib
 import re
 import shutil
-import subprocess
 
-from counts import Counts
+from program import TOP
+from recording import Recording
+from running import run
 
-TOP = pathlib.Path(__file__).resolve().parents[2]
 HERE = TOP / "tests/replay"
 REPLAY = TOP / "replay/pmtrim-replay"
 FOUND = re.compile(r"(\d+) crash(?:es)?, (\d+) different images?: (\d+) failed(?: \((\d+) of them in an earlier run\))?")
-
-
-def images_in(folder):
-    """What the files of a folder hold."""
-    return [path.read_bytes() for path in sorted(folder.iterdir())]
 
 
 def counts_of(told):
@@ -24,16 +18,20 @@ def counts_of(told):
     return tuple(int(number or 0) for number in found.groups()) if found else None
 
 
-class Runs(Counts):
-    """Tests with a folder."""
+def write_trace(path, head, lines, base, origin):
+    """A trace, and its pool's first bytes."""
+    path.write_text("".join(f"{line}\n" for line in (head, *lines)))
+    pathlib.Path(f"{path}.base").write_bytes(base)
+    pathlib.Path(f"{path}.origin").write_text(f"{origin:#x}\n")
 
-    def __init__(self, program, folder):
-        super().__init__()
-        self.folder = folder
-        self.program = pathlib.Path(program).resolve()
-        self.temporary = folder / "tmp"
-        self.temporary.mkdir()
-        self.environment = {**os.environ, "PMTRIM": str(self.program), "TMPDIR": str(self.temporary)}
+
+class Replayed(Recording):
+    """Tests with a folder, in which programs run."""
+
+    def setUp(self):
+        super().setUp()
+        self.temporary = self.empty_folder("tmp")
+        self.known = {"TMPDIR": str(self.temporary)}
 
     def empty_folder(self, name):
         path = self.folder / name
@@ -41,20 +39,13 @@ class Runs(Counts):
         path.mkdir()
         return path
 
-    def write_trace(self, path, head, lines, base, origin):
-        path.write_text("".join(f"{line}\n" for line in (head, *lines)))
-        pathlib.Path(f"{path}.base").write_bytes(base)
-        pathlib.Path(f"{path}.origin").write_text(f"{origin:#x}\n")
-
-    def run(self, words, **options):
-        """The status, standard output and standard error."""
-        options = {"cwd": self.folder, "stdin": subprocess.DEVNULL, "env": self.environment, "timeout": 1200, **options}
-        done = subprocess.run([str(word) for word in words], capture_output=True, **options)
-        return done.returncode, done.stdout.decode(errors="replace"), done.stderr.decode(errors="replace")
+    def call(self, words, known=None, **options):
+        """How a program ends in the folder."""
+        return run(words, {**self.known, **(known or {})}, **{"cwd": self.folder, **options})
 
     def replay(self, words, **options):
         """The same of pmtrim-replay, which leaves nothing in the folder for temporary files."""
-        answer = self.run([REPLAY, *words], **options)
+        answer = self.call([REPLAY, *words], **options)
         left = list(self.temporary.iterdir())
         if left:
             self.expect(f"{words}: nothing is left", False, left)

@@ -8,7 +8,7 @@ ANSWERS = "tests/test_answers.py"
 REFUSED = "tests/traces/refused_texts.py"
 DEVICES = "tests/test_devices.py"
 REFUSALS = "tests/test_refusals.py"
-WORDS = "tests/words.sh"
+WORDS = "tests/test_words.py"
 
 
 def trace(name):

@@ -1,4 +1,4 @@
-/* calls POOL: each call of libpmem.h, whose trace ../libpmem.py writes out. */
+/* calls POOL: each call of libpmem.h, whose trace ../libpmem_traces.py writes out. */
 #include <libpmem.h>
 
 #include <errno.h>

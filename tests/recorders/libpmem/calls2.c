@@ -1,4 +1,4 @@
-/* calls2 FOLDER: the recorded calls of libpmem2.h, whose trace ../libpmem.py writes out. */
+/* calls2 FOLDER: the recorded calls of libpmem2.h, whose trace ../libpmem_traces.py writes out. */
 #include <libpmem2.h>
 
 #include <fcntl.h>

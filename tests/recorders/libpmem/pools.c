@@ -1,5 +1,5 @@
 /* pools FOLDER: several files, a second mapping, mapping again, a file that grows and one without a name. The trace is in
- * ../libpmem.py. */
+ * ../libpmem_traces.py. */
 #include <libpmem.h>
 
 #include <stdio.h>

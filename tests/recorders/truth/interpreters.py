@@ -1,18 +1,16 @@
 """The interpreters of random programs: one in C and C++, by several compilers and sanitizers, one in Rust and one in Python."""
 import dataclasses
-import os
-import pathlib
-import shutil
-import subprocess
 import sys
 from collections.abc import Callable
 
+from needs import need
+from program import TOP, NotThere
+from recording import CARGO, PYTHON, STRICT, need_compiler
+from running import run_as_shown
 from shapes import make_program, make_safe_program
 
-TOP = pathlib.Path(__file__).resolve().parents[3]
 HERE = TOP / "tests/recorders/truth"
 SOURCES = sorted(HERE.glob("*.c"))
-STRICT = ["-Wall", "-Wextra", "-Wpedantic", "-Wshadow", "-Wconversion", "-Wcast-qual", "-Werror", "-pthread", "-I", TOP / "recorders/c"]
 SANITIZED = ["-O1", "-g", "-fno-sanitize-recover=all"]
 BUILDS = {
     "gcc-c11": ["gcc", "-std=c11", "-O2"],
@@ -39,32 +37,27 @@ class Interpreter:
         return self.make is make_safe_program
 
 
-def fail(told):
-    sys.exit(f"{told}\n0 passed, 1 failed")
-
-
-def call(words, **options):
-    done = subprocess.run(words, stdin=subprocess.DEVNULL, capture_output=True, text=True, **options)
-    if done.returncode or done.stderr:
-        fail(f"{' '.join(map(str, words))}: {done.stderr}")
+def build(words):
+    """NotThere: a compiler has a word to say."""
+    if (answer := run_as_shown(words)) != (0, ""):
+        raise NotThere(f"{' '.join(map(str, words))}: {answer[1]}")
 
 
 def build_in_c(folder):
     made = []
     for name, compiler in BUILDS.items():
-        if shutil.which(compiler[0]) is None:
-            fail(f"there is no {compiler[0]}: apt-get install gcc g++ clang")
-        call([*compiler, *STRICT, *SOURCES, "-o", folder / name])
+        need_compiler(compiler[0], *(word for word in compiler if word.startswith("-fsanitize")))
+        build([*compiler, *STRICT, *SOURCES, "-o", folder / name])
         made.append(Interpreter(name, [folder / name], sanitized=name in SANITIZERS))
     return made
 
 
 def build_in_rust(folder):
-    target = folder / "rust"
-    call(["cargo", "build", "--offline", "--locked", "--quiet", "--target-dir", target, "--manifest-path", HERE / "rust/Cargo.toml"])
-    return Interpreter("rust", [target / "debug/truth"], make_safe_program)
+    need("cargo", "cargo")
+    build(["cargo", "build", *CARGO, folder / "rust", "--manifest-path", HERE / "rust/Cargo.toml"])
+    return [Interpreter("rust", [folder / "rust/debug/truth"], make_safe_program)]
 
 
-def in_python():
-    path = f"PYTHONPATH={TOP / 'recorders/python'}"
-    return Interpreter("python", ["env", path, "PYTHONDONTWRITEBYTECODE=1", sys.executable, HERE / "interpreter.py"], make_safe_program)
+def in_python(_):
+    words = [f"{name}={value}" for name, value in PYTHON.items()]
+    return [Interpreter("python", ["env", *words, sys.executable, HERE / "interpreter.py"], make_safe_program)]

@@ -22,20 +22,17 @@ class Mutations:
         self.judge.judge()
         self.alone = sum(1 for actor in self.judge.actors if actor.loud) < 2
 
-    def accepted(self):
-        """The names of all changes, and of those that the judge does not refuse."""
-        names, accepted = [], []
+    def refused(self):
+        """The name of each change that makes a false record of this one, and whether the judge refuses it."""
         for make in MUTATIONS:
             changed = make(self)
             if changed is None or self.is_same(changed):
                 continue
-            names.append(make.__name__)
             try:
                 Judge(*changed).judge()
-                accepted.append(make.__name__)
+                yield make.__name__, False
             except Refused:
-                pass
-        return names, accepted
+                yield make.__name__, True
 
     def is_same(self, changed):
         """Whether nothing was changed: of two threads with one number the events may be equal."""

@@ -1,26 +1,17 @@
-#!/usr/bin/env python3
-"""Runs random programs of steps under pmtrim-record, and judges the traces: turns.py PROGRAM [COUNT [FIRST]], or run.py does it. The last
-line is 'N passed, M failed'.
+"""Random programs of steps under pmtrim-record, and what judges their traces.
 
-PROGRAM is pmtrim, which must accept each trace. Threads give way by the seed. The programs are of three kinds: threads without locks,
-threads that take a lock, and one thread that closes the window and opens it again. The steps, and what each of them does, are those of
-tests/recorders/valgrind/steps.c: so a thread's events, their order and their bytes are known, but for sums, which must be right by what the
-trace has before them.
+Threads give way by the seed. The programs are of three kinds: threads without locks, threads that take a lock, and one thread that closes
+the window and opens it again. The steps, and what each of them does, are those of tests/recorders/valgrind/steps.c: so a thread's events,
+their order and their bytes are known, but for sums, which must be right by what the trace has before them.
 """
-import pathlib
 import random
-import subprocess
-import sys
-import tempfile
 
+from recording import events_of
+from running import run
+from valgrind_runs import RECORD
 from valgrind_windows import Run, claim_of
 
-TOP = pathlib.Path(__file__).resolve().parents[3]
-
-RECORD = TOP / "recorders/valgrind/pmtrim-record"
-SOURCE = TOP / "tests/recorders/valgrind/steps.c"
-AT_ONCE, PAGE, LINE, LINES, MARKED = 50, 4096, 64, 8, 4000
-LEAST_SWITCHES = 5  # of a program
+PAGE, LINE, LINES, MARKED = 4096, 64, 8, 4000
 FLUSHES = ("clwb", "clflushopt", "clflush")
 ADDED = "added"
 
@@ -197,63 +188,20 @@ def split(events):
     return found
 
 
-class Runs:
-    """Runs programs, and counts what came of them."""
-
-    def __init__(self, pmtrim, folder):
-        self.pmtrim = pmtrim
-        self.folder = folder
-        self.passed, self.failed, self.switches = 0, 0, 0
-        flags = ["-O1", "-g", "-mclwb", "-Wall", "-Wextra", "-Werror", "-pthread", "-I", RECORD.parent]
-        subprocess.run(["gcc", *flags, SOURCE, "-o", folder / "steps"], check=True)
-
-    def run(self, seeds):
-        programs = [Program(seed) for seed in seeds]
-        pool, script, trace = self.folder / "pool", self.folder / "script", self.folder / "trace"
-        pool.write_bytes(bytes(PAGE * len(programs)))
-        script.write_text("".join(program.text() for program in programs))
-        words = [RECORD, "--labels", "no", "--seed", seeds[0], "--trace", trace, self.folder / "steps", pool, script]
-        done = subprocess.run([str(word) for word in words], stdin=subprocess.DEVNULL, capture_output=True)
-        accepted = subprocess.run([self.pmtrim, "check", trace], capture_output=True)
-        if done.returncode != 0 or accepted.returncode not in (0, 1):
-            self.tell(seeds, f"{done.stderr.decode()} {accepted.stderr.decode()}")
-            return
-        found = split([line.split(" ") for line in trace.read_text().splitlines()[1:]])
-        if len(found) != len(programs):
-            self.tell(seeds, f"{len(found)} programs are in the trace")
-            return
-        for number, (program, (page, events)) in enumerate(zip(programs, found)):
-            fault = Judge(program, events, page, pool.read_bytes()[PAGE * number :][:PAGE]).fault()
-            self.passed += not fault
-            self.switches += sum(one[1] != other[1] for one, other in zip(events, events[1:]))
-            if fault:
-                self.tell([program.seed], fault)
-
-    def tell(self, seeds, fault):
-        print(f"seeds {seeds[0]} to {seeds[-1]}: {fault}")
-        self.failed += 1
-
-
-def run_programs(pmtrim, count, first):
-    """Runs so many programs of the seeds from `first` on: how many passed, how many failed, and how many switches there were."""
-    with tempfile.TemporaryDirectory() as name:
-        runs = Runs(pmtrim, pathlib.Path(name))
-        for seed in range(first, first + count, AT_ONCE):
-            runs.run(range(seed, min(seed + AT_ONCE, first + count)))
-    if runs.switches < LEAST_SWITCHES * count:
-        print(f"only {runs.switches} switches between threads")
-        runs.failed += 1
-    return runs.passed, runs.failed, runs.switches
-
-
-def main():
-    count = int(sys.argv[2]) if len(sys.argv) > 2 else 1000
-    first = int(sys.argv[3]) if len(sys.argv) > 3 else 1
-    passed, failed, switches = run_programs(sys.argv[1], count, first)
-    print(f"{switches} switches between threads")
-    print(f"{passed} passed, {failed} failed")
-    return 1 if failed else 0
-
-
-if __name__ == "__main__":
-    sys.exit(main())
+def judged(steps, pmtrim, folder, seeds):
+    """Of each program of these seeds, which run one after another: its seed, what is wrong, and how often threads gave way. `steps` is
+    steps.c, built; pmtrim must accept the trace."""
+    programs = [Program(seed) for seed in seeds]
+    pool, script, trace = folder / "pool", folder / "script", folder / "trace"
+    pool.write_bytes(bytes(PAGE * len(programs)))
+    script.write_text("".join(program.text() for program in programs))
+    done = run([RECORD, "--labels", "no", "--seed", seeds[0], "--trace", trace, steps, pool, script])
+    accepted = run([pmtrim, "check", trace])
+    found = split(events_of(trace))
+    if done.status != 0 or accepted.status not in (0, 1) or len(found) != len(programs):
+        yield f"{seeds[0]} to {seeds[-1]}", f"{len(found)} programs are in the trace: {done.err} {accepted.err}", 0
+        return
+    last = pool.read_bytes()
+    for number, (program, (page, events)) in enumerate(zip(programs, found)):
+        switches = sum(one[1] != other[1] for one, other in zip(events, events[1:]))
+        yield program.seed, Judge(program, events, page, last[PAGE * number :][:PAGE]).fault(), switches

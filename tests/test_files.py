@@ -1,6 +1,4 @@
-#!/usr/bin/env python3
-"""Runs programs under pmtrim-record that write to files, by themselves and through the system: valgrind_files.py PROGRAM. The last line
-is 'N passed, M failed'.
+"""Runs programs under pmtrim-record that write to files, by themselves and through the system, sqlite3 among them.
 
 What must stand in a trace follows from what the programs of tests/recorders/valgrind do, or is the file's last bytes.
 """
@@ -9,11 +7,11 @@ import pathlib
 import re
 import shlex
 import subprocess
-import sys
-import tempfile
 
-from valgrind import HERE, RECORD, SECOND_POOL, Tests
-from valgrind_runs import events_of, rebuilt, run, stores_of, text_of
+from needs import need
+from recording import POOL, events_of, rebuilt, stores_of, text_of
+from running import run
+from valgrind_runs import RECORD, SOURCES, Recorded
 
 SQLITE = """\
 pragma journal_mode = wal;
@@ -33,10 +31,10 @@ SPELLED = (
 )
 
 
-class FileTests(Tests):
-    """The tests."""
+class Files(Recorded):
+    """What is recorded of files, and which of them are pools."""
 
-    def named(self):
+    def test_named(self):
         """Which files are pools: one by its name, those of a folder, those that begin so; and the form that may mean either."""
         program, pool = self.build("nofile"), self.folder / "named/lm.pool"
         pool.parent.mkdir()
@@ -58,14 +56,14 @@ class FileTests(Tests):
             old = [(str(words[-1]), ", ".join(wanted[-1:] if len(words) > 2 else wanted))] if "--pool" in words else []
             self.expect(f"pools by {words}: what was taken is told", took == old, faults)
 
-    def files(self):
+    def test_files(self):
         """Each call that writes to a file, and the calls that save it: what stands in the trace is what stands in the files."""
         program, folder = self.build("files"), self.folder / "written"
         folder.mkdir()
         trace, status, _, faults = self.record("files", [program, folder], "--file", folder / "log", f"--file={folder}/data")
         self.expect("files", status == 0 and "not recorded" not in faults, faults)
         data, log = (folder / "data").read_bytes(), bytearray(400)
-        self.expect("files: the data", rebuilt(trace, bytes(len(data)), SECOND_POOL) == data and len(data) == 8015, len(data))
+        self.expect("files: the data", rebuilt(trace, bytes(len(data)), POOL) == data and len(data) == 8015, len(data))
         for at, text in ((0, b"writewritev, in twowritev, in two"), (100, b"pwrite"), (200, b"writev, in two"), (300, b"writ")):
             log[at : at + len(text)] = text
         events = text_of(trace).splitlines()
@@ -76,7 +74,7 @@ class FileTests(Tests):
         lines = [f"clwb 0 {line:#x}" for line in (0, 0x40, 0xC0, 0x100)]
         self.expect("files: fdatasync", events[saved - 4 : saved] == lines, events[saved - 5 : saved])
         self.expect("files: the log, which was emptied", rebuilt(trace, bytes(400)) == bytes(400), "it is not empty")
-        claims = re.findall(r"^(?:persist|ordered) \d+ \w+$", self.accept(trace)[1], re.M)
+        claims = re.findall(r"^(?:persist|ordered) \d+ \w+$", self.report(trace)[1], re.M)
         self.expect("files: claims", [claim.split()[2] for claim in claims] == ["pass", "fail", "pass", "pass", "fail"], claims)
         trace, _, _, found = self.record("files.named", [program, folder], "--base", "--file-prefix", folder / "da")
         base, last = trace.with_name(f"{trace.name}.base").read_bytes(), (folder / "data").read_bytes()
@@ -85,8 +83,9 @@ class FileTests(Tests):
         wanted = [f"{folder}/data has the addresses from 0x0 on", f"{folder}/data-other has the addresses from 0x10000000000 on"]
         self.expect("files by a prefix", all(line in found for line in wanted) and "/log has" not in found, found)
 
-    def sqlite(self):
+    def test_sqlite(self):
         """Debian's sqlite3 with a write-ahead log: both files are rebuilt, and the order of log and data can be claimed."""
+        need("sqlite3", "sqlite3")
         for synchronous, wanted in (("full", "pass"), ("off", "fail")):
             pool = self.folder / f"sqlite.{synchronous}"
             commands = SQLITE.replace("SYNCHRONOUS", synchronous)
@@ -117,12 +116,12 @@ class FileTests(Tests):
         claims = [f"isOrderedBefore 0 {log + at:#x} {page} {data + (number - 1) * page:#x} {page}" for number, at in pages.items()]
         claimed = trace.with_name(f"{trace.name}.claimed")
         claimed.write_text(text_of(trace) + "".join(f"{claim}\n" for claim in claims))
-        verdicts = re.findall(r"^ordered \d+ (\w+)$", self.accept(claimed)[1], re.M)
+        verdicts = re.findall(r"^ordered \d+ (\w+)$", self.report(claimed)[1], re.M)
         self.expect(f"sqlite {name}: log before data", len(verdicts) == len(pages) > 3 and set(verdicts) == {wanted}, verdicts)
 
     # What the system does besides
 
-    def answers(self):
+    def test_answers(self):
         program, pool = self.build("answers"), self.folder / "answers.pool"
         trace, status, _, faults = self.record("answers", [program, pool])
         last = pool.read_bytes()
@@ -133,7 +132,7 @@ class FileTests(Tests):
         marks = [int.from_bytes(last[at : at + 4], "little") & 0x40000000 != 0 for at in (0, 128, 256, 384)]
         self.expect("answers: the kernel's marks", marks == [True, True, True, False], marks)
 
-    def holes(self):
+    def test_holes(self):
         """A hole takes little memory, and what is stored behind the end of a file is in no trace."""
         program, pool = self.build("holes"), self.folder / "holes.pool"
         for how in ([], ["advice"]):
@@ -155,16 +154,16 @@ class FileTests(Tests):
         self.expect("a large hole: counted", missing and int(missing[1]) > (64 << 20) // 8 - 1_000_000, faults)
         self.expect("a large hole: behind the end", "stores behind the end of a pool's file: " in faults, faults)
 
-    def many(self):
+    def test_many(self):
         """As many pools as there may be, each known by a descriptor of the recorder's own."""
         folder = self.folder / "many.files"
         folder.mkdir()
         trace, status, _, faults = self.record("many", [self.build("many"), folder, 257])
         found = [int(fields[2], 16) for fields in events_of(trace)]
-        self.expect("256 pools", status == 0 and found == [number * SECOND_POOL for number in range(256)], len(found))
+        self.expect("256 pools", status == 0 and found == [number * POOL for number in range(256)], len(found))
         self.expect("256 pools: the next one", "mappings of a 257th pool or a further one: 1" in faults, faults[-300:])
 
-    def others(self):
+    def test_others(self):
         """The one pool is named, and files that are none, where that tells why the trace lacks something. The names are those from the folder."""
         program, folder = self.build("others"), self.folder / "others.files"
         folder.mkdir()
@@ -191,11 +190,13 @@ class FileTests(Tests):
 
     # Names
 
-    def functions(self):
+    def build_names(self):
+        built = self.builds / "functions"
+        return self.expect_built(built, ["g++", "-O1", "-g", "-mclwb", "-Wall", "-Wextra", "-Werror", SOURCES / "names.cpp", "-o", built])
+
+    def test_functions(self):
         """Names of C++ without parameters, and calls that an exception leaves."""
-        built = self.folder / "functions"
-        status, _, told = run(["g++", "-O1", "-g", "-mclwb", "-Wall", "-Wextra", "-Werror", HERE / "names.cpp", "-o", built])
-        self.expect("names.cpp is built", status == 0, told)
+        built = self.build_names()
         for name, wanted in (
             ("save", ["0x0 1", "0x80 1"]),
             ("save(char*, unsigned long, bool)", ["0x0 1", "0x80 1"]),
@@ -216,10 +217,10 @@ class FileTests(Tests):
         hint = "Leaf::save was never called by that name: is it inlined, or has it no symbol? Called were: save(char*, unsigned long, bool), "
         hint += "tree::Leaf::save(char*, unsigned long) const\n"
         self.expect("a name that is none: a hint", hint in faults, faults)
-        self.spelled(built)
 
-    def spelled(self, built):
+    def test_spelled(self):
         """Only the brackets of a function's parameters are no part of its name."""
+        built = self.build_names()
         trace = self.record("functions", [built, self.folder / "functions.pool"])[0]
         labels = [re.sub(r"^\d+ names.cpp:\d+ ", "", label) for label in text_of(trace.with_name("functions.trace.labels")).splitlines()]
         stores = [label.split(" < ")[0] for label, fields in zip(labels, events_of(trace)) if fields[0] == "store"]
@@ -231,25 +232,12 @@ class FileTests(Tests):
             wanted = ["0x40", *(claim.split(" ")[0] for _, _, claim in SPELLED[number + 1 :])]
             self.expect(f"--start-after {name}", stores == wanted, f"{stores} {faults}")
 
-    def quoted(self):
+    def test_quoted(self):
         """The next command is one for the shell, whatever the trace's name is."""
-        program = self.folder / "nofile"
+        program = self.build("nofile")
         for name in ("two words", "it's", "plain"):
             trace = self.folder / f"{name}.trace"
             faults = run([RECORD, "--trace", trace, program, self.folder / "quoted.pool"])[2]
             shown = faults.rsplit("; next: ", 1)[-1].rstrip("\n")
             wanted = ["pmtrim", "explain", "--labels", f"{trace}.labels", str(trace)]
             self.expect(f"the next command of {name}", shlex.split(shown) == wanted and ("'" in shown) == (name != "plain"), faults)
-
-
-def main():
-    with tempfile.TemporaryDirectory() as name:
-        tests = FileTests(sys.argv[1], pathlib.Path(name).resolve())
-        for part in (tests.named, tests.files, tests.sqlite, tests.answers, tests.holes, tests.many, tests.others, tests.functions, tests.quoted):
-            part()
-    print(f"{tests.counts.passed} passed, {tests.counts.failed} failed")
-    return 1 if tests.counts.failed else 0
-
-
-if __name__ == "__main__":
-    sys.exit(main())

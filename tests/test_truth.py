@@ -1,8 +1,7 @@
-#!/usr/bin/env python3
-"""Records random programs and judges their traces: run.py PROGRAM [COUNT [FIRST]]. The last line is 'N passed, M failed'.
+"""Records random programs whose every store is known, and judges the traces.
 
-PROGRAM is pmtrim, which must accept each trace. COUNT programs (1000) are made of the seeds from FIRST (1) on, and for the recorders for
-Rust and Python a tenth as many; and COUNT programs of steps by pmtrim-record (turns.py). A failed program's script, trace and log stay in the folders that are named.
+The seeds are those from TRUTH_FIRST (1) on: TRUTH_COUNT (1000) programs in C, a tenth as many in Rust and in Python, and as many of steps
+by pmtrim-record (turns.py). A failed program's script, trace and log stay in the folders that are named.
 """
 import collections
 import concurrent.futures
@@ -12,18 +11,22 @@ import pathlib
 import re
 import shutil
 import subprocess
-import sys
 import tempfile
 
+from checks import Checks
 from effects import NEVER, Refused
 from interpreters import build_in_c, build_in_rust, in_python
 from judge import Judge
-from labels import check_labels
+from label_checks import check_labels
 from mutations import MUTATIONS, Mutations
 from programs import DATA
 from records import read_logs, read_memory, read_text
-from turns import run_programs
+from turns import judged
+from valgrind_runs import Recorded
 
+COUNT, FIRST = (int(os.environ.get(name, usual)) for name, usual in (("TRUTH_COUNT", 1000), ("TRUTH_FIRST", 1)))
+AT_ONCE = 50
+LEAST_SWITCHES = 5  # of a program of steps
 BATCH = 12
 MUTATED = 10  # of each so many programs one gives false records
 ROUNDS = 20  # at most so often 100 programs more are run, since threads meet by chance
@@ -65,20 +68,22 @@ class Runner:
         self.data = data
 
     def run(self, seeds):
-        """How many programs passed, the names of the changes that were refused, and a line for each fault."""
+        """Of each program: its seed, what is wrong, and of each change of its record its name and whether it was refused."""
         programs = [self.interpreter.make(seed) for seed in seeds]
         status, told = self.execute(programs)
-        faults, refused, passed = [], [], 0
+        outcomes = [(program.seed, *self.outcome(program)) for program in programs]
         if status != status_of(programs[-1]) or not is_told_rightly(programs[-1], told):
-            faults.append(f"seeds {seeds}: status {status}, not {status_of(programs[-1])}: {told[-2000:]}")
-        for program in programs:
-            try:
-                refused += self.judge(program)
-                passed += 1
-                self.remove(program)
-            except (Refused, OSError) as fault:
-                faults.append(f"seed {program.seed}: {fault}")
-        return passed, refused, faults
+            outcomes.append((f"{seeds[0]} to {seeds[-1]}", f"status {status}, not {status_of(programs[-1])}: {told[-2000:]}", []))
+        return outcomes
+
+    def outcome(self, program):
+        try:
+            changes = self.judge(program)
+        except (Refused, OSError) as fault:
+            return str(fault), []
+        if all(refused for _, refused in changes):
+            self.remove(program)
+        return "", changes
 
     def execute(self, programs):
         script = self.folder / f"{programs[0].seed}.script"
@@ -90,7 +95,7 @@ class Runner:
         return done.returncode, done.stderr.decode(errors="replace")
 
     def judge(self, program):
-        """The names of the changes that make false records of it, which were all refused."""
+        """Of each change that makes a false record of it: its name, and whether it was refused."""
         name = self.folder / str(program.seed)
         text, logs = read_text(program, name), read_logs(program, name)
         kept = program.goes_on() or not self.interpreter.is_safe()
@@ -105,10 +110,7 @@ class Runner:
             raise Refused(f"pmtrim refuses the trace: {done.stderr}")
         if program.seed % MUTATED or program.closes_early or not program.goes_on():
             return []
-        names, accepted = Mutations(*record).accepted()
-        if accepted:
-            raise Refused(f"the judge takes false records: {' '.join(accepted)}")
-        return names
+        return list(Mutations(*record).refused())
 
     def remove(self, program):
         for path in self.folder.glob(f"{program.seed}.*"):
@@ -151,78 +153,63 @@ def make_folders():
     return folders
 
 
-def run_all(jobs):
-    """How many programs passed, how many faults there are, and how often each change was refused."""
-    passed, failed, refused = 0, 0, collections.Counter()
-    with concurrent.futures.ProcessPoolExecutor(min(2, len(os.sched_getaffinity(0)))) as workers:
-        for (interpreter, *_), (right, names, faults) in zip(jobs, workers.map(run_job, jobs)):
-            for fault in faults:
-                print(f"{interpreter.name}: {fault}")
-            passed += right
-            failed += len(faults)
-            refused.update(names)
-    return passed, failed, refused
+class Truth(Checks):
+    """Programs with pmtrace.h and with the recorders for Rust and Python, in two folders by turns."""
 
+    def setUp(self):
+        self.folders, self.builds = make_folders(), self.new_folder()
+        self.data = self.builds / "data"
+        self.data.write_bytes(DATA)
 
-def never_made(refused):
-    """The changes that no record was made false by."""
-    return [change.__name__ for change in MUTATIONS if refused[change.__name__] == 0]
+    def run_all(self, interpreters, seeds):
+        """A check for each program, and for each change of its record; how often each of these was made."""
+        jobs = [(*job, self.program, folder, self.data) for job, folder in zip(shared_out(interpreters, seeds), itertools.cycle(self.folders))]
+        made, right = collections.Counter(), True
+        with concurrent.futures.ProcessPoolExecutor(min(2, len(os.sched_getaffinity(0)))) as workers:
+            for (interpreter, *_), outcomes in zip(jobs, workers.map(run_job, jobs)):
+                for seed, fault, changes in outcomes:
+                    self.expect(f"{interpreter.name}, seed {seed}", not fault, fault)
+                    for name, refused in changes:
+                        self.expect(f"{interpreter.name}, seed {seed}: {name}", refused, "the judge takes this false record")
+                    made.update(name for name, _ in changes)
+                    right &= not fault and all(refused for _, refused in changes)
+        if not right:
+            print("what they left is in", *self.folders)
+            self.fail("not all are recorded truly")
+        return made
 
-
-class Runs:
-    """The jobs of one call, in two folders by turns, and what came of them."""
-
-    def __init__(self, pmtrim, folders, data):
-        self.pmtrim = pmtrim
-        self.folders = itertools.cycle(folders)
-        self.data = data
-        self.passed, self.failed, self.refused = 0, 0, collections.Counter()
-
-    def run(self, jobs):
-        passed, failed, refused = run_all([(*job, self.pmtrim, folder, self.data) for job, folder in zip(jobs, self.folders)])
-        self.passed += passed
-        self.failed += failed
-        self.refused.update(refused)
-
-    def run_until_all_are_made(self, interpreters, first):
-        """Runs programs of the seeds from `first` on, each of which gives false records, until each change was made once."""
-        for seed in range(first, first + ROUNDS * 100 * MUTATED, 100 * MUTATED):
-            if self.failed or not never_made(self.refused):
-                return
-            self.run(list(shared_out(interpreters, range(seed, seed + 100 * MUTATED, MUTATED))))
-
-
-def main():
-    pmtrim = sys.argv[1]
-    count = int(sys.argv[2]) if len(sys.argv) > 2 else 1000
-    first = int(sys.argv[3]) if len(sys.argv) > 3 else 1
-    folders = make_folders()
-    built, data = folders[0] / "built", folders[0] / "data"
-    built.mkdir()
-    data.write_bytes(DATA)
-    in_c = build_in_c(built)
-    jobs = list(shared_out(in_c, range(first, first + count)))
-    for interpreter in (build_in_rust(built), in_python()):
-        jobs += shared_out([interpreter], range(first, first + count // 10))
-    runs = Runs(pmtrim, folders, data)
-    runs.run(jobs)
-    if count >= 1000:
-        runs.run_until_all_are_made(in_c, -(-(first + count) // MUTATED) * MUTATED)
-        never = never_made(runs.refused)
-        if never:
-            print(f"no record was made false by {' '.join(never)}")
-        runs.failed += len(never)
-    turned, wrong, switches = run_programs(pmtrim, count, first)
-    if runs.failed:
-        print("what they left is in", *folders)
-    else:
-        for folder in folders:
+    def end(self):
+        for folder in self.folders:
             shutil.rmtree(folder)
-    print(f"{runs.passed} programs recorded truly, {runs.refused.total()} false records refused")
-    print(f"{turned} programs recorded truly by pmtrim-record, with {switches} switches between threads")
-    print(f"{runs.passed + runs.refused.total() + turned} passed, {runs.failed + wrong} failed")
-    return 1 if runs.failed + wrong else 0
+
+    def test_in_c(self):
+        """Some runs more give false records until each change was made, since threads meet by chance."""
+        interpreters, made = build_in_c(self.builds), collections.Counter()
+        made.update(self.run_all(interpreters, range(FIRST, FIRST + COUNT)))
+        first = -(-(FIRST + COUNT) // MUTATED) * MUTATED
+        for seed in range(first, first + ROUNDS * 100 * MUTATED, 100 * MUTATED):
+            if COUNT >= 1000 and not all(made[change.__name__] for change in MUTATIONS):
+                made.update(self.run_all(interpreters, range(seed, seed + 100 * MUTATED, MUTATED)))
+        for change in MUTATIONS:
+            self.expect(f"a record was made false by {change.__name__}", COUNT < 1000 or made[change.__name__] > 0, made)
+        self.end()
+
+    def test_in_rust(self):
+        self.run_all(build_in_rust(self.builds), range(FIRST, FIRST + COUNT // 10))
+        self.end()
+
+    def test_in_python(self):
+        self.run_all(in_python(self.builds), range(FIRST, FIRST + COUNT // 10))
+        self.end()
 
 
-if __name__ == "__main__":
-    sys.exit(main())
+class Turns(Recorded):
+    """Programs of steps by pmtrim-record, whose threads give way."""
+
+    def test_turns(self):
+        steps, switches = self.build("steps"), 0
+        for first in range(FIRST, FIRST + COUNT, AT_ONCE):
+            for seed, fault, times in judged(steps, self.program, self.folder, range(first, min(first + AT_ONCE, FIRST + COUNT))):
+                self.expect(f"steps, seed {seed}", not fault, fault)
+                switches += times
+        self.expect("threads give way", switches >= LEAST_SWITCHES * COUNT, switches)

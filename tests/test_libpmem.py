@@ -1,21 +1,18 @@
-#!/usr/bin/env python3
-"""Builds and runs programs with the libraries that record libpmem and libpmem2: libpmem.py PROGRAM. Last line: 'N passed, M failed'.
+"""Builds and runs programs with the libraries that record libpmem and libpmem2.
 
-The traces that the programs of tests/recorders/libpmem must give are written out here. So are those of the examples that Debian packages
-with libpmem and libpmem2, where they are short; of the longer ones the stores must rebuild the file. What the calls answer must be
-what libpmem and libpmem2 themselves answer.
+The traces that the programs of tests/recorders/libpmem must give are written out in libpmem_traces.py. So are those of the examples that
+Debian packages with libpmem and libpmem2, where they are short; of the longer ones the stores must rebuild the file. What the calls answer
+must be what libpmem and libpmem2 themselves answer.
 """
-import functools
-import os
 import pathlib
 import re
-import subprocess
-import sys
-import tempfile
 
-import recording
+from documents import expect_shown
 from libpmem_traces import ADOPTS, BOTH, CALLED, CALLS, CALLS2, CHILD, EXAMPLES, FORGETS, POOLS, PRIVATE, REMOVED, SECOND, SHAPES, UNMAPPED, stores
-from recording import TOP, has_compiler, rebuilt, text_of
+from needs import need
+from program import TOP
+from recording import Recording, need_compiler, rebuilt, source_of, text_of
+from running import run_as_shown
 
 HERE = TOP / "tests/recorders/libpmem"
 DEBIAN = pathlib.Path("/usr/share/doc")
@@ -27,72 +24,55 @@ COMPILERS = {
     "g++": ["g++", "-std=c++17", "-x", "c++"],
     "clang++": ["clang++", "-std=c++17", "-x", "c++"],
 }
+ADDRESS, THREAD = "-fsanitize=address,undefined", "-fsanitize=thread"
+# By what each build of the libraries is made.
+LIBRARIES = {
+    "gcc": ("gcc",), "clang": ("clang",), "asan": ("gcc", ADDRESS), "clang-asan": ("clang", ADDRESS), "tsan": ("gcc", THREAD),
+    "clang-tsan": ("clang", THREAD),
+}
+# Of each package one example of those that must be there.
+PACKAGED = ("libpmem-dev/examples/simple_copy", "libpmem2-dev/examples/redo/redo", "libpmemobj-dev/examples/string_store/writer")
 # A compiler of programs, and the one that the library was built by.
 EACH = (("gcc", "gcc"), ("clang", "clang"), ("g++", "clang"), ("clang++", "gcc"))
-
-
-def run(words, **options):
-    """The status and what it wrote, both streams; no status where it can't be run."""
-    options["env"] = {**os.environ, **options.pop("set", {})}
-    streams = {"stdin": subprocess.DEVNULL, "stdout": subprocess.PIPE, "stderr": subprocess.STDOUT}
-    try:
-        done = subprocess.run([str(word) for word in words], timeout=1200, check=False, **streams, **options)
-    except (OSError, subprocess.TimeoutExpired) as error:
-        return None, str(error)
-    return done.returncode, done.stdout.decode(errors="replace")
 
 
 def bytes_of(path):
     return path.read_bytes() if path.exists() else b""
 
 
-@functools.cache
-def source_of(label):
-    """The source line that a label names."""
-    name, _, number = label.rpartition(":")
-    path = pathlib.Path(name) if name.startswith("/") else TOP / name
-    return path.read_text().splitlines()[int(number) - 1] if number.isdigit() and path.exists() else label
+class Libpmem(Recording):
+    """What programs of these libraries leave."""
 
-
-class Tests(recording.Tests):
-    """The tests, and where the libraries lie."""
-
-    def __init__(self, program, folder):
-        super().__init__(program, folder)
-        self.libraries = {}
+    @classmethod
+    def setUpClass(cls):
+        super().setUpClass()
+        need("pkg-config", "pkg-config")
+        need("libpmem-dev libpmem2-dev libpmemobj-dev", *(str(DEBIAN / f"{example}.c") for example in PACKAGED))
 
     # Building
 
-    def library(self, name, compiler, flags=""):
-        """Builds the libraries; they must be built without a word."""
-        self.expect(f"{compiler} works here", has_compiler(compiler, flags.split()), f"to be installed: apt-get install {compiler}")
-        out = self.folder / f"out.{name}"
-        words = ["make", "-s", "-j2", "-C", TOP / "recorders/libpmem", f"OUT={out}", f"CC={compiler}", f"CFLAGS=-O2 -g {PEDANTIC} {flags}"]
-        built = run(words)
-        self.expect(f"the libraries, {name}", built == (0, ""), built[1])
-        self.libraries[name] = out
+    def library(self, name):
+        """The folder of the libraries, which must be built without a word."""
+        compiler, *flags = LIBRARIES[name]
+        need_compiler(compiler, *flags)
+        out = self.builds / f"out.{name}"
+        makes = ["make", "-s", "-j2", "-C", TOP / "recorders/libpmem", f"OUT={out}", f"CC={compiler}", f"CFLAGS=-O2 -g {PEDANTIC} {' '.join(flags)}"]
+        return self.expect_built(out, makes)
 
     def build(self, source, compiler="gcc", library="gcc", flags=(), strict=True, uses="libpmem"):
         """A program with a library, as pkg-config says that it is to be built."""
-        built = self.folder / f"{source.stem}.{compiler}.{library}"
-        out = self.libraries[library]
-        says = run(["pkg-config", "--cflags", "--libs", uses], set={"PKG_CONFIG_PATH": str(out / "lib/pkgconfig")})
+        need_compiler(compiler)
+        built = self.builds / f"{source.stem}.{compiler}.{library}{''.join(flags).replace('/', '.')}"
+        says = run_as_shown(["pkg-config", "--cflags", "--libs", uses], {"PKG_CONFIG_PATH": str(self.library(library) / "lib/pkgconfig")})
         words = [*COMPILERS[compiler], *(STRICT if strict else ["-g"]), *flags, "-I", HERE, source, "-x", "none", "-o", built, *says[1].split()]
-        answer = run(words)
-        self.expect(f"{built.name} is built", says[0] == 0 and answer == (0, ""), f"{says} {answer[1]}")
-        return built
-
-    def new_folder(self, name):
-        made = self.folder / f"in.{name}"
-        made.mkdir()
-        return made
+        return self.expect_built(built, words)
 
     # Judging
 
     def labels(self, trace):
         """The label of each event, after pmtrim-lines found the source lines."""
         path = trace.with_name(trace.name + ".labels")
-        self.expect(f"lines of {path.name}", run([TOP / "recorders/libpmem/pmtrim-lines", path], cwd=TOP) == (0, ""), text_of(path)[:200])
+        self.expect(f"lines of {path.name}", run_as_shown([TOP / "recorders/libpmem/pmtrim-lines", path], cwd=TOP) == (0, ""), text_of(path)[:200])
         entries = [line.split(" ", 1) for line in text_of(path).splitlines()]
         right = [number for number, _ in entries] == [str(number + 1) for number in range(text_of(trace).count("\n") - 1)]
         self.expect(f"{path.name} has a label for each event", right, entries[:3])
@@ -100,12 +80,12 @@ class Tests(recording.Tests):
 
     def runs(self, name, words, told="", **options):
         """It must end well, and write that."""
-        answer = run(words, **options)
+        answer = run_as_shown(words, **options)
         self.expect(f"{name} runs", answer == (0, told), answer)
 
     def says(self, name, words, pattern, **options):
         """It must end well, and write what the pattern has."""
-        status, told = run(words, **options)
+        status, told = run_as_shown(words, **options)
         self.expect(f"{name}: what is missing is said", status == 0 and re.fullmatch(pattern, told), (status, told))
 
     def gives(self, name, trace, wanted):
@@ -114,12 +94,12 @@ class Tests(recording.Tests):
 
     # The calls
 
-    def calls(self):
+    def test_calls(self):
         """Each call is in the trace what the pages say, in C and in C++; its label is the line that called."""
         for compiler, library in (*EACH, ("gcc", "asan"), ("clang", "clang-asan")):
-            flags = ["-fsanitize=address,undefined"] if "asan" in library else ["-O2"]
+            flags = [ADDRESS] if "asan" in library else ["-O2"]
             program = self.build(HERE / "calls.c", compiler, library, flags)
-            pool = self.new_folder(f"calls.{compiler}.{library}") / "pool"
+            pool = self.new_folder() / "pool"
             name, trace = f"calls, {compiler} and {library}", pool.with_name("pool.trace")
             self.runs(name, [program, pool])
             self.gives(name, trace, CALLS)
@@ -129,84 +109,83 @@ class Tests(recording.Tests):
             right = len(sources) == len(wanted) and all(piece in source for piece, source in zip(wanted, sources))
             self.expect(f"{name}: the labels", right, [pair for pair in zip(wanted, sources) if pair[0] not in pair[1]][:3])
 
-    def shapes(self):
+    def test_shapes(self):
         """What can be done with functions can be done with these."""
         for compiler, library in EACH:
             program = self.build(HERE / "shapes.c", compiler, library)
-            pool = self.new_folder(f"shapes.{compiler}") / "pool"
+            pool = self.new_folder() / "pool"
             self.runs(f"shapes, {compiler}", [program, pool])
             self.gives(f"shapes, {compiler}", pool.with_name("pool.trace"), SHAPES)
 
-    def calls2(self):
+    def test_calls2(self):
         for compiler, library in (*EACH, ("gcc", "asan"), ("clang", "clang-asan")):
-            flags = ["-fsanitize=address,undefined"] if "asan" in library else ["-O2"]
+            flags = [ADDRESS] if "asan" in library else ["-O2"]
             program = self.build(HERE / "calls2.c", compiler, library, flags, uses="libpmem2")
-            folder = self.new_folder(f"calls2.{compiler}.{library}")
+            folder = self.new_folder()
             name = f"calls2, {compiler} and {library}"
-            self.says(name, [program, folder], PRIVATE, set={"PMTRACE_WATCH": "all"})
+            self.says(name, [program, folder], PRIVATE, known={"PMTRACE_WATCH": "all"})
             self.gives(name, folder / "one.trace", CALLS2)
 
-    def results(self):
+    def test_results(self):
         """The calls answer what those of libpmem and libpmem2 themselves answer."""
         forced = {"results": {"PMEM_IS_PMEM_FORCE": "1"}, "results2": {"PMEM2_FORCE_GRANULARITY": "CACHE_LINE"}}
         for name, uses in (("results", "libpmem"), ("results2", "libpmem2")):
             real, answers = self.folder / f"{name}.real", []
-            built = run(["gcc", "-g", HERE / f"{name}.c", "-o", real, f"-l{uses[3:]}"])
-            self.expect(f"{real.name} is built", built == (0, ""), f"{built[1]}\nto be installed: apt-get install libpmem-dev libpmem2-dev")
+            self.expect_built(real, ["gcc", "-g", HERE / f"{name}.c", "-o", real, f"-l{uses[3:]}"])
             for program in (real, self.build(HERE / f"{name}.c", uses=uses)):
-                said, folder = self.folder / f"{program.name}.told", self.new_folder(f"{program.name}.folder")
-                answers.append(run(["sh", "-c", f'"$1" "$2" 2> "{said}"', "sh", program, folder], set=forced[name]))
+                said, folder = self.folder / f"{program.name}.told", self.new_folder()
+                answers.append(run_as_shown(["sh", "-c", f'"$1" "$2" 2> "{said}"', "sh", program, folder], known=forced[name]))
             right = answers[0] == answers[1] and answers[0][0] == 0 and answers[0][1].count("\n") > 30
             differ = [pair for pair in zip(*(answer[1].splitlines() for answer in answers)) if pair[0] != pair[1]]
             self.expect(f"{name}: the answers are libpmem's own", right, f"{answers[0][0]} {answers[1][0]} {differ}")
 
     # Several files, threads, processes
 
-    def pools(self):
-        for library, flags in (("gcc", []), ("asan", ["-fsanitize=address,undefined"])):
-            folder = self.new_folder(f"pools.{library}")
+    def test_pools(self):
+        for library, flags in (("gcc", []), ("asan", [ADDRESS])):
+            folder = self.new_folder()
             self.runs(f"pools, {library}", [self.build(HERE / "pools.c", "gcc", library, flags), folder])
             self.gives(f"pools, {library}", folder / "one.trace", POOLS)
 
-    def removed(self):
+    def test_removed(self):
         """A file that is removed and made anew is another, whatever inode number it gets."""
-        for library, flags in (("gcc", []), ("asan", ["-fsanitize=address,undefined"])):
-            pool = self.new_folder(f"removed.{library}") / "pool"
+        for library, flags in (("gcc", []), ("asan", [ADDRESS])):
+            pool = self.new_folder() / "pool"
             self.runs("removed", [self.build(HERE / "removed.c", "gcc", library, flags), pool])
             self.gives("removed", pool.with_name("pool.trace"), REMOVED)
 
-    def adopts(self):
+    def test_adopts(self):
         """What the program mapped by itself is recorded where pmem_is_pmem is told to say yes, from its answer on; else it is not."""
         program = self.build(HERE / "adopts.c")
         for force, answer, wanted in (("1", "1 1\n", ADOPTS), ("0", "0 0\n", None), ("", "0 0\n", None)):
-            pool = self.new_folder(f"adopts.{force}") / "pool"
-            self.runs(f"adopts, {force}", [program, pool], answer, set={"PMEM_IS_PMEM_FORCE": force} if force else {})
+            pool = self.new_folder() / "pool"
+            self.runs(f"adopts, {force}", [program, pool], answer, known={"PMEM_IS_PMEM_FORCE": force} if force else {})
             if wanted is not None:
                 self.gives("adopts", pool.with_name("pool.trace"), wanted)
             else:
                 self.expect("adopts nothing", not pool.with_name("pool.trace").exists(), "there is a trace")
 
-    def both(self):
+    def test_both(self):
         """A program with both libraries has one recorder."""
-        folder, out = self.new_folder("both"), self.libraries["gcc"] / "lib"
+        folder, out = self.new_folder(), self.library("gcc") / "lib"
         for order in (["-lpmem", "-lpmem2"], ["-lpmem2", "-lpmem"]):
             program = self.folder / f"both{order[0]}"
             words = [*COMPILERS["gcc"], *STRICT, "-I", out.parent / "include", HERE / "both.c", "-o", program, "-L", out, *order]
-            self.expect(f"{program.name} is built", run(words) == (0, ""), run(words)[1])
+            self.expect_built(program, words)
             self.runs(f"both, {order}", [program, folder])
             self.gives(f"both, {order}", folder / "one.trace", BOTH)
 
-    def found(self):
+    def test_found(self):
         """A configure script that tries to compile, as fio's does, finds the libraries by CPATH and LIBRARY_PATH."""
-        out, probe = self.libraries["gcc"], self.folder / "probe"
+        out, probe = self.library("gcc"), self.folder / "probe"
         places = {"CPATH": str(out / "include"), "LIBRARY_PATH": str(out / "lib")}
         tries = (("pmem", "pmem_is_pmem(0, 0)"), ("pmem", "pmem_memcpy(0, 0, 0, 0) != 0"), ("pmem2", "pmem2_config_new(0)"))
         for library, call in tries:
             probe.with_suffix(".c").write_text(f"#include <lib{library}.h>\nint main(void) {{ return {call}; }}\n")
-            built = run(["gcc", "-o", probe, probe.with_suffix(".c"), f"-l{library}"], set=places)
-            self.expect(f"{call} is found", built == (0, "") and "libpmem" not in run(["objdump", "-p", probe])[1], built)
+            built = run_as_shown(["gcc", "-o", probe, probe.with_suffix(".c"), f"-l{library}"], known=places)
+            self.expect(f"{call} is found", built == (0, "") and "libpmem" not in run_as_shown(["objdump", "-p", probe])[1], built)
 
-    def tails(self):
+    def test_tails(self):
         """The label is where the call returns to."""
         for flags, wanted in (([], "here its caller is"), (["-fno-optimize-sibling-calls"], "here it is called")):
             pool = self.new_folder(f"tails.{len(flags)}") / "pool"
@@ -214,24 +193,24 @@ class Tests(recording.Tests):
             sources = [source_of(label) for label in self.labels(pool.with_name("pool.trace"))]
             self.expect(f"tails: {wanted}", len(sources) == 3 and all(wanted in source for source in sources), sources)
 
-    def refusals(self):
+    def test_refusals(self):
         """What can't be recorded is refused by name."""
-        words = ["gcc", "-DPMEM2_USE_MINIASYNC", "-I", self.libraries["gcc"] / "include", "-c", HERE / "calls2.c", "-o", "/dev/null"]
-        status, told = run(words)
+        words = ["gcc", "-DPMEM2_USE_MINIASYNC", "-I", self.library("gcc") / "include", "-c", HERE / "calls2.c", "-o", "/dev/null"]
+        status, told = run_as_shown(words)
         self.expect("asynchronous calls", status == 1 and "the asynchronous calls of libpmem2 are not recorded" in told, told)
-        folder = self.new_folder("bytes")
+        folder, basic = self.new_folder(), self.example("libpmem2-dev", "basic/basic.c")
         (folder / "pool").write_bytes(bytes(4096))
-        ran = run([self.folder / "basic.gcc.gcc", "pool"], cwd=folder, set={"PMEM2_FORCE_GRANULARITY": "BYTE"})
+        ran = run_as_shown([basic, "pool"], cwd=folder, known={"PMEM2_FORCE_GRANULARITY": "BYTE"})
         wanted = "pmem2_map_new: no recorded memory has the granularity of bytes (eADR)\n"
         self.expect("a granularity of bytes", ran == (1, wanted) and not (folder / "pool.trace").exists(), ran)
-        ran = run([self.folder / "basic.gcc.gcc", "pool"], cwd=folder, set={"PMTRACE_FILE": "none/trace"})
+        ran = run_as_shown([basic, "pool"], cwd=folder, known={"PMTRACE_FILE": "none/trace"})
         wanted = "pmtrace: none/trace: No such file or directory; nothing is recorded\n"
         self.expect("a trace that can't be made", ran == (0, wanted), ran)
 
-    def threads(self):
-        address, thread = ["-fsanitize=address,undefined"], ["-fsanitize=thread"]
+    def test_threads(self):
+        address, thread = [ADDRESS], ["-fsanitize=thread"]
         for compiler, library, flags in (("gcc", "gcc", []), ("gcc", "asan", address), ("gcc", "tsan", thread), ("clang", "clang-tsan", thread)):
-            pool = self.new_folder(f"threads.{library}") / "pool"
+            pool = self.new_folder() / "pool"
             trace = pool.with_name("pool.trace")
             program = self.build(HERE / "threads.c", compiler, library, [*flags, "-pthread", "-I", TOP / "recorders/c"])
             self.runs(f"threads, {library}", [program, pool])
@@ -239,9 +218,9 @@ class Tests(recording.Tests):
             status, report = self.report(trace)
             self.expect(f"threads, {library}: all is persisted", status == 0 and report.count(" pass\n") == 160, report[-200:])
 
-    def forgets(self):
+    def test_forgets(self):
         """A plain store that nobody made persistent is found, by the line that noticed it."""
-        pool = self.new_folder("forgets") / "pool"
+        pool = self.new_folder() / "pool"
         trace = pool.with_name("pool.trace")
         self.runs("forgets", [self.build(HERE / "forgets.c"), pool])
         status, report = self.gives("forgets", trace, FORGETS)
@@ -250,19 +229,19 @@ class Tests(recording.Tests):
         right = len(labels) == 7 and "pmem_persist(pool + 128, 1)" in source_of(labels[5])
         self.expect("forgets: its label", right, labels)
 
-    def processes(self):
+    def test_processes(self):
         program = self.build(HERE / "processes.c")
         saved = "pmtrace 2 64\nstore 0 0x0 {:02x}\nclwb 0 0x0\nsfence 0\n"
-        folder = self.new_folder("apart")
+        folder = self.new_folder()
         self.runs("processes apart", [program, "apart", folder])
         for name, byte in (("one", 1), ("two", 2)):
             self.gives(f"processes apart, {name}", folder / f"{name}.trace", saved.format(byte))
-        folder = self.new_folder("inherited")
+        folder = self.new_folder()
         self.says("an inherited pool", [program, "inherited", folder], CHILD.format(folder / "one.trace"))
         self.report(folder / "one.trace")
-        folder = self.new_folder("same")
+        folder = self.new_folder()
         trace = folder / "both.trace"
-        self.says("one trace for two", [program, "same", folder], SECOND.format(trace), set={"PMTRACE_FILE": str(trace)})
+        self.says("one trace for two", [program, "same", folder], SECOND.format(trace), known={"PMTRACE_FILE": str(trace)})
         self.gives("one trace for two: the first is whole", trace, saved.format(1))
 
     # Examples that Debian packages
@@ -271,11 +250,11 @@ class Tests(recording.Tests):
         """Built unchanged."""
         return self.build(DEBIAN / package / "examples" / path, strict=False, uses=library)
 
-    def copies(self):
+    def test_copies(self):
         """The examples of libpmem."""
         data = bytes(number * 7 % 251 for number in range(10000))
         for name, size in (("simple_copy", 4096), ("full_copy", 10000)):
-            folder = self.new_folder(name)
+            folder = self.new_folder()
             (folder / "source").write_bytes(data[:size])
             built = self.example("libpmem-dev", f"{name}.c", "libpmem")
             self.runs(name, [built, folder / "source", folder / "copy"])
@@ -288,21 +267,20 @@ class Tests(recording.Tests):
             self.as_built(f"libpmem-dev/examples/{name}.c", "-lpmem", ["source", "again"], folder, wanted + "sfence 0\n")
         built = self.example("libpmem-dev", "manpage.c", "libpmem")
         if not pathlib.Path("/pmem-fs").exists():
-            self.expect("manpage", run([built]) == (1, "pmem_map_file: No such file or directory\n"), run([built]))
+            self.expect("manpage", run_as_shown([built]) == (1, "pmem_map_file: No such file or directory\n"), run_as_shown([built]))
 
     def as_built(self, source, library, words, folder, wanted):
         """A program built with libpmem or libpmem2 itself runs as it is with the shared library."""
         program = self.folder / f"{pathlib.Path(source).stem}.real"
-        built = run(["gcc", "-g", DEBIAN / source, "-o", program, library])
-        self.expect(f"{program.name} is built", built == (0, ""), built[1])
-        path = {"LD_LIBRARY_PATH": str(self.libraries["gcc"] / "shared")}
-        self.runs(program.name, [program, *words], set=path, cwd=folder)
+        self.expect_built(program, ["gcc", "-g", DEBIAN / source, "-o", program, library])
+        path = {"LD_LIBRARY_PATH": str(self.library("gcc") / "shared")}
+        self.runs(program.name, [program, *words], known=path, cwd=folder)
         self.gives(program.name, folder / f"{words[-1]}.trace", wanted)
 
-    def examples(self):
+    def test_examples(self):
         """The examples of libpmem2."""
         for name, sizes, runs in EXAMPLES:
-            folder = self.new_folder(f"example.{name}")
+            folder = self.new_folder()
             for file, size in sizes.items():
                 with open(folder / file, "wb") as made:
                     made.truncate(size)
@@ -318,7 +296,7 @@ class Tests(recording.Tests):
                 self.expect(f"{name}: the stores rebuild the file", memory == bytes_of(folder / first), "they do not")
 
     def one_run(self, name, words, folder, wanted, trace):
-        status, told = run(words, cwd=folder)
+        status, told = run_as_shown(words, cwd=folder)
         self.expect(f"{name} {words[1]} runs", (status, bool(re.fullmatch(wanted, told))) == (0, True), (status, told))
         made = next(folder.glob("*.trace"), folder / "none")
         if trace is not None:
@@ -326,60 +304,32 @@ class Tests(recording.Tests):
         else:
             self.report(made)
 
-    def fault_of_redo(self):
+    def test_fault_of_redo(self):
         """The example redo flushes the address of a variable instead of its log. It is told, by the line."""
-        folder = self.new_folder("redo.again")
+        folder, redo = self.new_folder(), self.example("libpmem2-dev", "redo/redo.c")
         (folder / "pool").write_bytes(bytes(16384))
-        status, told = run([self.folder / "redo.gcc.gcc", "add", "pool", "1", "2"], cwd=folder)
+        status, told = run_as_shown([redo, "add", "pool", "1", "2"], cwd=folder)
         place = re.match(r"pmtrace: (.*\+0x[0-9a-f]+): ", told)
         (folder / "told.labels").write_text(f"1 {place[1] if place else told}\n")
-        run([TOP / "recorders/libpmem/pmtrim-lines", folder / "told.labels"], cwd=TOP)
+        run_as_shown([TOP / "recorders/libpmem/pmtrim-lines", folder / "told.labels"], cwd=TOP)
         line = source_of(text_of(folder / "told.labels").rstrip("\n").split(" ", 1)[1])
         self.expect("redo: the flush that is no flush", status == 0 and "Persist(&redo, " in line, (told, line))
 
-    def libpmemobj(self):
+    def test_libpmemobj(self):
         """An example of libpmemobj, built with the packaged library, runs as it is with the shared library; what is missing is said."""
-        folder, program = self.new_folder("obj"), self.folder / "writer"
-        built = run(["gcc", "-g", DEBIAN / "libpmemobj-dev/examples/string_store/writer.c", "-o", program, "-lpmemobj"])
-        self.expect("writer is built", built == (0, ""), f"{built[1]}\nto be installed: apt-get install libpmemobj-dev")
-        force = {"PMEM_IS_PMEM_FORCE": "1", "LD_LIBRARY_PATH": str(self.libraries["gcc"] / "shared")}
-        self.says("libpmemobj", ["sh", "-c", 'echo recorded | "$1" pool', "sh", program], UNMAPPED, cwd=folder, set=force)
+        folder, program = self.new_folder(), self.folder / "writer"
+        self.expect_built(program, ["gcc", "-g", DEBIAN / "libpmemobj-dev/examples/string_store/writer.c", "-o", program, "-lpmemobj"])
+        force = {"PMEM_IS_PMEM_FORCE": "1", "LD_LIBRARY_PATH": str(self.library("gcc") / "shared")}
+        self.says("libpmemobj", ["sh", "-c", 'echo recorded | "$1" pool', "sh", program], UNMAPPED, cwd=folder, known=force)
         self.report(folder / "pool.trace")
-        built = run(["gcc", "-g", HERE / "reopens.c", "-o", self.folder / "reopens", "-lpmemobj"])
-        self.expect("reopens is built", built == (0, ""), built[1])
-        status, told = run([self.folder / "reopens", "again"], cwd=folder, set=force)
+        reopens = self.folder / "reopens"
+        self.expect_built(reopens, ["gcc", "-g", HERE / "reopens.c", "-o", reopens, "-lpmemobj"])
+        status, told = run_as_shown([reopens, "again"], cwd=folder, known=force)
         self.expect("libpmemobj: a pool is opened again", status == 0 and "opened again\n" in told, told)
         self.report(folder / "again.trace")
         text = text_of(folder / "pool.trace")
         self.expect("libpmemobj: its stores are there", f" {b'recorded'.hex()}\n" in text and text.count("\nsfence ") > 10, text[-200:])
 
-    def page(self):
+    def test_page(self):
         """The commands that recorders/libpmem/README.md shows."""
-        status, told = run([sys.executable, TOP / "tests/harness/documents.py", self.program, "recorders/libpmem/README.md"])
-        self.expect("recorders/libpmem/README.md", status == 0, told)
-
-
-def main():
-    with tempfile.TemporaryDirectory() as name:
-        tests = Tests(sys.argv[1], pathlib.Path(name))
-        tests.library("gcc", "gcc")
-        tests.library("clang", "clang")
-        tests.library("asan", "gcc", "-fsanitize=address,undefined")
-        tests.library("clang-asan", "clang", "-fsanitize=address,undefined")
-        tests.library("tsan", "gcc", "-fsanitize=thread")
-        tests.library("clang-tsan", "clang", "-fsanitize=thread")
-        if tests.counts.failed:
-            print(f"nothing can be tried without the libraries\n{tests.counts.passed} passed, {tests.counts.failed} failed")
-            return 1
-        for test in (tests.calls, tests.shapes, tests.calls2, tests.results, tests.pools, tests.removed, tests.adopts, tests.both, tests.threads):
-            test()
-        for test in (tests.forgets, tests.found, tests.tails, tests.processes):
-            test()
-        for test in (tests.copies, tests.examples, tests.fault_of_redo, tests.libpmemobj, tests.refusals, tests.page):
-            test()
-    print(f"{tests.counts.passed} passed, {tests.counts.failed} failed")
-    return 1 if tests.counts.failed else 0
-
-
-if __name__ == "__main__":
-    sys.exit(main())
+        expect_shown(self, "recorders/libpmem/README.md")

@@ -1,80 +1,33 @@
-#!/usr/bin/env python3
-"""Runs programs under pmtrim-record: valgrind.py PROGRAM. The last line is 'N passed, M failed'.
+"""Runs programs under pmtrim-record.
 
-Every trace must be accepted by PROGRAM. What else must stand in it is written out here, follows from what the programs of
+The program must accept every trace. What else must stand in it is written out here, follows from what the programs of
 tests/recorders/valgrind do, is the file's last bytes, or is what pmtrace.h wrote of the same program.
 """
 import functools
-import os
-import pathlib
 import re
 import resource
 import shutil
 import signal
 import subprocess
-import sys
-import tempfile
 
-from counts import Counts
-from valgrind_places import Places
-from valgrind_processes import Processes
-from valgrind_runs import drawn, events_of, rebuilt, run, stores_of, text_of, wait_until
+from documents import expect_shown
+from program import TOP
+from recording import POOL, events_of, rebuilt, stores_of, text_of
+from running import run, wait_until
+from valgrind_places import Places  # noqa: F401  (the runner runs what stands here)
+from valgrind_processes import Processes  # noqa: F401
+from valgrind_runs import FOLDER, RECORD, SOURCES, Recorded, drawn
 from valgrind_texts import CLAIMED, FINISHED, FIRST_LABELS, FLUSHES, FORMATTED, LABELS, LOCKED_FLUSHES, SYSTEM, WATCHED, saved, saved_value
-from valgrind_threads import Threads
-from valgrind_windows import Windows
-
-TOP = pathlib.Path(__file__).resolve().parents[2]
-HERE = TOP / "tests/recorders/valgrind"
-FOLDER = TOP / "recorders/valgrind"
-RECORD = FOLDER / "pmtrim-record"
-SECOND_POOL = 1 << 40
-COMPILER = ["gcc", "-O1", "-g", "-mclwb", "-Wall", "-Wextra", "-Werror", "-pthread", "-I", FOLDER]
+from valgrind_threads import Threads  # noqa: F401
+from valgrind_windows import Windows  # noqa: F401
 
 
-class Tests:
-    """The tests, what they count, and where their files lie."""
-
-    def __init__(self, program, folder):
-        self.program = program
-        self.known = {**os.environ, "PMTRIM": str(program)}
-        self.recorder = RECORD
-        self.run = run
-        self.folder = folder
-        self.counts = Counts()
-        self.expect = self.counts.expect
-
-    def build(self, name, *flags, source=None):
-        built = self.folder / name
-        status, _, told = run([*COMPILER, *flags, source or HERE / f"{name}.c", "-o", built])
-        self.expect(f"{name} is built", status == 0, told)
-        return built
-
-    def record(self, name, words, *options, accepted=True, **more):
-        """Runs a program under the recorder: the trace, the status, and what was written."""
-        trace = self.folder / f"{name}.trace"
-        status, told, faults = run([RECORD, *options, "--trace", trace, *words], **more)
-        if accepted:
-            self.accept(trace, faults)
-        return trace, status, told, faults
-
-    def accept(self, trace, told=""):
-        """The report of a trace, which must be accepted."""
-        status, report, faults = run([self.program, "check", trace])
-        self.expect(f"{trace.name} is accepted", status in (0, 1), faults + told)
-        return status, report
-
-    def is_cut(self, name, trace, wanted):
-        """What stands beside the trace: after which event it was cut and why; None where it was not."""
-        beside = trace.with_name(f"{trace.name}.cut")
-        found = beside.read_text() if beside.exists() else None
-        self.expect(f"{name}: what the trace says of its end", found == wanted, found)
-
-    def is_text(self, name, trace, wanted):
-        self.expect(name, text_of(trace) == "pmtrace 2 64\n" + wanted, f"\n{text_of(trace)}")
+class Valgrind(Recorded):
+    """What is recorded, where it ends, and what is told."""
 
     # Stores
 
-    def stores(self):
+    def test_stores(self):
         """Every kind of store: the replayed trace is the file, byte for byte."""
         program, pool = self.build("stores", "-mavx2"), self.folder / "stores.pool"
         for threads in (1, 4):
@@ -131,7 +84,7 @@ class Tests:
 
     # Flushes, mappings and the system
 
-    def flushes(self):
+    def test_flushes(self):
         program, pool = self.build("flushes"), self.folder / "flushes.pool"
         for name, words, wanted in (("flushes", [], FLUSHES), ("locked", ["--locked-fences"], LOCKED_FLUSHES)):
             trace, status, told, faults = self.record(name, [program, pool], *words)
@@ -143,18 +96,18 @@ class Tests:
             self.expect(f"{name}: the others are counted", outside, faults)
             self.expect(f"{name}: locked ones are counted", ("locked instructions" in faults) == (name == "flushes"), faults)
 
-    def mappings(self):
+    def test_mappings(self):
         program, pools = self.build("mappings"), self.folder / "pools"
         pools.mkdir()
         trace, status, _, faults = self.record("mappings", [program, pools], "--pool", f"{pools}/one", "--pool", f"{pools}/two.")
         self.expect("mappings", status == 0 and "not recorded" not in faults, faults)
-        for name, start in (("one", 0), ("two", SECOND_POOL)):
+        for name, start in (("one", 0), ("two", POOL)):
             last = (pools / f"{name}.pool").read_bytes()
             self.expect(f"mappings: {name}", any(last) and rebuilt(trace, bytes(len(last)), start) == last, "differs")
         total = len(b"".join(data for _, data in stores_of(trace)))
-        self.expect("mappings: only pools", all(address % SECOND_POOL < 1 << 16 for address, _ in stores_of(trace)) and total < 400, total)
+        self.expect("mappings: only pools", all(address % POOL < 1 << 16 for address, _ in stores_of(trace)) and total < 400, total)
 
-    def system(self):
+    def test_system(self):
         program, pool = self.build("system"), self.folder / "system.pool"
         trace, status, _, faults = self.record("system", [program, pool])
         self.is_text("by the system", trace, SYSTEM)
@@ -162,7 +115,7 @@ class Tests:
 
     # Claims and windows
 
-    def claims(self):
+    def test_claims(self):
         program, pool = self.build("claims"), self.folder / "claims.pool"
         self.expect("claims outside Valgrind", run([program, pool])[0] == 0, "it fails")
         trace, _, _, faults = self.record("claims", [program, pool])
@@ -183,7 +136,7 @@ class Tests:
         faults = self.record("uncalled", [program, pool], "--persist", "no_such")[3]
         self.expect("a function that is not called", "the function no_such was never called by that name" in faults, faults)
 
-    def pmdk(self):
+    def test_pmdk(self):
         program, pool = self.build("pmdk"), self.folder / "pmdk.pool"
         ignore = self.folder / "pmdk.trace.ignore"
         _, _, told, _ = self.record("pmdk", [program, pool])
@@ -201,7 +154,7 @@ class Tests:
 
     # Ends
 
-    def ends(self):
+    def test_ends(self):
         program, pool = self.build("ends"), self.folder / "ends.pool"
         for case, wanted in (("saves", 3), ("exit", 4), ("abort", -signal.SIGABRT), ("segfault", -signal.SIGSEGV), ("avx512", -signal.SIGILL)):
             (self.folder / f"{case}.trace.cut").write_text("5 the disk was full\n")
@@ -212,16 +165,17 @@ class Tests:
             self.expect(f"{case}: the next command", f"pmtrim-record: 3 events of 1 thread in {trace}; {next_words}\n" in faults, faults)
             unknown = re.search(r"an AVX-512 instruction that Valgrind does not know \(bytes 62 f1 7c 48 11 07\) at ends.c:\d+: .*-march=", faults)
             self.expect(f"{case}: unknown instructions", (unknown is not None) == (case == "avx512"), faults)
-        self.killed(program, pool)
-        self.children(program, pool)
-        self.limits(program, pool)
+
+    def test_counts(self):
+        program, pool = self.build("ends"), self.folder / "ends.pool"
         for events, told in (("1-1", "1 event of 1 thread"), ("1-4", "4 events of 2 threads")):
             trace, _, _, faults = self.record("counts", [program, "threads", pool], "--events", events, accepted=False)
             switches = ", 1 switch between threads" if events == "1-4" else ""
             self.expect(f"the events {events}, counted", f"pmtrim-record: {told} in {trace}{switches}; not recorded: " in faults, faults)
 
-    def killed(self, program, pool):
+    def test_killed(self):
         """At any moment: the trace is a true beginning, and has all that came before the last fence."""
+        program, pool = self.build("ends"), self.folder / "ends.pool"
         for death in (signal.SIGTERM, signal.SIGINT, signal.SIGKILL, signal.SIGKILL, signal.SIGKILL):
             pool.unlink(missing_ok=True)
             trace = self.folder / "killed.trace"
@@ -237,7 +191,7 @@ class Tests:
                 except subprocess.TimeoutExpired:
                     running.kill()
                     status = "it does not end"
-            self.accept(trace)
+            self.report(trace)
             text, numbers = text_of(trace), range(1, len(events_of(trace)) // 3 + 1)
             whole = saved([0]) + "".join(saved_value(number % 4000 + 1, number) for number in numbers)
             self.expect(f"killed by {death.name}", status == -death and whole.startswith(text) and len(text) > 40000, f"{status} {len(text)}")
@@ -245,7 +199,8 @@ class Tests:
             missing = sum(one != other for one, other in zip(rebuilt(trace, bytes(len(last))), last))
             self.expect(f"killed by {death.name}: nothing is missing", missing <= (8 if death == signal.SIGKILL else 0), missing)
 
-    def children(self, program, pool):
+    def test_children(self):
+        program, pool = self.build("ends"), self.folder / "ends.pool"
         for case, own, others in (("fork", [0, 16], [[8]]), ("exec", [0, 16], [[8], [0]]), ("becomes", [0], [[0]])):
             folder = self.folder / f"children.{case}"
             folder.mkdir()
@@ -260,7 +215,8 @@ class Tests:
             unseen = "3 events of a child process are not recorded" in faults
             self.expect(f"{case}: what the child does is told", unseen == (case != "becomes"), faults)
 
-    def limits(self, program, pool):
+    def test_limits(self):
+        program, pool = self.build("ends"), self.folder / "ends.pool"
         trace, status, _, faults = self.record("threads", [program, "threads", pool])
         numbers = [int(fields[1]) for fields in events_of(trace)]
         wanted = [0, *(number // 2 for number in range(512))]
@@ -273,7 +229,6 @@ class Tests:
         told = f"{trace}: the trace ends after event 1000000: a trace has at most 1000000 events\npmtrim-record: --parts records a run of any length\n" in faults
         self.expect("a million events: told", told and "events after the end of the trace: 24003" in faults, faults)
         self.is_cut("a million events", trace, "1000000 a trace has at most 1000000 events\n")
-        self.parts(program, pool)
         limit = lambda: resource.setrlimit(resource.RLIMIT_FSIZE, (100000, 100000))
         trace, status, _, faults = self.record("disk", [program, "events", pool], preexec_fn=limit, restore_signals=False)
         ended = re.search(r"the trace ends after event (\d+): File too large", faults)
@@ -285,11 +240,11 @@ class Tests:
             _, _, faults = run([RECORD, "--trace", place, "--labels", "no", program, "saves", pool])
             self.expect(f"a trace at {place}", reason in faults and "1844674" not in faults, faults)
 
-    def parts(self, program, pool):
+    def test_parts(self):
         """A run of 1,050,003 events, in parts: all events are answered for, each by one part, and the last labels are those of the last events."""
-        trace = self.folder / "long.trace"
+        program, pool, trace = self.build("ends"), self.folder / "ends.pool", self.folder / "long.trace"
         trace.with_name("long.trace.ignore").write_text("0x40:8\n")
-        status, _, faults = run([RECORD, "--parts", "--trace", trace, program, "long", pool], env=self.known)
+        status, _, faults = run([RECORD, "--parts", "--trace", trace, program, "long", pool])
         self.expect("a run in parts", status == 0 and "parts 2 events 1050003 aside 0" in faults and not trace.exists(), f"{status} {faults}")
         beside = [trace.with_name(f"long.{number:04}.trace") for number in (1, 2)]
         answers = [next(line.split()[1:] for line in text_of(part.with_name(f"{part.name}.part")).splitlines() if line.startswith("answers ")) for part in beside]
@@ -298,18 +253,18 @@ class Tests:
         cuts = [(part.with_name(f"{part.name}.cut").exists(), text_of(part.with_name(f"{part.name}.ignore"))) for part in beside]
         self.expect("what stands beside them", cuts == [(True, "0x40:8\n"), (False, "0x40:8\n")] and not list(self.folder.glob("long.trace*")), cuts)
         for part in beside:
-            status, report = self.accept(part)
+            status, report = self.report(part)
             labels = text_of(part.with_name(f"{part.name}.labels")).splitlines()
             last = text_of(part).count("\n") - 1
             self.expect(f"{part.name}: labels", labels[-1].startswith(f"{last} ends.c:"), labels[-1])
         self.expect("all is saved by the end", status == 0 and "never-persisted" not in report, report[:200])
-        status, _, faults = run([RECORD, "--parts", "--trace", trace, program, "events", pool], env=self.known)
+        status, _, faults = run([RECORD, "--parts", "--trace", trace, program, "events", pool])
         right = status == 2 and trace.exists() and "--ignore 0x0:64 leaves them out" in faults and f"pmtrim parts --out {trace.with_suffix('')}" in faults
         self.expect("stores that are never flushed", right, f"{status} {faults}")
 
     # Labels
 
-    def labels(self):
+    def test_labels(self):
         program, pool = self.build("lines"), self.folder / "lines.pool"
         trace, wanted = self.labelled("lines", program, LABELS)
         self.record("callers", [program, pool], "--callers", 0)
@@ -318,7 +273,7 @@ class Tests:
         self.record("unlabelled", [program, pool], "--labels", "no")
         self.expect("no labels", not (self.folder / "unlabelled.trace.labels").exists(), "there are some")
         for name, flags, wanted in (("functions", ["-g0"], "insert"), ("stripped", ["-g0", "-s"], "nolines.stripped+0x")):
-            program = self.build(f"nolines.{name}", *flags, source=HERE / "lines.c")
+            program = self.build(f"nolines.{name}", *flags, source=SOURCES / "lines.c")
             same = self.record(f"nolines.{name}", [program, pool])[0]
             self.expect(f"{name}: the same trace", text_of(same) == text_of(trace), text_of(same))
             labels = text_of(same.with_name(f"{same.name}.labels")).splitlines()
@@ -328,7 +283,7 @@ class Tests:
 
     def labelled(self, name, program, chains):
         """A program's trace, and its labels, in which lines are told by the comments that stand there."""
-        source = (HERE / f"{name}.c").read_text().splitlines()
+        source = (SOURCES / f"{name}.c").read_text().splitlines()
         line = lambda what: next(f"{name}.c:{number}" for number, text in enumerate(source, 1) if f"/* {what} */" in text)
         trace = self.record(name, [program, self.folder / f"{name}.pool"])[0]
         found = list(dict.fromkeys(text.split(" ", 1)[1] for text in text_of(trace.with_name(f"{name}.trace.labels")).splitlines()))
@@ -338,28 +293,28 @@ class Tests:
 
     # Examples
 
-    def examples(self):
+    def test_examples(self):
         """The recorders' examples, unmodified, with a header whose calls are instructions: the verdicts, and pmtrace.h's trace."""
         for name in ("list", "log"):
             source = TOP / f"recorders/examples/{name}.c"
             for wrong in (False, True):
                 what = f"{name}{'.wrong' if wrong else ''}"
-                built = self.build(what, "-I", HERE / "real", *["-DWRONG"] * wrong, source=source)
+                built = self.build(what, "-I", SOURCES / "real", *["-DWRONG"] * wrong, source=source)
                 trace = self.record(what, [built], cwd=self.folder)[0]
-                status, report = self.accept(trace)
+                status, report = self.report(trace)
                 failed = re.findall(r"^ordered \d+ fail$", report, re.M)
                 self.expect(f"{what}: its claims", status == wrong and bool(failed) == wrong and "ordered " in report, report[-200:])
         built = self.build("list.pmtrace", "-I", TOP / "recorders/c", source=TOP / "recorders/examples/list.c")
         self.expect("list with pmtrace.h", run([built], cwd=self.folder)[0] == 0, "it fails")
         (self.folder / "list.trace").rename(self.folder / "pmtrace.trace")
-        trace = self.record("list.again", [self.folder / "list"], cwd=self.folder)[0]
+        trace = self.record("list.again", [self.builds / "list"], cwd=self.folder)[0]
         same = text_of(trace) == text_of(self.folder / "pmtrace.trace")
         self.expect("pmtrace.h writes the same of list", same and len(events_of(trace)) > 10000, "it differs")
 
     # Words
 
-    def words(self):
-        program, pool = self.folder / "ends", self.folder / "words.pool"
+    def test_words(self):
+        program, pool = self.build("ends"), self.folder / "words.pool"
         for words, wanted in (
             (["--frob", "1", program], "there is no option --frob"),
             ([], "no program is given"),
@@ -379,7 +334,7 @@ class Tests:
         self.expect("no pool", why in told, told)
         self.is_cut("no pool", self.folder / "none.trace", f"0 {why}")
 
-    def yes_or_no(self):
+    def test_yes_or_no(self):
         shown = re.findall(r"^  (--[a-z-]+)(\[=yes\|no\]| yes\|no)", run([RECORD, "--help"])[1], re.M)
         self.expect("options that take yes or no", len(shown) == 10, shown)
         for name, word in shown:
@@ -390,44 +345,21 @@ class Tests:
                 ([f"{name}=no", "true"], 0, ""),
                 ([f"{name}=on", "true"], 2, f"{name} takes yes or no, not on"),
             ):
-                status, _, told = run([RECORD, "--trace", self.folder / "words.trace", *words], env=self.known)
+                status, _, told = run([RECORD, "--trace", self.folder / "words.trace", *words])
                 self.expect(f"{' '.join(words)}, as the help has it", status == wanted and fault in told, f"{status} {told}")
 
+    def test_installed(self):
+        """Below another folder it finds its tool, and needs neither root nor this one."""
+        prefix = self.folder / "prefix"
+        words = {"bin": ["pmtrim-record"], "libexec/pmtrim-record": ["out/pmtrim_record-amd64-linux", "out/vgpreload_core-amd64-linux.so"]}
+        for place, names in words.items():
+            (prefix / place).mkdir(parents=True)
+            for name in names:
+                shutil.copy(FOLDER / name, prefix / place, follow_symlinks=False)
+        trace, program = self.folder / "installed.trace", self.build("ends")
+        status, _, told = run([prefix / "bin/pmtrim-record", "--trace", trace, program, "saves", self.folder / "installed.pool"])
+        self.expect("installed elsewhere", (status, text_of(trace)) == (3, saved([0])), told)
 
-def installed(tests):
-    """Below another folder it finds its tool, and needs neither root nor this one."""
-    prefix = tests.folder / "prefix"
-    words = {"bin": ["pmtrim-record"], "libexec/pmtrim-record": ["out/pmtrim_record-amd64-linux", "out/vgpreload_core-amd64-linux.so"]}
-    for place, names in words.items():
-        (prefix / place).mkdir(parents=True)
-        for name in names:
-            shutil.copy(FOLDER / name, prefix / place, follow_symlinks=False)
-    trace, program = tests.folder / "installed.trace", tests.folder / "ends"
-    status, _, told = run([prefix / "bin/pmtrim-record", "--trace", trace, program, "saves", tests.folder / "installed.pool"])
-    tests.expect("installed elsewhere", (status, text_of(trace)) == (3, saved([0])), told)
-
-
-def page(tests):
-    """The commands that recorders/valgrind/README.md shows."""
-    status, told, _ = run([sys.executable, TOP / "tests/harness/documents.py", tests.program, "recorders/valgrind/README.md"])
-    tests.expect("recorders/valgrind/README.md", status == 0, told)
-
-
-def main():
-    with tempfile.TemporaryDirectory() as name:
-        tests = Tests(sys.argv[1], pathlib.Path(name).resolve())
-        parts = [tests.stores, tests.flushes, tests.mappings, tests.system, tests.claims, tests.pmdk, tests.ends, tests.labels]
-        for part in (*parts, tests.examples, tests.words, tests.yes_or_no):
-            part()
-        Threads(tests, events_of).run()
-        Windows(tests, events_of).run()
-        Processes(tests, events_of).run()
-        Places(tests).run()
-        installed(tests)
-        page(tests)
-    print(f"{tests.counts.passed} passed, {tests.counts.failed} failed")
-    return 1 if tests.counts.failed else 0
-
-
-if __name__ == "__main__":
-    sys.exit(main())
+    def test_page(self):
+        """The commands that recorders/valgrind/README.md shows."""
+        expect_shown(self, "recorders/valgrind/README.md")

@@ -1,33 +1,29 @@
-#!/usr/bin/env python3
-"""Runs pmtrim-replay on recorded and on random traces: replay.py PROGRAM. The last line is 'N passed, M failed'.
+"""Runs pmtrim-replay on recorded and on random traces.
 
 Which images there are is taken from the lists of states of machine.py, by the words of `pmtrim-replay --help`.
 """
-import pathlib
 import random
-import sys
-import tempfile
 
 from machine import random_trace, spelled
-from replay_faults import FaultTests
-from replay_parts import ORIGIN, POOL_BYTES, PartTests, images_at
-from replay_programs import ProgramTests
-from replay_runs import images_in
+from replay_faults import Faults  # noqa: F401  (the runner runs what stands here)
+from replay_parts import ORIGIN, POOL_BYTES, Parts, images_at  # noqa: F401
+from replay_programs import Programs  # noqa: F401
+from replay_runs import Replayed, write_trace
 
 TRACES = 24
 
 
-class ReplayTests(ProgramTests, PartTests, FaultTests):
-    """The tests."""
+class Sets(Replayed):
+    """Which images checkers see."""
 
-    def sets(self):
+    def test_sets(self):
         """The images of small random traces, each once."""
         choose = random.Random(36)
         for number in range(TRACES):
             head, trace = random_trace(choose)
             base = choose.randbytes(POOL_BYTES)
             path = self.folder / f"random{number}.trace"
-            self.write_trace(path, head, [spelled(event) for event in trace.events], base, ORIGIN)
+            write_trace(path, head, [spelled(event) for event in trace.events], base, ORIGIN)
             last = len(trace.events)
             around = {place for at in trace.numbers if trace.event(at)[0] != "store" for place in (at - 1, at)} | {last}
             some = sorted(choose.sample(range(last + 1), min(3, last + 1)))
@@ -40,21 +36,8 @@ class ReplayTests(ProgramTests, PartTests, FaultTests):
         wanted = {image for place in places for image in images_at(trace, place, base, off)}
         copies = self.empty_folder("copies")
         status, told, _ = self.replay([*words, path, "--", "sh", "-c", 'cp "$1" "$2/$(basename "$(dirname "$1")")"', "x", "{}", copies])
-        found = images_in(copies)
+        found = [path.read_bytes() for path in sorted(copies.iterdir())]
         name = f"{path.name} {' '.join(words)}"
         self.expect(f"{name}: status", status == 0, told)
         self.expect(f"{name}: images", set(found) == wanted, f"{len(set(found))} images, {len(set(found) & wanted)} of {len(wanted)} wanted")
         self.expect(f"{name}: each once", len(found) == len(wanted), f"{len(found)} checkers for {len(wanted)} images")
-
-
-def main():
-    with tempfile.TemporaryDirectory() as folder:
-        tests = ReplayTests(sys.argv[1], pathlib.Path(folder))
-        for test in (tests.sets, *tests.part_tests(), *tests.program_tests(), *tests.fault_tests()):
-            test()
-    print(f"{tests.passed} passed, {tests.failed} failed")
-    return 1 if tests.failed else 0
-
-
-if __name__ == "__main__":
-    sys.exit(main())

@@ -1,21 +1,21 @@
-#!/usr/bin/env python3
-"""Builds and runs programs with the recorders: recorders.py PROGRAM. The last line is 'N passed, M failed'.
+"""Builds and runs programs with the recorders for C, C++, Rust and Python.
 
-Every trace must be accepted by PROGRAM. What else must stand in it is written out here, or follows from what the programs of
+The program must accept every trace. What else must stand in it is written out here, or follows from what the programs of
 tests/recorders/programs do, or is the memory's last bytes.
 """
 import json
-import pathlib
 import re
-import sys
-import tempfile
 
 from broken import joined
-from recorder_cases import CaseTests
-from recorder_faults import FaultTests
-from recorder_parts import PartTests
-from recorder_threads import ThreadTests
-from recording import AS_C, AS_CPP, HEADERS, HERE, SANITIZED, TOP, build, has_compiler, labels_of, run, source_of, text_of
+from documents import expect_shown
+from needs import need
+from program import TOP
+from recorder_cases import CaseTests  # noqa: F401  (the runner runs what stands here)
+from recorder_faults import FaultTests  # noqa: F401
+from recorder_parts import PartTests  # noqa: F401
+from recorder_threads import ThreadTests  # noqa: F401
+from recording import AS_C, AS_CPP, CARGO, HEADERS, PROGRAMS, Recording, labels_of, source_of, text_of
+from running import run_as_shown
 
 # What calls.c does. The pool begins 24 = 0x18 bytes into a line.
 CALLS = """\
@@ -69,17 +69,15 @@ CALLED = [
 ]
 
 
-class RecorderTests(CaseTests, FaultTests, PartTests, ThreadTests):
-    """The tests."""
+class RecorderTests(Recording):
+    """The header, its calls and its examples; the crate."""
 
-    # Calls
-
-    def joined(self):
+    def test_joined(self):
         """pmtrace.h is what its parts make."""
-        status, told = run([HEADERS / "parts/join"])
+        status, told = run_as_shown([HEADERS / "parts/join"])
         self.expect("pmtrace.h is made from its parts", status == 0 and told == text_of(HEADERS / "pmtrace.h"), told[:200])
 
-    def labelled_calls(self):
+    def test_labelled_calls(self):
         """The page has each function that takes a label, with the names of its arguments."""
         declared = re.findall(r"(pmtrace_\w+_at)\(([^)]*)\)", text_of(HEADERS / "parts/functions.h"))
         wanted = {name: [argument.split()[-1].strip("*") for argument in arguments.split(",")] for name, arguments in declared}
@@ -87,10 +85,10 @@ class RecorderTests(CaseTests, FaultTests, PartTests, ThreadTests):
         found = {name: arguments.split(", ") for names, arguments in rows for name in re.findall(r"`(\w+)`", names)}
         self.expect("the page has the functions that take a label", len(wanted) >= 20 and found == wanted, f"{found}\n{wanted}")
 
-    def calls(self):
+    def test_calls(self):
         for name, compiler, flags in (("c11", AS_C, ["-std=c11"]), ("cpp17", AS_CPP, [])):
             program, trace = self.in_c("calls", compiler, f".{name}", flags), self.folder / f"calls.{name}.trace"
-            status, told = run([program, trace])
+            status, told = run_as_shown([program, trace])
             refused = (
                 f"pmtrace: other.trace: another trace is open: {trace}; nothing is recorded here\n"
                 f"pmtrace: {trace}: the trace has lines of another size; the 20000 bytes at A are not recorded\n"
@@ -104,32 +102,30 @@ class RecorderTests(CaseTests, FaultTests, PartTests, ThreadTests):
             right = len(labels) == len(wanted) and all(piece in label for piece, label in zip(wanted, labels))
             self.expect(f"the labels of calls as {name}", right, labels)
 
-    def off(self):
+    def test_off(self):
         """Without the recorder the same instructions are there as by hand."""
         for name, compiler in (("c", AS_C), ("cpp", AS_CPP)):
             code = []
             for flags in ([], ["-DBY_HAND"]):
                 made, plain = self.folder / f"off.{name}{len(flags)}.o", self.folder / f"off.{name}{len(flags)}.bin"
-                right = build([*compiler, "-O2", *flags, "-c", HERE / "off.c", "-o", made])
-                right = right and build(["objcopy", "-O", "binary", "-j", ".text", made, plain])
-                code.append(plain.read_bytes() if right else None)
+                to_plain = ["objcopy", "-O", "binary", "-j", ".text", made, plain]
+                code.append(self.expect_built(plain, [*compiler, "-O2", *flags, "-c", PROGRAMS / "off.c", "-o", made], to_plain).read_bytes())
             self.expect(f"off costs nothing as {name}", code[0] and code[0] == code[1], "other instructions")
 
-    def sanitized(self):
-        """No data race and no undefined step in the recorder, as each compiler looks for them."""
-        for name, compiler in SANITIZED.items():
-            found = has_compiler(compiler[0], [word for word in compiler if word.startswith("-fsanitize")])
-            self.expect(f"{name} works here", found, "apt-get install gcc clang libclang-rt-14-dev")
-            if not found:
-                continue
-            self.freely(f"threads.{name}", [self.in_c("threads", compiler, f".{name}")])
+    def test_the_crate(self):
+        need("cargo", "cargo")
+        status, told = run_as_shown(["cargo", "test", *CARGO, self.folder], cwd=TOP / "recorders/rust")
+        self.expect("the crate's tests", status == 0 and "1 passed" in told, told)
 
     # Examples
 
-    def examples(self):
-        for name, claim in (("list", "pmtrace_is_ordered_before(node"), ("log", "pmtrace_is_ordered_before(place")):
-            for wrong in (False, True):
-                self.example(name, wrong, claim)
+    def test_list(self):
+        for wrong in (False, True):
+            self.example("list", wrong, "pmtrace_is_ordered_before(node")
+
+    def test_log(self):
+        for wrong in (False, True):
+            self.example("log", wrong, "pmtrace_is_ordered_before(place")
 
     def example(self, name, wrong, claim):
         """Built by the line that the example shows."""
@@ -137,9 +133,9 @@ class RecorderTests(CaseTests, FaultTests, PartTests, ThreadTests):
         what = f"{name}, {'wrong' if wrong else 'right'}"
         words = shown.replace(f"-o {name} ", f"-o {self.folder / name} ").split(" ")
         self.expect(f"{what}: the line that builds it", ("-DWRONG" in words) == wrong, shown)
-        built = run([*words, "-Wall", "-Wextra", "-Werror"], cwd=TOP)
+        built = run_as_shown([*words, "-Wall", "-Wextra", "-Werror"], cwd=TOP)
         self.expect(f"{what} is built", built == (0, ""), built)
-        ran = run([self.folder / name], cwd=self.folder)
+        ran = run_as_shown([self.folder / name], cwd=self.folder)
         self.expect(f"{what} runs", ran == (0, ""), ran)
         trace = self.folder / f"{name}.trace"
         status, report = self.report(trace)
@@ -162,7 +158,7 @@ class RecorderTests(CaseTests, FaultTests, PartTests, ThreadTests):
     def explained(self, what, trace, fault):
         """The source lines between which `explain` puts the flush or fence have the line at fault between them."""
         words = [self.program, "explain", "--labels", f"{trace}.labels", trace]
-        status, told = run([*words, "--json"])
+        status, told = run_as_shown([*words, "--json"])
         failure = next((entry for entry in map(json.loads, told.splitlines()) if entry["kind"] == "failure"), None)
         self.expect(f"{what}: the failure is explained", status == 1 and failure is not None, told[:200])
         if failure is None:
@@ -173,54 +169,10 @@ class RecorderTests(CaseTests, FaultTests, PartTests, ThreadTests):
         last = before["label"].rsplit(":", 1)[1]
         between = (TOP / file).read_text().splitlines()[int(first) : int(last) - 1]
         self.expect(f"{what}: the line at fault", len(between) < 6 and fault in map(str.strip, between), between)
-        text = "\n".join(joined(run([*words, "--failure", failure["event"]["event"]])[1].splitlines()))
+        text = "\n".join(joined(run_as_shown([*words, "--failure", failure["event"]["event"]])[1].splitlines()))
         named = [event["label"] in text and event["words"] in text for event in (failure["event"], after, before)]
         self.expect(f"{what}: the text names these lines", all(named), text[:200])
 
-
-def page(tests):
-    """The commands that recorders/README.md shows."""
-    status, told = run([sys.executable, TOP / "tests/harness/documents.py", tests.program, "recorders/README.md"])
-    tests.expect("recorders/README.md", status == 0, told)
-
-
-def rust(tests):
-    """The crate's own tests, and the programs with it."""
-    made = tests.folder / "rust"
-    words = ["--offline", "--locked", "--quiet", "--target-dir", made]
-    status, told = run(["cargo", "test", *words], cwd=TOP / "recorders/rust")
-    tests.expect("the crate's tests", status == 0 and "1 passed" in told, told)
-    tests.expect("the programs in Rust are built", build(["cargo", "build", *words, "--manifest-path", HERE / "rust/Cargo.toml"]))
-    return made / "debug"
-
-
-def main():
-    with tempfile.TemporaryDirectory() as name:
-        folder = pathlib.Path(name)
-        tests = RecorderTests(sys.argv[1], folder)
-        made = rust(tests)
-        python = [sys.executable, "-W", "error"]
-        c, cpp = (tests.in_c("threads", compiler, ending) for compiler, ending in ((AS_C, ".c"), (AS_CPP, ".cpp")))
-        tests.joined()
-        tests.labelled_calls()
-        tests.calls()
-        tests.off()
-        tests.threads(
-            [("threads.c", [c]), ("threads.cpp", [cpp]), ("threads.rs", [made / "threads"]), ("threads.py", [*python, HERE / "threads.py"])]
-        )
-        tests.sanitized()
-        tests.all_cases()
-        tests.parts()
-        faults = [tests.in_c("faults", AS_C, ".c")]
-        for name, program in (("faults.c", faults), ("faults.rs", [made / "faults"]), ("faults.py", [*python, HERE / "faults.py"])):
-            tests.full(name, program)
-            tests.ends(name, program)
-            (tests.of_c if name == "faults.c" else tests.refusing)(name, program)
-        tests.examples()
-        page(tests)
-    print(f"{tests.counts.passed} passed, {tests.counts.failed} failed")
-    return 1 if tests.counts.failed else 0
-
-
-if __name__ == "__main__":
-    sys.exit(main())
+    def test_page(self):
+        """The commands that recorders/README.md shows."""
+        expect_shown(self, "recorders/README.md")

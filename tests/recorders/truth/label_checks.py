@@ -1,8 +1,6 @@
 """The labels of a trace: each event has the source line of the call that made it."""
-import functools
-import pathlib
-
 from effects import Refused
+from recording import source_of
 
 CALLS = {
     "store": "pmtrace_store(",
@@ -17,12 +15,6 @@ CALLS = {
     "window": "pmtrace_start(",
     **{word: "fetch" for word in ("add", "sub", "and", "or", "xor")},
 }
-
-
-@functools.cache
-def source_of(label):
-    path, number = label.rsplit(":", 1)
-    return pathlib.Path(path).read_text().splitlines()[int(number) - 1]
 
 
 def check_labels(judge, text):
