@@ -8,8 +8,7 @@ from functools import partial
 from typing import NamedTuple
 
 import faulty
-from checks import Checks
-from faulty import Answer
+from faulty import Answer, UnderFaults
 from traces import all_traces
 
 FILE_FAULT = Answer(4, b"", b"file fault\n")
@@ -276,14 +275,8 @@ def finds_what_is_wrong(run):
 TABLES = (every_cut, every_read, every_write, failing_writer, every_write_of_a_fault, hostile_bytes)
 
 
-class Devices(Checks):
+class Devices(UnderFaults):
     """Runs over devices, side by side; a check is of a command over inputs of a kind."""
-
-    @classmethod
-    def setUpClass(cls):
-        library = faulty.library()
-        cls.library = library.__enter__()
-        cls.addClassCleanup(library.__exit__, None, None, None)
 
     def setUp(self):
         self.run_over = partial(faulty.run, self.library, self.program)

@@ -5,14 +5,13 @@ The pool begins at an odd address and ends a few bytes past the last line, so th
 """
 import pathlib
 import random
-import subprocess
 import tempfile
 from functools import partial
 
 import faulty
 import machine
-from checks import Checks, add_tests
-from faulty import Answer
+from checks import add_tests
+from faulty import Answer, UnderFaults, run_whole
 from told_crashes import failing_traces, read_told, told, told_entries, words_of_entry, words_of_text, wrong_story
 from traces import EXAMPLES
 
@@ -48,8 +47,7 @@ class Case:
 
 
 def run(program, *words, text=b""):
-    done = subprocess.run([program, "image", *words], input=text, capture_output=True, timeout=60)
-    return Answer(done.returncode, done.stdout, done.stderr)
+    return run_whole(program, "image", *words, text=text)
 
 
 def compare(complaints, words, answer, right):
@@ -406,14 +404,8 @@ def large_pool(program):
     return complaints
 
 
-class Images(Checks):
+class Images(UnderFaults):
     """Runs of the program, made side by side; a check is of a trace, of a place in it, or of a device."""
-
-    @classmethod
-    def setUpClass(cls):
-        library = faulty.library()
-        cls.library = library.__enter__()
-        cls.addClassCleanup(library.__exit__, None, None, None)
 
     def random_cases(self):
         folder = self.new_folder()

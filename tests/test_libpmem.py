@@ -188,7 +188,7 @@ class Libpmem(Recording):
     def test_tails(self):
         """The label is where the call returns to."""
         for flags, wanted in (([], "here its caller is"), (["-fno-optimize-sibling-calls"], "here it is called")):
-            pool = self.new_folder(f"tails.{len(flags)}") / "pool"
+            pool = self.new_folder() / "pool"
             self.runs("tails", [self.build(HERE / "tails.c", flags=["-O2", *flags]), pool])
             sources = [source_of(label) for label in self.labels(pool.with_name("pool.trace"))]
             self.expect(f"tails: {wanted}", len(sources) == 3 and all(wanted in source for source in sources), sources)

@@ -9,17 +9,12 @@ from functools import partial
 import crowded
 import faulty
 import machine
-from checks import Checks, add_tests
-from faulty import Answer
+from checks import add_tests
+from faulty import Answer, UnderFaults, run_whole
 from machine import FENCES, FLUSHES, Trace, spelled
 
 TRACES = 120
 WEIGHTS = {"store": 6, "flush": 8, "fence": 6, "isPersist": 2, "isOrderedBefore": 4}
-
-
-def run(program, *words, text=b"", timeout=60):
-    done = subprocess.run([program, *words], input=text, capture_output=True, timeout=timeout)
-    return Answer(done.returncode, done.stdout, done.stderr)
 
 
 def long_trace(choose):
@@ -142,7 +137,7 @@ def renumbered(entry, numbers):
 
 
 def entries_of(program, part):
-    report = run(program, "check", str(part.path)).out.decode().splitlines()
+    report = run_whole(program, "check", str(part.path)).out.decode().splitlines()
     return [renumbered(line, part.numbers) for line in report[1:-1]]
 
 
@@ -171,7 +166,7 @@ def texts_kept(trace, part, program):
     """Complaints: what is kept of a part is not what is kept of the whole, where that is decided."""
     own = Trace(trace.size, [trace.event(number) for number in part.numbers])
     wanted = [spelled(trace.event(number)) for place, number in enumerate(part.numbers, 1) if (machine.is_kept(trace, number) if is_decided(trace, number, part.last) else machine.is_kept(own, place))]
-    came = run(program, "trim", str(part.path)).out.decode().splitlines()[1:]
+    came = run_whole(program, "trim", str(part.path)).out.decode().splitlines()[1:]
     return [] if came == wanted else [f"{part.path.name}: kept {came}, wanted {wanted}"]
 
 
@@ -211,8 +206,8 @@ def same_parts(trace, header, answer, parts, events, overlap, ranges=()):
 
 def told_of_its_end(program, part, came):
     """Complaints: `explain` and its page do not say that the run goes on, or count what it may still save; or do of the last part."""
-    told = run(program, "explain", str(part.path))
-    page = run(program, "explain", "--html", str(part.path))
+    told = run_whole(program, "explain", str(part.path))
+    page = run_whole(program, "explain", "--html", str(part.path))
     failed = any(entry.endswith(" fail") for entry in came) or part.is_last and any(entry.startswith("never-persisted") for entry in came)
     says = (f"The trace was cut after event {len(part.numbers)}: the run goes on in part ".encode() in told.out, b": the run goes on in part " in page.out)
     right = (told.status, page.status) == (int(failed), int(failed)) and says == (not part.is_last, not part.is_last)
@@ -230,7 +225,7 @@ def random_parts(program, folder, number, kind):
     header, trace = kind(choose)
     events, overlap = random_words(choose)
     prefix = folder / f"{kind.__module__}.{kind.__name__}.{number}"
-    answer = run(program, "parts", "--events", str(events), "--overlap", str(overlap), "--out", str(prefix), text=text_of(header, trace.events))
+    answer = run_whole(program, "parts", "--events", str(events), "--overlap", str(overlap), "--out", str(prefix), text=text_of(header, trace.events))
     parts = parts_at(prefix)
     complaints = same_parts(trace, header, answer, parts, events, overlap)
     for part in parts if not complaints else []:
@@ -276,14 +271,8 @@ def right_files(labelled=False):
     return files | {".0001.trace.cut": FIRST_CUT, ".0002.trace.cut": SECOND_CUT}
 
 
-class Parts(Checks):
+class Parts(UnderFaults):
     """Runs of the program, made side by side; a check is of a trace, of words or of a device."""
-
-    @classmethod
-    def setUpClass(cls):
-        library = faulty.library()
-        cls.library = library.__enter__()
-        cls.addClassCleanup(library.__exit__, None, None, None)
 
     def test_random_traces(self):
         folder = self.new_folder()
@@ -296,17 +285,17 @@ class Parts(Checks):
         trace.write_text(small_text())
         labels.write_text(LABELS)
         right = Answer(0, b"parts 3 events 10 aside 1\n")
-        self.expect_equal("a file", run(self.program, "parts", *WORDS, "--out", str(folder / "file"), str(trace)), right)
+        self.expect_equal("a file", run_whole(self.program, "parts", *WORDS, "--out", str(folder / "file"), str(trace)), right)
         self.expect_equal("its parts", standing(folder / "file"), right_files())
-        self.expect_equal("standard input", run(self.program, "parts", *WORDS, "--out", str(folder / "input"), "-", text=small_text().encode()), right)
+        self.expect_equal("standard input", run_whole(self.program, "parts", *WORDS, "--out", str(folder / "input"), "-", text=small_text().encode()), right)
         self.expect_equal("its parts, too", standing(folder / "input"), right_files())
-        self.expect_equal("labels", run(self.program, "parts", *WORDS, "--labels", str(labels), "--out", str(folder / "named"), str(trace)), right)
+        self.expect_equal("labels", run_whole(self.program, "parts", *WORDS, "--labels", str(labels), "--out", str(folder / "named"), str(trace)), right)
         self.expect_equal("its parts with labels", standing(folder / "named"), right_files(labelled=True))
-        named = run(self.program, "explain", "--labels", f"{folder / 'named'}.0003.trace.labels", f"{folder / 'named'}.0003.trace")
+        named = run_whole(self.program, "explain", "--labels", f"{folder / 'named'}.0003.trace.labels", f"{folder / 'named'}.0003.trace")
         self.expect("explain takes a part and its labels", named.status == 1 and b"mark again" in named.out, faulty.short(named))
-        self.expect_equal("as one part", run(self.program, "parts", "--out", str(folder / "named"), str(trace)), Answer(0, b"parts 1 events 10 aside 0\n"))
+        self.expect_equal("as one part", run_whole(self.program, "parts", "--out", str(folder / "named"), str(trace)), Answer(0, b"parts 1 events 10 aside 0\n"))
         self.expect_equal("nothing of before is left", standing(folder / "named"), ONE)
-        self.expect_equal("no events", run(self.program, "parts", "--out", str(folder / "none"), text=HEAD.encode()), Answer(0, b"parts 1 events 0 aside 0\n"))
+        self.expect_equal("no events", run_whole(self.program, "parts", "--out", str(folder / "none"), text=HEAD.encode()), Answer(0, b"parts 1 events 0 aside 0\n"))
         self.expect_equal("its part", standing(folder / "none"), {".0001.trace": HEAD, ".0001.trace.part": "part 1\nplace 0\ncarried 0\noverlap 0\nanswers 1 0\nlast yes\n"})
 
     def test_what_an_earlier_run_left(self):
@@ -315,10 +304,10 @@ class Parts(Checks):
         for number in (1, 2, 3, 4):
             for ending in ("", ".part", *ENDINGS):
                 (folder / f"run.{number:04}.trace{ending}").write_text("old")
-        self.expect_equal("the answer", run(self.program, "parts", *WORDS, "--out", str(folder / "run"), text=small_text().encode()).status, 0)
+        self.expect_equal("the answer", run_whole(self.program, "parts", *WORDS, "--out", str(folder / "run"), text=small_text().encode()).status, 0)
         kept = {f".0001.trace{ending}": "old" for ending in ENDINGS if ending.startswith((".base", ".origin"))}
         self.expect_equal("what stands", standing(folder / "run"), right_files() | kept)
-        self.expect_equal("as one part", run(self.program, "parts", "--out", str(folder / "run"), text=small_text().encode()).status, 0)
+        self.expect_equal("as one part", run_whole(self.program, "parts", "--out", str(folder / "run"), text=small_text().encode()).status, 0)
         self.expect_equal("what stands then", standing(folder / "run"), ONE | kept)
 
     def test_a_trace_that_was_cut(self):
@@ -328,15 +317,15 @@ class Parts(Checks):
         trace.write_text(small_text())
         for name, text, wanted in (("full", "10 a full disk\n", "3 a full disk\n"), ("empty", "", ""), ("short", "10 \n", "3 \n")):
             cut.write_text(text)
-            answer = run(self.program, "parts", *WORDS, "--out", str(folder / name), str(trace))
+            answer = run_whole(self.program, "parts", *WORDS, "--out", str(folder / name), str(trace))
             self.expect_equal(f"{name}: the answer", answer, Answer(0, b"parts 3 events 10 aside 1\n"))
             self.expect_equal(f"{name}: the parts", standing(folder / name), right_files() | {".0003.trace.cut": wanted})
-        told = run(self.program, "stat", str(folder / "full.0003.trace")).out.decode()
+        told = run_whole(self.program, "stat", str(folder / "full.0003.trace")).out.decode()
         self.expect("stat", told.startswith("This trace was cut after event 3: a full disk\n"), told)
-        told = run(self.program, "stat", str(folder / "full.0001.trace")).out.decode()
+        told = run_whole(self.program, "stat", str(folder / "full.0001.trace")).out.decode()
         self.expect("stat of another part", told.startswith("This trace was cut after event 6: the run goes on in part 2\n"), told)
         cut.write_text("some\n")
-        refused = run(self.program, "parts", *WORDS, "--out", str(folder / "bad"), str(trace))
+        refused = run_whole(self.program, "parts", *WORDS, "--out", str(folder / "bad"), str(trace))
         self.expect("a bad line", refused.status == 3 and refused.faults.decode().startswith(f"{cut}:1: ") and not standing(folder / "bad"), faulty.short(refused))
 
     def test_ignored(self):
@@ -348,7 +337,7 @@ class Parts(Checks):
             ranges = [(0x1000 + choose.choice((0, 1, 8)), choose.choice((1, 2, 8, 64))) for _ in range(choose.choice((1, 2)))]
             words = [word for start, length in ranges for word in ("--ignore", f"{start:#x}:{length}")]
             prefix = folder / str(number)
-            answer = run(self.program, "parts", "--events", str(events), "--overlap", str(overlap), *words, "--out", str(prefix), text=text_of(header, trace.events))
+            answer = run_whole(self.program, "parts", "--events", str(events), "--overlap", str(overlap), *words, "--out", str(prefix), text=text_of(header, trace.events))
             complaints = same_parts(trace, header, answer, parts_at(prefix), events, overlap, ranges)
             told = [f"{start:#x}:{length}" for start, length in ranges]
             self.expect(f"{number}", not complaints and all(part.ignored == told for part in parts_at(prefix)), "\n".join(complaints))
@@ -357,7 +346,7 @@ class Parts(Checks):
         folder = self.new_folder()
         lines = [f"store 0 {0x2000 + 8 * (number % 8):#x} 01" for number in range(9)] + ["store 0 0x1000 01", "clwb 0 0x1000", "sfence 0"] * 4
         text = "pmtrace 2 128\n" + "".join(line + "\n" for line in lines)
-        answer = run(self.program, "parts", "--events", "12", "--overlap", "0", "--out", str(folder / "run"), text=text.encode())
+        answer = run_whole(self.program, "parts", "--events", "12", "--overlap", "0", "--out", str(folder / "run"), text=text.encode())
         self.expect_equal("the status", (answer.status, answer.out), (3, b""))
         wanted = (
             "standard input: 9 events are carried over event 12: more than half of a part's 12\n"
@@ -366,10 +355,10 @@ class Parts(Checks):
         )
         self.expect_equal("what is told", answer.faults.decode(), wanted)
         self.expect_equal("what stands", sorted(standing(folder / "run")), [".0001.trace", ".0001.trace.cut", ".0001.trace.part"])
-        again = run(self.program, "parts", "--events", "12", "--overlap", "0", "--ignore", "0x2000:128", "--out", str(folder / "run"), text=text.encode())
+        again = run_whole(self.program, "parts", "--events", "12", "--overlap", "0", "--ignore", "0x2000:128", "--out", str(folder / "run"), text=text.encode())
         self.expect_equal("with what was told", again, Answer(0, b"parts 2 events 21 aside 0\n"))
         lines = [f"clwb 0 {0x1000 + 64 * number:#x}" for number in range(20)]
-        answer = run(self.program, "parts", "--events", "12", "--overlap", "0", "--out", str(folder / "flushes"), text=(HEAD + "".join(line + "\n" for line in lines)).encode())
+        answer = run_whole(self.program, "parts", "--events", "12", "--overlap", "0", "--out", str(folder / "flushes"), text=(HEAD + "".join(line + "\n" for line in lines)).encode())
         self.expect("flushes", answer.status == 3 and b"12 events are carried over event 12: more than half of a part's 12\nthey are flushes whose threads do not fence\n" in answer.faults, faulty.short(answer))
 
     def test_a_faulty_line(self):
@@ -379,7 +368,7 @@ class Parts(Checks):
             lines = [HEAD.rstrip(), *SMALL]
             lines[number - 1] += " 7"
             prefix = folder / f"line{number}"
-            answer = run(self.program, "parts", *WORDS, "--out", str(prefix), text=machine.text_of(lines))
+            answer = run_whole(self.program, "parts", *WORDS, "--out", str(prefix), text=machine.text_of(lines))
             before = 0 if number <= 7 else 1 if number <= 10 else 2
             told = answer.faults.decode()
             named = told.startswith(f"standard input:{number}: ") and lines[number - 1] in told
@@ -387,13 +376,13 @@ class Parts(Checks):
             self.expect(f"line {number}", answer.status == 3 and not answer.out and named and told.endswith(stand) and (" stand" in told) == (before > 0), faulty.short(answer))
             wanted = {name: text for name, text in right_files().items() if int(name[1:5]) <= before}
             self.expect_equal(f"line {number}: what stands", standing(prefix), wanted)
-        cut = run(self.program, "parts", *WORDS, "--out", str(folder / "cut"), text=small_text().encode()[:-1])
+        cut = run_whole(self.program, "parts", *WORDS, "--out", str(folder / "cut"), text=small_text().encode()[:-1])
         self.expect("cut off", cut.status == 3 and cut.faults.startswith(b"standard input:11: the line does not end"), faulty.short(cut))
-        endless = run(self.program, "parts", *WORDS, "--out", str(folder / "endless"), text=small_text().encode() + b"x" * 70_000_000)
+        endless = run_whole(self.program, "parts", *WORDS, "--out", str(folder / "endless"), text=small_text().encode() + b"x" * 70_000_000)
         self.expect("an endless line", endless.status == 3 and endless.faults.startswith(b"standard input:12: "), faulty.short(endless))
-        long = run(self.program, "parts", *WORDS, "--out", str(folder / "long"), text=small_text().encode() + b"x" * 67_108_870 + b"\n" + b"sfence 0\n" * 3)
+        long = run_whole(self.program, "parts", *WORDS, "--out", str(folder / "long"), text=small_text().encode() + b"x" * 67_108_870 + b"\n" + b"sfence 0\n" * 3)
         self.expect("a line that is longer than a text", long.status == 3 and long.faults.startswith(b"standard input:12: ") and b" is no event here\n" in long.faults, faulty.short(long))
-        empty = run(self.program, "parts", "--out", str(folder / "empty"))
+        empty = run_whole(self.program, "parts", "--out", str(folder / "empty"))
         self.expect("no bytes", empty.status == 3 and empty.faults.startswith(b"standard input:1: the input is empty"), faulty.short(empty))
 
     def test_faulty_labels(self):
@@ -407,7 +396,7 @@ class Parts(Checks):
         ):
             labels.write_text(text)
             prefix = folder / name.replace(" ", "_")
-            answer = run(self.program, "parts", *WORDS, "--labels", str(labels), "--out", str(prefix), text=small_text().encode())
+            answer = run_whole(self.program, "parts", *WORDS, "--labels", str(labels), "--out", str(prefix), text=small_text().encode())
             self.expect(name, answer.status == 3 and answer.faults.decode().startswith(f"{labels}{told}"), faulty.short(answer))
             self.expect_equal(f"{name}: parts", len(parts_at(prefix)), before)
 
@@ -432,7 +421,7 @@ class Parts(Checks):
             ("over the trace", [*WORDS, "--out", str(folder / "run"), str(trace)], 2, f"'{trace}' is read"),
             ("later parts over the trace", ["--out", str(folder / "run"), str(trace)], 2, f"'{trace}' is read"),
         ):
-            answer = run(self.program, "parts", *words)
+            answer = run_whole(self.program, "parts", *words)
             self.expect(name, answer.status == status and not answer.out and told in answer.faults.decode(), faulty.short(answer))
             self.expect(f"{name}: nothing is written", not standing(folder / "out"))
             self.expect_equal(f"{name}: the trace stays", trace.read_text(), small_text())

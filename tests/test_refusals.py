@@ -9,8 +9,7 @@ from functools import partial
 from typing import NamedTuple
 
 import faulty
-from checks import Checks
-from faulty import Answer
+from faulty import Answer, UnderFaults
 from program import TOP, NotThere, find, sources_of
 from traces import EXAMPLES, report_of, trace_of, trimmed_of
 
@@ -319,14 +318,8 @@ def build_calls():
         raise NotThere("crates/refused_calls is not built")
 
 
-class Refusals(Checks):
+class Refusals(UnderFaults):
     """Sweeps, made side by side; a check is of a command, a kind of call, and whether it alone is refused or all later ones too."""
-
-    @classmethod
-    def setUpClass(cls):
-        library = faulty.library()
-        cls.library = library.__enter__()
-        cls.addClassCleanup(library.__exit__, None, None, None)
 
     def setUp(self):
         self.folder = self.new_folder()

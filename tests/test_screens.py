@@ -4,8 +4,8 @@ import subprocess
 
 from broken import joined
 from checks import Checks
-from delayed import DELAYED, DELAYED_ANSWER, DELAYED_HINT, delayed
 from explained_text import SCREEN
+from machine import text_of
 
 # A place that counts what another one saves, its labels, the guess at it, and what the text begins with where it is ignored.
 COUNTED = "pmtrace 1\nstore 0 0x1000 01\nstore 0 0x2000 01\nclwb 0 0x1000\nsfence 0\nstore 0 0x2000 02\nisPersist 0 0x1000 1\n"
@@ -91,6 +91,24 @@ APART_TOLD = [
 ASTRAY = "pmtrace 1\nstore 0 0x1000 01\nclwb 0 0x1000\nsfence 0\nstore 0 0x2000 02\nclwb 0 0x1000\nsfence 0\nisPersist 0 0x1000 1\n"
 ASTRAY_LABELS = "4 list.c:95 remove\n5 list.c:97 remove\n"
 ASTRAY_TOLD = ["error: list.c:95 remove: 1 store: 1 never persisted, 0 saved late, 0 in time"]
+# Of so many such places how many have a line on a screen, of which ten may; where the answer says that the first hint is, and the head of that hint.
+DELAYED = ((6, 6), (40, 10))
+DELAYED_ANSWER = " first at log.c:6 seal, 1 of 1 time. "
+DELAYED_HINT = """
+hint: log.c:6 seal: 1 time a flush is unfenced at a store that a crash can keep alone; first: event
+       {}, store event {} (log.c:7 seal)
+"""
+
+
+def delayed(count):
+    """So many places that save a store late, all by the last fence, and before that a flush that is not fenced at a store; and the labels."""
+    late = [(f"store 0 {0x1000 + 64 * number:#x} 01", f"late.c:{number} set") for number in range(1, count + 1)]
+    log = [("store 0 0x8000 01", "log.c:1 put"), ("clwb 0 0x8000", "log.c:2 put"), ("sfence 0", "log.c:3 put")]
+    seal = [("store 0 0x9000 01", "log.c:5 seal"), ("clwb 0 0x9000", "log.c:6 seal"), ("store 0 0x9040 02", "log.c:7 seal")]
+    fenced = [("clwb 0 0x9040", "log.c:8 seal"), ("sfence 0", "log.c:9 seal")]
+    flushed = [(f"clwb 0 {0x1000 + 64 * number:#x}", "late.c:99 flush") for number in range(1, count + 1)]
+    events, labels = zip(*late, *log, *seal, *fenced, *flushed, ("sfence 0", "late.c:99 flush"))
+    return text_of(["pmtrace 1", *events]), text_of(f"{number} {label}" for number, label in enumerate(labels, 1))
 
 
 class Screens(Checks):

@@ -4,23 +4,17 @@ it says of the whole trace, and tries what is refused and every device that fail
 import json
 import pathlib
 import random
-import subprocess
 from functools import partial
 
 import crowded
 import faulty
 import machine
-from checks import Checks, add_tests
-from faulty import Answer
+from checks import add_tests
+from faulty import Answer, UnderFaults, run_whole
 from slices import slice_of, standing_of, store_slice_of
 from traces import all_traces
 
 TRACES = 150
-
-
-def run(program, *words, text=b""):
-    done = subprocess.run([program, *words], input=text, capture_output=True, timeout=60)
-    return Answer(done.returncode, done.stdout, done.stderr)
 
 
 class Sliced:
@@ -30,7 +24,7 @@ class Sliced:
         self.program, self.file, self.number, self.what = program, file, number, what
         self.out = folder / f"{file.stem}.{what}{number}.trace"
         named = [] if labels is None else ["--labels", str(labels)]
-        self.answer = run(program, "slice", f"--{what}", str(number), *named, "--out", str(self.out), str(file))
+        self.answer = run_whole(program, "slice", f"--{what}", str(number), *named, "--out", str(self.out), str(file))
         if self.answer.status == 0:
             self.text = self.out.read_bytes()
             self.lines = self.text.decode().splitlines()
@@ -48,12 +42,12 @@ class Sliced:
 
 def failing_of(program, file):
     """The failed assertions of a trace, as `check` tells them."""
-    report = run(program, "check", str(file)).out.decode().splitlines()
+    report = run_whole(program, "check", str(file)).out.decode().splitlines()
     return [int(line.split()[1]) for line in report if line.endswith(" fail")]
 
 
 def failure_of(program, file, number):
-    told = run(program, "explain", "--json", "--failure", str(number), str(file)).out.decode().splitlines()
+    told = run_whole(program, "explain", "--json", "--failure", str(number), str(file)).out.decode().splitlines()
     return next(entry for entry in map(json.loads, told) if entry["kind"] == "failure")
 
 
@@ -93,10 +87,10 @@ def accepted(program, sliced):
     """Complaints of a command that does not take the slice."""
     commands = (["check"], ["explain"], ["trim"], ["trim", "--stream"], ["draw"], ["explain", "--json"], ["explain", "--html"], ["image", "--list"])
     for words in commands:
-        answer = run(program, *words, str(sliced.out))
+        answer = run_whole(program, *words, str(sliced.out))
         if answer.status not in (0, 1) or answer.faults:
             yield f"{sliced.out.name} {words}: {faulty.short(answer)}"
-    again = run(program, "slice", f"--{sliced.what}", str(sliced.matching(sliced.number)), str(sliced.out))
+    again = run_whole(program, "slice", f"--{sliced.what}", str(sliced.matching(sliced.number)), str(sliced.out))
     if again != Answer(0, sliced.text):
         yield f"{sliced.out.name}: its slice is {faulty.short(again)}"
 
@@ -120,7 +114,7 @@ def random_slices(program, folder, number, kind):
 
 def lost_word(program, file, number):
     """What `check` says of a store that is never persisted; none of another."""
-    report = run(program, "check", str(file)).out.decode().splitlines()
+    report = run_whole(program, "check", str(file)).out.decode().splitlines()
     return next((line.split()[2] for line in report if line.startswith(f"never-persisted {number} ")), None)
 
 
@@ -195,14 +189,8 @@ def written(out):
     return {ending: path.read_text() for ending in ("", ".numbers", ".labels") if (path := pathlib.Path(f"{out}{ending}")).exists()}
 
 
-class Slices(Checks):
+class Slices(UnderFaults):
     """Runs of the program, made side by side; a check is of a trace, of words or of a device."""
-
-    @classmethod
-    def setUpClass(cls):
-        library = faulty.library()
-        cls.library = library.__enter__()
-        cls.addClassCleanup(library.__exit__, None, None, None)
 
     def test_random_slices(self):
         folder = self.new_folder()
@@ -220,7 +208,7 @@ class Slices(Checks):
         late = "pmtrace 1\nstore 0 0x1000 01\nsfence 0\nsfence 0\nclwb 1 0x1000\nsfence 0\nsfence 1\n"
         lost = "pmtrace 1\nstore 0 0x1040 02\nsfence 0\nsfence 0\n"
         for number, wanted in ((1, late), (2, lost)):
-            self.expect_equal(f"store {number}", run(self.program, "slice", "--store", str(number), text=text.encode()), Answer(0, wanted.encode()))
+            self.expect_equal(f"store {number}", run_whole(self.program, "slice", "--store", str(number), text=text.encode()), Answer(0, wanted.encode()))
 
     def check_slices_of(self, file):
         folder = self.new_folder()
@@ -236,22 +224,22 @@ class Slices(Checks):
                 wanted = [f"{here} {names[str(whole)]}" for here, whole in enumerate(sliced.numbers, 1) if str(whole) in names]
                 self.expect_equal(f"labels of {number}", sliced.beside("labels").decode().splitlines(), wanted)
         if not failing:
-            answer = run(self.program, "slice", "--failure", "1", str(file))
+            answer = run_whole(self.program, "slice", "--failure", "1", str(file))
             self.expect("no slice", answer.status == 2 and not answer.out, faulty.short(answer))
 
     def test_a_slice_by_hand(self):
         trace, labels = small(self.new_folder())
         words = ["slice", "--failure", "9"]
-        self.expect_equal("to standard output", run(self.program, *words, trace), Answer(0, SLICE.encode()))
-        self.expect_equal("of standard input", run(self.program, *words, text=TRACE.encode()), Answer(0, SLICE.encode()))
+        self.expect_equal("to standard output", run_whole(self.program, *words, trace), Answer(0, SLICE.encode()))
+        self.expect_equal("of standard input", run_whole(self.program, *words, text=TRACE.encode()), Answer(0, SLICE.encode()))
         out = f"{trace}.part"
-        self.expect_equal("to a file", run(self.program, *words, "--out", out, trace), Answer(0, b""))
+        self.expect_equal("to a file", run_whole(self.program, *words, "--out", out, trace), Answer(0, b""))
         self.expect_equal("the files", written(out), {"": SLICE, ".numbers": NUMBERS})
-        self.expect_equal("with labels", run(self.program, *words, "--labels", labels, "--out", out, trace), Answer(0, b""))
+        self.expect_equal("with labels", run_whole(self.program, *words, "--labels", labels, "--out", out, trace), Answer(0, b""))
         self.expect_equal("the files with labels", written(out), {"": SLICE, ".numbers": NUMBERS, ".labels": NAMED})
-        named = run(self.program, "explain", "--labels", f"{out}.labels", out)
+        named = run_whole(self.program, "explain", "--labels", f"{out}.labels", out)
         self.expect("explain takes the labels", named.status == 1 and b"claim of all, here" in named.out, faulty.short(named))
-        named = run(self.program, "explain", "--labels", f"{out}.numbers", out)
+        named = run_whole(self.program, "explain", "--labels", f"{out}.numbers", out)
         self.expect("explain takes the numbers", named.status == 1 and not named.faults, faulty.short(named))
 
     def test_refusals(self):
@@ -279,13 +267,13 @@ class Slices(Checks):
             ("labels over labels", ["--failure", "9", "--labels", labels, "--out", labels.removesuffix(".labels"), trace], 2, f"'{labels}' is read"),
             ("no folder", ["--failure", "9", "--out", f"{missing}/out", trace], 4, f"cannot create {missing}/out: "),
         ):
-            answer = run(self.program, "slice", *words)
+            answer = run_whole(self.program, "slice", *words)
             self.expect(name, answer.status == status and not answer.out and told in answer.faults.decode(), faulty.short(answer))
             self.expect_equal(f"{name}: nothing is written", written(out), {})
         self.expect_equal("the trace stays", pathlib.Path(trace).read_text(), TRACE)
         self.expect_equal("the labels stay", pathlib.Path(labels).read_text(), LABELS)
         pathlib.Path(f"{out}.numbers").mkdir()
-        answer = run(self.program, "slice", "--failure", "9", "--out", out, trace)
+        answer = run_whole(self.program, "slice", "--failure", "9", "--out", out, trace)
         self.expect("numbers that can not be created", answer.status == 4 and f"cannot create {out}.numbers: ".encode() in answer.faults, faulty.short(answer))
         self.expect("the slice goes then", not pathlib.Path(out).exists())
 

@@ -3,12 +3,11 @@ those that are refused and those that are not kept, two traces side by side, and
 """
 import json
 import random
-import subprocess
 from collections import Counter
 
 import machine
 from checks import Checks
-from faulty import Answer, short
+from faulty import run_whole, short
 from machine import FENCES, FLUSHES
 from traces import EXAMPLES, all_traces
 
@@ -18,15 +17,10 @@ COUNTS = ("flushes", "flushes_dropped", "fences", "fences_dropped")
 ENDS = (0, 1, 2, 4, 8, 16)
 
 
-def run(program, *words, text=b""):
-    done = subprocess.run([program, *map(str, words)], input=text, capture_output=True, timeout=120)
-    return Answer(done.returncode, done.stdout, done.stderr)
-
-
 def figures(program, *words):
     """The objects of the JSON, by their kinds."""
     found = {}
-    for line in run(program, "stat", "--json", *words).out.decode().splitlines():
+    for line in run_whole(program, "stat", "--json", *words).out.decode().splitlines():
         entry = json.loads(line)
         found.setdefault(entry.pop("kind"), []).append(entry)
     return found
@@ -133,8 +127,8 @@ def random_figures(program, folder, seed):
 def kept_budget(program, folder, seed, file, named, wanted):
     """Complaints: a trace does not keep its own budget, or keeps one that allows a place one flush, fence or idle one less."""
     budget = folder / f"{seed}.budget"
-    budget.write_bytes(run(program, "stat", "--write-budget", "--labels", named, file).out)
-    own = run(program, "stat", "--labels", named, "--budget", budget, file)
+    budget.write_bytes(run_whole(program, "stat", "--write-budget", "--labels", named, file).out)
+    own = run_whole(program, "stat", "--labels", named, "--budget", budget, file)
     if own.status != 0 or own.faults or b"over the budget" in own.out:
         yield f"{seed}: its own budget is not kept: {short(own)}"
     for place, counts in wanted.items():
@@ -143,7 +137,7 @@ def kept_budget(program, folder, seed, file, named, wanted):
                 less = {**wanted, place: (*counts[:at], count - 1, *counts[at + 1 :])}
                 budget.write_text("".join(f"{' '.join(map(str, cost))} {name}\n" for name, cost in less.items()))
                 told = figures(program, "--labels", named, "--budget", budget, file).get("over", [])
-                status = run(program, "stat", "--labels", named, "--budget", budget, file).status
+                status = run_whole(program, "stat", "--labels", named, "--budget", budget, file).status
                 if status != 1 or [(entry["place"], paid(entry, "may_pay")) for entry in told] != [(place, less[place])]:
                     yield f"{seed} {place} {at}: {status}, {told}"
 
@@ -218,7 +212,7 @@ class Stats(Checks):
         for file in all_traces():
             events = events_of(file.read_text())
             told = figures(self.program, file)
-            trimmed = run(self.program, "trim", file).out.decode()
+            trimmed = run_whole(self.program, "trim", file).out.decode()
             all_counts, kept = counts_of(events), counts_of(events_of(trimmed))
             summary = told["summary"][0]
             flushes, fences = (lambda counts: sum(counts[word] for word in (*FLUSHES, "clflush"))), (lambda counts: sum(counts[word] for word in FENCES))
@@ -236,14 +230,14 @@ class Stats(Checks):
         (folder / "none.budget").write_text("")
         other = EXAMPLES / "redo.trace"
         for words in ([], ["--labels", folder / "long.labels"], ["--budget", folder / "none.budget"], ["--compare", other], ["--compare", other, "--budget", folder / "none.budget", "--labels", folder / "long.labels"]):
-            answer = run(self.program, "stat", *words, many)
+            answer = run_whole(self.program, "stat", *words, many)
             rows = answer.out.decode().splitlines()
             self.expect(f"{words}: rows", 10 < len(rows) <= 40, f"{len(rows)} rows")
             self.expect(f"{words}: columns", max(map(len, rows)) <= 100, max(rows, key=len))
 
     def test_text_tells_the_figures(self):
         folder, words = self.small()
-        text = run(self.program, "stat", *words).out.decode()
+        text = run_whole(self.program, "stat", *words).out.decode()
         self.expect("head", text.startswith("events 6, threads 2, cache lines 1 of 64 bytes, bytes stored 2\n"), text)
         rows = [row.split() for row in text.splitlines()]
         for row in ("flushes that do nothing: 2 of 3 (66%)", "fences that do nothing: 1 of 2 (50%)", "2 1 0 0 50 log.c:75 append", "1 1 0 0 100 thread 1",
@@ -253,16 +247,16 @@ class Stats(Checks):
 
     def test_standard_input(self):
         folder, words = self.small()
-        named = run(self.program, "stat", folder / "small.trace")
+        named = run_whole(self.program, "stat", folder / "small.trace")
         for given in (["stat"], ["stat", "-"]):
-            self.expect_equal(str(given), run(self.program, *given, text=TRACE.encode()), named)
+            self.expect_equal(str(given), run_whole(self.program, *given, text=TRACE.encode()), named)
 
     def test_budgets_are_judged(self):
         folder, words = self.small()
         for name, (text, status, told) in JUDGED.items():
             budget = folder / "tried.budget"
             budget.write_text(text)
-            answer = run(self.program, "stat", "--budget", budget, *words)
+            answer = run_whole(self.program, "stat", "--budget", budget, *words)
             right = answer.status == status and not answer.faults and (b"over the budget" in answer.out) == (status == 1)
             self.expect(name, right and (told is None or told in answer.out), short(answer))
 
@@ -271,15 +265,15 @@ class Stats(Checks):
         for name, (text, line, told) in REFUSED.items():
             budget = folder / "bad.budget"
             budget.write_bytes(text)
-            answer = run(self.program, "stat", "--budget", budget, *words)
+            answer = run_whole(self.program, "stat", "--budget", budget, *words)
             right = answer.status == 3 and not answer.out and answer.faults.startswith(f"{budget}:{line}: ".encode()) and told in answer.faults
             self.expect(name, right, short(answer))
-        answer = run(self.program, "stat", "--budget", folder / "none", *words)
+        answer = run_whole(self.program, "stat", "--budget", folder / "none", *words)
         self.expect("no file", answer.status == 4 and b"cannot open" in answer.faults, short(answer))
 
     def test_budget_is_written(self):
         folder, words = self.small()
-        answer = run(self.program, "stat", "--write-budget", *words)
+        answer = run_whole(self.program, "stat", "--write-budget", *words)
         lines = [line for line in answer.out.decode().splitlines() if not line.startswith("#")]
         self.expect_equal("status", answer.status, 0)
         self.expect_equal("lines", sorted(lines), sorted(BUDGET.splitlines()))
@@ -294,12 +288,12 @@ class Stats(Checks):
         wanted = {"log.c:75 append": ((2, 1, 0, 0), (1, 0, 0, 0)), "log.c:80 commit": ((0, 0, 2, 1), (0, 0, 1, 0)), "gone.c:1 x": ((0, 0, 0, 0), (0, 0, 1, 1))}
         self.expect_equal("changed", {entry["place"]: (paid(entry), paid(entry, "other")) for entry in told["changed"]}, wanted)
         self.expect_equal("other", told["other"], figures(self.program, older)["summary"])
-        rows = [row.split() for row in run(self.program, "stat", *beside, *words).out.decode().splitlines()]
+        rows = [row.split() for row in run_whole(self.program, "stat", *beside, *words).out.decode().splitlines()]
         for row in ("events 5 6 +1", "flushes 2 3 +1", "cache lines 1 1 0", "2 +1 1 +1 0 0 0 0 log.c:75 append", "0 0 0 0 0 -1 0 -1 gone.c:1 x"):
             self.expect(row, row.split() in rows, str(rows))
-        same = run(self.program, "stat", "--compare", folder / "small.trace", folder / "small.trace").out
+        same = run_whole(self.program, "stat", "--compare", folder / "small.trace", folder / "small.trace").out
         self.expect("the same", b"No place pays more or less.\n" in same, same.decode())
-        self.expect_equal("no other trace", run(self.program, "stat", "--compare", folder / "none", *words).status, 4)
+        self.expect_equal("no other trace", run_whole(self.program, "stat", "--compare", folder / "none", *words).status, 4)
 
     def test_cut(self):
         folder, words = self.small()
@@ -311,15 +305,15 @@ class Stats(Checks):
         for text, wanted, told in cuts:
             (folder / "small.trace.cut").write_text(text)
             self.expect_equal(f"{text!r}: JSON", figures(self.program, *words)["summary"][0]["cut"], wanted)
-            first = run(self.program, "stat", *words).out.decode()
+            first = run_whole(self.program, "stat", *words).out.decode()
             self.expect(f"{text!r}: text", first.startswith(f"This trace{told}"), first)
-            other = run(self.program, "stat", "--compare", folder / "small.trace", EXAMPLES / "redo.trace").out.decode()
+            other = run_whole(self.program, "stat", "--compare", folder / "small.trace", EXAMPLES / "redo.trace").out.decode()
             self.expect(f"{text!r}: the other one", other.startswith(f"The other trace{told}"), other)
         (folder / "small.trace.cut").write_text("x\n")
-        answer = run(self.program, "stat", *words)
+        answer = run_whole(self.program, "stat", *words)
         self.expect("a bad one is refused", answer.status == 3 and f"{folder}/small.trace.cut:1: ".encode() in answer.faults, short(answer))
 
     def test_words_are_refused(self):
         for words, told in WORDS.items():
-            answer = run(self.program, "stat", *words)
+            answer = run_whole(self.program, "stat", *words)
             self.expect(" ".join(words), answer.status == 2 and told.encode() in answer.faults, short(answer))

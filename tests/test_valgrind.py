@@ -3,7 +3,6 @@
 The program must accept every trace. What else must stand in it is written out here, follows from what the programs of
 tests/recorders/valgrind do, is the file's last bytes, or is what pmtrace.h wrote of the same program.
 """
-import functools
 import re
 import resource
 import shutil
@@ -13,7 +12,7 @@ import subprocess
 from documents import expect_shown
 from program import TOP
 from recording import POOL, events_of, rebuilt, stores_of, text_of
-from running import run, wait_until
+from running import ended_by, run, unignore, wait_until
 from valgrind_places import Places  # noqa: F401  (the runner runs what stands here)
 from valgrind_processes import Processes  # noqa: F401
 from valgrind_runs import FOLDER, RECORD, SOURCES, Recorded, drawn
@@ -180,17 +179,10 @@ class Valgrind(Recorded):
             pool.unlink(missing_ok=True)
             trace = self.folder / "killed.trace"
             words = [RECORD, "--trace", trace, program, "waits", pool]
-            # what runs in the background may have been told to ignore signals
-            unignore = functools.partial(signal.signal, signal.SIGINT, signal.SIG_DFL)
             with subprocess.Popen(words, preexec_fn=unignore, stdout=subprocess.PIPE, stderr=subprocess.DEVNULL) as running:
                 begun = running.stdout.readline() != b"" and wait_until(lambda: any(pool.read_bytes()[8 * 1000 : 8 * 1008]))
                 self.expect(f"killed by {death.name}: it stores", begun, "it does not")
-                running.send_signal(death)
-                try:
-                    status = running.wait(timeout=300)
-                except subprocess.TimeoutExpired:
-                    running.kill()
-                    status = "it does not end"
+                status = ended_by(death, running)
             self.report(trace)
             text, numbers = text_of(trace), range(1, len(events_of(trace)) // 3 + 1)
             whole = saved([0]) + "".join(saved_value(number % 4000 + 1, number) for number in numbers)

@@ -2,9 +2,10 @@
 import os
 import pathlib
 import subprocess
-import tempfile
-from contextlib import contextmanager
 from typing import NamedTuple
+
+from checks import Checks
+from needs import need
 
 SOURCE = pathlib.Path(__file__).with_name("faults.c")
 
@@ -22,13 +23,20 @@ def short(answer):
     return f"status {answer.status}, {len(answer.out)} bytes {answer.out[:80]}, faults {answer.faults[:80]}"
 
 
-@contextmanager
-def library():
-    """The library, built."""
-    with tempfile.TemporaryDirectory() as folder:
-        built = pathlib.Path(folder, "faults.so")
-        subprocess.run(["gcc", "-shared", "-fPIC", "-O2", "-o", built, SOURCE], check=True)
-        yield built
+def run_whole(program, *words, text=b"", timeout=120):
+    """The answer of a program on this text, where no call fails."""
+    done = subprocess.run([program, *map(str, words)], input=text, capture_output=True, timeout=timeout)
+    return Answer(done.returncode, done.stdout, done.stderr)
+
+
+class UnderFaults(Checks):
+    """Tests with the library, which is built for each class of them."""
+
+    @classmethod
+    def setUpClass(cls):
+        need("gcc libc6-dev", "gcc")
+        cls.library = cls.shared_folder() / "faults.so"
+        subprocess.run(["gcc", "-shared", "-fPIC", "-O2", "-o", cls.library, SOURCE], check=True)
 
 
 def run(library, program, words, text=b"", **faults):

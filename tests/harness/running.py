@@ -1,5 +1,6 @@
 """Running programs: how they ended, and what they wrote."""
 import os
+import signal
 import subprocess
 import time
 from typing import NamedTuple
@@ -34,3 +35,19 @@ def wait_until(holds, seconds=300, pause=0.01):
     while not (held := holds()) and time.monotonic() < until:
         time.sleep(pause)
     return held
+
+
+def unignore():
+    """Before a program begins: what runs in the background may have been told to ignore signals."""
+    for death in (signal.SIGTERM, signal.SIGINT, signal.SIGHUP):
+        signal.signal(death, signal.SIG_DFL)
+
+
+def ended_by(death, process):
+    """The status of a process that gets a signal, or that it does not end."""
+    process.send_signal(death)
+    try:
+        return process.wait(timeout=300)
+    except subprocess.TimeoutExpired:
+        process.kill()
+        return "it does not end"

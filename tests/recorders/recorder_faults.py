@@ -7,15 +7,9 @@ import time
 
 from checks import add_tests
 from recording import PYTHON, Recording, events_of, text_of
-from running import run_as_shown
+from running import ended_by, run_as_shown, unignore
 
 WORD_SAVED = "pmtrace 2 64\nstore 0 0x0 6120776f72642e2e\nclwb 0 0x0\nsfence 0\n"
-
-
-def unignore():
-    """What runs in the background may have been told to ignore signals."""
-    for death in (signal.SIGTERM, signal.SIGINT, signal.SIGHUP):
-        signal.signal(death, signal.SIG_DFL)
 
 
 class FaultTests(Recording):
@@ -136,12 +130,7 @@ class FaultTests(Recording):
             streams = {"stdout": subprocess.PIPE, "stderr": subprocess.DEVNULL}
             with subprocess.Popen([*program, trace, case], preexec_fn=unignore, **streams) as running:
                 running.stdout.readline()
-                running.send_signal(death)
-                try:
-                    status = running.wait(timeout=300)
-                except subprocess.TimeoutExpired:
-                    running.kill()
-                    status = "it does not end"
+                status = ended_by(death, running)
             self.report(trace)
             right = status == wanted and text_of(trace).startswith(WORD_SAVED)
             self.expect(f"{name}: {case} {death.name}", right, status)

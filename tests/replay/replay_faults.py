@@ -1,5 +1,4 @@
 """Checkers that hang, die or write without end, bases that are missing or short, runs that are stopped, and large pools."""
-import functools
 import os
 import pathlib
 import re
@@ -8,7 +7,7 @@ import subprocess
 import time
 
 from replay_runs import REPLAY, Replayed, counts_of, write_trace
-from running import wait_until
+from running import unignore, wait_until
 
 TWO_LINES = ["store 0 0x0 01", "store 0 0x40 02", "clwb 0 0x0", "sfence 0"]
 IMAGES = {bytes([one] + 63 * [0] + [two] + 63 * [0]) for one, two in ((0, 0), (0, 2), (1, 0), (1, 2))}
@@ -211,8 +210,6 @@ class Faults(Replayed):
             kept, gate = self.folder / f"stopped{number}", self.empty_folder("gate")
             words = [REPLAY, "--jobs", "2", "--keep", kept, trace, *of_shell(script)]
             streams = {"stdout": subprocess.PIPE, "stderr": subprocess.PIPE, "text": True}
-            # what runs in the background may have been told to ignore signals
-            unignore = functools.partial(signal.signal, number, signal.SIG_DFL)
             process = subprocess.Popen([str(word) for word in words], cwd=self.folder, env={**os.environ, **self.known}, preexec_fn=unignore, **streams)
             state = kept / "state.jsonl"
             wait_until(lambda: state.exists() and state.read_text().count("\n") >= 4)
