@@ -1,13 +1,15 @@
 #!/usr/bin/env python3
 """Tries the edits crates/NAME/must-fail/*.edit: edits.py [OPTION ..] [CRATE ..], all of the project if no crate is named.
 
-An edit turns the meaning of a function. It is refused where the prover says of a line of that function that a goal is not proved, or of
-a line of its proof that it proves no goal. A proof that only names what is gone says nothing of the contract. A function is proved by its
-own body and the contracts of those that it calls. So the edits of a crate are tried in one check, in which the other functions have neither
-body nor proof, but a hole, which stands for what their contracts promise. Where two turn one function, the second is made in a twin, a function
-of another name behind it; of a method of a trait, which can have none, it is tried in a check of its own. An edit of no function, as of a
-constant, is tried alone. The crates below are taken as they were built last.
-What was refused is kept by the sum of all that was read: the crate, its edits, the libraries below, the kit, and what tells what an edit turns.
+An edit turns the meaning of one function at one place. Beside it stands a control, which differs from it in one word and leaves the meaning. The
+edit is refused where the prover says of a line of its function that a goal is not proved, or of a line of its proof that it proves no goal; a
+proof that only names what is gone says nothing of the contract. It is refuted where one of these goals is told not to follow. The control has
+to be proved, so the edit is refused for that word alone.
+A function is proved by its own body and the contracts of those that it calls. So all edits of a crate are tried in one check, in which the
+other functions have neither body nor proof, but a hole, which stands for what their contracts promise. Each edit and control is made in a twin,
+a function of another name behind the one that it turns. A method of a trait can have none: there they are made in its place, each in a further
+check. The crates below are taken as they were built last.
+What was told is kept by the sum of all that was read: the crate, its edits, the libraries below, the kit, and what tells what an edit turns.
 The last line is 'N passed, M failed'.
 """
 import argparse
@@ -30,9 +32,15 @@ from sources import TOP, body_of, items_of
 
 # What a check reads of a crate.
 PARTS = ("src", "specs", "proofs")
+# What a file of an edit says, a line each.
+KEYS = ("file", "old", "new", "same")
 # What the prover says of a goal that is not proved, and of a proof that does not prove its goal.
 GOAL = re.compile(r"^note: (?:\./)?(src/\S+?):(\d+):\d+: (it is not proved that .*?) \(`", re.M)
-PROOF = re.compile(r"^(?:\./)?(proofs/\S+?):(\d+):\d+: error: (?!.*(?:has no field|is not in scope|has no `|was not admitted))(.{,100})", re.M)
+PROOF = re.compile(r"^(?:\./)?(proofs/\S+?):(\d+):\d+: error: (?!.*(?:has no field|is not in scope|has no `|was not admitted))(.{,200})", re.M)
+# What it says of a goal that can't be proved from what it knows.
+REFUTED = "the goal does not follow"
+# What it says of a function whose own body is proved; what that calls may have holes.
+PROVED = re.compile(r"^fn \w+?::(\S+): (?:no holes|depends on a hole in .*)$", re.M)
 # Its last line: how many functions it was asked for, and how many holes are left.
 ENDED = re.compile(r"^only=\d+ holes=\d+$", re.M)
 # A proof with a hole.
@@ -54,32 +62,30 @@ class Function(NamedTuple):
     body: int | None
     is_own: bool
 
-    def has(self, file, line):
-        """Whether this line of this file is one of its lines, or of its proof."""
+    def has(self, goal):
+        """Whether a goal stands in one of its lines, or of its proof."""
         proof = f"proofs/{self.path.replace('::', '/')}/"
-        return file.startswith(proof) or file == self.file and self.first <= line <= self.last
-
-
-class Change(NamedTuple):
-    """A text that takes the place of another in a file."""
-
-    file: str
-    first: int
-    last: int
-    new: str
+        return goal.file.startswith(proof) or goal.file == self.file and self.first <= goal.line <= self.last
 
 
 class Edit(NamedTuple):
-    """An edit: its name, what it changes, the functions that it touches, and whether it can be made in a twin of the one that it touches."""
+    """An edit or a control: its name, the function that it turns, where in that function's file a text goes, and the one that comes."""
 
     name: str
-    changes: list[Change]
-    functions: frozenset[Function]
-    has_twin: bool
+    function: Function
+    first: int
+    last: int
+    new: str
+    is_control: bool
 
-    def paths(self):
-        """What a check of it looks at: its functions, or the modules of its files."""
-        return {function.path for function in self.functions} or {module_of(change.file) for change in self.changes}
+    def path(self):
+        """The path of the function in which it is made."""
+        return f"{self.function.path}_{self.name}" if self.function.is_own else self.function.path
+
+    def made_in(self, crate):
+        """The text of its file with it."""
+        text = (crate / self.function.file).read_text()
+        return text[: self.first] + self.new + text[self.last :]
 
 
 class Goal(NamedTuple):
@@ -89,16 +95,12 @@ class Goal(NamedTuple):
     line: int
     what: str
 
-    def is_of(self, edit):
-        """Whether it is a goal of a function that the edit touches, or of any where it touches none."""
-        return not edit.functions or any(function.has(self.file, self.line) for function in edit.functions)
-
     def told(self):
         return f"{self.file}:{self.line}: {self.what}"
 
-    def back_in(self, function, copied):
-        """The same goal of the crate, where this function of it stands so in a copy."""
-        return self._replace(line=self.line - copied.first + function.first) if self.file == copied.file else self
+    def moved(self, lines):
+        """The same goal, where what stands in a copy stands so many lines further on in the crate."""
+        return self._replace(line=self.line + lines) if self.file.startswith("src/") else self
 
 
 class Fault(Exception):
@@ -138,96 +140,84 @@ def opening_of(lines, item):
 
 
 def read_edit(crate, path, functions):
-    """An edit, from its file: a line 'file: F', and then pairs of lines 'old: TEXT' and 'new: TEXT'."""
-    file, old, changes, touched, within = "", "", [], set(), True
-    for line in path.read_text().splitlines():
-        key, _, value = line.partition(":")
-        value = value.removeprefix(" ")
-        if key == "file":
-            file = value.strip()
-        elif key == "old":
-            old = value
-        elif key == "new":
-            text = (crate / file).read_text()
-            if not old or text.count(old) != 1:
-                raise Fault(f"{path.stem}: BAD EDIT: {file} has '{old}' {text.count(old)} times, and not once")
-            first = text.index(old)
-            changes.append(Change(file, first, first + len(old), value))
-            here = {function for function in functions if function.has(file, text.count("\n", 0, first) + 1)}
-            touched, within, old = touched | here, within and bool(here), ""
-        elif line:
-            raise Fault(f"{path.stem}: BAD EDIT: a line begins with none of 'file: ', 'old: ', 'new: ': {line}")
-    if old or not changes:
-        raise Fault(f"{path.stem}: BAD EDIT: an 'old: ' has no 'new: ', or there is none")
-    return Edit(path.stem, changes, frozenset(touched), within and len(touched) == 1 and all(function.is_own for function in touched))
+    """An edit and its control, from their file: the lines 'file: F', 'old: TEXT', 'new: TEXT' and 'same: TEXT', in this order."""
+    lines = [line.partition(":") for line in path.read_text().splitlines()]
+    if tuple(key for key, _, _ in lines) != KEYS:
+        raise Fault(f"its lines do not begin with {', '.join(f'{key}: ' for key in KEYS)}")
+    file, old, new, same = (value.removeprefix(" ") for _, _, value in lines)
+    if not differ_in_one_word(new, same):
+        raise Fault("'same: ' differs from 'new: ' in more than one word, or in none")
+    text = (crate / file).read_text()
+    if not old or text.count(old) != 1:
+        raise Fault(f"{file} has '{old}' {text.count(old)} times, and not once")
+    first = text.index(old)
+    line = text.count("\n", 0, first) + 1
+    here = [function for function in functions if function.file == file and function.first <= line <= function.last]
+    if len(here) != 1:
+        raise Fault(f"'{old}' is in no function")
+    edit = Edit(path.stem, here[0], first, first + len(old), new, False)
+    return edit, edit._replace(name=f"{path.stem}_same", new=same, is_control=True)
+
+
+def differ_in_one_word(first, second):
+    """Whether two lines have as many words, and differ in one."""
+    first, second = (re.findall(r"\w+|\S", line) for line in (first, second))
+    return len(first) == len(second) and sum(one != other for one, other in zip(first, second)) == 1
 
 
 def rounds_of(edits):
-    """The edits in rounds: in none do two touch one function, but for those that a twin has, and one that touches none is alone."""
-    rounds = []
+    """The edits in rounds, each of one check: at first all that are made in twins. Of the others no two beside each other turn one function,
+    and no control stands beside an edit, which it might call."""
+    rounds = [[edit for edit in edits if edit.function.is_own]]
     for edit in edits:
-        fits = (beside for beside in rounds if edit.functions and all(it.functions and (edit.has_twin or not it.functions & edit.functions) for it in beside))
-        if (beside := next(fits, None)) is not None:
+        if not edit.function.is_own:
+            fits = (beside for beside in rounds[1:] if all(it.function != edit.function and it.is_control == edit.is_control for it in beside))
+            beside = next(fits, [])
             beside.append(edit)
-        else:
-            rounds.append([edit])
-    return rounds
-
-
-def edited(crate, file, changes):
-    """The text of a file of the crate with those of these changes that are of it."""
-    text = (crate / file).read_text()
-    for change in sorted((change for change in changes if change.file == file), key=lambda it: -it.first):
-        text = text[: change.first] + change.new + text[change.last :]
-    return text
+            if len(beside) == 1:
+                rounds.append(beside)
+    return [beside for beside in rounds if beside]
 
 
 def write_edited(crate, copy, functions, edits):
-    """Makes the copy what the crate is with these edits, without the bodies and proofs of the functions that they don't turn. Of each edit
-    it returns the paths that the copy has for what it looks at."""
+    """Makes the copy what the crate is with these edits, without the bodies and proofs of all other functions."""
     for part in PARTS:
         shutil.rmtree(copy / part, ignore_errors=True)
         if (crate / part).is_dir():
             shutil.copytree(crate / part, copy / part)
-    paths, touched, twins = [], set(), []
-    for edit in edits:
-        if edit.functions & touched:
-            twins.append(edit)
-            paths.append({twin_path(edit)})
-        else:
-            touched |= edit.functions
-            paths.append(edit.paths())
-    changes = [change for edit in edits if edit not in twins for change in edit.changes]
-    for file in {change.file for change in changes}:
-        (copy / file).write_text(edited(crate, file, changes))
-    turned = {path for here in paths for path in here}
+    in_place = {edit.function: edit for edit in edits if not edit.function.is_own}
     for function in functions:
-        if function.body and not any(function.path == path or function.path.startswith(f"{path}::") for path in turned):
+        if function in in_place:
+            put_lines(copy, function, lines_of(in_place[function], crate))
+        elif function.body:
             take_body(crate.name, copy, function)
-    for edit in sorted(twins, key=lambda it: -next(iter(it.functions)).last):
-        add_twin(crate, copy, edit)
-    return paths
+    for edit in sorted(edits, key=lambda it: -it.function.last):
+        if edit.function.is_own:
+            add_twin(crate, copy, edit)
 
 
-def twin_path(edit):
-    """The path of the twin in which an edit is made."""
-    return f"{next(iter(edit.functions)).path}_{edit.name}"
+def lines_of(edit, crate):
+    """The lines of the function that an edit turns, with it."""
+    return edit.made_in(crate).splitlines()[edit.function.first - 1 : edit.function.last]
+
+
+def put_lines(copy, function, new, behind=False):
+    """Puts lines in the place of a function of a copy, or behind it. What stands before it there has as many lines as in the crate."""
+    file = copy / function.file
+    lines = file.read_text().splitlines()
+    lines[function.last if behind else function.first - 1 : function.last] = new
+    file.write_text("\n".join(lines) + "\n")
 
 
 def add_twin(crate, copy, edit):
-    """Adds to a copy, behind the function that the edit turns, what it makes of that, under another name and with a proof of its own. What
-    stands before the function in the copy has as many lines as in the crate."""
-    function = next(iter(edit.functions))
-    name, twin = (path.split("::")[-1] for path in (function.path, twin_path(edit)))
-    text = "\n".join(edited(crate, function.file, edit.changes).splitlines()[function.first - 1 : function.last])
-    lines = (copy / function.file).read_text().splitlines()
-    lines.insert(function.last, re.sub(rf"\bfn {name}\b", f"fn {twin}", text, count=1))
-    (copy / function.file).write_text("\n".join(lines) + "\n")
-    proof = pathlib.Path("proofs", *function.path.split("::"))
+    """Adds to a copy, behind the function that the edit turns, what it makes of that, under another name and with a proof of its own."""
+    name, twin = (path.split("::")[-1] for path in (edit.function.path, edit.path()))
+    put_lines(copy, edit.function, re.sub(rf"\bfn {name}\b", f"fn {twin}", "\n".join(lines_of(edit, crate)), count=1).splitlines(), behind=True)
+    proof = pathlib.Path("proofs", *edit.function.path.split("::"))
     if (crate / proof).is_dir():
         (copy / proof.with_name(twin)).mkdir()
         for file in (crate / proof).iterdir():
-            text = edited(crate, str(proof / file.name), edit.changes).replace(f"{name}_spec", f"{twin}_spec")
+            text = file.read_text().replace(f"{name}_spec", f"{twin}_spec")
             text = text.replace(".".join(proof.parts) + ".", ".".join(proof.with_name(twin).parts) + ".")
             (copy / proof.with_name(twin) / file.name).write_text(text)
 
@@ -296,38 +286,51 @@ def built(crate, place):
 
 
 def check(command, copy, paths):
-    """Checks these functions of a copy, and returns the goals that are not proved."""
+    """Checks these functions of a copy, and returns the goals that are not proved, and the functions that are."""
     words = [*command, *(word for path in sorted(paths) for word in ("--only", path))]
     ran = subprocess.run(words, cwd=copy, stdin=subprocess.DEVNULL, stdout=subprocess.PIPE, stderr=subprocess.STDOUT, text=True, errors="replace")
     if ran.returncode not in (0, 1) or not ENDED.search(ran.stdout):
         raise Fault(f"the check ended with status {ran.returncode} and no verdict:\n{ran.stdout[-2000:]}")
     told = (*GOAL.findall(ran.stdout), *PROOF.findall(ran.stdout))
-    return [Goal(file, int(line), what) for file, line, what in told]
+    return [Goal(file, int(line), what) for file, line, what in told], set(PROVED.findall(ran.stdout))
+
+
+def judged(edit, goals, is_proved):
+    """What is told of an edit or a control by its goals that are not proved, and whether it is as it should be."""
+    refuted = next((goal for goal in goals if REFUTED in goal.what), None)
+    goal = refuted or next(iter(goals), None)
+    if edit.is_control:
+        is_right = is_proved and not goal
+        return f"{edit.name}: " + ("proved" if is_right else f"CONTROL NOT PROVED: {goal.told() if goal else 'no line says that it is'}"), is_right
+    return f"{edit.name}: " + (f"{'refuted' if refuted else 'refused'}: {goal.told()}" if goal else "NOT REFUSED"), goal is not None
 
 
 def try_edits(crate, command, copy):
-    """Tries the edits of a crate on a copy: what refuses each, and what is wrong."""
+    """Tries the edits of a crate on a copy: what is told of each, and what is wrong."""
     functions, paths = list(functions_of(crate)), sorted((crate / "must-fail").iterdir())
     if strays := [path.name for path in paths if path.suffix != ".edit"]:
         raise Fault(f"must-fail/ has files whose names do not end in .edit: {', '.join(strays)}")
-    edits = [read_edit(crate, path, functions) for path in paths]
-    told, wrong = [], []
+    edits, told, wrong = [], [], []
+    for path in paths:
+        try:
+            edits += read_edit(crate, path, functions)
+        except Fault as fault:
+            wrong.append(f"{path.stem}: BAD EDIT: {fault}")
     for beside in rounds_of(edits):
-        looked = write_edited(crate, copy, functions, beside)
+        write_edited(crate, copy, functions, beside)
         copied = {function.path: function for function in functions_of(copy)}
-        placed = [edit._replace(functions=frozenset(copied[path] for path in here if edit.functions)) for edit, here in zip(beside, looked)]
-        goals = check(command, copy, set().union(*looked))
-        wrong += [f"{goal.told()}, where no edit is" for goal in goals if not any(goal.is_of(edit) for edit in placed)]
-        for edit, there in zip(beside, placed):
-            refusal = next((goal for goal in goals if goal.is_of(there)), None)
-            if refusal and len(edit.functions) == 1:
-                refusal = refusal.back_in(*edit.functions, *there.functions)
-            (told if refusal else wrong).append(f"{edit.name}: {'refused: ' + refusal.told() if refusal else 'NOT REFUSED'}")
+        goals, proved = check(command, copy, {edit.path() for edit in beside})
+        wrong += [f"{goal.told()}, where no edit is" for goal in goals if not any(copied[edit.path()].has(goal) for edit in beside)]
+        for edit in beside:
+            there = copied[edit.path()]
+            own = [goal.moved(edit.function.first - there.first) for goal in goals if there.has(goal)]
+            line, is_right = judged(edit, own, edit.path() in proved)
+            (told if is_right else wrong).append(line)
     return told, wrong
 
 
 class Kept:
-    """What earlier runs refused, each by the sum of all that it read."""
+    """What earlier runs told where nothing was wrong, each by the sum of all that it read."""
 
     def __init__(self, folder):
         self.folder = folder
@@ -348,8 +351,6 @@ class Kept:
             os.replace(new.name, self.folder / name)
         except OSError:
             pass
-
-
 def try_crate(crate, place, kept):
     """Tries the edits of a crate, if they were not refused before. A fault ends it."""
     try:
