@@ -1,16 +1,14 @@
 """Compares claims of the documents with the sources.
 
 Each public call is of the fixed surface, whose calls stand in tests/surface, or another crate calls it, or docs/DECISIONS.md names it
-in its decision on what is public. Each public function with a contract has a must-fail edit that turns its body, or that of a function of
-the same crate that it calls, or docs/PROOFS.md lists it under "Functions without an edit", which lists no other. Laws have no body. A call
-is known by its name, and if a type stands before it, by its type. rows.py names the worked rows, and what runs each. docs/ARCHITECTURE.md
-lists each crate once, and the files that documents for contributors name are there. docs/explain.schema.json has the objects and the names
-that the proved statements of pmt_explain_json spell, and docs/EXPLAIN.md names their members.
+in its decision on what is public. A call is known by its name, and if a type stands before it, by its type. There are few must-fail edits,
+each with a control, and each wrong body that is named here has an edit or a test of its name. rows.py names the worked rows, and what runs
+each. docs/ARCHITECTURE.md lists each crate once, and the files that documents for contributors name are there. docs/explain.schema.json has
+the objects and the names that the proved statements of pmt_explain_json spell, and docs/EXPLAIN.md names their members.
 """
 import json
 import re
 import subprocess
-from collections import defaultdict
 
 from checks import Checks
 from rows import ROWS
@@ -20,8 +18,23 @@ from traces import all_traces
 
 # What is for contributors alone.
 GUIDES = ("CONTRIBUTING.md", "docs/ARCHITECTURE.md", "docs/DECISIONS.md", "docs/PROOFS.md", "docs/PROVING.md", "docs/PAGE.md")
-# Methods of std's types have these names too, so a call of one of them tells nothing.
-COMMON = {"len", "get", "push", "is_empty", "new", "next", "iter", "take", "insert"}
+# So many edits, each with its control, take the gate some 20 minutes of a processor.
+MOST_EDITS = 75
+# The wrong bodies that an edit is named by, in one crate or more.
+EDITED = {
+    "append_changes_the_event", "append_skips_the_book", "clflush_only_marks", "compares_images_alone", "drops_flush_for_an_unfenced_twin",
+    "drops_or_moves_a_kept_event", "fence_completes_every_thread", "invents_a_read_fault", "judges_fence_by_its_last_flush",
+    "keeps_last_completed_flush_only", "merge_loses_a_line", "ordered_at_ends_of_runs_alone", "ordered_by_recorded_position",
+    "persist_passes_once_flushed", "reader_takes_loose_spelling", "redundant_after_any_thread", "returns_the_input",
+    "snapshot_invents_other_threads", "snapshot_of_the_opening_book", "stream_writes_flushes_at_once",
+}
+# Those that contracts let through, or types refuse, and where the test stands that is named by them.
+TESTED = {
+    "all_on_the_callers_thread": "crates/library_tests/src/workers.rt",
+    "always_out_of_memory_or_always_torn": "tests/test_refusals.py",
+    "lock_round_the_lines": "tests/surface/workers.rt.txt",
+    "stream_holds_all_back": "crates/library_tests/src/trim/streaming.rt",
+}
 
 
 def library_crates():
@@ -74,60 +87,20 @@ def uncalled(crates):
         yield f"docs/DECISIONS.md: {name} is named as a call that no other crate makes, and is none"
 
 
-def edited(crate, items):
-    """The items of a crate whose text an edit changes."""
-    for path in sorted(TOP.glob(f"crates/{crate}/must-fail/*.edit")):
-        file = ""
-        for line in path.read_text().splitlines():
-            key, _, value = line.partition(":")
-            if key == "file":
-                file = value.strip()
-            elif key == "old" and file.startswith("src/"):
-                before, found, _ = (TOP / "crates" / crate / file).read_text().partition(value.strip())
-                at = before.count("\n")
-                yield from (item for item in items if found and item.kind == "fn" and file == f"src/{item.file}" and item.first <= at <= item.last)
-
-
-def calls_of(item, by_name):
-    """The functions of its crate that it calls, as far as their names tell."""
-    code = re.sub(r"//.*", "", item.text)
-    for owner, dot, name in set(re.findall(r"(?:(\w+)::)?(\.?)\b([a-z_]\w*)\b", code)):
-        for other in by_name[name]:
-            owner = item.owner if owner == "Self" else owner
-            right = other.owner == owner if owner[:1].isupper() else bool(dot) == bool(other.owner) and not (dot and name in COMMON)
-            if right and other is not item:
-                yield other
-
-
-def unedited(crates):
-    """Complaints: public functions with a contract that no edit turns and that are not listed, and listed ones that are none."""
-    section = (TOP / "docs/PROOFS.md").read_text().split("## Functions without an edit")[1].split("\n## ")[0]
-    listed, missing = set(re.findall(r"`([\w:]+)`", " ".join(re.findall(r"^- (.*?`): ", section, re.M | re.S)))), set()
-    contracted = {(item.owner, item.name) for items in crates.values() for item in items if item.trait and item.trait == item.owner and "ensures" in item.text}
-    contracted |= {("Read", "read"), ("Write", "write"), ("Write", "flush")}
-    for crate, items in crates.items():
-        functions = [item for item in items if item.kind == "fn"]
-        by_name = defaultdict(list)
-        for item in functions:
-            by_name[item.name].append(item)
-        turned = set(edited(crate, items))
-        for item in shown_by(crate, functions + [item for item in items if item.kind != "fn"]):
-            if not item.has_contract(contracted) or turned & reached_from(item, by_name):
-                continue
-            missing.add(item.label())
-            if item.label() not in listed:
-                yield f"{crate}: no edit turns {item.label()}"
-    for name in sorted(listed - missing):
-        yield f"docs/PROOFS.md: {name} is listed as a function without an edit, and is none"
-
-
-def reached_from(item, by_name):
-    """The function, those of its crate that it calls, those that they call, and so on."""
-    reached, front = {item}, [item]
-    while front:
-        front = [other for one in front for other in calls_of(one, by_name) if other not in reached]
-        reached.update(front)
-    return reached
+def wrong_edits():
+    """Complaints: too many edits, edits without a control, and wrong bodies by whose name there is neither an edit nor a test."""
+    edits = sorted(TOP.glob("crates/*/must-fail/*.edit"))
+    if len(edits) > MOST_EDITS:
+        yield f"there are {len(edits)} edits, and at most {MOST_EDITS} may be"
+    for path in edits:
+        if not re.search(r"^same: ", path.read_text(), re.M):
+            yield f"{path.relative_to(TOP)} has no control"
+    names = {path.stem for path in edits}
+    for name in sorted(EDITED - names):
+        yield f"{name}: there is no such edit"
+    for name, place in TESTED.items():
+        if not re.search(rf"\bfn {name}\(|\bfn {name}<|\bdef test_{name}\(", (TOP / place).read_text()):
+            yield f"{name}: no test in {place} has this name"
 
 
 def stale():
@@ -256,7 +229,7 @@ class Claims(Checks):
         self.expect_none(uncalled(self.crates))
 
     def test_edits(self):
-        self.expect_none(unedited(self.crates))
+        self.expect_none(wrong_edits())
 
     def test_names_of_proofs(self):
         self.expect_none(stale())

@@ -276,10 +276,10 @@ def sweep_of_calls(calls, right):
 
 
 def with_ample_memory(calls, right):
-    """What is wrong with the calls on whole traces, from `trim` on, on one of 100,004 events, where no memory is refused."""
-    answer, _ = calls(["large"])
-    wanted = Answer(0, right[right.index(b"trim: ") : right.index(b"Session: ")])
-    return [] if answer == wanted else [f"calls on a large trace: {faulty.short(answer)}"]
+    """What is wrong with the calls where no memory is refused, and with those on whole traces, from `trim` on, on one of 100,004 events."""
+    chain = right[right.index(b"trim: ") : right.index(b"Session: ")]
+    answers = [(calls(words)[0], Answer(0, wanted)) for words, wanted in (([], right), (["large"], chain))]
+    return [f"calls with memory: {faulty.short(answer)}" for answer, wanted in answers if answer != wanted]
 
 
 def finds_what_is_wrong(run):
@@ -399,8 +399,8 @@ class OfTheCalls(Refusals):
     def test_calls(self):
         self.expect_of_all([("calls", partial(sweep_of_calls, self.calls, VERDICTS))])
 
-    def test_ample_memory(self):
-        self.expect_of_all([("calls on a large trace", partial(with_ample_memory, self.calls, VERDICTS))])
+    def test_always_out_of_memory_or_always_torn(self):
+        self.expect_of_all([("calls with memory", partial(with_ample_memory, self.calls, VERDICTS))])
 
     def test_finds_wrong_verdicts(self):
         self.expect_of_all([("wrong verdicts", partial(finds_wrong_verdicts, self.calls))])

@@ -3,8 +3,8 @@
 
 An edit turns the meaning of one function at one place. Beside it stands a control, which differs from it in one word and leaves the meaning. The
 edit is refused where the prover says of a line of its function that a goal is not proved, or of a line of its proof that it proves no goal; a
-proof that only names what is gone says nothing of the contract. It is refuted where one of these goals is told not to follow. The control has
-to be proved, so the edit is refused for that word alone.
+proof that only names what is gone, or a goal that is given up, says nothing of the contract. It is refuted where one of these goals is told not
+to follow. The control has to be proved, so the edit is refused for that word alone.
 A function is proved by its own body and the contracts of those that it calls. So all edits of a crate are tried in one check, in which the
 other functions have neither body nor proof, but a hole, which stands for what their contracts promise. Each edit and control is made in a twin,
 a function of another name behind the one that it turns. A method of a trait can have none: there they are made in its place, each in a further
@@ -37,8 +37,9 @@ KEYS = ("file", "old", "new", "same")
 # What the prover says of a goal that is not proved, and of a proof that does not prove its goal.
 GOAL = re.compile(r"^note: (?:\./)?(src/\S+?):(\d+):\d+: (it is not proved that .*?) \(`", re.M)
 PROOF = re.compile(r"^(?:\./)?(proofs/\S+?):(\d+):\d+: error: (?!.*(?:has no field|is not in scope|has no `|was not admitted))(.{,200})", re.M)
-# What it says of a goal that can't be proved from what it knows.
+# What it says of a goal that can't be proved from what it knows, and of one that it gave up.
 REFUTED = "the goal does not follow"
+GIVEN_UP = "stopped at its own limit"
 # What it says of a function whose own body is proved; what that calls may have holes.
 PROVED = re.compile(r"^fn \w+?::(\S+): (?:no holes|depends on a hole in .*)$", re.M)
 # Its last line: how many functions it was asked for, and how many holes are left.
@@ -297,12 +298,13 @@ def check(command, copy, paths):
 
 def judged(edit, goals, is_proved):
     """What is told of an edit or a control by its goals that are not proved, and whether it is as it should be."""
-    refuted = next((goal for goal in goals if REFUTED in goal.what), None)
-    goal = refuted or next(iter(goals), None)
+    rank = {goal: (REFUTED not in goal.what) + (GIVEN_UP in goal.what) for goal in goals}
+    goal = min(goals, key=rank.get, default=None)
     if edit.is_control:
         is_right = is_proved and not goal
         return f"{edit.name}: " + ("proved" if is_right else f"CONTROL NOT PROVED: {goal.told() if goal else 'no line says that it is'}"), is_right
-    return f"{edit.name}: " + (f"{'refuted' if refuted else 'refused'}: {goal.told()}" if goal else "NOT REFUSED"), goal is not None
+    word = ("refuted", "refused", "NOT REFUSED, but given up")[rank[goal]] if goal else "NOT REFUSED"
+    return f"{edit.name}: {word}" + (f": {goal.told()}" if goal else ""), word in ("refuted", "refused")
 
 
 def try_edits(crate, command, copy):

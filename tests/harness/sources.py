@@ -30,10 +30,6 @@ class Item(NamedTuple):
         """Whether it is a function without a body."""
         return self.kind == "fn" and self.text.endswith("{}")
 
-    def has_contract(self, contracted):
-        """Whether something is promised of its body: by itself, or by its trait."""
-        return self.kind == "fn" and not self.text.endswith((";", "{}")) and ("ensures" in self.text or (self.trait, self.name) in contracted)
-
 
 def end_of(lines, first, indent):
     """The last line of the item that begins there."""

@@ -28,7 +28,7 @@ ROWS = {name: [trace(name)] for name in TRACES} | {
     "refused_events": [ANSWERS],
     "widest_address": [trace("widest_address"), REFUSED],
     "truncated_and_bad_headers": [REFUSED],
-    "forty_lines": [trace("forty_lines"), "library_tests::workers::workers_meet"],
+    "forty_lines": [trace("forty_lines"), "library_tests::workers::all_on_the_callers_thread"],
     "two_recorders": ["recorder_tests::recorder::two_recorders", "crates/refused_calls/src/recording.rt", ANSWERS],
     "split_and_selection": ["text_tests::model::split_and_selection"],
     "scripts": ["recorder_tests::recorder::scripts::scripts", WORDS],

@@ -163,7 +163,7 @@ fn meet<R: Threads + Abort + Sync>(
 }
 
 #[test]
-fn workers_meet(rt: HostRuntime) -> Result<(), Fail> {
+fn all_on_the_callers_thread(rt: HostRuntime) -> Result<(), Fail> {
     meet(&rt, rt.alloc(), 1, 40, 40)?;
     meet(&rt, rt.alloc(), 2, 40, 20)?;
     meet(&rt, rt.alloc(), 4, 40, 10)?;
@@ -172,7 +172,7 @@ fn workers_meet(rt: HostRuntime) -> Result<(), Fail> {
 }
 
 #[test]
-fn workers_meet_over_few_lines(rt: HostRuntime) -> Result<(), Fail> {
+fn all_on_the_callers_thread_over_few_lines(rt: HostRuntime) -> Result<(), Fail> {
     meet(&rt, rt.alloc(), 16, 1, 1)?;
     meet(&rt, rt.alloc(), 4, 0, 0)
 }
