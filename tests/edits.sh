@@ -102,6 +102,12 @@ echo '// One line more.' >> "$folder/crates/low/src/lib.rt"
 tried low
 says 'what is kept is of the text that was tried' '^low: none_more: refuted: '
 
+PYTHONPATH=tests/harness python3 > "$folder/told" << 'END'
+from edits import Edit, Goal, judged
+print(judged(Edit("late", None, 0, 0, "", False), [Goal("proofs/f", 1, "`grind` stopped at its own limit")], False)[0])
+END
+says 'a goal that is given up refuses nothing' '^late: NOT REFUSED, but given up: '
+
 python3 tests/harness/edits.py "$@" | tee "$folder/told"
 counts=$(tail -n 1 "$folder/told")
 passed=$((passed + ${counts%% *}))

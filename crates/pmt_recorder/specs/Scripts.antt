@@ -20,6 +20,11 @@ pub record IsRecorded (layout : Layout) (scripts : List (List Op)) (T : Recordin
   pub whose : AllByRecursion (λ (e : Event). e.thread < length scripts) T.events
   pub parts : (t : ℕ) → t < length scripts → slice_get scripts t ≡ Some (ops_of (part t T.events))
 
+-- Of two scripts of one op each, a trace that has the first one's alone is no recording.
+abbrev pub RefusesALostOp : Type 0
+RefusesALostOp =
+    (layout : Layout) (first second : Op) (T : Recording) → T.events ≡ record { thread = 0; op = first } ∷ [] → ¬ IsRecorded layout ((first ∷ []) ∷ (second ∷ []) ∷ []) T
+
 -- Some op of the script is not in the format.
 abbrev pub HasOpNotInFormat : Layout → List Op → Type 0
 HasOpNotInFormat f script = list_any (λ op. not (in_format f op)) script ≡ true

@@ -19,6 +19,7 @@
 #![tactic(auto)]
 
 pub mod fault;
+pub mod laws;
 mod parts;
 pub mod roll;
 pub mod scripts;
