@@ -2,7 +2,7 @@
 # Builds what is measured, where that is needed, and prints the table of run.py and the times of recording.py and hostile.py: bench/run.sh [--events N] [KIND ..]
 set -eu
 cd "$(dirname "$0")/.."
-./pmtrim --version > /dev/null
+./pmtrim --prove > /dev/null
 # build NAME BASE ..: builds the program crate, if it or a crate that it stands on is newer than its program
 build() {
   local name=$1 built=crates/$1/out/$1

@@ -1,4 +1,5 @@
 """What ./install puts in place and removes, and programs that are built with it, as docs/INSTALL.md says."""
+import hashlib
 import os
 import pathlib
 import re
@@ -82,6 +83,15 @@ class Installed(Checks):
             (folder / "CMakeLists.txt").write_text(f"cmake_minimum_required(VERSION 3.16)\nproject(p C CXX)\nfind_package(pmtrace {wanted} REQUIRED)\n")
             told = run(["cmake", "-S", folder, "-B", folder / "out", f"-DCMAKE_PREFIX_PATH={self.prefix}"])
             self.expect(f"CMake and version {wanted}", told.status == status, told)
+
+    def test_proof(self):
+        """It is told how the program was proved if ./pmtrim knows that of this very program."""
+        stamp, program = TOP / "pmtrim.build", pathlib.Path(self.program)
+        told = (self.prefix / "share/doc/pmtrim/PROVED").read_text()
+        *_, proof, kept = stamp.read_text().splitlines() if stamp.exists() else ("", "")
+        if kept.split()[:1] != [hashlib.sha256(program.read_bytes()).hexdigest()]:
+            proof = "not known to be proved"
+        self.expect_equal("how it was proved", told, f"{run([program, '--version']).out.strip()}: {proof}\n")
 
     def test_cpp(self):
         need("pkg-config", "pkg-config")

@@ -25,7 +25,7 @@ def find_program(here):
     for path in [named] if named else [here / "pmtrim", here.parent / "crates/pmtrim/out/pmtrim", shutil.which("pmtrim")]:
         if path and os.access(path, os.X_OK) and not os.path.isdir(path):
             return str(path)
-    raise Fault(FILE_FAULT, f"{named or 'pmtrim'}: there is no such program: PMTRIM in the environment names it, or ./pmtrim --version builds it")
+    raise Fault(FILE_FAULT, f"{named or 'pmtrim'}: there is no such program: PMTRIM in the environment names it, or ./pmtrim --prove builds it")
 
 
 class Commands:

@@ -27,7 +27,7 @@ def find_program(here, name, beside, made_by):
 
 
 def find_pmtrim(here):
-    return find_program(here, "pmtrim", "crates/pmtrim/out/pmtrim", "./pmtrim --version builds it")
+    return find_program(here, "pmtrim", "crates/pmtrim/out/pmtrim", "./pmtrim --prove builds it")
 
 
 def find_recorder(here):

@@ -1,7 +1,6 @@
-"""The program under test: the one that PMTRIM names, or the built one, which ./pmtrim proves and builds first where there is none."""
+"""The program under test: the one that PMTRIM names, or the built one."""
 import os
 import pathlib
-import subprocess
 import sys
 
 TOP = pathlib.Path(__file__).resolve().parents[2]
@@ -34,12 +33,11 @@ def is_stale():
 
 
 def find():
-    """The program's path, which stands in PMTRIM from then on. NotThere: it can not be built."""
+    """The program's path, which stands in PMTRIM from then on. NotThere: it is not built."""
     named = os.environ.get("PMTRIM")
     if not named and not BUILT.exists():
-        if subprocess.run([TOP / "pmtrim", "--version"], stdout=subprocess.DEVNULL).returncode != 0:
-            raise NotThere("the program is not built")
-    elif not named and is_stale():
+        raise NotThere("the program is not built: ./pmtrim --prove builds it, or PMTRIM in the environment names one")
+    if not named and is_stale():
         print(f"test: {BUILT.relative_to(TOP)} is older than its sources", file=sys.stderr)
     os.environ["PMTRIM"] = str(pathlib.Path(named or BUILT).resolve())
     return os.environ["PMTRIM"]
