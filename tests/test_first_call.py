@@ -9,8 +9,8 @@ import subprocess
 import time
 
 from checks import Checks
-from installed import run
 from program import TOP
+from running import run
 
 NEEDS_NO_PROGRAM = True
 
