@@ -34,7 +34,7 @@ SPELLED = (
 class Files(Recorded):
     """What is recorded of files, and which of them are pools."""
 
-    def test_named(self):
+    def test_which_files_are_pools(self):
         """Which files are pools: one by its name, those of a folder, those that begin so; and the form that may mean either."""
         program, pool = self.build("nofile"), self.folder / "named/lm.pool"
         pool.parent.mkdir()
@@ -56,7 +56,7 @@ class Files(Recorded):
             old = [(str(words[-1]), ", ".join(wanted[-1:] if len(words) > 2 else wanted))] if "--pool" in words else []
             self.expect(f"pools by {words}: what was taken is told", took == old, faults)
 
-    def test_files(self):
+    def test_each_call_that_writes(self):
         """Each call that writes to a file, and the calls that save it: what stands in the trace is what stands in the files."""
         program, folder = self.build("files"), self.folder / "written"
         folder.mkdir()
@@ -83,7 +83,7 @@ class Files(Recorded):
         wanted = [f"{folder}/data has the addresses from 0x0 on", f"{folder}/data-other has the addresses from 0x10000000000 on"]
         self.expect("files by a prefix", all(line in found for line in wanted) and "/log has" not in found, found)
 
-    def test_sqlite(self):
+    def test_log_before_data_of_sqlite(self):
         """Debian's sqlite3 with a write-ahead log: both files are rebuilt, and the order of log and data can be claimed."""
         need("sqlite3", "sqlite3")
         for synchronous, wanted in (("full", "pass"), ("off", "fail")):
@@ -121,7 +121,7 @@ class Files(Recorded):
 
     # What the system does besides
 
-    def test_answers(self):
+    def test_answers_of_the_system(self):
         program, pool = self.build("answers"), self.folder / "answers.pool"
         trace, status, _, faults = self.record("answers", [program, pool])
         last = pool.read_bytes()
@@ -132,7 +132,7 @@ class Files(Recorded):
         marks = [int.from_bytes(last[at : at + 4], "little") & 0x40000000 != 0 for at in (0, 128, 256, 384)]
         self.expect("answers: the kernel's marks", marks == [True, True, True, False], marks)
 
-    def test_holes(self):
+    def test_a_hole_takes_little_memory(self):
         """A hole takes little memory, and what is stored behind the end of a file is in no trace."""
         program, pool = self.build("holes"), self.folder / "holes.pool"
         for how in ([], ["advice"]):
@@ -154,7 +154,7 @@ class Files(Recorded):
         self.expect("a large hole: counted", missing and int(missing[1]) > (64 << 20) // 8 - 1_000_000, faults)
         self.expect("a large hole: behind the end", "stores behind the end of a pool's file: " in faults, faults)
 
-    def test_many(self):
+    def test_at_most_256_pools(self):
         """As many pools as there may be, each known by a descriptor of the recorder's own."""
         folder = self.folder / "many.files"
         folder.mkdir()
@@ -163,7 +163,7 @@ class Files(Recorded):
         self.expect("256 pools", status == 0 and found == [number * POOL for number in range(256)], len(found))
         self.expect("256 pools: the next one", "mappings of a 257th pool or a further one: 1" in faults, faults[-300:])
 
-    def test_others(self):
+    def test_why_there_is_no_pool(self):
         """The one pool is named, and files that are none, where that tells why the trace lacks something. The names are those from the folder."""
         program, folder = self.build("others"), self.folder / "others.files"
         folder.mkdir()
@@ -194,7 +194,7 @@ class Files(Recorded):
         built = self.builds / "functions"
         return self.expect_built(built, ["g++", "-O1", "-g", "-mclwb", "-Wall", "-Wextra", "-Werror", SOURCES / "names.cpp", "-o", built])
 
-    def test_functions(self):
+    def test_names_of_functions(self):
         """Names of C++ without parameters, and calls that an exception leaves."""
         built = self.build_names()
         for name, wanted in (
@@ -218,7 +218,7 @@ class Files(Recorded):
         hint += "tree::Leaf::save(char*, unsigned long) const\n"
         self.expect("a name that is none: a hint", hint in faults, faults)
 
-    def test_spelled(self):
+    def test_names_as_labels_spell_them(self):
         """Only the brackets of a function's parameters are no part of its name."""
         built = self.build_names()
         trace = self.record("functions", [built, self.folder / "functions.pool"])[0]
@@ -232,7 +232,7 @@ class Files(Recorded):
             wanted = ["0x40", *(claim.split(" ")[0] for _, _, claim in SPELLED[number + 1 :])]
             self.expect(f"--start-after {name}", stores == wanted, f"{stores} {faults}")
 
-    def test_quoted(self):
+    def test_next_command_is_quoted(self):
         """The next command is one for the shell, whatever the trace's name is."""
         program = self.build("nofile")
         for name in ("two words", "it's", "plain"):

@@ -62,7 +62,7 @@ class Libpmem(Recording):
     def build(self, source, compiler="gcc", library="gcc", flags=(), strict=True, uses="libpmem"):
         """A program with a library, as pkg-config says that it is to be built."""
         need_compiler(compiler)
-        built = self.builds / f"{source.stem}.{compiler}.{library}{''.join(flags).replace('/', '.')}"
+        built = self.builds / f"{source.stem}.{compiler}.{library}{''.join(map(str, flags)).replace('/', '.')}"
         says = run_as_shown(["pkg-config", "--cflags", "--libs", uses], {"PKG_CONFIG_PATH": str(self.library(library) / "lib/pkgconfig")})
         words = [*COMPILERS[compiler], *(STRICT if strict else ["-g"]), *flags, "-I", HERE, source, "-x", "none", "-o", built, *says[1].split()]
         return self.expect_built(built, words)
@@ -94,7 +94,7 @@ class Libpmem(Recording):
 
     # The calls
 
-    def test_calls(self):
+    def test_each_call_of_libpmem(self):
         """Each call is in the trace what the pages say, in C and in C++; its label is the line that called."""
         for compiler, library in (*EACH, ("gcc", "asan"), ("clang", "clang-asan")):
             flags = [ADDRESS] if "asan" in library else ["-O2"]
@@ -109,7 +109,7 @@ class Libpmem(Recording):
             right = len(sources) == len(wanted) and all(piece in source for piece, source in zip(wanted, sources))
             self.expect(f"{name}: the labels", right, [pair for pair in zip(wanted, sources) if pair[0] not in pair[1]][:3])
 
-    def test_shapes(self):
+    def test_whatever_functions_can_do(self):
         """What can be done with functions can be done with these."""
         for compiler, library in EACH:
             program = self.build(HERE / "shapes.c", compiler, library)
@@ -117,7 +117,7 @@ class Libpmem(Recording):
             self.runs(f"shapes, {compiler}", [program, pool])
             self.gives(f"shapes, {compiler}", pool.with_name("pool.trace"), SHAPES)
 
-    def test_calls2(self):
+    def test_each_call_of_libpmem2(self):
         for compiler, library in (*EACH, ("gcc", "asan"), ("clang", "clang-asan")):
             flags = [ADDRESS] if "asan" in library else ["-O2"]
             program = self.build(HERE / "calls2.c", compiler, library, flags, uses="libpmem2")
@@ -126,7 +126,7 @@ class Libpmem(Recording):
             self.says(name, [program, folder], PRIVATE, known={"PMTRACE_WATCH": "all"})
             self.gives(name, folder / "one.trace", CALLS2)
 
-    def test_results(self):
+    def test_answers_are_libpmems_own(self):
         """The calls answer what those of libpmem and libpmem2 themselves answer."""
         forced = {"results": {"PMEM_IS_PMEM_FORCE": "1"}, "results2": {"PMEM2_FORCE_GRANULARITY": "CACHE_LINE"}}
         for name, uses in (("results", "libpmem"), ("results2", "libpmem2")):
@@ -147,14 +147,14 @@ class Libpmem(Recording):
             self.runs(f"pools, {library}", [self.build(HERE / "pools.c", "gcc", library, flags), folder])
             self.gives(f"pools, {library}", folder / "one.trace", POOLS)
 
-    def test_removed(self):
+    def test_a_file_that_is_made_anew_is_another(self):
         """A file that is removed and made anew is another, whatever inode number it gets."""
         for library, flags in (("gcc", []), ("asan", [ADDRESS])):
             pool = self.new_folder() / "pool"
             self.runs("removed", [self.build(HERE / "removed.c", "gcc", library, flags), pool])
             self.gives("removed", pool.with_name("pool.trace"), REMOVED)
 
-    def test_adopts(self):
+    def test_own_mappings_are_adopted(self):
         """What the program mapped by itself is recorded where pmem_is_pmem is told to say yes, from its answer on; else it is not."""
         program = self.build(HERE / "adopts.c")
         for force, answer, wanted in (("1", "1 1\n", ADOPTS), ("0", "0 0\n", None), ("", "0 0\n", None)):
@@ -165,7 +165,7 @@ class Libpmem(Recording):
             else:
                 self.expect("adopts nothing", not pool.with_name("pool.trace").exists(), "there is a trace")
 
-    def test_both(self):
+    def test_both_libraries_have_one_recorder(self):
         """A program with both libraries has one recorder."""
         folder, out = self.new_folder(), self.library("gcc") / "lib"
         for order in (["-lpmem", "-lpmem2"], ["-lpmem2", "-lpmem"]):
@@ -175,7 +175,7 @@ class Libpmem(Recording):
             self.runs(f"both, {order}", [program, folder])
             self.gives(f"both, {order}", folder / "one.trace", BOTH)
 
-    def test_found(self):
+    def test_configure_scripts_find_it(self):
         """A configure script that tries to compile, as fio's does, finds the libraries by CPATH and LIBRARY_PATH."""
         out, probe = self.library("gcc"), self.folder / "probe"
         places = {"CPATH": str(out / "include"), "LIBRARY_PATH": str(out / "lib")}
@@ -185,7 +185,7 @@ class Libpmem(Recording):
             built = run_as_shown(["gcc", "-o", probe, probe.with_suffix(".c"), f"-l{library}"], known=places)
             self.expect(f"{call} is found", built == (0, "") and "libpmem" not in run_as_shown(["objdump", "-p", probe])[1], built)
 
-    def test_tails(self):
+    def test_labels_of_tail_calls(self):
         """The label is where the call returns to."""
         for flags, wanted in (([], "here its caller is"), (["-fno-optimize-sibling-calls"], "here it is called")):
             pool = self.new_folder() / "pool"
@@ -193,7 +193,7 @@ class Libpmem(Recording):
             sources = [source_of(label) for label in self.labels(pool.with_name("pool.trace"))]
             self.expect(f"tails: {wanted}", len(sources) == 3 and all(wanted in source for source in sources), sources)
 
-    def test_refusals(self):
+    def test_what_is_not_recorded_is_refused(self):
         """What can't be recorded is refused by name."""
         words = ["gcc", "-DPMEM2_USE_MINIASYNC", "-I", self.library("gcc") / "include", "-c", HERE / "calls2.c", "-o", "/dev/null"]
         status, told = run_as_shown(words)
@@ -218,7 +218,7 @@ class Libpmem(Recording):
             status, report = self.report(trace)
             self.expect(f"threads, {library}: all is persisted", status == 0 and report.count(" pass\n") == 160, report[-200:])
 
-    def test_forgets(self):
+    def test_a_plain_store_is_found(self):
         """A plain store that nobody made persistent is found, by the line that noticed it."""
         pool = self.new_folder() / "pool"
         trace = pool.with_name("pool.trace")
@@ -229,7 +229,7 @@ class Libpmem(Recording):
         right = len(labels) == 7 and "pmem_persist(pool + 128, 1)" in source_of(labels[5])
         self.expect("forgets: its label", right, labels)
 
-    def test_processes(self):
+    def test_each_process_has_its_trace(self):
         program = self.build(HERE / "processes.c")
         saved = "pmtrace 2 64\nstore 0 0x0 {:02x}\nclwb 0 0x0\nsfence 0\n"
         folder = self.new_folder()
@@ -250,7 +250,7 @@ class Libpmem(Recording):
         """Built unchanged."""
         return self.build(DEBIAN / package / "examples" / path, strict=False, uses=library)
 
-    def test_copies(self):
+    def test_examples_of_libpmem(self):
         """The examples of libpmem."""
         data = bytes(number * 7 % 251 for number in range(10000))
         for name, size in (("simple_copy", 4096), ("full_copy", 10000)):
@@ -277,7 +277,7 @@ class Libpmem(Recording):
         self.runs(program.name, [program, *words], known=path, cwd=folder)
         self.gives(program.name, folder / f"{words[-1]}.trace", wanted)
 
-    def test_examples(self):
+    def test_examples_of_libpmem2(self):
         """The examples of libpmem2."""
         for name, sizes, runs in EXAMPLES:
             folder = self.new_folder()
@@ -304,7 +304,7 @@ class Libpmem(Recording):
         else:
             self.report(made)
 
-    def test_fault_of_redo(self):
+    def test_fault_of_redo_is_told(self):
         """The example redo flushes the address of a variable instead of its log. It is told, by the line."""
         folder, redo = self.new_folder(), self.example("libpmem2-dev", "redo/redo.c")
         (folder / "pool").write_bytes(bytes(16384))
@@ -315,7 +315,7 @@ class Libpmem(Recording):
         line = source_of(text_of(folder / "told.labels").rstrip("\n").split(" ", 1)[1])
         self.expect("redo: the flush that is no flush", status == 0 and "Persist(&redo, " in line, (told, line))
 
-    def test_libpmemobj(self):
+    def test_libpmemobj_as_it_is(self):
         """An example of libpmemobj, built with the packaged library, runs as it is with the shared library; what is missing is said."""
         folder, program = self.new_folder(), self.folder / "writer"
         self.expect_built(program, ["gcc", "-g", DEBIAN / "libpmemobj-dev/examples/string_store/writer.c", "-o", program, "-lpmemobj"])
@@ -330,6 +330,6 @@ class Libpmem(Recording):
         text = text_of(folder / "pool.trace")
         self.expect("libpmemobj: its stores are there", f" {b'recorded'.hex()}\n" in text and text.count("\nsfence ") > 10, text[-200:])
 
-    def test_page(self):
+    def test_page_shows_what_is_written(self):
         """The commands that recorders/libpmem/README.md shows."""
         expect_shown(self, "recorders/libpmem/README.md")

@@ -72,12 +72,12 @@ CALLED = [
 class RecorderTests(Recording):
     """The header, its calls and its examples; the crate."""
 
-    def test_joined(self):
+    def test_header_is_what_its_parts_make(self):
         """pmtrace.h is what its parts make."""
         status, told = run_as_shown([HEADERS / "parts/join"])
         self.expect("pmtrace.h is made from its parts", status == 0 and told == text_of(HEADERS / "pmtrace.h"), told[:200])
 
-    def test_labelled_calls(self):
+    def test_page_has_each_call_that_takes_a_label(self):
         """The page has each function that takes a label, with the names of its arguments."""
         declared = re.findall(r"(pmtrace_\w+_at)\(([^)]*)\)", text_of(HEADERS / "parts/functions.h"))
         wanted = {name: [argument.split()[-1].strip("*") for argument in arguments.split(",")] for name, arguments in declared}
@@ -85,7 +85,7 @@ class RecorderTests(Recording):
         found = {name: arguments.split(", ") for names, arguments in rows for name in re.findall(r"`(\w+)`", names)}
         self.expect("the page has the functions that take a label", len(wanted) >= 20 and found == wanted, f"{found}\n{wanted}")
 
-    def test_calls(self):
+    def test_each_call_is_recorded(self):
         for name, compiler, flags in (("c11", AS_C, ["-std=c11"]), ("cpp17", AS_CPP, [])):
             program, trace = self.in_c("calls", compiler, f".{name}", flags), self.folder / f"calls.{name}.trace"
             status, told = run_as_shown([program, trace])
@@ -102,7 +102,7 @@ class RecorderTests(Recording):
             right = len(labels) == len(wanted) and all(piece in label for piece, label in zip(wanted, labels))
             self.expect(f"the labels of calls as {name}", right, labels)
 
-    def test_off(self):
+    def test_off_costs_nothing(self):
         """Without the recorder the same instructions are there as by hand."""
         for name, compiler in (("c", AS_C), ("cpp", AS_CPP)):
             code = []
@@ -112,18 +112,18 @@ class RecorderTests(Recording):
                 code.append(self.expect_built(plain, [*compiler, "-O2", *flags, "-c", PROGRAMS / "off.c", "-o", made], to_plain).read_bytes())
             self.expect(f"off costs nothing as {name}", code[0] and code[0] == code[1], "other instructions")
 
-    def test_the_crate(self):
+    def test_crate_passes_its_tests(self):
         need("cargo", "cargo")
         status, told = run_as_shown(["cargo", "test", *CARGO, self.folder], cwd=TOP / "recorders/rust")
         self.expect("the crate's tests", status == 0 and "1 passed" in told, told)
 
     # Examples
 
-    def test_list(self):
+    def test_lost_node_of_list_is_found(self):
         for wrong in (False, True):
             self.example("list", wrong, "pmtrace_is_ordered_before(node")
 
-    def test_log(self):
+    def test_early_mark_of_log_is_found(self):
         for wrong in (False, True):
             self.example("log", wrong, "pmtrace_is_ordered_before(place")
 
@@ -173,6 +173,6 @@ class RecorderTests(Recording):
         named = [event["label"] in text and event["words"] in text for event in (failure["event"], after, before)]
         self.expect(f"{what}: the text names these lines", all(named), text[:200])
 
-    def test_page(self):
+    def test_page_shows_what_is_written(self):
         """The commands that recorders/README.md shows."""
         expect_shown(self, "recorders/README.md")

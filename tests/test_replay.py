@@ -16,7 +16,7 @@ TRACES = 24
 class Sets(Replayed):
     """Which images checkers see."""
 
-    def test_sets(self):
+    def test_each_image_once(self):
         """The images of small random traces, each once."""
         choose = random.Random(36)
         for number in range(TRACES):

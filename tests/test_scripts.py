@@ -31,11 +31,11 @@ class Scripts(Checks):
         for path in filter(is_script, tracked("*")):
             self.expect_equal(path.relative_to(TOP), run_as_shown(["shellcheck", "-x", path]), (0, ""))
 
-    def test_template(self):
+    def test_template_stands_in_the_program(self):
         """It stands in the program as it stands in page/."""
         self.expect_equal("page/embed.py --check", run([sys.executable, TOP / "page/embed.py", "--check"]).status, 0)
 
-    def test_widths(self):
+    def test_documents_keep_to_their_width(self):
         """A line of a document has at most 120 characters, outside of code and tables."""
         for path in tracked("*.md"):
             lines = CODE.sub(lambda code: "\n" * code[0].count("\n"), path.read_text()).split("\n")

@@ -182,7 +182,7 @@ class Truth(Checks):
         for folder in self.folders:
             shutil.rmtree(folder)
 
-    def test_in_c(self):
+    def test_programs_in_c(self):
         """Some runs more give false records until each change was made, since threads meet by chance."""
         interpreters, made = build_in_c(self.builds), collections.Counter()
         made.update(self.run_all(interpreters, range(FIRST, FIRST + COUNT)))
@@ -195,11 +195,11 @@ class Truth(Checks):
             self.expect(f"a record was made false by {change}", made[change] > 0, made)
         self.end()
 
-    def test_in_rust(self):
+    def test_programs_in_rust(self):
         self.run_all(build_in_rust(self.builds), range(FIRST, FIRST + COUNT // 10))
         self.end()
 
-    def test_in_python(self):
+    def test_programs_in_python(self):
         self.run_all(in_python(self.builds), range(FIRST, FIRST + COUNT // 10))
         self.end()
 
@@ -207,7 +207,7 @@ class Truth(Checks):
 class Turns(Recorded):
     """Programs of steps by pmtrim-record, whose threads give way."""
 
-    def test_turns(self):
+    def test_programs_of_steps_that_give_way(self):
         steps, switches = self.build("steps"), 0
         for first in range(FIRST, FIRST + COUNT, AT_ONCE):
             for seed, fault, times in judged(steps, self.program, self.folder, range(first, min(first + AT_ONCE, FIRST + COUNT))):

@@ -26,7 +26,7 @@ class Valgrind(Recorded):
 
     # Stores
 
-    def test_stores(self):
+    def test_every_kind_of_store(self):
         """Every kind of store: the replayed trace is the file, byte for byte."""
         program, pool = self.build("stores", "-mavx2"), self.folder / "stores.pool"
         for threads in (1, 4):
@@ -83,7 +83,7 @@ class Valgrind(Recorded):
 
     # Flushes, mappings and the system
 
-    def test_flushes(self):
+    def test_every_kind_of_flush(self):
         program, pool = self.build("flushes"), self.folder / "flushes.pool"
         for name, words, wanted in (("flushes", [], FLUSHES), ("locked", ["--locked-fences"], LOCKED_FLUSHES)):
             trace, status, told, faults = self.record(name, [program, pool], *words)
@@ -106,7 +106,7 @@ class Valgrind(Recorded):
         total = len(b"".join(data for _, data in stores_of(trace)))
         self.expect("mappings: only pools", all(address % POOL < 1 << 16 for address, _ in stores_of(trace)) and total < 400, total)
 
-    def test_system(self):
+    def test_what_the_system_stores(self):
         program, pool = self.build("system"), self.folder / "system.pool"
         trace, status, _, faults = self.record("system", [program, pool])
         self.is_text("by the system", trace, SYSTEM)
@@ -135,7 +135,7 @@ class Valgrind(Recorded):
         faults = self.record("uncalled", [program, pool], "--persist", "no_such")[3]
         self.expect("a function that is not called", "the function no_such was never called by that name" in faults, faults)
 
-    def test_pmdk(self):
+    def test_requests_of_pmdk(self):
         program, pool = self.build("pmdk"), self.folder / "pmdk.pool"
         ignore = self.folder / "pmdk.trace.ignore"
         _, _, told, _ = self.record("pmdk", [program, pool])
@@ -153,7 +153,7 @@ class Valgrind(Recorded):
 
     # Ends
 
-    def test_ends(self):
+    def test_what_came_before_the_end_is_written(self):
         program, pool = self.build("ends"), self.folder / "ends.pool"
         for case, wanted in (("saves", 3), ("exit", 4), ("abort", -signal.SIGABRT), ("segfault", -signal.SIGSEGV), ("avx512", -signal.SIGILL)):
             (self.folder / f"{case}.trace.cut").write_text("5 the disk was full\n")
@@ -165,14 +165,14 @@ class Valgrind(Recorded):
             unknown = re.search(r"an AVX-512 instruction that Valgrind does not know \(bytes 62 f1 7c 48 11 07\) at ends.c:\d+: .*-march=", faults)
             self.expect(f"{case}: unknown instructions", (unknown is not None) == (case == "avx512"), faults)
 
-    def test_counts(self):
+    def test_events_are_counted(self):
         program, pool = self.build("ends"), self.folder / "ends.pool"
         for events, told in (("1-1", "1 event of 1 thread"), ("1-4", "4 events of 2 threads")):
             trace, _, _, faults = self.record("counts", [program, "threads", pool], "--events", events, accepted=False)
             switches = ", 1 switch between threads" if events == "1-4" else ""
             self.expect(f"the events {events}, counted", f"pmtrim-record: {told} in {trace}{switches}; not recorded: " in faults, faults)
 
-    def test_killed(self):
+    def test_killed_at_any_moment(self):
         """At any moment: the trace is a true beginning, and has all that came before the last fence."""
         program, pool = self.build("ends"), self.folder / "ends.pool"
         for death in (signal.SIGTERM, signal.SIGINT, signal.SIGKILL, signal.SIGKILL, signal.SIGKILL):
@@ -207,7 +207,7 @@ class Valgrind(Recorded):
             unseen = "3 events of a child process are not recorded" in faults
             self.expect(f"{case}: what the child does is told", unseen == (case != "becomes"), faults)
 
-    def test_limits(self):
+    def test_where_a_trace_is_full(self):
         program, pool = self.build("ends"), self.folder / "ends.pool"
         trace, status, _, faults = self.record("threads", [program, "threads", pool])
         numbers = [int(fields[1]) for fields in events_of(trace)]
@@ -232,7 +232,7 @@ class Valgrind(Recorded):
             _, _, faults = run([RECORD, "--trace", place, "--labels", "no", program, "saves", pool])
             self.expect(f"a trace at {place}", reason in faults and "1844674" not in faults, faults)
 
-    def test_parts(self):
+    def test_a_long_run_in_parts(self):
         """A run of 1,050,003 events, in parts: all events are answered for, each by one part, and the last labels are those of the last events."""
         program, pool, trace = self.build("ends"), self.folder / "ends.pool", self.folder / "long.trace"
         trace.with_name("long.trace.ignore").write_text("0x40:8\n")
@@ -256,7 +256,7 @@ class Valgrind(Recorded):
 
     # Labels
 
-    def test_labels(self):
+    def test_labels_name_lines_and_callers(self):
         program, pool = self.build("lines"), self.folder / "lines.pool"
         trace, wanted = self.labelled("lines", program, LABELS)
         self.record("callers", [program, pool], "--callers", 0)
@@ -285,7 +285,7 @@ class Valgrind(Recorded):
 
     # Examples
 
-    def test_examples(self):
+    def test_examples_as_pmtrace_records_them(self):
         """The recorders' examples, unmodified, with a header whose calls are instructions: the verdicts, and pmtrace.h's trace."""
         for name in ("list", "log"):
             source = TOP / f"recorders/examples/{name}.c"
@@ -340,7 +340,7 @@ class Valgrind(Recorded):
                 status, _, told = run([RECORD, "--trace", self.folder / "words.trace", *words])
                 self.expect(f"{' '.join(words)}, as the help has it", status == wanted and fault in told, f"{status} {told}")
 
-    def test_installed(self):
+    def test_runs_where_it_is_installed(self):
         """Below another folder it finds its tool, and needs neither root nor this one."""
         prefix = self.folder / "prefix"
         words = {"bin": ["pmtrim-record"], "libexec/pmtrim-record": ["out/pmtrim_record-amd64-linux", "out/vgpreload_core-amd64-linux.so"]}
@@ -352,6 +352,6 @@ class Valgrind(Recorded):
         status, _, told = run([prefix / "bin/pmtrim-record", "--trace", trace, program, "saves", self.folder / "installed.pool"])
         self.expect("installed elsewhere", (status, text_of(trace)) == (3, saved([0])), told)
 
-    def test_page(self):
+    def test_page_shows_what_is_written(self):
         """The commands that recorders/valgrind/README.md shows."""
         expect_shown(self, "recorders/valgrind/README.md")

@@ -126,7 +126,7 @@ class Words(Checks):
         self.expect_told(self.record("million empty"), 0, "pmtrace 1\n" + "sfence 0\n" * 1_000_000)
         self.expect_told("trim", 0, "pmtrace 1\n", stdin=None, input=b"pmtrace 1\n" + b"sfence 0\n" * 1_000_000)
 
-    def test_devices(self):
+    def test_devices_that_are_full_or_closed(self):
         with open("/dev/full", "wb") as full:
             told = run([self.program, "trim", TRACE], stdout=full)
             self.expect_equal("a full device", (told.status, told.err), (4, "file fault\n"))
@@ -137,7 +137,7 @@ class Words(Checks):
         shutil.copy(TOP / TRACE, self.folder / "-")
         self.expect_part("trim ./-", 0, "sfence 0", cwd=self.folder)
 
-    def test_standard_input(self):
+    def test_a_dash_is_standard_input(self):
         for row in DASH:
             with open(TOP / TRACE, "rb") as trace:
                 self.expect_part(*row, stdin=trace)

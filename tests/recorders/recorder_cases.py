@@ -229,7 +229,7 @@ class CaseTests(Recording):
             wanted += [f"sfence {thread}"] * (number % 250 != 0)
         self.expect(f"numbers.{name}", (status, text) == (0, "") and text_of(trace).splitlines()[1:] == wanted, f"{status} {text}")
 
-    def test_windows(self):
+    def test_windows_leave_the_rest_out(self):
         program = self.in_c("windows", COMPILERS["gcc"], ".gcc")
         self.cases("windows", program, WINDOWS)
         for number, (variables, wanted) in enumerate(BY_ENVIRONMENT):
@@ -241,7 +241,7 @@ class CaseTests(Recording):
         status, text = run_as_shown([program, self.folder / "none.trace", "rounds"], {"PMTRACE_START": "7x"})
         self.expect("a window that is no number", status == 1 and "PMTRACE_START=7x is no number of events" in text, text)
 
-    def test_leaving(self):
+    def test_calls_that_never_return(self):
         """Calls and programs that are left in other ways than by return."""
         program = self.in_c("leaving", COMPILERS["gcc"], ".gcc")
         for case in ("cancel", "cancel-at-once"):
@@ -267,7 +267,7 @@ class CaseTests(Recording):
         self.expect(f"{trace.name} is refused", status == 3 and "truncated" in told, told[:100])
         subprocess.run(["sed", "-i", "$d", trace], check=True)
 
-    def test_destructors(self):
+    def test_destructors_are_recorded(self):
         built, trace = self.folder / "destructors", self.folder / "destructors.trace"
         self.expect_built(built, [*AS_CPP, PROGRAMS / "destructors.cpp", "-o", built])
         status, text = run_as_shown([built, trace])
@@ -280,7 +280,7 @@ class CaseTests(Recording):
             status, text = run_as_shown([*compiler, "-c", PROGRAMS / "nontrivial.cpp", "-o", self.folder / "nontrivial.o"])
             self.expect("nontrivial.cpp is refused", status != 0 and "this type is not copied by its bytes" in text, text[:300])
 
-    def test_unloaded(self):
+    def test_plugin_that_is_unloaded(self):
         """A library that has the recorder, and is unloaded before its threads and the program end."""
         compiler = COMPILERS["gcc"]
         host, plugin, trace = self.folder / "host", self.folder / "plugin.so", self.folder / "plugin.trace"
@@ -290,7 +290,7 @@ class CaseTests(Recording):
         right = (status, text, text_of(trace).splitlines()[1:]) == (-signal.SIGTERM, "", wanted)
         self.expect("a plugin that is unloaded", right, f"{status} {text}")
 
-    def test_cost(self):
+    def test_a_store_is_no_system_call(self):
         """A store costs less than a write(2); a watched persist looks at the pages that changed, where the system tells which."""
         program = self.in_c("cost", COMPILERS["gcc"], ".cost", ["-O2"])
         # other programs run beside these, so that one try of five is enough

@@ -117,7 +117,7 @@ class FaultTests(Recording):
         wanted = sorted([first, "pmtrace: TRACE: 5 calls reached outside the pool", "closed -1"])
         self.expect(f"{name}: outside is told once", sorted(told.splitlines()) == wanted, told)
 
-    def test_killed(self):
+    def test_killed_while_it_stores(self):
         """Threads are writing long stores when the signal comes; the trace ends behind a whole line each time.
 
         Without the recorder's care one in 27 ends inside a line, so there are a hundred.
@@ -136,7 +136,7 @@ class FaultTests(Recording):
             self.expect(f"{name}: {case} {death.name}", right, status)
             trace.unlink()
 
-    def test_killed_twice(self):
+    def test_several_signals_at_once(self):
         """Signals come into one another's way: the program ends by one of them, and not after the ten seconds for which a call waits for
         another one; and the trace behind a whole line."""
         name, program = self.named("c")

@@ -54,7 +54,7 @@ def judged_claims(calls):
 class PartTests(Recording):
     """Whether a claim that passes in a window passes in the whole run."""
 
-    def test_parts(self):
+    def test_no_claim_passes_in_a_window_alone(self):
         program, set_aside, failing, passing = self.in_c("parts", AS_C, ".c"), 0, 0, 0
         for seed in range(PROGRAMS):
             calls = random_calls(seed)

@@ -22,7 +22,7 @@ class Places(Recorded):
         """The status and what was told."""
         return run([RECORD, "--trace", trace, *(words or [self.ends, "saves", self.pool])], **more)[::2]
 
-    def test_full(self):
+    def test_no_room_for_an_event(self):
         """No room for the first line, or for no more than that: no event is recorded, and the run goes on."""
         why = "no event is recorded: File too large\n"
         for room, head, cut in ((5, "", ""), (20, "pmtrace 2 64\n", "0 File too large\n")):
@@ -36,7 +36,7 @@ class Places(Recorded):
             unwritten = f"{trace}.cut can't be written: there is no room for it\n" in told
             self.expect(f"room of {room} bytes: what is not written", unwritten == (cut == "") and "labels" not in told, told)
 
-    def test_others_files(self):
+    def test_files_that_are_no_traces_stay(self):
         """A file that is no trace is not overwritten, by its first words; one that is empty, and an older trace, are."""
         folder, why = self.folder, "is there and is no trace: it is not overwritten\n"
         mark = folder / "others.mark"
@@ -67,7 +67,7 @@ class Places(Recorded):
             yield run
             run.kill()
 
-    def test_taken(self):
+    def test_a_trace_that_is_written_is_taken(self):
         """A trace that another run is writing, of one process or of several: the second run does not begin, and the trace is the first one's."""
         told = "another run is writing it: name another file with --trace\n"
         trace, mark = self.folder / "taken.trace", self.folder / "taken.mark"
@@ -85,7 +85,7 @@ class Places(Recorded):
             status, faults = self.record_at("/dev/null", "--labels=no", self.ends, "saves", self.pool)
             self.expect("a device, which is no run's own", status == 3, faults)
 
-    def test_left(self):
+    def test_a_process_that_lives_on_takes_no_trace(self):
         """A process that lives on when its run has ended, recorded or not, is no run that writes."""
         trace, number, told = (self.folder / f"left.{ending}" for ending in ("trace", "number", "told"))
         for words in ([], ["--one-trace"], ["--trace-children=yes"]):

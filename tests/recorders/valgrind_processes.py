@@ -73,7 +73,7 @@ class Processes(Recorded):
         self.expect(f"{what}: its claims", verdicts == ["pass"] * (children + 1) * times, set(verdicts))
         self.is_cut(what, trace, None)
 
-    def test_base(self):
+    def test_base_of_a_shared_file(self):
         """A pool that a child maps first has a base, and --file takes what a child writes."""
         folder = self.folder / "shared"
         folder.mkdir()
@@ -90,7 +90,7 @@ class Processes(Recorded):
         flushed = [" ".join(fields[::2]) for fields in events_of(trace) if fields[0] in ("clwb", "sfence")]
         self.expect("a shared file: what is synchronized", flushed == ["clwb 0x0", "sfence"], flushed)
 
-    def test_killed(self):
+    def test_others_go_on_when_one_is_killed(self):
         """A process that is killed, at some time while it has the turn: the others go on, and at most its last store is missing."""
         self.expect("killed while it ran: told", any(self.killed_once() for _ in range(6)), "it was never so")
 
@@ -107,7 +107,7 @@ class Processes(Recorded):
         self.expect("killed: its stores", values == list(range(1, stored + 1)), len(values))
         return "1 process was killed while it ran; the last thing that it did may be missing" in faults
 
-    def test_die(self, children=260):
+    def test_numbers_are_given_again(self, children=260):
         """What processes that were killed had of numbers is given again."""
         trace, events, _ = self.record_all("die", children, 1)
         self.is_file("die", trace)
@@ -115,7 +115,7 @@ class Processes(Recorded):
         self.expect("die: all are recorded", saved == [f"{LINES + LINE * number:#x}" for number in range(1, children + 1)], len(saved))
         self.is_cut("die", trace, None)
 
-    def test_outlives(self):
+    def test_a_child_that_outlives_the_first(self):
         trace, events, faults = self.record_all("outlives", 1, 1)
         stores = [fields[2] for fields in events if fields[0] == "store" and int(fields[2], 16) >= LINES]
         why = "the first process ended here, and 1 other went on"
@@ -125,14 +125,14 @@ class Processes(Recorded):
         missing = re.search(r"process \d+; not recorded: events after the end of the trace: 3\n", faults)
         self.expect("outlives: what the child does is told", missing, faults)
 
-    def test_crowd(self):
+    def test_at_most_256_threads(self):
         trace, events, faults = self.record_all("crowd", 2, 150)
         numbers = {fields[1] for fields in events}
         told = "a trace has at most 256 threads at one time, and here is the 257th"
         self.expect("257 threads of two processes", numbers == {str(number) for number in range(256)} and told in faults, faults)
         self.is_cut("257 threads of two processes", trace, f"{len(events)} {told}\n")
 
-    def test_refused(self):
+    def test_options_that_do_not_fit(self):
         for words, told in (
             (["--start-after", "main"], "--one-trace has no windows"),
             (["--events", "2-"], "--one-trace has no windows"),

@@ -45,7 +45,7 @@ class Threads(Recorded):
         self.expect(f"{kind}: its status", status == 0, faults)
         return events_of(trace), told, faults
 
-    def test_meet(self):
+    def test_threads_meet(self):
         """Threads under a lock go on between each other's saves, and how often is told."""
         for kind, threads in (("locked", 4), ("spun", 3), ("free", 4), ("calls", 6)):
             events, _, faults = self.record_all(kind, threads, 150, accepted=kind == "locked")
@@ -57,18 +57,18 @@ class Threads(Recorded):
         again = [drawn(lambda: self.record_all("locked", 4, 150, "--seed", seed))[0] for seed in (7, 7, 8)]
         self.expect("a lock: one seed, one run", again[0] == again[1] != again[2], "they differ, or not")
 
-    def test_log(self):
+    def test_fault_of_a_log_is_met(self):
         """The fault that shows only where another thread comes between two appends."""
         found = [int(self.record_all("log", 2, 60, "--seed", seed)[1]) for seed in range(1, 4)]
         self.expect("a log under a lock: its fault", max(found) > 0, found)
 
-    def test_piped(self):
+    def test_one_seed_where_threads_wake_each_other(self):
         """Whom a call has woken counts among those that may be next, whenever it comes: one seed, one run."""
         texts = [drawn(lambda: self.record_all("piped", 12, 60, "--seed", 3))[0] for _ in range(6)]
         self.expect("threads that wake each other: one seed, one run", all(text == texts[0] for text in texts), "they differ")
         self.expect("threads that wake each other: all is recorded", len(texts[0]) == SAVE_EVENTS * 12 * 60, len(texts[0]))
 
-    def test_numbered_anew(self):
+    def test_one_seed_where_threads_are_numbered_anew(self):
         """The kernel's numbers of threads begin anew before, while and after a program starts some: one seed, one run."""
         texts = []
         for left in range(2, 18, 2):
@@ -76,7 +76,7 @@ class Threads(Recorded):
             texts.append(drawn(lambda: self.record_all("locked", 4, 40, "--seed", 7))[0])
         self.expect("threads that are numbered anew: one seed, one run", all(text == texts[0] for text in texts), "they differ")
 
-    def test_numbers(self):
+    def test_numbers_are_free_again(self):
         """A number is free again when its thread has ended without an open flush."""
         events, _, faults = self.record_all("short", 1000, 1)
         self.expect("1000 threads", len(events) == SAVE_EVENTS * 1000 - 1 and {fields[1] for fields in events} == {"0"}, len(events))
@@ -104,7 +104,7 @@ class Threads(Recorded):
                 break
         self.expect(name, min(found) < times, found)
 
-    def test_cost(self):
+    def test_cost_is_as_expected(self):
         """Many threads that could all run, a line that is never safe and many that are saved at once cost about what is to be expected."""
         record = [RECORD, "--trace", self.folder / "many.trace"]
         words = [self.threads, "barrier", self.pool, 128, 1]

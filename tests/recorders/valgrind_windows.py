@@ -150,7 +150,7 @@ def claim_of(fields):
 class Windows(Recorded):
     """What a window has, and what its claims say."""
 
-    def test_carried(self):
+    def test_what_was_forgotten_is_carried(self):
         """A claim fails about a store that was forgotten before the window; the base has what was saved before it alone."""
         program, pool = self.build("carried"), self.folder / "carried.pool"
         for name, words, options in (("a request", [], []), ("a function", ["function"], ["--start-after", "set_up"])):
@@ -168,14 +168,14 @@ class Windows(Recorded):
         told = "stores before the window that the base has, though they are not safe: 1" in faults
         self.expect("carried: what is not known is told", told, faults)
 
-    def test_again(self):
+    def test_a_window_opens_again(self):
         """A window by functions opens each time the first one returns."""
         pool = self.folder / "again.pool"
         trace, _, _, faults = self.record("again", [self.build("again"), pool], "--start-after", "begin", "--stop-at", "end")
         self.is_text("a window opens again", trace, AGAIN)
         self.expect("a window opens again: told", ", 2 carried into the window" in faults and "events after the window: 3" in faults, faults)
 
-    def test_inherited(self):
+    def test_a_child_has_nothing_of_its_parent(self):
         """A child's window has nothing of its parent's: an order of what was stored there can't be judged, and is not claimed."""
         folder, program = self.folder / "inherited.runs", self.build("inherited")
         folder.mkdir()
@@ -186,7 +186,7 @@ class Windows(Recorded):
         told = "claims that a range is saved before one that was stored to before the window: 1" in faults
         self.expect("a child's window: told", told, faults)
 
-    def test_random_programs(self):
+    def test_random_windows_have_the_verdicts_of_the_run(self):
         program = self.build("steps")
         self.judged = self.failed = 0
         for seed in range(1, PROGRAMS + 1):

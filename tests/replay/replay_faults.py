@@ -52,7 +52,7 @@ class Faults(Replayed):
         write_trace(self.folder / name, "pmtrace 2 64", lines or TWO_LINES, bytes(size), 0)
         return name
 
-    def test_checkers(self):
+    def test_checkers_fail_in_their_own_ways(self):
         """Each fails in its own way, and the others go on."""
         trace = self.small()
         for script, words, said in (
@@ -72,7 +72,7 @@ class Faults(Replayed):
             self.expect(f"{script}: time", time.monotonic() - begun < 300, time.monotonic() - begun)
             self.expect(f"{script}: nothing runs on", nobody_is_asleep(), "a child of the checker")
 
-    def test_texts(self):
+    def test_different_texts_are_told(self):
         """What checkers write that fail on no image: told where it differs, but for paths, which always do."""
         trace, differs = self.small(), "where it did not fail, the checker wrote 2 different texts:"
         for script, texts in (
@@ -92,7 +92,7 @@ class Faults(Replayed):
             one_each = told.count("1 image, the first is image ") == 2
             self.expect(f"texts that are kept, run {number}", status == 1 and differs in told and one_each, told)
 
-    def test_last_kept(self):
+    def test_last_kept_store_is_told(self):
         """The last store that a crash keeps is told, be it safe or not, unless it is listed."""
         lines = ["store 0 0x0 01", "clwb 0 0x0", "sfence 0", "store 0 0x8 02", *(f"store 0 0x40 {number:02x}" for number in range(1, 9))]
         trace = self.small("late.trace", lines)
@@ -106,7 +106,7 @@ class Faults(Replayed):
         status, told, _ = self.replay(["--at", "1", self.small(), *of_shell("false")])
         self.expect("no store is kept", status == 1 and told.count("keeps no store\n") == 1, told)
 
-    def test_ignored(self):
+    def test_ignored_stores_are_not_lost(self):
         """Stores that need no saving are not among those that a crash loses."""
         trace = self.small("locks.trace", ["store 0 0x0 01", "store 0 0x40 0102030405060708", "store 0 0x50 01"])
         ranges = self.folder / "locks.trace.ignore"
@@ -127,7 +127,7 @@ class Faults(Replayed):
         status, told, faults = self.replay(words)
         self.expect("ranges that are none", (status, told) == (3, "") and "locks.trace.ignore:2: '64 to 68' is no range" in faults, faults)
 
-    def test_folders(self):
+    def test_folders_around_stay(self):
         """What a checker leaves is removed. No folder around its own changes, nor what its links lead to."""
         trace, outside, kept = self.small(), self.empty_folder("outside"), self.empty_folder("of_results")
         around = (self.temporary, outside, kept)
@@ -147,7 +147,7 @@ class Faults(Replayed):
             modes = [folder.stat().st_mode & 0o777 for folder in around]
             self.expect(f"{words} {script}: the folders around", modes == [0o755] * 3, [oct(mode) for mode in modes])
 
-    def test_kept_images(self):
+    def test_images_are_kept_as_made(self):
         """What the checker does to its image is not seen in others, nor in what is kept."""
         kept = self.folder / "kept"
         words = ["--keep", kept, self.small(), *of_shell('od -An -tx1 -v "$1" | tr -d " \\n"; echo; head -c 200 /dev/urandom > "$1"; false')]
@@ -187,7 +187,7 @@ class Faults(Replayed):
             self.expect(f"{words}", (status, told) == (wanted, "") and said in faults and faults.count("\n") == 1, f"{status} {told} {faults}")
         self.expect("another's file stays", (other / "mine").read_text() == "of somebody", "it is gone")
 
-    def test_full(self):
+    def test_no_room_for_an_image(self):
         """Where no file may be long an image can't be written, and a checker's file neither."""
         large = self.small("wide.trace", size=1 << 20)
         status, _, faults = self.call(["bash", "-c", 'ulimit -f 100; exec "$@"', "x", REPLAY, large, *of_shell("true")])
@@ -196,7 +196,7 @@ class Faults(Replayed):
         status, told, _ = self.call(["bash", "-c", 'ulimit -f 100; exec "$@"', "x", REPLAY, self.small(), *of_shell('head -c 1000000 /dev/zero > "$1"')])
         self.expect("a checker that fills the disk", status == 1 and counts_of(told) == (6, 4, 4, 0), told)
 
-    def test_stopped(self):
+    def test_a_stopped_run_goes_on(self):
         """A run that is stopped leaves no process and no image, and the same words go on."""
         lines = [line for at in range(8) for line in (f"store 0 {8 * at:#x} 01", "clwb 0 0x0", "sfence 0")]
         trace, gate = self.small("long.trace", lines), self.empty_folder("gate")
@@ -247,7 +247,7 @@ class Faults(Replayed):
         self.expect(f"stopped {when}", (process.returncode, told, faults) == wanted, (process.returncode, told, faults))
         self.expect(f"stopped {when}: what is left", nobody_is_asleep() and not list(self.temporary.iterdir()), "something")
 
-    def test_others_results(self):
+    def test_results_of_another_run_are_refused(self):
         """Results of another run are not taken for this one's."""
         kept, trace = self.folder / "results", self.small()
         self.expect("results are kept", self.replay(["--keep", kept, trace, *of_shell("true")])[0] == 0, "it failed")
@@ -257,7 +257,7 @@ class Faults(Replayed):
         status, told, _ = self.replay(["--keep", kept, trace, *of_shell("true")])
         self.expect("all is known", (status, counts_of(told)) == (0, (6, 4, 0, 4)), told)
 
-    def test_large(self):
+    def test_a_pool_of_1_GiB(self):
         """A pool of 1 GiB."""
         trace = self.small("large.trace", [f"store 0 {LARGE - 1:#x} 07", f"clwb 0 {LARGE - 64:#x}", "sfence 0"], 0)
         with open(self.folder / "large.trace.base", "wb") as file:

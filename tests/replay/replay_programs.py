@@ -26,13 +26,13 @@ class Programs(Replayed):
         made = self.builds / (name + "".join(words))
         return self.expect_built(made, [*compiler, *words, HERE / f"{name}.c", "-o", made, *behind])
 
-    def test_list(self):
+    def test_recovery_of_a_list(self):
         self.structure("list", "list.trace", "no node", BY_HEADER)
 
-    def test_log(self):
+    def test_recovery_of_a_log(self):
         self.structure("log", "log.pool.trace", "is torn", BY_LIBPMEM, ["-L", LIBPMEM / "lib", "-lpmem", "-pthread"])
 
-    def test_table(self):
+    def test_recovery_of_a_table(self):
         self.structure("table", "table.trace", "another's value", PLAIN, recorder=[RECORD, "--base", "--trace", "table.trace"])
 
     def structure(self, name, trace, said, compiler, behind=(), recorder=()):
@@ -99,7 +99,7 @@ class Programs(Replayed):
         path = self.folder / path
         self.expect(name, path.exists() and path.read_bytes() == wanted, path.exists() and path.read_bytes()[:200])
 
-    def test_two_pools(self):
+    def test_checkers_see_both_pools(self):
         """A checker sees both pools of one crash: what is stored first is saved first."""
         lines = ["store 0 0x8 01", "clwb 0 0x8", "sfence 0", "store 0 0x10000000010 01"]
         write_trace(self.folder / "two.trace", "pmtrace 2 64", lines, bytes(64), 0)
@@ -111,7 +111,7 @@ class Programs(Replayed):
         seen = sorted((self.folder / "seen").read_text().split("\n"))
         self.expect("two pools: what checkers saw", [line.split() for line in seen if line] == [["0", "0"], ["1", "0"], ["1", "1"]], seen)
 
-    def test_example(self):
+    def test_recovery_of_the_example(self):
         """The example's claims hold, its recovery fails, and the mended one does not; its trace is what it records."""
         source = TOP / "examples/undo_log.c"
         for words, status in ((["-DMENDED"], 0), ([], 1)):
