@@ -16,6 +16,7 @@ from schemas import names_of, objects_of
 from sources import TOP, items_of
 from traces import all_traces
 
+NEEDS_NO_PROGRAM = True
 # What is for contributors alone.
 GUIDES = ("CONTRIBUTING.md", "docs/ARCHITECTURE.md", "docs/DECISIONS.md", "docs/PROOFS.md", "docs/PROVING.md", "docs/PAGE.md")
 # So many edits, each with its control, take the gate some 20 minutes of a processor.
