@@ -56,9 +56,9 @@ class FirstCall(Checks):
 
     def test_later(self):
         (self.top / "crates/pmtrim/src/main.rt").touch()
-        began = time.monotonic()
+        built = (self.top / "pmtrim.unproved").stat()
         self.expect_equal("the same by the same build", self.call("tell", "five"), self.told)
-        self.expect("nothing is built again", time.monotonic() - began < 5)
+        self.expect_equal("nothing is built again", (self.top / "pmtrim.unproved").stat()[:2], built[:2])
         self.expect_equal("standard input is read, and the version", self.call("--version"), (0, "1\nnot proved\n", YET))
 
     def test_changed(self):
