@@ -4,8 +4,8 @@
 Without KIND all kinds of traces.py are run. Traces and the plain Rust program are made in bench/out/ on first use. Of each run the
 table gives seconds, events and megabytes of trace text per second, the peak of memory, and that peak by events (a peak of some 15 MB
 or less is this script's own, and says nothing), and how many times what the plain program takes for the same that is: for a command,
-for reading and writing. Beside it stand the times of reading from memory, those of the part that workers share, with 1 and with 4, and
-what an event of each kind costs in traces of 125,000 to 1,000,000 events.
+for reading and writing; for `fronts` at place 0, which reads and judges all of the text and follows no event, for reading. Beside it
+stands what an event of each kind costs in traces of 125,000 to 1,000,000 events.
 """
 import argparse
 import hashlib
@@ -17,7 +17,6 @@ import time
 
 BENCH = pathlib.Path(__file__).resolve().parent
 OUT = BENCH / "out"
-TRACE_BENCH = BENCH.parent / "crates" / "trace_bench" / "out" / "trace_bench"
 WANTED_BYTES = {"log_appends": 400, "many_lines": 700}
 COMMANDS = (["check"], ["check", "--workers", "4"], ["trim"], ["trim", "--stream"])
 GROWTH = (125_000, 250_000, 500_000, 1_000_000)
@@ -44,12 +43,12 @@ def made_traces(kinds, events):
     return files
 
 
-def timed(words, text=None):
-    """The status, seconds, peak bytes and output of a run, whose input is the file `text`."""
+def timed(words):
+    """The status, seconds, peak bytes and output of a run."""
     answer = OUT / "answer"
-    with open(answer, "wb") as out, open(text or os.devnull, "rb") as given:
+    with open(answer, "wb") as out:
         start = time.perf_counter()
-        process = subprocess.Popen(words, stdin=given, stdout=out, stderr=subprocess.DEVNULL)
+        process = subprocess.Popen(words, stdin=subprocess.DEVNULL, stdout=out, stderr=subprocess.DEVNULL)
         _, status, used = os.wait4(process.pid, 0)
         seconds = time.perf_counter() - start
     process.returncode = os.waitstatus_to_exitcode(status)
@@ -71,12 +70,12 @@ def digest(file):
         return hashlib.file_digest(bytes_of, "sha256").digest()
 
 
-def read_and_write(words, text=None):
-    """The seconds of reading and of writing that a run tells as `read SECONDS write SECONDS`, and its peak bytes."""
-    status, _, peak, answer = timed(words, text)
+def read_and_write(plain, trace):
+    """The seconds of reading and of writing that the plain program tells as `read SECONDS write SECONDS`, and its peak bytes."""
+    status, _, peak, answer = timed([plain, trace])
     told = answer.read_text().split()
     if status != 0 or len(told) != 4:
-        sys.exit(f"{words[0]} does not read {text or words[-1]}")
+        sys.exit(f"{plain} does not read {trace}")
     return float(told[1]), float(told[3]), peak
 
 
@@ -92,14 +91,11 @@ def run_kind(kind, trace, events, plain, program):
     size, peak_of_trim = trace.stat().st_size, None
     _, seconds, peak, _ = timed(["wc", "-l", trace])
     row(kind, "wc -l", seconds, size, events, peak, None)
-    read, write, peak = read_and_write([plain, trace])
+    read, write, peak = read_and_write(plain, trace)
     row(kind, "plain read", read, size, events, peak, None)
     row(kind, "plain write", write, size, events, peak, None)
-    if TRACE_BENCH.exists():
-        text_read, text_write, peak = read_and_write([TRACE_BENCH, "text"], trace)
-        row(kind, "pmt_text read", text_read / 1e9, size, events, peak, read)
-        row(kind, "pmt_text write", text_write / 1e9, size, events, peak, write)
-        print(f"{kind:18} {'read trace':18} {(peak - 2 * size) / events:.0f} bytes an event, as the peak shows it beside both texts (wanted: at most 40)", flush=True)
+    _, seconds, peak, _ = timed([program, "fronts", trace, "0"])
+    row(kind, "fronts at place 0", seconds, size, events, peak, read)
     trimmed = None
     for command in COMMANDS:
         status, seconds, peak, answer = timed([program, *command, trace])
@@ -117,37 +113,6 @@ def run_kind(kind, trace, events, plain, program):
     return peak_of_trim
 
 
-def compare_reading(plain, trace):
-    """Reading a text from memory: the crate pmt_text beside the plain program, in turn, the best of five each."""
-    if not TRACE_BENCH.exists():
-        print("reading from memory: crates/trace_bench is not built (bench/run.sh builds it)")
-        return
-    ours, floor = [], []
-    for _ in range(5):
-        ours.append(read_and_write([TRACE_BENCH, "text"], trace)[0] / 1e9)
-        floor.append(read_and_write([plain, trace])[0])
-    megabytes = trace.stat().st_size / 1e6
-    print(f"reading {megabytes:.0f} MB from memory: {min(ours):.3f} s, plain Rust {min(floor):.3f} s, ratio {min(ours) / min(floor):.2f} (wanted: at most 1.3)")
-
-
-def compare_workers(traces):
-    """The analysis by one worker, which goes over the events, and by 4, which share the lines, the best of three runs each."""
-    if not TRACE_BENCH.exists():
-        print("workers: crates/trace_bench is not built (bench/run.sh builds it)")
-        return
-    print(f"\nThe analysis of a trace by 1 worker, which makes no jobs, and by 4, on {os.cpu_count()} cores; reading and writing the texts stand beside it.")
-    if os.getloadavg()[0] > 2:
-        print(f"The load is {os.getloadavg()[0]:.1f}: where other programs keep the cores busy, the times of 4 workers say nothing.")
-    print("Lines: what workers share, run by 1 thread alone, and by 4, of which the one counts that takes longest (wanted with 4 cores: at")
-    print("most 0.40 of the time of 1).")
-    print(f"{'trace':18} {'1 worker':>10} {'4 workers':>10} {'ratio':>7} {'lines, 1':>10} {'lines, 4':>10} {'ratio':>7}")
-    for kind, trace in traces.items():
-        runs = [shared_and_all(trace) for _ in range(3)]
-        lines = [min(run[workers][0] for run in runs) for workers in (1, 4)]
-        all_of = [min(run[workers][1] for run in runs) for workers in (1, 4)]
-        print(f"{kind:18} {all_of[0]:10.3f} {all_of[1]:10.3f} {all_of[1] / all_of[0]:7.2f} {lines[0]:10.3f} {lines[1]:10.3f} {lines[1] / lines[0]:7.2f}", flush=True)
-
-
 def show_growth(kind, program):
     """Seconds and peak bytes by event of each command, the best of three runs, on longer and longer traces of the kind."""
     print(f"\nGrowth on {kind}: microseconds and peak bytes by event")
@@ -159,15 +124,6 @@ def show_growth(kind, program):
             seconds, peak = min(run[1] for run in runs), min(run[2] for run in runs)
             cells.append(f"{seconds / events * 1e6:10.3f} {peak / events:9.0f}")
         print(f"{events:10} " + " ".join(cells), flush=True)
-
-
-def shared_and_all(trace):
-    """For 1 and for 4 workers the seconds of running the lines, by the slowest worker, and those of all the analysis."""
-    status, _, _, answer = timed([TRACE_BENCH, "workers"], trace)
-    lines = [line.split() for line in answer.read_text().splitlines()]
-    if status != 0 or [line[1] for line in lines] != ["1", "4"]:
-        sys.exit(f"{TRACE_BENCH} does not analyse {trace}")
-    return {int(line[1]): (int(line[3]) / 1e9, int(line[5]) / 1e9) for line in lines}
 
 
 def main():
@@ -188,8 +144,6 @@ def main():
     print(f"{'trace':18} {'what':18} {'seconds':>8} {'Mevent/s':>9} {'MB/s':>8} {'peak MB':>8} {'byte/ev':>9} {'x plain':>8}")
     start = time.perf_counter()
     peaks = {kind: run_kind(kind, trace, asked.events, plain, asked.program) for kind, trace in traces.items()}
-    compare_reading(plain, traces.get("tree_inserts", next(iter(traces.values()))))
-    compare_workers(traces)
     for kind in traces:
         show_growth(kind, asked.program)
     for kind, wanted in WANTED_BYTES.items():
