@@ -3,6 +3,7 @@
 Each of the commands reads its trace or script from standard input; `explain`, whose faults are in other words, and the
 stream, which has written before it fails, are tried apart.
 """
+import itertools
 import subprocess
 from functools import partial
 from typing import NamedTuple
@@ -29,6 +30,10 @@ class Command(NamedTuple):
     def fault(self, line, kind):
         """The answer to an input whose line is faulty."""
         return Answer(3, b"", b"%s line %d: %s\n" % (self.name, line, kind))
+
+    def too_long(self):
+        """The answer to more bytes than are judged."""
+        return Answer(3, b"", self.name + b" too long\n")
 
     def whole(self):
         """The input, and the answer to it."""
@@ -136,8 +141,8 @@ def hostile_bytes(command):
     yield b"\xff" + b"".join(command.lines)[1:], command.fault(1, kind), 0, {}
 
 
-def refused_in_pieces(command):
-    """Events that are refused, from reads of a byte each."""
+def reading_in_pieces(command):
+    """Events that are refused, from reads of a byte each; what is read whole is compared by one_byte_per_read."""
     for event, kind in (
         (b"store 0 0x1007 0102", b"crosses-word"),
         (b"clwb 0 0x01000", b"bad-field"),
@@ -197,9 +202,15 @@ def stream_to_a_failing_writer(command):
     yield text, Answer(0, text), 0, {"fault_piece": 1}
 
 
+def the_bound(command):
+    """Shell commands that write as many bytes as are judged, and one more, and the answers."""
+    yield f"head -c {BOUND} /dev/zero | tr '\\0' a", command.fault(1, b"truncated")
+    yield f"head -c {BOUND + 1} /dev/zero | tr '\\0' a", command.too_long()
+
+
 def endless_readers(command):
     """Shell commands that write inputs which end late or never, and the answers."""
-    too_long = Answer(3, b"", command.name + b" too long\n")
+    too_long = command.too_long()
     letters = "tr '\\0' a < /dev/zero"
     if command.reads_script():
         yield "yes sfence", command.fault(1_000_001, b"too-many-events")
@@ -209,8 +220,6 @@ def endless_readers(command):
         yield "echo pmtrace 1; yes sfence 0", command.fault(1_000_002, b"too-many-events")
         yield f"echo pmtrace 3; {letters}", command.fault(1, b"bad-header")
         yield f"echo pmtrace 1; {letters}", too_long
-    yield f"head -c {BOUND} /dev/zero | tr '\\0' a", command.fault(1, b"truncated")
-    yield f"head -c {BOUND + 1} /dev/zero | tr '\\0' a", too_long
 
 
 def long_streams():
@@ -285,14 +294,14 @@ class Devices(UnderFaults):
         """Inputs that are cut or hostile, and reads and writes that fail."""
         calls = []
         for command in commands():
-            more = faulty_script_before_a_failing_read if command.reads_script() else refused_in_pieces
+            more = faulty_script_before_a_failing_read if command.reads_script() else reading_in_pieces
             for table in (*TABLES, more):
                 calls.append((f"{command.words[0]} {table.__name__}", partial(differences, self.run_over, command, table(command))))
         self.expect_of_all(calls)
 
     def test_long_inputs(self):
         """Inputs that end late or never."""
-        inputs = [(command, endless_readers(command)) for command in commands()]
+        inputs = [(command, itertools.chain(the_bound(command), endless_readers(command))) for command in commands()]
         inputs.append((stream(), long_streams()))
         self.expect_of_all([(command.words, partial(differences_over_long_inputs, self.program, command, shells)) for command, shells in inputs])
 

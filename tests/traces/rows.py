@@ -1,7 +1,7 @@
 """The worked rows by name, and where each is run.
 
 This is their only list. A trace is a file under examples/ or tests/traces/, which tests/test_examples.py runs. A test is a
-function of a crate of tests, by its module. A file is a script or a module of tests, or one that such a file runs. Each has the row's name in it.
+function of the crate of tests, by its module. A file is a script or a module of tests, or one that such a file runs. Each has the row's name in it.
 """
 
 ANSWERS = "tests/test_answers.py"
@@ -29,22 +29,22 @@ ROWS = {name: [trace(name)] for name in TRACES} | {
     "widest_address": [trace("widest_address"), REFUSED],
     "truncated_and_bad_headers": [REFUSED],
     "forty_lines": [trace("forty_lines"), "library_tests::workers::all_on_the_callers_thread"],
-    "two_recorders": ["recorder_tests::recorder::two_recorders", "crates/refused_calls/src/recording.rt", ANSWERS],
-    "split_and_selection": ["text_tests::model::split_and_selection"],
-    "scripts": ["recorder_tests::recorder::scripts::scripts", WORDS],
-    "reading_in_pieces": ["text_tests::text::text_source::reading_in_pieces"],
-    "failing_writer": ["text_tests::text::write_all::failing_writer", DEVICES],
+    "two_recorders": ["library_tests::recorder::two_recorders", "crates/refused_calls/src/recording.rt", ANSWERS],
+    "split_and_selection": ["library_tests::model::split_and_selection"],
+    "scripts": ["library_tests::recorder::scripts::scripts", WORDS],
+    "reading_in_pieces": [DEVICES],
+    "failing_writer": ["library_tests::text::failing_writer", DEVICES],
     "stream": [ANSWERS, REFUSALS],
     "million_events": [
-        "recorder_tests::book::million_events", "recorder_tests::recorder::million_events",
-        "recorder_tests::recorder::scripts::million_events", WORDS,
+        "library_tests::book::million_events", "library_tests::recorder::million_events",
+        "library_tests::recorder::scripts::million_events", WORDS,
     ],
     "clflush_in_version_1": [REFUSED],
     "wide_line": [trace("wide_line"), ANSWERS],
-    "bad_line_size": [REFUSED, "text_tests::model::bad_line_size"],
+    "bad_line_size": [REFUSED, "library_tests::model::bad_line_size"],
     "not_in_format": [
-        "text_tests::model::not_in_format", "recorder_tests::book::not_in_format", "recorder_tests::recorder::not_in_format",
-        "recorder_tests::recorder::scripts::not_in_format",
+        "library_tests::model::not_in_format", "library_tests::book::not_in_format", "library_tests::recorder::not_in_format",
+        "library_tests::recorder::scripts::not_in_format",
     ],
     "steps_of_a_job": ["library_tests::workers::steps_of_a_job"],
     "one_byte_per_read": [DEVICES],
@@ -55,11 +55,11 @@ ROWS = {name: [trace(name)] for name in TRACES} | {
     "every_read": [DEVICES],
     "every_write": [DEVICES],
     "endless_readers": [DEVICES],
-    "the_bound": ["text_tests::text::text_source::the_bound"],
+    "the_bound": [DEVICES],
     "hostile_bytes": [DEVICES, REFUSED],
     "stream_header_then_failing_read": [DEVICES],
     "ordered_over_32_and_64": [trace("ordered_over_32"), trace("ordered_over_64")],
     "wide_fronts": [ANSWERS],
-    "session_of_128": ["recorder_tests::recorder::session_of_128"],
+    "session_of_128": ["library_tests::recorder::session_of_128"],
     "trimmed_again": [ANSWERS],
 }

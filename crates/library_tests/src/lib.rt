@@ -1,14 +1,20 @@
-//! The tests of the library crates that take traces apart, trim and analyse, by public calls alone.
+//! The tests of the library's public calls, of what no command of the program shows; each module holds those of the crate pmt_* of its name.
 //!
-//! A crate that has tests is proved once more together with them, so the tests stand in crates of their own, and a test costs as much as a
-//! proof: here is what no command of the program shows. Each module holds the tests of one crate, and is named after it; `runs` those of pmt_report. `text_tests` and
-//! `recorder_tests` hold the others.
+//! A crate that has tests is proved once more together with them, so they stand in a crate of their own, and each costs as much as a proof.
 #![tactic(auto)]
 
 #[cfg(test)]
-mod lines;
+mod book;
 #[cfg(test)]
-mod runs;
+mod marks;
+#[cfg(test)]
+mod model;
+#[cfg(test)]
+mod recorder;
+#[cfg(test)]
+mod report;
+#[cfg(test)]
+mod text;
 #[cfg(test)]
 mod trim;
 #[cfg(test)]

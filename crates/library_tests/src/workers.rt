@@ -3,7 +3,6 @@ mod analyse;
 
 ghost use Rattle.std.specs.Prelude.{◌≤◌};
 
-use crate::lines::has_steps;
 use pmt_lines::{Jobs, LineJob, split};
 use pmt_model::{Event, Op, OutOfMemory, Trace};
 use pmt_text::ListSource;
@@ -57,6 +56,13 @@ fn trace_of(alloc: Global, lines: u64) -> Result<Trace, Fail>
 fn forty_lines(alloc: Global) -> Result<Jobs, Fail> {
     let trace = trace_of(alloc, 40)?;
     Ok(split(alloc, &mut ListSource::new(&trace))?)
+}
+
+// The job of the line has so many steps, and this one is the last.
+fn has_steps(rt: &impl Abort, job: &LineJob, line: u64, count: usize, last: u64) {
+    assert_eq!(rt; (job.line(), job.steps().len()), (line, count));
+    let step = job.steps().last();
+    assert_eq!(rt; step.map(|step| step.number), Some(last));
 }
 
 // Each line has its store, its flush and the first fence.

@@ -1,5 +1,5 @@
 use Rattle.pmt_model.specs.Formats.{first_version}
-use Rattle.recorder_tests.proofs.recorder.bad_counts.Given as goal
+use Rattle.library_tests.proofs.recorder.bad_counts.Given as goal
 
 abbrev pub ghosts-refuses_count-L-Roll : goal.ghosts-refuses_count-L-Roll
 ghosts-refuses_count-L-Roll g a = record { tapes = a.count; format = first_version }

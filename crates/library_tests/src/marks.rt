@@ -1,28 +1,21 @@
 //! A test of what is kept of one line.
 use pmt_marks::LineState;
-use std::alloc::Global;
 use std::process::Abort;
 use std::test::Fail;
-
-// More marks than the four inline places.
-fn flushed_by_six(alloc: Global) -> Result<LineState, Fail> {
-    let mut line = LineState::new(alloc);
-    line.on_store();
-    for thread in 0..6 {
-        line.on_flush(thread)?;
-    }
-    Ok(line)
-}
 
 fn has_state(rt: &impl Abort, line: &LineState, front: u64, mark: Option<u64>) {
     assert_eq!(rt; (line.front(), line.mark(5)), (front, mark));
 }
 
-// A fence raises the front of the copy, which is a state of its own.
+// More marks than the four inline places. A fence raises the front of the copy, which is a state of its own.
 #[test]
 fn six_flushers(rt: HostRuntime) -> Result<(), Fail> {
-    let line = flushed_by_six(rt.alloc())?;
-    let mut copy = line.copy()?;
+    let mut line = LineState::new(rt.alloc());
+    line.on_store();
+    for thread in 0..6 {
+        assert!(rt; line.on_flush(thread).is_ok());
+    }
+    let mut copy = line.copy().expect(&rt, "a copy");
     assert!(rt; copy.on_fence(5));
     has_state(&rt, &copy, 1, None);
     has_state(&rt, &line, 0, Some(1));

@@ -1,4 +1,0 @@
-//! Tests of sources over readers, and of writers.
-
-mod text_source;
-mod write_all;
