@@ -276,10 +276,9 @@ def sweep_of_calls(calls, right):
 
 
 def with_ample_memory(calls, right):
-    """What is wrong with the calls where no memory is refused, and with those on whole traces, from `trim` on, on one of 100,004 events."""
-    chain = right[right.index(b"trim: ") : right.index(b"Session: ")]
-    answers = [(calls(words)[0], Answer(0, wanted)) for words, wanted in (([], right), (["large"], chain))]
-    return [f"calls with memory: {faulty.short(answer)}" for answer, wanted in answers if answer != wanted]
+    """What is wrong with the calls, those on whole traces on one of 100,004 events, where no memory is refused."""
+    answer, _ = calls(["large"])
+    return [] if answer == Answer(0, right) else [f"calls on a large trace: {faulty.short(answer)}"]
 
 
 def finds_what_is_wrong(run):

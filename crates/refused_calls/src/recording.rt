@@ -3,16 +3,24 @@
 ghost use Rattle.std.specs.Prelude.{◌≡◌};
 ghost use Rattle.pmt_model.specs.Formats.{first_version};
 
-use crate::tally::{Attempt, Tally};
-use pmt_book::{Book, BookError};
-use pmt_model::{Event, Op, Trace};
-use pmt_recorder::{AppendError, Roll, Session, Snapshot, SnapshotError, Tape};
+use crate::stop::{Stop, gave, worst};
+use pmt_book::Book;
+use pmt_model::{Event, Op};
+use pmt_recorder::{Roll, Session, Snapshot, Tape};
 use std::alloc::Global;
 use std::marker::Brand;
 use std::sync::Wait;
 use std::sync::ledger::Blank;
 use std::thread;
 use std::thread::Threads;
+
+const BOOK: &str = "Book::push_event";
+
+const START: &str = "Session::start";
+
+const APPEND: &str = "Session::append";
+
+const LOOK: &str = "Session::snapshot";
 
 const EVENTS: u64 = 61;
 
@@ -44,34 +52,30 @@ fn totals(book: &Book) -> (u64, u64) {
     (fronts, counts)
 }
 
-fn push_again(book: &mut Book, number: u64) -> Attempt {
+// Pushes the event with this number. Where that is refused, the book is as before, and takes the event then.
+fn push_again(book: &mut Book, number: u64) -> Result<(), Stop> {
     let wanted = event_of(number);
     let Some(event) = &wanted else {
-        return Attempt::Wrong;
+        return Err(Stop::Wrong(BOOK));
     };
     let before = (book.len(), totals(book));
-    match book.push_event(*event) {
-        Ok(given) if given == number => Attempt::First,
-        Err(BookError::OutOfMemory) => {
-            if (book.len(), totals(book)) == before && book.push_event(*event) == Ok(number) {
-                Attempt::Second
-            } else {
-                Attempt::Wrong
-            }
-        }
-        _ => Attempt::Wrong,
+    if let Ok(given) = book.push_event(*event) {
+        return gave(BOOK, given == number);
     }
+    let is_same = (book.len(), totals(book)) == before;
+    gave(BOOK, is_same && book.push_event(*event) == Ok(number))?;
+    Err(Stop::Refused(BOOK))
 }
 
 /// Each push adds its event under the next number.
-pub fn push_events(alloc: Global) -> Tally {
-    let mut tally = Tally::new();
+pub fn push_events(alloc: Global) -> Result<(), Stop> {
     let mut book = Book::new(alloc);
+    let mut ended = Ok(());
     for number in 1..=EVENTS {
-        tally.note(push_again(&mut book, number));
+        ended = worst(ended, push_again(&mut book, number));
     }
-    tally.expect(has_all(&book));
-    tally
+    gave(BOOK, has_all(&book))?;
+    ended
 }
 
 // Whether the book has all events, and its totals are theirs.
@@ -90,58 +94,34 @@ fn op_of(thread: u8, turn: usize) -> Option<Op> {
     Op::store(0x1000 + 64 * thread as u64, &[byte]).ok()
 }
 
-// Appends; after a refusal tape and book are as before, and the append is made again. Gives the number too.
+// Appends. Where that is refused, tape and book are as before, and take the op then.
 fn append_again<L: Roll, R: Wait>(
     rt: &R,
     session: &Session<L>,
     tape: &mut Tape<L>,
     op: &Op,
-) -> (Attempt, u64) {
+) -> Result<(), Stop> {
     let len = tape.len();
-    match session.append(rt, tape, *op) {
-        Ok(number) => (Attempt::First, number),
-        Err(AppendError::OutOfMemory) if is_as_before(rt, session, tape, len) => {
-            append_once_more(rt, session, tape, op)
-        }
-        Err(_) => (Attempt::Wrong, 0),
+    if let Ok(number) = session.append(rt, tape, *op) {
+        return gave(APPEND, tape.get(len) == Some((number, *op)));
     }
+    let is_same = tape.len() == len && session.snapshot(rt, tape).is_ok();
+    gave(APPEND, is_same && session.append(rt, tape, *op).is_ok())?;
+    Err(Stop::Refused(APPEND))
 }
 
-// Whether the tape has as many appends as before, and the session can still be looked at.
-fn is_as_before<L: Roll, R: Wait>(
-    rt: &R,
-    session: &Session<L>,
-    tape: &Tape<L>,
-    len: usize,
-) -> bool {
-    tape.len() == len && session.snapshot(rt, tape).is_ok()
-}
-
-fn append_once_more<L: Roll, R: Wait>(
-    rt: &R,
-    session: &Session<L>,
-    tape: &mut Tape<L>,
-    op: &Op,
-) -> (Attempt, u64) {
-    match session.append(rt, tape, *op) {
-        Ok(number) => (Attempt::Second, number),
-        Err(_) => (Attempt::Wrong, 0),
-    }
-}
-
-// A snapshot, made again after a refusal.
+// A snapshot, taken again where it is refused.
 fn snapshot_again<L: Roll, R: Wait>(
     rt: &R,
     session: &Session<L>,
     tape: &Tape<L>,
-) -> (Attempt, Option<Snapshot>) {
+) -> (Option<Snapshot>, Result<(), Stop>) {
     match session.snapshot(rt, tape) {
-        Ok(snapshot) => (Attempt::First, Some(snapshot)),
-        Err(SnapshotError::OutOfMemory) => match session.snapshot(rt, tape) {
-            Ok(snapshot) => (Attempt::Second, Some(snapshot)),
-            Err(_) => (Attempt::Wrong, None),
+        Ok(snapshot) => (Some(snapshot), Ok(())),
+        Err(_) => match session.snapshot(rt, tape) {
+            Ok(snapshot) => (Some(snapshot), Err(Stop::Refused(LOOK))),
+            Err(_) => (None, Err(Stop::Wrong(LOOK))),
         },
-        Err(_) => (Attempt::Wrong, None),
     }
 }
 
@@ -156,106 +136,57 @@ fn last_of(events: &[Event], thread: u8) -> u64 {
     last
 }
 
-// What a thread has appended: the numbers of its events, and its last snapshot.
-#[derive(Drop)]
-struct Appended {
-    numbers: [u64; APPENDS],
-    snapshot: Option<Snapshot>,
-}
-
-// What a thread has done, and its tape.
+// What a thread has done: its tape, its last snapshot, and how its calls ended.
 #[derive(Drop)]
 struct Part<L: Roll> {
-    tally: Tally,
     tape: Tape<L>,
-    appended: Appended,
+    seen: Option<Snapshot>,
+    ended: Result<(), Stop>,
 }
 
 // One append of a thread. A snapshot after it has it as the thread's last event.
-fn append_one<L: Roll, R: Wait>(
+fn take_turn<L: Roll, R: Wait>(
     rt: &R,
     session: &Session<L>,
-    tape: &mut Tape<L>,
+    part: &mut Part<L>,
     turn: usize,
-    tally: &mut Tally,
-    appended: &mut Appended,
-) {
-    let Some(op) = op_of(tape.thread(), turn) else {
-        tally.note(Attempt::Wrong);
-        return;
+) -> Result<(), Stop> {
+    let Some(op) = op_of(part.tape.thread(), turn) else {
+        return Err(Stop::Wrong(APPEND));
     };
-    let (attempt, number) = append_again(rt, session, tape, &op);
-    tally.note(attempt);
-    if turn < APPENDS {
-        appended.numbers[turn] = number;
+    let appended = append_again(rt, session, &mut part.tape, &op);
+    if turn % 8 != 0 {
+        return appended;
     }
-    if turn % 8 == 0 {
-        look(rt, session, tape, number, tally, appended);
-    }
+    worst(appended, look(rt, session, part, turn))
 }
 
-// A snapshot after the append with this number.
 fn look<L: Roll, R: Wait>(
     rt: &R,
     session: &Session<L>,
-    tape: &Tape<L>,
-    number: u64,
-    tally: &mut Tally,
-    appended: &mut Appended,
-) {
-    let (attempt, snapshot) = snapshot_again(rt, session, tape);
-    tally.note(attempt);
-    if let Some(seen) = &snapshot {
-        tally.expect(last_of(seen.book().events(), tape.thread()) == number);
+    part: &mut Part<L>,
+    turn: usize,
+) -> Result<(), Stop> {
+    let (seen, ended) = snapshot_again(rt, session, &part.tape);
+    if let (Some(snapshot), Some((number, _))) = (&seen, part.tape.get(turn)) {
+        let last = last_of(snapshot.book().events(), part.tape.thread());
+        gave(LOOK, last == number)?;
     }
-    appended.snapshot = snapshot;
+    part.seen = seen;
+    ended
 }
 
 // A thread's appends.
 fn work<L: Roll, R: Wait>(rt: &R, session: &Session<L>, tape: Tape<L>) -> Part<L> {
-    let mut tape = tape;
-    let mut tally = Tally::new();
-    let mut appended = Appended {
-        numbers: [0; APPENDS],
-        snapshot: None,
+    let mut part = Part {
+        tape,
+        seen: None,
+        ended: Ok(()),
     };
     for turn in 0..APPENDS {
-        append_one(rt, session, &mut tape, turn, &mut tally, &mut appended);
+        part.ended = worst(part.ended, take_turn(rt, session, &mut part, turn));
     }
-    tally.expect(notes(&tape, &appended.numbers));
-    Part {
-        tally,
-        tape,
-        appended,
-    }
-}
-
-// Whether the trace has the appends of a thread under their numbers, and begins with its snapshot.
-fn has(trace: &Trace, thread: u8, appended: &Appended) -> bool {
-    for turn in 0..APPENDS {
-        let wanted = op_of(thread, turn).map(|op| Event { thread, op });
-        if trace.get(appended.numbers[turn]) != wanted {
-            return false;
-        }
-    }
-    match &appended.snapshot {
-        Some(seen) => {
-            let events = seen.book().events();
-            trace.events().get(..events.len()) == Some(events)
-        }
-        None => false,
-    }
-}
-
-// Whether the tape has the appends with their numbers.
-fn notes<L: Roll>(tape: &Tape<L>, numbers: &[u64; APPENDS]) -> bool {
-    for turn in 0..APPENDS {
-        let wanted = op_of(tape.thread(), turn).map(|op| (numbers[turn], op));
-        if tape.get(turn) != wanted {
-            return false;
-        }
-    }
-    tape.len() == APPENDS
+    part
 }
 
 // Both threads append, each by one of the tapes.
@@ -272,50 +203,66 @@ fn work_both<L: Roll + Send + Sync, R: Threads + Wait + Sync>(
     )
 }
 
-// Puts the thread's tape to the others, and gives what it has appended.
-fn put<L: Roll>(tally: &mut Tally, tapes: &mut Vec<Tape<L>>, part: Part<L>) -> Appended {
-    let Part {
-        tally: seen,
-        tape,
-        appended,
-    } = part;
-    tally.add(&seen);
-    tally.expect(tapes.push(tape).is_ok());
-    appended
-}
-
-// Both threads append by the tapes, and hand them back; nothing, where there are no two.
-fn run<L: Roll + Send + Sync, R: Threads + Wait + Sync>(
-    rt: &R,
-    session: &Session<L>,
-    tally: &mut Tally,
-    tapes: &mut Vec<Tape<L>>,
-) -> Option<(Appended, Appended)> {
-    let second = tapes.pop()?;
-    let first = tapes.pop()?;
-    let (first, second) = work_both(rt, session, first, second);
-    Some((put(tally, tapes, first), put(tally, tapes, second)))
-}
-
-// Whether the trace has what both threads have appended, and no more.
-fn has_both(trace: &Trace, appended: &Option<(Appended, Appended)>) -> bool {
-    match appended {
-        Some((first, second)) => {
-            trace.len() == 2 * APPENDS && has(trace, 0, first) && has(trace, 1, second)
+// Whether the book has a thread's appends under the numbers that its tape has, and begins with what the thread has seen last.
+fn has_part<L: Roll>(book: &Book, part: &Part<L>) -> bool {
+    let thread = part.tape.thread();
+    for turn in 0..APPENDS {
+        let wanted = op_of(thread, turn);
+        let Some((number, op)) = part.tape.get(turn) else {
+            return false;
+        };
+        if wanted != Some(op) || book.get(number) != wanted.map(|op| Event { thread, op }) {
+            return false;
+        }
+    }
+    match &part.seen {
+        Some(seen) => {
+            let events = seen.book().events();
+            part.tape.len() == APPENDS && book.events().get(..events.len()) == Some(events)
         }
         None => false,
     }
 }
 
-// Whether the session is sealed, and its trace has what both threads have appended.
-fn is_sealed<L: Roll>(
-    session: Session<L>,
-    tapes: Vec<Tape<L>>,
-    appended: &Option<(Appended, Appended)>,
-) -> bool {
-    match session.seal(tapes) {
-        Ok(trace) => has_both(&trace, appended),
-        Err(_) => false,
+// Puts the thread's tape to the others.
+fn put<L: Roll>(tapes: &mut Vec<Tape<L>>, part: Part<L>) -> Result<(), Stop> {
+    let Part { tape, ended, .. } = part;
+    gave(START, tapes.push(tape).is_ok())?;
+    ended
+}
+
+// Both threads append by the tapes, and hand them back. What stands in the session then, and how the calls ended.
+fn run<L: Roll + Send + Sync, R: Threads + Wait + Sync>(
+    rt: &R,
+    session: &Session<L>,
+    tapes: &mut Vec<Tape<L>>,
+) -> (Option<Snapshot>, Result<(), Stop>) {
+    let (Some(second), Some(first)) = (tapes.pop(), tapes.pop()) else {
+        return (None, Err(Stop::Wrong(START)));
+    };
+    let (first, second) = work_both(rt, session, first, second);
+    let (whole, ended) = snapshot_again(rt, session, &first.tape);
+    let right = gave(APPEND, has_both(&whole, &first, &second));
+    let put_back = worst(put(tapes, first), put(tapes, second));
+    (whole, worst(right, worst(ended, put_back)))
+}
+
+// Whether the snapshot has what both threads have appended, and no more.
+fn has_both<L: Roll>(whole: &Option<Snapshot>, first: &Part<L>, second: &Part<L>) -> bool {
+    match whole {
+        Some(seen) => {
+            let book = seen.book();
+            book.len() == 2 * APPENDS && has_part(book, first) && has_part(book, second)
+        }
+        None => false,
+    }
+}
+
+// Whether the session is sealed, and its trace is what stood in it.
+fn is_sealed<L: Roll>(session: Session<L>, tapes: Vec<Tape<L>>, whole: &Option<Snapshot>) -> bool {
+    match (session.seal(tapes), whole) {
+        (Ok(trace), Some(seen)) => trace.events() == seen.book().events(),
+        _ => false,
     }
 }
 
@@ -324,43 +271,31 @@ fn recorded<L: Roll + Send + Sync, R: Threads + Wait + Sync>(
     rt: &R,
     session: Session<L>,
     tapes: Vec<Tape<L>>,
-) -> Tally {
-    let mut tally = Tally::new();
+) -> Result<(), Stop> {
     let mut tapes = tapes;
-    let appended = run(rt, &session, &mut tally, &mut tapes);
-    tally.expect(is_sealed(session, tapes, &appended));
-    tally
+    let (whole, ended) = run(rt, &session, &mut tapes);
+    gave(START, is_sealed(session, tapes, &whole))?;
+    ended
 }
 
-// What was seen in the session that L names; nothing, where its start was refused memory.
+// Records in the session that L names.
 fn record<L: Roll + Send + Sync, R: Threads + Wait + Sync>(
     rt: &R,
     alloc: Global,
     blank: Blank,
-) -> Option<Tally>
+) -> Result<(), Stop>
     requires name { blank.name ≡ L.name }
     requires parts { (blank.parts ≡ L.parts) × (blank.parts ≡ 256) }
     requires tapes { 2 ≡ L.tapes }
     requires format { first_version ≡ L.format }
 {
     match Session::<L>::start(alloc, blank, 2) {
-        Ok((session, tapes)) => Some(recorded(rt, session, tapes)),
-        Err(_) => None,
+        Ok((session, tapes)) => recorded(rt, session, tapes),
+        Err(_) => Err(Stop::Refused(START)),
     }
 }
 
 /// Two threads record in a session.
-pub fn session<R: Threads + Wait + Sync>(rt: &R, alloc: Global) -> Tally {
-    let mut tally = Tally::new();
-    for _ in 0..2u8 {
-        match record::<Brand, R>(rt, alloc, Blank::new(256)) {
-            Some(seen) => {
-                tally.add(&seen);
-                return tally;
-            }
-            None => tally.refuse(),
-        }
-    }
-    tally.note(Attempt::Wrong);
-    tally
+pub fn session<R: Threads + Wait + Sync>(rt: &R, alloc: Global) -> Result<(), Stop> {
+    record::<Brand, R>(rt, alloc, Blank::new(256))
 }

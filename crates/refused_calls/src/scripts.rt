@@ -1,12 +1,14 @@
 //! Recording scripts.
 
-use crate::tally::{Attempt, Tally};
+use crate::stop::{Stop, gave, worst};
 use pmt_model::{Gate, Op, Trace};
 use pmt_recorder::{RecordError, record_scripts};
 use std::alloc::{AllocError, Global};
 use std::sync::Wait;
 use std::sync::atomic::{AtomicU64, Ordering};
 use std::thread::Threads;
+
+const RECORD: &str = "record_scripts";
 
 const SCRIPTS: usize = 3;
 
@@ -69,39 +71,33 @@ fn plays(trace: &Trace, script: usize) -> bool {
     turn == TURNS
 }
 
-// Records the scripts; nothing, where memory was refused to them or to the recording.
-fn recorded<R: Threads + Wait + Sync>(rt: &R, alloc: Global, gate: &Entries) -> Option<Tally> {
-    let mut tally = Tally::new();
-    let Ok(scripts) = scripts_of(alloc) else {
-        return None;
-    };
-    match record_scripts(rt, alloc, gate, scripts) {
-        Ok(trace) => {
-            for script in 0..SCRIPTS {
-                tally.expect(plays(&trace, script));
-            }
-            tally.expect(trace.len() == SCRIPTS * TURNS as usize);
-            tally.expect(gate.seen() == (SCRIPTS * (TURNS as usize + 1)) as u64);
-        }
-        Err(RecordError::OutOfMemory) => return None,
-        Err(_) => tally.note(Attempt::Wrong),
+// Records the scripts.
+fn recorded<R: Threads + Wait + Sync>(rt: &R, alloc: Global, gate: &Entries) -> Result<(), Stop> {
+    match record_scripts(rt, alloc, gate, scripts_of(alloc)?) {
+        Ok(trace) => gave(RECORD, plays_all(&trace, gate.seen())),
+        Err(RecordError::OutOfMemory) => Err(Stop::Refused(RECORD)),
+        Err(_) => Err(Stop::Wrong(RECORD)),
     }
-    Some(tally)
+}
+
+// Whether the trace has all scripts, and no more, after each recorder entered before its first append and after each.
+fn plays_all(trace: &Trace, entered: u64) -> bool {
+    for script in 0..SCRIPTS {
+        if !plays(trace, script) {
+            return false;
+        }
+    }
+    trace.len() == SCRIPTS * TURNS as usize && entered == (SCRIPTS * (TURNS as usize + 1)) as u64
 }
 
 /// Each recorder plays its script. After a refusal no recorder goes on, and the scripts can be recorded again.
-pub fn record<R: Threads + Wait + Sync>(rt: &R, alloc: Global) -> Tally {
-    let first = Entries::new();
-    if let Some(tally) = recorded(rt, alloc, &first) {
-        return tally;
+pub fn record<R: Threads + Wait + Sync>(rt: &R, alloc: Global) -> Result<(), Stop> {
+    let gate = Entries::new();
+    let first = recorded(rt, alloc, &gate);
+    if first.is_ok() {
+        return first;
     }
-    let entered = first.seen();
-    let mut tally = Tally::new();
-    tally.refuse();
-    match recorded(rt, alloc, &Entries::new()) {
-        Some(seen) => tally.add(&seen),
-        None => tally.note(Attempt::Wrong),
-    }
-    tally.expect(first.seen() == entered);
-    tally
+    let entered = gate.seen();
+    recorded(rt, alloc, &Entries::new())?;
+    worst(first, gave(RECORD, gate.seen() == entered))
 }

@@ -1,13 +1,10 @@
 //! Traces whose answers are known by how they are made.
 ghost use Rattle.std.specs.Prelude.{◌<◌};
 
-use pmt_analysis::Analysis;
-use pmt_model::{Event, Finding, Op, OpError, Range, Selection, Trace, Verdict};
+use crate::stop::Stop;
+use pmt_model::{Finding, Selection, Trace, Verdict};
+use pmt_text::{ReadError, read_trace};
 use std::alloc::{AllocError, Global};
-
-const FIRST: u64 = 0x1000;
-
-const SECOND: u64 = 0x1040;
 
 /// How a trace is made. Thread 1 stores to one line, flushes it and fences, in so many rounds. Then thread 0 stores to so many other
 /// lines, of which there are two at least, flushes each, and fences twice; and it claims that the first of these lines is persisted,
@@ -19,14 +16,34 @@ pub struct Shape {
 }
 
 impl Shape {
-    /// The trace; none, where memory was refused.
-    pub fn trace(self, alloc: Global) -> Option<Trace> {
-        let mut trace = Trace::new(alloc);
-        let whole = add_rounds(&mut trace, self.rounds)
-            && add_stores(&mut trace, self.lines)
-            && add_flushes(&mut trace, self.lines)
-            && add_end(&mut trace);
-        if whole { Some(trace) } else { None }
+    /// The trace.
+    pub fn trace(self, alloc: Global) -> Result<Trace, Stop> {
+        let text = self.text(alloc)?;
+        match read_trace(alloc, text.as_bytes()) {
+            Ok(trace) => Ok(trace),
+            Err(ReadError::OutOfMemory) => Err(Stop::Refused("read_trace")),
+            Err(_) => Err(Stop::Wrong("read_trace")),
+        }
+    }
+
+    // Its text.
+    fn text(self, alloc: Global) -> Result<String, AllocError> {
+        let mut text = format!(in alloc; "pmtrace 1\n")?;
+        for _ in 0..self.rounds {
+            text.push_str("store 1 0x0 01\nclwb 1 0x0\nsfence 1\n")?;
+        }
+        for line in 0..self.lines {
+            let addr = 0x1000 + 64 * line as u64;
+            write!(text, "store 0 {addr:#x} 02\n")?;
+        }
+        for line in 0..self.lines {
+            let addr = 0x1000 + 64 * line as u64;
+            write!(text, "clwb 0 {addr:#x}\n")?;
+        }
+        text.push_str(
+            "sfence 0\nsfence 0\nisPersist 0 0x1000 1\nisOrderedBefore 0 0x1000 1 0x1040 1\n",
+        )?;
+        Ok(text)
     }
 
     /// How many lines are stored.
@@ -85,14 +102,6 @@ impl Shape {
         numbers.len() as u64 == self.kept() && !numbers.contains(&self.empty_fence())
     }
 
-    /// Whether this is the analysis of the trace.
-    pub fn has_analysis(self, analysis: &Analysis) -> bool {
-        analysis.lines() as u64 == self.lines_in_all()
-            && self.has_found(analysis.findings())
-            && self.has_judged(analysis.verdicts())
-            && self.has_kept(analysis.selection())
-    }
-
     /// The report of the trace.
     pub fn report(self, alloc: Global) -> Result<String, AllocError> {
         let lines = self.lines_in_all();
@@ -103,59 +112,5 @@ impl Shape {
         format!(in alloc;
             "events {ordered} lines {lines}\nfence-without-flush {fence}\npersist {persist} pass\nordered {ordered} fail\nkept {kept} dropped 1\n"
         )
-    }
-}
-
-// Adds the op as an event of the thread; false where it or its memory is refused.
-fn add(trace: &mut Trace, thread: u8, op: Result<Op, OpError>) -> bool {
-    match op {
-        Ok(op) => trace.push(Event { thread, op }).is_ok(),
-        Err(_) => false,
-    }
-}
-
-fn add_round(trace: &mut Trace) -> bool {
-    add(trace, 1, Op::store(0, &[1])) && add(trace, 1, Op::clwb(0)) && add(trace, 1, Ok(Op::Sfence))
-}
-
-fn add_rounds(trace: &mut Trace, rounds: u16) -> bool {
-    for _ in 0..rounds {
-        if !add_round(trace) {
-            return false;
-        }
-    }
-    true
-}
-
-fn add_stores(trace: &mut Trace, lines: u16) -> bool {
-    for line in 0..lines {
-        if !add(trace, 0, Op::store(FIRST + 64 * line as u64, &[2])) {
-            return false;
-        }
-    }
-    true
-}
-
-fn add_flushes(trace: &mut Trace, lines: u16) -> bool {
-    for line in 0..lines {
-        if !add(trace, 0, Op::clwb(FIRST + 64 * line as u64)) {
-            return false;
-        }
-    }
-    true
-}
-
-// The two fences, and the two claims.
-fn add_end(trace: &mut Trace) -> bool {
-    add(trace, 0, Ok(Op::Sfence)) && add(trace, 0, Ok(Op::Sfence)) && add_claims(trace)
-}
-
-fn add_claims(trace: &mut Trace) -> bool {
-    match (Range::new(FIRST, 1), Range::new(SECOND, 1)) {
-        (Ok(first), Ok(second)) => {
-            add(trace, 0, Ok(Op::IsPersist(first)))
-                && add(trace, 0, Ok(Op::IsOrderedBefore(first, second)))
-        }
-        _ => false,
     }
 }

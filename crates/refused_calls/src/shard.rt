@@ -6,9 +6,9 @@ ghost use Rattle.pmt_asserts.specs.Tables.{AreResultsOf};
 ghost use Rattle.pmt_workers.specs.Answering.{AreAnswersTo};
 ghost use Rattle.pmt_workers.specs.Results.{result_in, kept_in};
 
-use crate::chain::{Call, Stop};
-use crate::jobs::is_apart;
+use crate::lines::is_apart;
 use crate::shape::Shape;
+use crate::stop::{Stop, gave};
 use pmt_asserts::{Tables, verdicts};
 use pmt_findings::findings;
 use pmt_lines::{Jobs, LineJob, LineResult, ThreadJob, ThreadResult, run_fences, split_trace};
@@ -19,18 +19,13 @@ use std::alloc::{AllocError, Global};
 use std::thread::Threads;
 
 /// Takes the trace apart, runs all jobs in one shard, and joins its answers.
-pub fn by_shard<R: Threads + Sync>(
-    rt: &R,
-    alloc: Global,
-    trace: Trace,
-    shape: Shape,
-) -> Result<(), Stop> {
-    match split_trace(alloc, trace) {
+pub fn by_shard<R: Threads + Sync>(rt: &R, alloc: Global, shape: Shape) -> Result<(), Stop> {
+    match split_trace(alloc, shape.trace(alloc)?) {
         Ok(jobs) => {
-            Call::Split.gave(is_apart(&jobs, shape))?;
+            gave("split", is_apart(&jobs, shape))?;
             joined(rt, alloc, jobs, shape)
         }
-        Err(_) => Err(Stop::Refused(Call::Split)),
+        Err(_) => Err(Stop::Refused("split")),
     }
 }
 
@@ -54,7 +49,7 @@ fn answered(alloc: Global, jobs: Vec<LineJob>) -> Result<Vec<LineAnswer>, Stop>
 {
     match run_shard(alloc, jobs) {
         Ok(answers) => Ok(answers),
-        Err(_) => Err(Stop::Refused(Call::RunShard)),
+        Err(_) => Err(Stop::Refused("run_shard")),
     }
 }
 
@@ -80,8 +75,8 @@ fn keep(alloc: Global, trace: &Trace, lists: &[Vec<u64>], shape: Shape) -> Resul
     requires { AreAllKept trace.now (map (λ kept. kept.items) lists.now) }
 {
     match liveness(alloc, trace, lists) {
-        Ok(selection) => Call::Liveness.gave(shape.has_kept(&selection)),
-        Err(_) => Err(Stop::Refused(Call::Liveness)),
+        Ok(selection) => gave("liveness", shape.has_kept(&selection)),
+        Err(_) => Err(Stop::Refused("liveness")),
     }
 }
 
@@ -91,24 +86,13 @@ fn fence(
     fences: ThreadJob,
     shape: Shape,
 ) -> Result<(), Stop> {
-    match run_fences(alloc, fences) {
-        Ok(found) => {
-            Call::RunFences.gave(found.empty().len() == 1)?;
-            find(alloc, results, &found, shape)
-        }
-        Err(_) => Err(Stop::Refused(Call::RunFences)),
-    }
-}
-
-fn find(
-    alloc: Global,
-    results: &[LineResult],
-    threads: &ThreadResult,
-    shape: Shape,
-) -> Result<(), Stop> {
-    match findings(alloc, results, threads) {
-        Ok(found) => Call::Findings.gave(shape.has_found(found.as_slice())),
-        Err(_) => Err(Stop::Refused(Call::Findings)),
+    let Ok(threads) = run_fences(alloc, fences) else {
+        return Err(Stop::Refused("run_fences"));
+    };
+    gave("run_fences", threads.empty().len() == 1)?;
+    match findings(alloc, results, &threads) {
+        Ok(found) => gave("findings", shape.has_found(found.as_slice())),
+        Err(_) => Err(Stop::Refused("findings")),
     }
 }
 
@@ -121,23 +105,11 @@ fn judge<R: Threads + Sync>(
 ) -> Result<(), Stop>
     requires { AreResultsOf trace.now results.items }
 {
-    match Tables::merge(alloc, results) {
-        Ok(tables) => judge_by(rt, alloc, &tables, trace, shape),
-        Err(_) => Err(Stop::Refused(Call::Merge)),
-    }
-}
-
-fn judge_by<R: Threads + Sync>(
-    rt: &R,
-    alloc: Global,
-    tables: &Tables,
-    trace: &Trace,
-    shape: Shape,
-) -> Result<(), Stop>
-    requires { AreResultsOf trace.now tables.now }
-{
-    match verdicts(rt, alloc, tables, trace) {
-        Ok(all) => Call::Verdicts.gave(shape.has_judged(all.as_slice())),
-        Err(_) => Err(Stop::Refused(Call::Verdicts)),
+    let Ok(tables) = Tables::merge(alloc, results) else {
+        return Err(Stop::Refused("Tables::merge"));
+    };
+    match verdicts(rt, alloc, &tables, trace) {
+        Ok(all) => gave("verdicts", shape.has_judged(all.as_slice())),
+        Err(_) => Err(Stop::Refused("verdicts")),
     }
 }

@@ -1,22 +1,23 @@
-//! Calls on one thread: traces, lines and sources.
+//! Calls on one thread: stores, traces, lines and sources.
 
-use crate::tally::{Attempt, Tally};
+use crate::stop::{Stop, gave, worst};
 use pmt_marks::LineState;
-use pmt_model::{Event, Op, PushError, SplitStoreError, Trace, split_store};
+use pmt_model::{Event, Op, SplitStoreError, Trace, split_store};
 use pmt_text::devices::PieceReader;
 use pmt_text::{Counted, EventSource, SourceError, TextSource};
 use std::alloc::Global;
 
+const SPLIT: &str = "split_store";
+
+const PUSH: &str = "Trace::push";
+
+const FLUSH: &str = "LineState::on_flush";
+
+const NEXT: &str = "EventSource::next";
+
 const THREADS: u8 = 40;
 
 const TEXT: &[u8] = b"pmtrace 1\nstore 0 0x1000 01\nclwb 0 0x1000\nsfence 0\n";
-
-fn fence_by(thread: u8) -> Event {
-    Event {
-        thread,
-        op: Op::Sfence,
-    }
-}
 
 // Whether a store of four bytes is cut where a word ends.
 fn are_two_pieces(pieces: &[Op]) -> bool {
@@ -27,49 +28,45 @@ fn are_two_pieces(pieces: &[Op]) -> bool {
 }
 
 /// A store of four bytes is cut where a word ends.
-pub fn split(alloc: Global) -> Tally {
-    let mut tally = Tally::new();
-    for _ in 0..2u8 {
-        match split_store(alloc, 0x1006, &[1, 2, 3, 4]) {
-            Ok(pieces) => {
-                tally.expect(are_two_pieces(pieces.as_slice()));
-                return tally;
-            }
-            Err(SplitStoreError::OutOfMemory) => tally.refuse(),
-            Err(_) => break,
-        }
+pub fn split(alloc: Global) -> Result<(), Stop> {
+    match split_store(alloc, 0x1006, &[1, 2, 3, 4]) {
+        Ok(pieces) => gave(SPLIT, are_two_pieces(pieces.as_slice())),
+        Err(SplitStoreError::OutOfMemory) => Err(Stop::Refused(SPLIT)),
+        Err(_) => Err(Stop::Wrong(SPLIT)),
     }
-    tally.note(Attempt::Wrong);
-    tally
 }
 
-fn push_again(trace: &mut Trace, thread: u8) -> Attempt {
-    let len = trace.len();
-    match trace.push(fence_by(thread)) {
-        Ok(()) => Attempt::First,
-        Err(PushError::OutOfMemory) => {
-            if trace.len() == len && trace.push(fence_by(thread)).is_ok() {
-                Attempt::Second
-            } else {
-                Attempt::Wrong
-            }
-        }
-        Err(_) => Attempt::Wrong,
+fn fence_by(thread: u8) -> Event {
+    Event {
+        thread,
+        op: Op::Sfence,
     }
+}
+
+// Pushes a fence. Where that is refused, the trace is as before, and takes the fence then.
+fn push_again(trace: &mut Trace, thread: u8) -> Result<(), Stop> {
+    let len = trace.len();
+    if trace.push(fence_by(thread)).is_ok() {
+        return Ok(());
+    }
+    gave(
+        PUSH,
+        trace.len() == len && trace.push(fence_by(thread)).is_ok(),
+    )?;
+    Err(Stop::Refused(PUSH))
 }
 
 /// Each push adds its event.
-pub fn push(alloc: Global) -> Tally {
-    let mut tally = Tally::new();
+pub fn push(alloc: Global) -> Result<(), Stop> {
     let mut trace = Trace::new(alloc);
+    let mut ended = Ok(());
     for thread in 0..THREADS {
-        tally.note(push_again(&mut trace, thread));
+        ended = worst(ended, push_again(&mut trace, thread));
     }
-    tally.expect(trace.len() == THREADS as usize);
     for thread in 0..THREADS {
-        tally.expect(trace.get(thread as u64 + 1) == Some(fence_by(thread)));
+        gave(PUSH, trace.get(thread as u64 + 1) == Some(fence_by(thread)))?;
     }
-    tally
+    ended
 }
 
 // Whether the threads below this one have flushed the one store, and no other has.
@@ -83,29 +80,28 @@ fn is_flushed_below(line: &LineState, thread: u8) -> bool {
     line.front() == 0 && line.count() == 1
 }
 
-fn flush_again(line: &mut LineState, thread: u8) -> Attempt {
-    match line.on_flush(thread) {
-        Ok(()) => Attempt::First,
-        Err(_) => {
-            if is_flushed_below(line, thread) && line.on_flush(thread).is_ok() {
-                Attempt::Second
-            } else {
-                Attempt::Wrong
-            }
-        }
+// Flushes the line. Where that is refused, the line is as before, and takes the flush then.
+fn flush_again(line: &mut LineState, thread: u8) -> Result<(), Stop> {
+    if line.on_flush(thread).is_ok() {
+        return Ok(());
     }
+    gave(
+        FLUSH,
+        is_flushed_below(line, thread) && line.on_flush(thread).is_ok(),
+    )?;
+    Err(Stop::Refused(FLUSH))
 }
 
 /// Each flush of a line marks its one store.
-pub fn flush(alloc: Global) -> Tally {
-    let mut tally = Tally::new();
+pub fn flush(alloc: Global) -> Result<(), Stop> {
     let mut line = LineState::new(alloc);
     line.on_store();
+    let mut ended = Ok(());
     for thread in 0..THREADS {
-        tally.note(flush_again(&mut line, thread));
+        ended = worst(ended, flush_again(&mut line, thread));
     }
-    tally.expect(is_flushed_below(&line, THREADS));
-    tally
+    gave(FLUSH, is_flushed_below(&line, THREADS))?;
+    ended
 }
 
 // How many events the source gives to its end.
@@ -119,24 +115,15 @@ fn count_events<S: EventSource>(source: &mut S) -> Result<u64, SourceError> {
 }
 
 /// A source gives its three events; one that was refused memory has failed from then on.
-pub fn next(alloc: Global) -> Tally {
-    let mut tally = Tally::new();
-    for _ in 0..2u8 {
-        let reader = Counted::new(PieceReader::new(TEXT, 7));
-        let mut source = TextSource::new(alloc, reader);
-        match count_events(&mut source) {
-            Ok(count) => {
-                tally.expect(count == 3);
-                return tally;
-            }
-            Err(SourceError::OutOfMemory) => {
-                tally.refuse();
-                tally.expect(source.next() == Err(SourceError::Failed));
-                tally.expect(source.format() == Err(SourceError::Failed));
-            }
-            Err(_) => break,
+pub fn next(alloc: Global) -> Result<(), Stop> {
+    let mut source = TextSource::new(alloc, Counted::new(PieceReader::new(TEXT, 7)));
+    match count_events(&mut source) {
+        Ok(count) => gave(NEXT, count == 3),
+        Err(SourceError::OutOfMemory) => {
+            gave(NEXT, source.next() == Err(SourceError::Failed))?;
+            gave(NEXT, source.format() == Err(SourceError::Failed))?;
+            Err(Stop::Refused(NEXT))
         }
+        Err(_) => Err(Stop::Wrong(NEXT)),
     }
-    tally.note(Attempt::Wrong);
-    tally
 }
