@@ -3,8 +3,9 @@
 Each public call is of the fixed surface, whose calls stand in tests/surface, or another crate calls it, or docs/DECISIONS.md names it
 in its decision on what is public. A call is known by its name, and if a type stands before it, by its type. There are few must-fail edits,
 each with a control, and each wrong body that is named here has an edit or a test of its name. rows.py names the worked rows, and what runs
-each. docs/ARCHITECTURE.md lists each crate once, and the files that documents for contributors name are there. docs/explain.schema.json has
-the objects and the names that the proved statements of pmt_explain_json spell, and docs/EXPLAIN.md names their members.
+each. docs/ARCHITECTURE.md lists each crate once, docs/PROOFS.md each ported crate, and the files that documents for contributors name are
+there. docs/explain.schema.json has the objects and the names that the proved statements of pmt_explain_json spell, and docs/EXPLAIN.md names
+their members.
 """
 import json
 import re
@@ -124,6 +125,15 @@ def unlisted_crates():
             yield f"{name}: docs/ARCHITECTURE.md lists it {listed.count(name)} times, crates.txt {known.count(name)} times"
 
 
+def unlisted_ports():
+    """Complaints: ported crates that crates.txt names and docs/PROOFS.md does not list among what is trusted, and the reverse."""
+    lines = re.findall(r"^(\w+)[^:#]*:(.*)", (TOP / "crates.txt").read_text(), re.M)
+    ported = {name for _, below in lines for name in below.split()} - {name for name, _ in lines}
+    listed = re.search(r"ported crates\s+\(([^)]*)\)", (TOP / "docs/PROOFS.md").read_text())
+    for name in sorted(ported ^ set(re.findall(r"\w+", listed[1]))):
+        yield f"{name}: one of docs/PROOFS.md, crates.txt has this ported crate, and the other has not"
+
+
 def missing_files():
     """Complaints: files that documents for contributors name, and that are not there; NAME and PATH stand for any."""
     tracked = subprocess.run(["git", "ls-files"], cwd=TOP, capture_output=True, text=True, check=True).stdout.splitlines()
@@ -236,7 +246,7 @@ class Claims(Checks):
         self.expect_none(stale())
 
     def test_crates(self):
-        self.expect_none(unlisted_crates())
+        self.expect_none([*unlisted_crates(), *unlisted_ports()])
 
     def test_files(self):
         self.expect_none(missing_files())

@@ -159,6 +159,31 @@ def under_a_limit(program, trace, words):
     return [] if answer == WANT_OF_MEMORY else [f"{words}, a million events: {faulty.short(answer)}"]
 
 
+def large_answers(run, folder):
+    """What is wrong with the commands that hold a trace, on one of 100,003 events, where no memory is refused."""
+    count = 50000
+    trace, base = folder / "large", folder / "base"
+    lost, claim = f"store 1 {64 * count + 0x1000:#x} 07", f"isPersist 1 {64 * count + 0x1000:#x} 1"
+    trace.write_bytes(lines(count) + f"{lost}\n{claim}\n".encode())
+    base.write_bytes(bytes(0x1000 + 64 * count + 1))
+    failure = ["--failure", str(2 * count + 3)]
+    crashed = bytes(0x1000) + (b"\1" + bytes(63)) * count + b"\0"
+    head = f"events {2 * count + 3}, threads 2, cache lines {count + 1} of 64 bytes, bytes stored {count + 1}\n".encode()
+    wanted = {
+        ("slice", *failure): text(f"{lost}; {claim}"),
+        ("image", *failure, "--pool", base, "--origin", "0x0"): crashed,
+        ("stat",): head,
+        ("draw", *failure): b"<svg ",
+    }
+    complaints = []
+    for words, begins in wanted.items():
+        answer, _ = run([*words, trace])
+        whole = words[0] in ("slice", "image")
+        if answer.status or answer.faults or not answer.out.startswith(begins) or whole and answer.out != begins:
+            complaints.append(f"{words[0]} of a large trace: {faulty.short(answer)}")
+    return complaints
+
+
 def faults_told(folder):
     """Refusals, each of which is told by a line."""
     trace = folder / "faulty.trace"
@@ -378,6 +403,9 @@ class OfTheProgram(Refusals):
         trace.write_bytes(lines(499999))
         limited = (["trim"], ["trim", "--workers", "4"], ["check"])
         self.expect_of_all([(words, partial(under_a_limit, self.program, trace, words)) for words in limited])
+
+    def test_ample_memory(self):
+        self.expect_of_all([("commands on a large trace", partial(large_answers, self.run_refused, self.folder))])
 
     def test_finds_what_is_wrong(self):
         self.expect_of_all([("wrong answers", partial(finds_what_is_wrong, self.run_refused))])
