@@ -20,7 +20,6 @@ use pmt_pass::Swept;
 use pmt_text::Counted;
 use std::alloc::Global;
 use std::io::{Read, Write};
-use std::sync::Wait;
 use std::thread::Threads;
 
 /// Writes the report of the trace whose text the reader gives, and tells whether a verdict fails or a store is never persisted: both are
@@ -29,7 +28,7 @@ use std::thread::Threads;
 /// # Errors
 /// In this order: `BadWorkers` unless there are 1, 2, 4, 8 or 16, in which case nothing is read; `Text`, `TooMany` and `Read` as
 /// the bytes come, `OutOfMemory`; nothing is written then. `Write` where a write or the last flush failed.
-pub fn run_check<T: Threads + Wait + Sync, R: Read, W: Write>(
+pub fn run_check<T: Threads + Sync, R: Read, W: Write>(
     _rt: &T,
     alloc: Global,
     workers: usize,

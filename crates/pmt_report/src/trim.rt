@@ -13,7 +13,6 @@ use pmt_text::{Counted, TextSource};
 use pmt_trimming::trimmed_text;
 use std::alloc::Global;
 use std::io::{Read, Write};
-use std::sync::Wait;
 use std::thread::Threads;
 
 /// Writes the trimmed trace of the trace whose text the reader gives. It is the same for every number of workers: one pass forward, in the
@@ -22,7 +21,7 @@ use std::thread::Threads;
 /// # Errors
 /// In this order: `BadWorkers` unless there are 1, 2, 4, 8 or 16, in which case nothing is read; `Text`, `TooMany` and `Read` as
 /// the bytes come, `OutOfMemory`; nothing is written then. `Write` where a write or the last flush failed.
-pub fn run_trim<T: Threads + Wait + Sync, R: Read, W: Write>(
+pub fn run_trim<T: Threads + Sync, R: Read, W: Write>(
     rt: &T,
     alloc: Global,
     workers: usize,

@@ -15,7 +15,6 @@ use pmt_taking::TakeError;
 use pmt_text::{Counted, TextSource};
 use std::alloc::Global;
 use std::io::{Read, Write, sink};
-use std::sync::Wait;
 use std::thread::Threads;
 
 /// Checks the trace of the file, or that of `input` where none is named. The status is 1 where an assertion fails or a store is never
@@ -33,7 +32,7 @@ pub fn check<T, O, I, W>(
     recalls: Recalls,
 ) -> Result<u8, Fault>
 where
-    T: AllocGlobal + Threads + Wait + Sync,
+    T: AllocGlobal + Threads + Sync,
     O: Opener,
     I: Read,
     W: Write,
@@ -60,7 +59,7 @@ fn check_reader<T, R, W>(
     recalls: Recalls,
 ) -> Result<u8, Fault>
 where
-    T: AllocGlobal + Threads + Wait + Sync,
+    T: AllocGlobal + Threads + Sync,
     R: Read + Drop,
     W: Write,
     ensures { IfOk result (λ status. status ≤ 1) }
@@ -89,7 +88,7 @@ fn check_whole<T, R, W>(
     recalls: Recalls,
 ) -> Result<u8, Fault>
 where
-    T: AllocGlobal + Threads + Wait + Sync,
+    T: AllocGlobal + Threads + Sync,
     R: Read + Drop,
     W: Write,
     ensures { IfOk result (λ status. status ≤ 1) }

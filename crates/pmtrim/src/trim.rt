@@ -9,7 +9,6 @@ use pmt_text::{Counted, TextSource};
 use pmt_trimming::{StreamError, trim_stream};
 use std::alloc::Global;
 use std::io::{Read, Write};
-use std::sync::Wait;
 use std::thread::Threads;
 
 /// Trims the trace of the file, or that of `input` where none is named. The status is 0.
@@ -25,7 +24,7 @@ pub fn trim<T, O, I, W>(
     recalls: Recalls,
 ) -> Result<u8, Fault>
 where
-    T: AllocGlobal + Threads + Wait + Sync,
+    T: AllocGlobal + Threads + Sync,
     O: Opener,
     I: Read,
     W: Write,
@@ -48,7 +47,7 @@ fn trim_reader<T, R, W>(
     recalls: Recalls,
 ) -> Result<u8, Fault>
 where
-    T: AllocGlobal + Threads + Wait + Sync,
+    T: AllocGlobal + Threads + Sync,
     R: Read + Drop,
     W: Write,
     ensures { IfOk result (λ status. status ≤ 1) }
