@@ -2,7 +2,7 @@
 ghost use Rattle.std.specs.Prelude.{◌≡◌, IfOk};
 
 use command_inputs::{
-    Fault, Input, Opener, Recalls, labels_of, opened, recalled, untaken_fault, write_named,
+    Fault, Input, Opener, Recalls, counted_reader, labels_of, opened, untaken_fault, write_named,
 };
 use command_requests::{AskedEvents, Drawing};
 use pmt_asked::{Choice, Ignored, Kind, Labels, Options};
@@ -17,7 +17,7 @@ use pmt_picture::{
     Known, Picture, Refusal, Subject, about_of, first_subject, lines_of_addresses, picture_of,
     refusal_of,
 };
-use pmt_text::{Counted, TextSource};
+use pmt_text::TextSource;
 use std::alloc::{AllocError, Global};
 use std::io::{Read, Write};
 use std::thread::Threads;
@@ -74,8 +74,8 @@ fn explained<T: Threads + Sync, R: Read + Drop>(
         limit: 0,
         choice: needed_by(drawing.events),
     };
-    let reader = recalled(alloc, reader, Recalls::LastLines)?;
-    let mut source = TextSource::new(alloc, Counted::new(reader));
+    let reader = counted_reader(alloc, reader, Recalls::LastLines)?;
+    let mut source = TextSource::new(alloc, reader);
     match explain(rt, alloc, &mut source, labels, &options) {
         Ok(explanation) => Ok(explanation),
         Err(error) => {

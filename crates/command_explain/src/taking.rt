@@ -80,7 +80,8 @@ fn shown_text<R: Drop>(
     form: Form,
     reader: Recalling<R>,
 ) -> Result<Vec<u8>, AllocError> {
-    match reader.into_memory() {
+    let (_, memory) = reader.into_parts();
+    match memory {
         Some(memory) if matches!(form, Form::Page) => memory.into_text(),
         _ => Ok(Vec::new(alloc)),
     }

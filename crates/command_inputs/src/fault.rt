@@ -1,5 +1,6 @@
 //! The faults of the program: their lines and statuses.
-ghost use Rattle.std.specs.Prelude.{◌≤◌};
+ghost use Rattle.std.specs.Prelude.{◌≡◌, ◌≤◌};
+ghost use Rattle.command_inputs.specs.Faults.{IsToldAs, fault_status};
 
 use crate::opener::OpenError;
 use pmt_model::OutOfMemory;
@@ -54,7 +55,8 @@ impl Fault {
 
     /// The exit status.
     pub fn status(&self) -> u8
-        ensures { result ≤ 6 }
+        ensures status { result ≡ fault_status self.now }
+        ensures few { result ≤ 6 }
     {
         match self {
             Fault::Usage(_) | Fault::NoCommand(_) | Fault::Absent(_) => 2,
@@ -69,7 +71,8 @@ impl Fault {
 
     /// Writes what is wrong, and gives the exit status. A fault that can't be written leaves the status as it is.
     pub fn tell<W: Write>(self, alloc: Global, faults: &mut W) -> u8
-        ensures { result ≤ 6 }
+        ensures status { IsToldAs (fault_status self) result }
+        ensures few { result ≤ 6 }
     {
         match self.text(alloc) {
             Ok(text) => {
@@ -85,7 +88,9 @@ impl Fault {
 
     /// The fault that says what this one says and below it what the other one says, with the status of this one. Where memory is
     /// refused to that, it is `OutOfMemory`.
-    pub fn with_reason(self, alloc: Global, reason: &Fault) -> Fault {
+    pub fn with_reason(self, alloc: Global, reason: &Fault) -> Fault
+        ensures { IsToldAs (fault_status self) (fault_status result) }
+    {
         match self.text_with(alloc, reason) {
             Ok(text) => match self.status() {
                 2 => Fault::Absent(text),

@@ -1,6 +1,10 @@
 //! The inputs of a command: named files and standard input, and what is told of one that is refused.
 
-use crate::buffering::buffered;
+ghost use Rattle.std.specs.Prelude.{◌≡◌, None, IfOk, IsOk};
+ghost use Rattle.pmt_text.specs.Coming.{ComesWhole};
+ghost use Rattle.pmt_report.specs.Runs.{coming_from_reader};
+
+use crate::buffering::counted_reader;
 use crate::diagnosis::diagnosed;
 use crate::fault::Fault;
 use crate::foreign::{Foreign, foreign_fault, foreign_of};
@@ -10,15 +14,15 @@ use crate::labels::read_labels;
 use crate::opener::{OpenError, Opener};
 use crate::reading::{read_whole, system_fault};
 use crate::reasons::untaken_fault;
-use crate::recalling::{Recalling, Recalls};
+use crate::recalling::Recalls;
 use crate::refused::{line_of_text, refused_line};
 use pmt_asked::Labels;
 use pmt_model::Trace;
 use pmt_taking::take_trace;
 use pmt_text::header::judge_header;
-use pmt_text::{Counted, TextError, TextSource};
+use pmt_text::{TextError, TextSource};
 use std::alloc::{AllocError, Global};
-use std::io::{BufReader, Read};
+use std::io::Read;
 
 /// The trace of the file or of `reader`.
 ///
@@ -29,7 +33,9 @@ pub fn trace_of<O: Opener, I: Read>(
     input: Input<'_>,
     files: &O,
     reader: &mut I,
-) -> Result<Trace, Fault> {
+) -> Result<Trace, Fault>
+    ensures { input.entry.file ≡ None → IfOk result (ComesWhole (coming_from_reader (I.remaining reader.old))) }
+{
     match input.file {
         Some(name) => {
             let reader = opened(alloc, files, name)?;
@@ -40,9 +46,11 @@ pub fn trace_of<O: Opener, I: Read>(
 }
 
 // The trace that the reader gives.
-fn read_trace<R: Read + Drop>(alloc: Global, input: Input<'_>, reader: R) -> Result<Trace, Fault> {
-    let reader = recalled(alloc, reader, Recalls::LastLines)?;
-    let mut source = TextSource::new(alloc, Counted::new(reader));
+fn read_trace<R: Read + Drop>(alloc: Global, input: Input<'_>, reader: R) -> Result<Trace, Fault>
+    ensures { IfOk result (ComesWhole (coming_from_reader (R.remaining reader))) }
+{
+    let reader = counted_reader(alloc, reader, Recalls::LastLines)?;
+    let mut source = TextSource::new(alloc, reader);
     match take_trace(alloc, &mut source) {
         Ok(trace) => Ok(trace),
         Err(error) => {
@@ -52,24 +60,13 @@ fn read_trace<R: Read + Drop>(alloc: Global, input: Input<'_>, reader: R) -> Res
     }
 }
 
-/// The reader behind a buffer, which recalls this.
-///
-/// # Errors
-/// `OutOfMemory`.
-pub fn recalled<R: Read + Drop>(
-    alloc: Global,
-    reader: R,
-    recalls: Recalls,
-) -> Result<Recalling<BufReader<R>>, Fault> {
-    let reader = buffered(alloc, reader)?;
-    Ok(Recalling::new(alloc, reader, recalls))
-}
-
 /// The labels of the named file; none, where none is named.
 ///
 /// # Errors
 /// The fault of the file, or that of its first faulty line; `OutOfMemory`.
-pub fn labels_of<O: Opener>(alloc: Global, files: &O, name: Option<&str>) -> Result<Labels, Fault> {
+pub fn labels_of<O: Opener>(alloc: Global, files: &O, name: Option<&str>) -> Result<Labels, Fault>
+    ensures { name.entry ≡ None → IsOk result }
+{
     match name {
         Some(name) => {
             let reader = opened(alloc, files, name)?;

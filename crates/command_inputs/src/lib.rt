@@ -26,14 +26,14 @@ mod sources;
 mod watching;
 mod writing;
 
-pub use crate::buffering::buffered;
+pub use crate::buffering::{counted_reader, recalled};
 pub use crate::bytes::has_control;
 pub use crate::cuts::cut_of;
 pub use crate::fault::{Fault, no_failure};
 pub use crate::ignoring::{asked_place, read_ignored};
 pub use crate::input::{Input, STANDARD_INPUT};
 pub use crate::inputs::{
-    create_fault, labels_of, open_fault, opened, piece_fault, read_file, recalled, trace_of,
+    create_fault, labels_of, open_fault, opened, piece_fault, read_file, trace_of,
 };
 pub use crate::labels::label_of;
 pub use crate::opener::{OpenError, Opener, SystemFiles};
@@ -42,10 +42,10 @@ pub use crate::outputs::{Output, check_apart, remove_all, write_named, write_out
 pub use crate::ranges::asked_range;
 pub use crate::reading::{reason, system_fault};
 pub use crate::reasons::{open_input, reasoned, untaken_fault, write_output};
-pub use crate::recalling::{Memory, Recalling, Recalls};
+pub use crate::recalling::{Memory, Recalling, Recalls, counted, uncounted};
 pub use crate::refused::{Wrong, refused_line, shown, split_line};
 pub use crate::shell::shell_word;
 pub use crate::source_text::shown_source;
 pub use crate::sources::{Places, SourceFolder, SourceText, Wanted};
 pub use crate::watching::{Doing, Unwatched, Watch, WatchedReader};
-pub use crate::writing::{write_answer, write_whole};
+pub use crate::writing::write_answer;

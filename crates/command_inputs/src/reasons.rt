@@ -1,12 +1,15 @@
 //! What a person is told below a fault whose line is fixed: the file, the reason, and what to do.
 
+ghost use Rattle.command_inputs.specs.Faults.{IsToldAs, fault_status};
+ghost use Rattle.command_inputs.specs.Writing.{WritesFirst};
+
 use crate::fault::Fault;
 use crate::forms::Grammar;
 use crate::input::Input;
 use crate::inputs::{open_fault, refused_text, too_long};
 use crate::opener::{OpenError, Opener};
 use crate::reading::system_fault;
-use crate::recalling::{Memory, Recalling, Recalls};
+use crate::recalling::{Memory, Recalls, counted, uncounted};
 use crate::writing::write_whole;
 use pmt_report::{RecordFault, RunError, run_error};
 use pmt_taking::TakeError;
@@ -21,10 +24,12 @@ pub fn reasoned(
     input: Input<'_>,
     read: Option<&Memory>,
     written: Option<&Memory>,
-) -> Fault {
+) -> Fault
+    ensures { IsToldAs (fault_status fault) (fault_status result) }
+{
     let reason = match reason_of(alloc, &fault, input, read, written) {
         Ok(reason) => reason,
-        Err(other) => return other,
+        Err(_) => return Fault::OutOfMemory,
     };
     match reason {
         Some(reason) => fault.with_reason(alloc, &reason),
@@ -167,13 +172,19 @@ pub fn write_output<W: Write>(
     out: &mut W,
     answer: &[u8],
     recalls: Recalls,
-) -> Result<(), Fault> {
-    let mut writer = Recalling::new(alloc, out, recalls);
-    match write_whole(&mut writer, answer) {
+) -> Result<(), Fault>
+    ensures { WritesFirst (W.contents out.old) (W.contents out.new) answer.now result }
+{
+    let mut writer = counted(alloc, out, recalls);
+    let written = write_whole(&mut writer, answer);
+    let (out, memory) = uncounted(writer);
+    // No effect at run time: a proof reads here what the writer holds.
+    let _ = &*out;
+    match written {
         Ok(()) => Ok(()),
         Err(fault) => {
             let output = Input::new("", None);
-            Err(reasoned(alloc, fault, output, None, writer.memory()))
+            Err(reasoned(alloc, fault, output, None, memory.as_ref()))
         }
     }
 }

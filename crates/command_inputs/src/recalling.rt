@@ -1,8 +1,13 @@
 //! Devices that recall what a person is told of their faults.
 
+ghost use Rattle.std.specs.Prelude.{◌≡◌};
+ghost use Rattle.pmt_text.specs.Counting.{failure_count, inner_device};
+ghost use Rattle.command_inputs.specs.Devices.{named_contents, recalled_device};
+
 use crate::bytes::line_ends;
 use crate::refused::line_of_text;
 use memchr::memrchr;
+use pmt_text::Counted;
 use std::alloc::{AllocError, Global};
 use std::io::{self, ErrorKind, Read, Write};
 
@@ -61,7 +66,9 @@ pub struct Memory {
 
 impl<D> Recalling<D> {
     /// The device, which recalls this.
-    pub fn new(alloc: Global, device: D, recalls: Recalls) -> Self {
+    pub fn new(alloc: Global, device: D, recalls: Recalls) -> Self
+        ensures { recalled_device result ≡ device }
+    {
         Recalling {
             device,
             memory: match recalls {
@@ -76,12 +83,12 @@ impl<D> Recalling<D> {
         self.memory.as_ref()
     }
 
-    /// What is recalled, if anything. The device is let go.
-    pub fn into_memory(self) -> Option<Memory>
-    where
-        D: Drop,
+    /// The device, and what is recalled of it, if anything.
+    pub fn into_parts(self) -> (D, Option<Memory>)
+        ensures { result.0 ≡ recalled_device self }
     {
-        self.memory
+        let Recalling { device, memory } = self;
+        (device, memory)
     }
 
     /// Why the last call failed that did, if that is recalled.
@@ -90,14 +97,33 @@ impl<D> Recalling<D> {
     }
 
     // Recalls why a call failed.
-    fn recall_error(&mut self, error: io::Error) {
+    fn recall_error(&mut self, error: io::Error)
+        ensures { recalled_device self.new ≡ recalled_device self.old }
+    {
         if let Some(memory) = &mut self.memory {
             memory.error = Some(error);
         }
     }
 }
 
+/// The device, which recalls this, and whose failures are counted.
+pub fn counted<D>(alloc: Global, device: D, recalls: Recalls) -> Counted<Recalling<D>>
+    ensures device { recalled_device (inner_device result) ≡ device }
+    ensures failures { failure_count result ≡ 0 }
+{
+    Counted::new(Recalling::new(alloc, device, recalls))
+}
+
+/// The device, and what is recalled of it, if anything.
+pub fn uncounted<D>(device: Counted<Recalling<D>>) -> (D, Option<Memory>)
+    ensures { result.0 ≡ recalled_device (inner_device device) }
+{
+    device.into_inner().into_parts()
+}
+
 impl<R: Read> Read for Recalling<R> {
+    ghost remaining = { λ r. R.remaining (recalled_device r) };
+
     fn read(&mut self, buf: &mut [u8]) -> io::Result<usize> {
         match self.device.read(buf) {
             Ok(count) => {
@@ -114,7 +140,9 @@ impl<R: Read> Read for Recalling<R> {
     }
 }
 
-impl<W: Write> Write for Recalling<W> {
+impl<W: Write> Write for Recalling<&mut W> {
+    ghost contents = { λ w. named_contents (recalled_device w).ghost_name (W.contents (recalled_device w).now) };
+
     fn write(&mut self, buf: &[u8]) -> io::Result<usize> {
         match self.device.write(buf) {
             Ok(0) if !buf.is_empty() => {

@@ -1,5 +1,8 @@
 //! Watching what a run is doing.
 
+ghost use Rattle.std.specs.Prelude.{◌≡◌};
+ghost use Rattle.command_inputs.specs.Devices.{recalled_device, watched_reader};
+
 use crate::recalling::Recalling;
 use std::io::{self, Read};
 
@@ -48,7 +51,9 @@ pub struct WatchedReader<'a, R, W> {
 
 impl<'a, R, W> WatchedReader<'a, R, W> {
     /// The reader, which recalls lines, and of which nothing is read yet.
-    pub fn new(reader: Recalling<R>, watch: &'a mut W) -> Self {
+    pub fn new(reader: Recalling<R>, watch: &'a mut W) -> Self
+        ensures { watched_reader result ≡ reader }
+    {
         WatchedReader { reader, watch }
     }
 
@@ -67,6 +72,8 @@ impl<'a, R, W> WatchedReader<'a, R, W> {
 }
 
 impl<R: Read, W: Watch> Read for WatchedReader<'_, R, W> {
+    ghost remaining = { λ r. R.remaining (recalled_device (watched_reader r)) };
+
     fn read(&mut self, buf: &mut [u8]) -> io::Result<usize> {
         match self.reader.read(buf) {
             Ok(count) => {

@@ -1,5 +1,9 @@
 //! Writing an answer whole.
 
+ghost use Rattle.std.specs.Prelude.{◌-◌, ◌<◌, ◌^◌};
+ghost use Rattle.pmt_text.specs.Counting.{failure_count, inner_device};
+ghost use Rattle.command_inputs.specs.Writing.{WritesFirst};
+
 use crate::fault::Fault;
 use crate::reading::system_fault;
 use pmt_text::{Counted, write_all_counted};
@@ -10,9 +14,11 @@ use std::io::{ErrorKind, Write};
 ///
 /// # Errors
 /// `File` where a write or the flush failed; the first bytes of the answer may be out then.
-pub fn write_whole<W: Write>(out: &mut W, answer: &[u8]) -> Result<(), Fault> {
-    let mut writer = Counted::new(out);
-    if write_all_counted(&mut writer, answer).is_err() {
+pub(crate) fn write_whole<W: Write>(writer: &mut Counted<W>, answer: &[u8]) -> Result<(), Fault>
+    requires { failure_count writer.old < 2 ^ 64 - 1 }
+    ensures { WritesFirst (W.contents (inner_device writer.old)) (W.contents (inner_device writer.new)) answer.now result }
+{
+    if write_all_counted(writer, answer).is_err() {
         return Err(Fault::File);
     }
     match writer.flush() {

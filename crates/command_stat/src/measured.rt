@@ -1,7 +1,7 @@
 //! What is measured of a trace.
 
 use command_inputs::{
-    Fault, Input, Opener, Recalls, cut_of, labels_of, opened, recalled, untaken_fault,
+    Fault, Input, Opener, Recalls, counted_reader, cut_of, labels_of, opened, untaken_fault,
 };
 use pmt_asked::{Choice, Cut, Ignored, Kind, Labels, Options, frame_of};
 use pmt_causes::Origin;
@@ -10,7 +10,7 @@ use pmt_explanation::{Explanation, Summary, summary_of};
 use pmt_fates::PlaceRow;
 use pmt_model::OutOfMemory;
 use pmt_stat::{Cost, Figures, PlaceCost, cost_of, figures_of, sort_places};
-use pmt_text::{Counted, TextSource};
+use pmt_text::TextSource;
 use std::alloc::Global;
 use std::collections::BTreeMap;
 use std::io::Read;
@@ -61,8 +61,8 @@ fn explained<T: Threads + Sync, R: Read + Drop>(
     reader: R,
 ) -> Result<Explanation, Fault> {
     let options = options_of(alloc);
-    let reader = recalled(alloc, reader, Recalls::LastLines)?;
-    let mut source = TextSource::new(alloc, Counted::new(reader));
+    let reader = counted_reader(alloc, reader, Recalls::LastLines)?;
+    let mut source = TextSource::new(alloc, reader);
     match explain(rt, alloc, &mut source, labels, &options) {
         Ok(explanation) => Ok(explanation),
         Err(error) => {

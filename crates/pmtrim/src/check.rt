@@ -4,15 +4,15 @@ ghost use Rattle.std.specs.Prelude.{◌≤◌, IfOk};
 use crate::faults::run_fault;
 use crate::places::placed;
 use command_inputs::{
-    Fault, Input, Opener, Recalling, Recalls, buffered, labels_of, open_input, reasoned,
-    write_output,
+    Fault, Input, Opener, Recalls, counted, counted_reader, labels_of, open_input, reasoned,
+    uncounted, write_output,
 };
 use command_requests::{CheckWords, TraceWords};
 use pmt_analysis::Analysis;
 use pmt_asked::Labels;
 use pmt_report::{failed, report_text, run_check, run_error, swept};
 use pmt_taking::TakeError;
-use pmt_text::{Counted, TextSource};
+use pmt_text::TextSource;
 use std::alloc::Global;
 use std::io::{Read, Write, sink};
 use std::thread::Threads;
@@ -70,9 +70,22 @@ where
     if words.labels.is_none() && words.limit.is_none() {
         return check_whole(rt, words.trace, reader, out, recalls);
     }
-    let alloc = rt.alloc();
+    check_placed(rt.alloc(), words, labels, reader, out, recalls)
+}
+
+// The report with places, or with fewer entries.
+fn check_placed<R: Read + Drop, W: Write>(
+    alloc: Global,
+    words: CheckWords<'_>,
+    labels: &Labels,
+    reader: R,
+    out: &mut W,
+    recalls: Recalls,
+) -> Result<u8, Fault>
+    ensures { IfOk result (λ status. status ≤ 1) }
+{
     let analysis = analysed(alloc, words.trace, reader, recalls)?;
-    let status = if failed(&analysis) { 1 } else { 0 };
+    let status = status_of(failed(&analysis));
     let report = report_text(alloc, &analysis)?;
     let text = placed(alloc, report.as_slice(), labels, words.limit)?;
     write_output(alloc, out, text.as_slice(), recalls)?;
@@ -94,15 +107,23 @@ where
     ensures { IfOk result (λ status. status ≤ 1) }
 {
     let alloc = rt.alloc();
-    let reader = buffered(alloc, reader)?;
-    let reader = Counted::new(Recalling::new(alloc, reader, recalls));
-    let mut writer = Counted::new(Recalling::new(alloc, out, recalls));
+    let reader = counted_reader(alloc, reader, recalls)?;
+    let mut writer = counted(alloc, out, recalls);
     let (reader, done) = run_check(rt, alloc, words.workers, reader, &mut writer);
+    let (out, written) = uncounted(writer);
+    // No effect at run time: a proof reads here what the writer holds.
+    let _ = &*out;
     match done {
-        Ok(true) => Ok(1),
-        Ok(false) => Ok(0),
-        Err(error) => Err(run_fault(alloc, error, input_of(words), reader, writer)),
+        Ok(failed) => Ok(status_of(failed)),
+        Err(error) => Err(run_fault(alloc, error, input_of(words), reader, written)),
     }
+}
+
+// The status of a trace of which an assertion fails or a store is never persisted, or of another one.
+fn status_of(failed: bool) -> u8
+    ensures { result ≤ 1 }
+{
+    if failed { 1 } else { 0 }
 }
 
 // What is read for these words.
@@ -117,8 +138,7 @@ fn analysed<R: Read + Drop>(
     reader: R,
     recalls: Recalls,
 ) -> Result<Analysis, Fault> {
-    let reader = buffered(alloc, reader)?;
-    let reader = Counted::new(Recalling::new(alloc, reader, recalls));
+    let reader = counted_reader(alloc, reader, recalls)?;
     let mut source = TextSource::new(alloc, reader);
     match swept(alloc, &mut source) {
         Ok(analysis) => Ok(analysis),

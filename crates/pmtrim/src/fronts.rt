@@ -2,10 +2,11 @@
 ghost use Rattle.std.specs.Prelude.{◌≤◌, IfOk};
 
 use crate::faults::run_fault;
-use command_inputs::{Fault, Input, Opener, Recalling, Recalls, buffered, open_input};
+use command_inputs::{
+    Fault, Input, Opener, Recalls, counted, counted_reader, open_input, uncounted,
+};
 use command_requests::FrontsWords;
 use pmt_report::run_fronts;
-use pmt_text::Counted;
 use std::alloc::Global;
 use std::io::{Read, Write};
 
@@ -45,15 +46,17 @@ fn fronts_of<R: Read + Drop, W: Write>(
 ) -> Result<u8, Fault>
     ensures { IfOk result (λ status. status ≤ 1) }
 {
-    let reader = buffered(alloc, reader)?;
-    let reader = Counted::new(Recalling::new(alloc, reader, recalls));
-    let mut writer = Counted::new(Recalling::new(alloc, out, recalls));
+    let reader = counted_reader(alloc, reader, recalls)?;
+    let mut writer = counted(alloc, out, recalls);
     let (reader, done) = run_fronts(alloc, words.place, reader, &mut writer);
+    let (out, written) = uncounted(writer);
+    // No effect at run time: a proof reads here what the writer holds.
+    let _ = &*out;
     match done {
         Ok(()) => Ok(0),
         Err(error) => {
             let input = Input::new("fronts - PLACE", words.file);
-            Err(run_fault(alloc, error, input, reader, writer))
+            Err(run_fault(alloc, error, input, reader, written))
         }
     }
 }

@@ -1,4 +1,5 @@
 //! An answer that is gathered, to be written to a file as a whole.
+ghost use Rattle.std.specs.Prelude.{◌≡◌, [], Some};
 
 use command_inputs::Fault;
 use std::alloc::Global;
@@ -14,7 +15,9 @@ pub struct Gathered {
 
 impl Gathered {
     /// Nothing yet.
-    pub fn new(alloc: Global) -> Self {
+    pub fn new(alloc: Global) -> Self
+        ensures { result.text.items ≡ [] }
+    {
         Gathered {
             text: Vec::new(alloc),
             is_torn: false,
@@ -31,12 +34,16 @@ impl Gathered {
     }
 
     /// What was written.
-    pub fn into_text(self) -> Vec<u8> {
+    pub fn into_text(self) -> Vec<u8>
+        ensures { result ≡ self.text }
+    {
         self.text
     }
 }
 
 impl Write for Gathered {
+    ghost contents = { λ g. Some g.text.items };
+
     fn write(&mut self, buf: &[u8]) -> io::Result<usize> {
         match self.text.extend_from_slice(buf) {
             Ok(()) => Ok(buf.len()),

@@ -1,14 +1,11 @@
 //! Recording scripts: each is run in a thread of its own, and the trace that they record is written.
-
 ghost use Rattle.std.specs.Prelude.{◌≡◌, IfOk};
 
-use command_inputs::{
-    Fault, Input, Opener, Recalling, Recalls, open_input, reasoned, write_output,
-};
+use command_inputs::{Fault, Input, Opener, Recalls, counted, open_input, reasoned, write_output};
 use pmt_model::{NoGate, Op, OutOfMemory, Trace};
 use pmt_recorder::{RecordError, record_scripts};
 use pmt_report::RecordFault;
-use pmt_text::{Counted, SourceError, read_script_from, write_trace};
+use pmt_text::{SourceError, read_script_from, write_trace};
 use std::alloc::Global;
 use std::io::Write;
 use std::sync::Wait;
@@ -33,12 +30,23 @@ where
     W: Write,
     ensures { IfOk result (λ status. status ≡ 0) }
 {
+    let text = text_of(rt, files, names, recalls)?;
+    match write_output(rt.alloc(), out, text.as_slice(), recalls) {
+        Ok(()) => Ok(0),
+        Err(fault) => Err(fault),
+    }
+}
+
+// The text of the trace that the scripts with these names record.
+fn text_of<T, O>(rt: &T, files: &O, names: &[&str], recalls: Recalls) -> Result<Vec<u8>, Fault>
+where
+    T: AllocGlobal + Threads + Wait + Sync,
+    O: Opener,
+{
     let alloc = rt.alloc();
     let scripts = scripts_of(alloc, files, names, recalls)?;
     let trace = recorded(rt, scripts)?;
-    let text = write_trace(alloc, &trace)?;
-    write_output(alloc, out, text.as_slice(), recalls)?;
-    Ok(0)
+    Ok(write_trace(alloc, &trace)?)
 }
 
 // The scripts with these names.
@@ -67,7 +75,7 @@ fn read_one<O: Opener>(
     recalls: Recalls,
 ) -> Result<Vec<Op>, Fault> {
     let reader = open_input(alloc, files, name, recalls)?;
-    let mut reader = Counted::new(Recalling::new(alloc, reader, recalls.whole()));
+    let mut reader = counted(alloc, reader, recalls.whole());
     match read_script_from(alloc, &mut reader) {
         Ok(ops) => Ok(ops),
         Err(error) => {

@@ -2,10 +2,12 @@
 ghost use Rattle.std.specs.Prelude.{◌≤◌, IfOk};
 
 use crate::faults::run_fault;
-use command_inputs::{Fault, Input, Opener, Recalling, Recalls, buffered, open_input};
+use command_inputs::{
+    Fault, Input, Opener, Recalls, counted, counted_reader, open_input, uncounted,
+};
 use command_requests::TraceWords;
 use pmt_report::{RunError, run_error, run_trim};
-use pmt_text::{Counted, TextSource};
+use pmt_text::TextSource;
 use pmt_trimming::{StreamError, trim_stream};
 use std::alloc::Global;
 use std::io::{Read, Write};
@@ -53,13 +55,15 @@ where
     ensures { IfOk result (λ status. status ≤ 1) }
 {
     let alloc = rt.alloc();
-    let reader = buffered(alloc, reader)?;
-    let reader = Counted::new(Recalling::new(alloc, reader, recalls));
-    let mut writer = Counted::new(Recalling::new(alloc, out, recalls));
+    let reader = counted_reader(alloc, reader, recalls)?;
+    let mut writer = counted(alloc, out, recalls);
     let (reader, done) = run_trim(rt, alloc, words.workers, reader, &mut writer);
+    let (out, written) = uncounted(writer);
+    // No effect at run time: a proof reads here what the writer holds.
+    let _ = &*out;
     match done {
         Ok(()) => Ok(0),
-        Err(error) => Err(run_fault(alloc, error, input_of(words), reader, writer)),
+        Err(error) => Err(run_fault(alloc, error, input_of(words), reader, written)),
     }
 }
 
@@ -104,22 +108,22 @@ fn stream_reader<R: Read + Drop, W: Write>(
 ) -> Result<u8, Fault>
     ensures { IfOk result (λ status. status ≤ 1) }
 {
-    let reader = buffered(alloc, reader)?;
-    let reader = Counted::new(Recalling::new(alloc, reader, recalls));
+    let reader = counted_reader(alloc, reader, recalls)?;
     let mut source = TextSource::new(alloc, reader);
-    let mut writer = Counted::new(Recalling::new(alloc, out, recalls));
-    match trim_stream(alloc, &mut source, &mut writer) {
+    let mut writer = counted(alloc, out, recalls);
+    let done = trim_stream(alloc, &mut source, &mut writer);
+    let reader = source.into_input();
+    let (out, written) = uncounted(writer);
+    // No effect at run time: a proof reads here what the writer holds.
+    let _ = &*out;
+    match done {
         Ok(()) => Ok(0),
-        Err(error) => {
-            let fault = stream_fault(error);
-            let reader = source.into_input();
-            Err(run_fault(alloc, fault, input_of(words), reader, writer))
-        }
+        Err(error) => Err(run_fault(alloc, run_error_of(error), input_of(words), reader, written)),
     }
 }
 
 // What a run tells in the place of the stream.
-fn stream_fault(error: StreamError) -> RunError {
+fn run_error_of(error: StreamError) -> RunError {
     match error {
         StreamError::Source(fault) => run_error(fault),
         StreamError::OutOfMemory => RunError::OutOfMemory,
