@@ -1,5 +1,9 @@
 //! `check`: the report of a trace.
-ghost use Rattle.std.specs.Prelude.{◌≤◌, IfOk};
+ghost use Rattle.std.specs.Prelude.{◌≡◌, ◌≤◌, false, true, None, IfOk};
+ghost use Rattle.pmt_text.specs.Coming.{ComesWhole};
+ghost use Rattle.pmt_analysis.specs.Analysing.{IsAnalysed};
+ghost use Rattle.pmt_report.specs.Runs.{coming_from_reader};
+ghost use Rattle.pmtrim.specs.Commands.{EndsCheck, end_status, failed_status};
 
 use crate::faults::run_fault;
 use crate::places::placed;
@@ -36,7 +40,10 @@ where
     O: Opener,
     I: Read,
     W: Write,
-    ensures { IfOk result (λ status. status ≤ 1) }
+    ensures few { IfOk result (λ status. status ≤ 1) }
+    ensures whole { words.entry.trace.file ≡ None → words.entry.labels ≡ None → words.entry.limit ≡ None → words.entry.quiet ≡ false → EndsCheck (coming_from_reader (I.remaining input.old)) (W.contents out.old) (W.contents out.new) (end_status result) }
+    ensures judged { words.entry.trace.file ≡ None → IfOk result (EndsCheck (coming_from_reader (I.remaining input.old)) None None) }
+    ensures quiet { words.entry.quiet ≡ true → W.contents out.new ≡ W.contents out.old }
 {
     let alloc = rt.alloc();
     let labels = labels_of(alloc, files, words.labels)?;
@@ -62,7 +69,10 @@ where
     T: AllocGlobal + Threads + Sync,
     R: Read + Drop,
     W: Write,
-    ensures { IfOk result (λ status. status ≤ 1) }
+    ensures few { IfOk result (λ status. status ≤ 1) }
+    ensures whole { words.entry.labels ≡ None → words.entry.limit ≡ None → words.entry.quiet ≡ false → EndsCheck (coming_from_reader (R.remaining reader)) (W.contents out.old) (W.contents out.new) (end_status result) }
+    ensures judged { IfOk result (EndsCheck (coming_from_reader (R.remaining reader)) None None) }
+    ensures quiet { words.entry.quiet ≡ true → W.contents out.new ≡ W.contents out.old }
 {
     if words.quiet {
         return check_whole(rt, words.trace, reader, &mut sink(), recalls);
@@ -82,7 +92,8 @@ fn check_placed<R: Read + Drop, W: Write>(
     out: &mut W,
     recalls: Recalls,
 ) -> Result<u8, Fault>
-    ensures { IfOk result (λ status. status ≤ 1) }
+    ensures few { IfOk result (λ status. status ≤ 1) }
+    ensures judged { IfOk result (EndsCheck (coming_from_reader (R.remaining reader)) None None) }
 {
     let analysis = analysed(alloc, words.trace, reader, recalls)?;
     let status = status_of(failed(&analysis));
@@ -104,7 +115,8 @@ where
     T: AllocGlobal + Threads + Sync,
     R: Read + Drop,
     W: Write,
-    ensures { IfOk result (λ status. status ≤ 1) }
+    ensures few { IfOk result (λ status. status ≤ 1) }
+    ensures ends { EndsCheck (coming_from_reader (R.remaining reader)) (W.contents out.old) (W.contents out.new) (end_status result) }
 {
     let alloc = rt.alloc();
     let reader = counted_reader(alloc, reader, recalls)?;
@@ -121,7 +133,8 @@ where
 
 // The status of a trace of which an assertion fails or a store is never persisted, or of another one.
 fn status_of(failed: bool) -> u8
-    ensures { result ≤ 1 }
+    ensures status { result ≡ failed_status failed }
+    ensures few { result ≤ 1 }
 {
     if failed { 1 } else { 0 }
 }
@@ -137,7 +150,10 @@ fn analysed<R: Read + Drop>(
     words: TraceWords<'_>,
     reader: R,
     recalls: Recalls,
-) -> Result<Analysis, Fault> {
+) -> Result<Analysis, Fault>
+    ensures right { IfOk result IsAnalysed }
+    ensures whole { IfOk result (λ a. ComesWhole (coming_from_reader (R.remaining reader)) a.trace) }
+{
     let reader = counted_reader(alloc, reader, recalls)?;
     let mut source = TextSource::new(alloc, reader);
     match swept(alloc, &mut source) {

@@ -1,5 +1,7 @@
 //! `fronts`: how many stores of each line are safe at a place.
-ghost use Rattle.std.specs.Prelude.{◌≤◌, IfOk};
+ghost use Rattle.std.specs.Prelude.{◌≡◌, ◌≤◌, None, IfOk};
+ghost use Rattle.pmt_report.specs.Runs.{coming_from_reader};
+ghost use Rattle.pmtrim.specs.Commands.{EndsFronts, end_status};
 
 use crate::faults::run_fault;
 use command_inputs::{
@@ -26,7 +28,8 @@ where
     O: Opener,
     I: Read,
     W: Write,
-    ensures { IfOk result (λ status. status ≤ 1) }
+    ensures few { IfOk result (λ status. status ≤ 1) }
+    ensures ends { words.entry.file ≡ None → EndsFronts words.entry.place (coming_from_reader (I.remaining input.old)) (W.contents out.old) (W.contents out.new) (end_status result) }
 {
     match words.file {
         Some(name) => {
@@ -44,7 +47,8 @@ fn fronts_of<R: Read + Drop, W: Write>(
     out: &mut W,
     recalls: Recalls,
 ) -> Result<u8, Fault>
-    ensures { IfOk result (λ status. status ≤ 1) }
+    ensures few { IfOk result (λ status. status ≤ 1) }
+    ensures ends { EndsFronts words.entry.place (coming_from_reader (R.remaining reader)) (W.contents out.old) (W.contents out.new) (end_status result) }
 {
     let reader = counted_reader(alloc, reader, recalls)?;
     let mut writer = counted(alloc, out, recalls);

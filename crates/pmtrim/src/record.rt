@@ -1,5 +1,8 @@
 //! Recording scripts: each is run in a thread of its own, and the trace that they record is written.
-ghost use Rattle.std.specs.Prelude.{◌≡◌, IfOk};
+ghost use Rattle.std.specs.Prelude.{◌≡◌, length, map, IfOk};
+ghost use Rattle.pmt_model.specs.Formats.{first_version};
+ghost use Rattle.pmt_recorder.specs.Scripts.{IsRecorded};
+ghost use Rattle.pmtrim.specs.Commands.{IsTextOfRecorded, Records};
 
 use command_inputs::{Fault, Input, Opener, Recalls, counted, open_input, reasoned, write_output};
 use pmt_model::{NoGate, Op, OutOfMemory, Trace};
@@ -28,7 +31,8 @@ where
     T: AllocGlobal + Threads + Wait + Sync,
     O: Opener,
     W: Write,
-    ensures { IfOk result (λ status. status ≡ 0) }
+    ensures done { IfOk result (λ status. status ≡ 0) }
+    ensures written { Records (length names.now) (W.contents out.old) (W.contents out.new) result }
 {
     let text = text_of(rt, files, names, recalls)?;
     match write_output(rt.alloc(), out, text.as_slice(), recalls) {
@@ -42,6 +46,7 @@ fn text_of<T, O>(rt: &T, files: &O, names: &[&str], recalls: Recalls) -> Result<
 where
     T: AllocGlobal + Threads + Wait + Sync,
     O: Opener,
+    ensures { IfOk result (λ text. IsTextOfRecorded (length names.now) text.items) }
 {
     let alloc = rt.alloc();
     let scripts = scripts_of(alloc, files, names, recalls)?;
@@ -55,7 +60,9 @@ fn scripts_of<O: Opener>(
     files: &O,
     names: &[&str],
     recalls: Recalls,
-) -> Result<Vec<Vec<Op>>, Fault> {
+) -> Result<Vec<Vec<Op>>, Fault>
+    ensures { IfOk result (λ scripts. length scripts.items ≡ length names.now) }
+{
     let mut scripts = Vec::new(alloc);
     for (place, name) in names.iter().enumerate() {
         let script = read_one(alloc, files, place as u64 + 1, name, recalls)?;
@@ -101,6 +108,7 @@ fn script_fault(script: u64, error: SourceError) -> Fault {
 fn recorded<T>(rt: &T, scripts: Vec<Vec<Op>>) -> Result<Trace, Fault>
 where
     T: AllocGlobal + Threads + Wait + Sync,
+    ensures { IfOk result (IsRecorded first_version (map (λ script. script.items) scripts.items)) }
 {
     let alloc = rt.alloc();
     match record_scripts(rt, alloc, &NoGate, scripts) {

@@ -1,5 +1,7 @@
 //! `trim`: the trace without the flushes and fences that no crash can show.
-ghost use Rattle.std.specs.Prelude.{◌≤◌, IfOk};
+ghost use Rattle.std.specs.Prelude.{◌≡◌, ◌≤◌, None, IfOk};
+ghost use Rattle.pmt_report.specs.Runs.{coming_from_reader};
+ghost use Rattle.pmtrim.specs.Commands.{EndsStream, EndsTrim, end_status, stream_fault};
 
 use crate::faults::run_fault;
 use command_inputs::{
@@ -30,7 +32,8 @@ where
     O: Opener,
     I: Read,
     W: Write,
-    ensures { IfOk result (λ status. status ≤ 1) }
+    ensures few { IfOk result (λ status. status ≤ 1) }
+    ensures ends { words.entry.file ≡ None → EndsTrim (coming_from_reader (I.remaining input.old)) (W.contents out.old) (W.contents out.new) (end_status result) }
 {
     match words.file {
         Some(name) => {
@@ -52,7 +55,8 @@ where
     T: AllocGlobal + Threads + Sync,
     R: Read + Drop,
     W: Write,
-    ensures { IfOk result (λ status. status ≤ 1) }
+    ensures few { IfOk result (λ status. status ≤ 1) }
+    ensures ends { EndsTrim (coming_from_reader (R.remaining reader)) (W.contents out.old) (W.contents out.new) (end_status result) }
 {
     let alloc = rt.alloc();
     let reader = counted_reader(alloc, reader, recalls)?;
@@ -88,7 +92,8 @@ where
     O: Opener,
     I: Read,
     W: Write,
-    ensures { IfOk result (λ status. status ≤ 1) }
+    ensures few { IfOk result (λ status. status ≤ 1) }
+    ensures ends { words.entry.file ≡ None → EndsStream (coming_from_reader (I.remaining input.old)) (W.contents out.old) (W.contents out.new) (end_status result) }
 {
     match words.file {
         Some(name) => {
@@ -106,7 +111,8 @@ fn stream_reader<R: Read + Drop, W: Write>(
     out: &mut W,
     recalls: Recalls,
 ) -> Result<u8, Fault>
-    ensures { IfOk result (λ status. status ≤ 1) }
+    ensures few { IfOk result (λ status. status ≤ 1) }
+    ensures ends { EndsStream (coming_from_reader (R.remaining reader)) (W.contents out.old) (W.contents out.new) (end_status result) }
 {
     let reader = counted_reader(alloc, reader, recalls)?;
     let mut source = TextSource::new(alloc, reader);
@@ -123,7 +129,9 @@ fn stream_reader<R: Read + Drop, W: Write>(
 }
 
 // What a run tells in the place of the stream.
-fn run_error_of(error: StreamError) -> RunError {
+fn run_error_of(error: StreamError) -> RunError
+    ensures { result ≡ stream_fault error }
+{
     match error {
         StreamError::Source(fault) => run_error(fault),
         StreamError::OutOfMemory => RunError::OutOfMemory,

@@ -1,4 +1,4 @@
-use Rattle.std.proofs.Common.{◌≡◌, List, ℕ, take, rules}
+use Rattle.std.proofs.Common.{ℕ, take, rules}
 use Rattle.std.specs.Io.KnownBytes.{Appends}
 use Rattle.pmt_text.specs.Counting.{inner_device}
 use Rattle.command_inputs.specs.Devices.{named_contents, recalled_device}
