@@ -1,5 +1,5 @@
 -- What a command ends with, by the bytes that come to it: the status, and what is out.
-use Rattle.std.specs.Prelude.{◌≡◌, ℕ, ◌⊎◌, Bool, true, false, List, length, take, Option, Result, Ok, Err, MatchResult}
+use Rattle.std.specs.Prelude.{◌≡◌, ℕ, ◌⊎◌, Bool, true, false, List, length, take, Option, None, Result, Ok, Err, MatchResult}
 use Rattle.std.specs.Io.KnownBytes.{Appends, Keeps}
 use Rattle.pmt_model.specs.declared.event.Op.{Op}
 use Rattle.pmt_model.specs.Formats.{first_version}
@@ -14,7 +14,9 @@ use Rattle.pmt_report.specs.declared.fault.RunError.{RunError}
 use Rattle.pmt_report.specs.declared.fault.RunError.TheVariants.{OutOfMemory, Write}
 use Rattle.pmt_report.specs.Checks.{TellsCheck}
 use Rattle.pmt_report.specs.Faults.{run_fault, run_status}
-use Rattle.pmt_report.specs.Runs.{IsAnalysisFault, IsFrontsAt, IsFrontsFault, Runs}
+use Rattle.pmt_report.specs.Runs.{IsAnalysisFault, IsFrontsAt, IsFrontsFault, Runs, coming_from_reader}
+use Rattle.command_requests.specs.declared.request.Request.{Request}
+use Rattle.command_requests.specs.declared.request.Request.TheVariants as asked
 use Rattle.command_inputs.specs.declared.fault.Fault.{Fault}
 use Rattle.command_inputs.specs.Faults.{IsToldAs, fault_status}
 
@@ -71,3 +73,22 @@ pub record IsTextOfRecorded (count : ℕ) (text : List ℕ) : Type 0 where
 abbrev pub Records : ℕ → Option (List ℕ) → Option (List ℕ) → Result ℕ Fault → Type 0
 Records count old new (Ok status) = (status ≡ 0) × ((text : List ℕ) × IsTextOfRecorded count text × Appends old new text)
 Records count old new (Err fault) = Keeps old new ⊎ ((text : List ℕ) × (written : ℕ) × IsTextOfRecorded count text × Appends old new (take written text))
+
+-- ---- Of a request
+
+-- What is out, and the status, where these are the bytes of standard input, which is read. Of other commands nothing is said here.
+abbrev pub Answers : Request → Option (List ℕ) → Option (List ℕ) → Option (List ℕ) → ℕ → Type 0
+Answers (asked.Check words) bytes old new status =
+    words.trace.file ≡ None → words.labels ≡ None → words.limit ≡ None → words.quiet ≡ false → EndsCheck (coming_from_reader bytes) old new status
+Answers (asked.Trim words) bytes old new status = words.file ≡ None → EndsTrim (coming_from_reader bytes) old new status
+Answers (asked.Stream words) bytes old new status = words.file ≡ None → EndsStream (coming_from_reader bytes) old new status
+Answers (asked.Fronts words) bytes old new status = words.file ≡ None → EndsFronts words.place (coming_from_reader bytes) old new status
+Answers (asked.Show text) bytes old new status = Unit {0}
+Answers (asked.Explain words) bytes old new status = Unit {0}
+Answers (asked.Draw drawing) bytes old new status = Unit {0}
+Answers (asked.Image words) bytes old new status = Unit {0}
+Answers (asked.ImageList words) bytes old new status = Unit {0}
+Answers (asked.Slice words) bytes old new status = Unit {0}
+Answers (asked.Stat words) bytes old new status = Unit {0}
+Answers (asked.Parts words) bytes old new status = Unit {0}
+Answers (asked.Record words) bytes old new status = Unit {0}

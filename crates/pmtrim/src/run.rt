@@ -1,5 +1,6 @@
 //! Doing what the words ask for.
 ghost use Rattle.std.specs.Prelude.{◌≤◌, IfOk};
+ghost use Rattle.pmtrim.specs.Commands.{Answers, end_status};
 
 use crate::check::check;
 use crate::fronts::fronts;
@@ -141,7 +142,8 @@ where
     I: Read,
     W: Write,
     P: Watch,
-    ensures { IfOk result (λ status. status ≤ 1) }
+    ensures few { IfOk result (λ status. status ≤ 1) }
+    ensures ends { Answers request.old (I.remaining input.old) (W.contents out.old) (W.contents out.new) (end_status result) }
 {
     let alloc = rt.alloc();
     let recalls = match terminals.faults || request.is_verbose() {
