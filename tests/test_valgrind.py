@@ -170,7 +170,8 @@ class Valgrind(Recorded):
         for events, told in (("1-1", "1 event of 1 thread"), ("1-4", "4 events of 2 threads")):
             trace, _, _, faults = self.record("counts", [program, "threads", pool], "--events", events, accepted=False)
             switches = ", 1 switch between threads" if events == "1-4" else ""
-            self.expect(f"the events {events}, counted", f"pmtrim-record: {told} in {trace}{switches}; not recorded: " in faults, faults)
+            counted = re.search(re.escape(f"pmtrim-record: {told} in {trace}{switches}") + "(, turns ended before .*)?; not recorded: ", faults)
+            self.expect(f"the events {events}, counted", counted is not None, faults)
 
     def test_killed_at_any_moment(self):
         """At any moment: the trace is a true beginning, and has all that came before the last fence."""

@@ -123,6 +123,7 @@ void in_child(ThreadId thread) {
     }
     forget_events();
     leave_trace();
+    options.counts = NULL;
     forget_others();
     only_thread(thread);
     unrecorded_children = 0;

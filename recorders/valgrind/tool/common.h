@@ -6,10 +6,10 @@
 
 #include "bases.h"
 #include "core.h"
+#include "meetings.h"
 #include "output.h"
 #include "pools.h"
 #include "threads.h"
-#include "turns.h"
 
 enum { MOST_PROCESSES = 1024 };
 
@@ -35,7 +35,7 @@ typedef struct {
     Numbers numbers;
     Pools pools;
     Bases bases;
-    Touched touched[MOST_TOUCHED];
+    Meetings meetings;
 } Common;
 
 extern Common *common;

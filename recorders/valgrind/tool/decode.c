@@ -110,6 +110,12 @@ StoreKind decode_store(Addr place, UInt length) {
     return PLAIN_STORE;
 }
 
+Bool is_string_copy(Addr place, UInt length) {
+    const UChar *bytes = (const UChar *)place;
+    UInt prefixes = read_prefixes(bytes, length).length;
+    return prefixes < length && (bytes[prefixes] == 0xa4 || bytes[prefixes] == 0xa5);
+}
+
 const HChar *name_unknown(Addr place) {
     const UChar *bytes = (const UChar *)place;
     Prefixes prefixes = read_prefixes(bytes, LONGEST);

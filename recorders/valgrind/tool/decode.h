@@ -25,6 +25,9 @@ FenceKind decode_fence(Addr place, UInt length);
 typedef enum { PLAIN_STORE, STEP_STORE, STREAMED_STORE, MASKED_STORE } StoreKind;
 StoreKind decode_store(Addr place, UInt length);
 
+/* Whether it is a string instruction that loads what it stores (movs). */
+Bool is_string_copy(Addr place, UInt length);
+
 /* What kind of instruction it is that is not known, for a person. */
 const HChar *name_unknown(Addr place);
 

@@ -8,7 +8,6 @@
 #include "pending.h"
 #include "pools.h"
 #include "threads.h"
-#include "turns.h"
 #include "windows.h"
 
 enum { MOST_CLAIMED = 4096 };
@@ -43,7 +42,6 @@ static void write_store(FollowedStore *store, const HChar *label) {
     follow_store(store);
     mark_stored(store->address, store->length);
     events_passed(store->thread, 1);
-    give_way_at_line(store->address / LINE_BYTES, store->thread);
 }
 
 static void write_line_flush(FlushKind kind, ThreadId thread, ULong address, Addr instruction, const HChar *label) {
@@ -149,7 +147,6 @@ static void pass_over(const FollowedStore *line) {
     follow_store(line);
     mark_stored(line->address, line->length);
     events_passed(line->thread, count);
-    give_way_at_line(line->address / LINE_BYTES, line->thread);
 }
 
 static void note_in_line(const FollowedStore *line, const HChar *label) {

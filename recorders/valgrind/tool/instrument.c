@@ -1,4 +1,5 @@
 #include "instrument.h"
+#include "asking.h"
 #include "calls.h"
 #include "code.h"
 #include "decode.h"
@@ -285,6 +286,7 @@ IRSB *instrument(VgCallbackClosure *closure, IRSB *code, const VexGuestLayout *l
                  const VexArchInfo *machine, IRType guest_word, IRType host_word) {
     /* the core writes the instruction pointer before a block */
     Writer writer = {.code = deepCopyIRSBExceptStmts(code), .layout = layout, .pointer = closure->nraddr};
+    Asking asking = begin_asking(code);
     Flush flush;
     Int at;
     Bool looks = turns_are_drawn() && may_make_event(code);
@@ -293,8 +295,10 @@ IRSB *instrument(VgCallbackClosure *closure, IRSB *code, const VexGuestLayout *l
             add_way_out(&writer, code->stmts[at]->Ist.IMark.addr);
             looks = False;
         }
-        if (code->stmts[at] != NULL && code->stmts[at]->tag != Ist_NoOp)
-            add_statement(&writer, code, code->stmts[at]);
+        if (code->stmts[at] == NULL || code->stmts[at]->tag == Ist_NoOp)
+            continue;
+        add_question(&writer, &asking, code, at);
+        add_statement(&writer, code, code->stmts[at]);
     }
     if ((code->jumpkind == Ijk_NoDecode || code->jumpkind == Ijk_InvalICache) && writer.instruction != 0) {
         if (decode_flush(writer.instruction, &flush))

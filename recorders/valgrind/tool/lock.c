@@ -15,10 +15,12 @@ typedef struct {
     Int descriptor; /* by which it is looked at */
     Where where;
     Bool in_system, ends; /* what the running thread is about to do */
+    Bool gives;           /* it gives way as drawn */
     Bool rests;           /* it was seen to sleep, and nothing came that may have woken it */
     UInt call;
     Sleeping sleeping;
     UInt called; /* a futex: it is to look again */
+    ULong priority; /* where the highest runs; 0: none yet */
 } Runner;
 
 ULong undrawn_turns;
@@ -32,6 +34,7 @@ static Int settled; /* so many of them, the first ones, had come when nobody was
 static Runner *owner;
 /* The thread that has the next turn if it comes back from its call; and who sees to it that somebody has it. */
 static Runner *reserved, *arbiter;
+static ULong last_ordinal, lowest_priority = LOWEST_AT_FIRST;
 
 static void enter(void) {
     while (__atomic_exchange_n(&guard, 1, __ATOMIC_ACQUIRE) != 0)
@@ -60,9 +63,17 @@ static void remove_runner(Int number) {
     VG_(memmove)(&runners[number], &runners[number + 1], (SizeT)(runner_count - number) * sizeof *runners);
 }
 
+/* All that were expected have come, so that their order is known. */
 static void settle(void) {
-    if (expected == 0)
-        settled = runner_count;
+    if (expected > 0)
+        return;
+    for (; settled < runner_count; settled++)
+        if (runners[settled]->priority == 0)
+            runners[settled]->priority = first_priority(++last_ordinal);
+}
+
+static void lose_priority(Runner *one) {
+    one->priority = --lowest_priority;
 }
 
 /* Those that were expected together come in any order: the kernel's numbers tell which was created first. */
@@ -104,8 +115,19 @@ static Runner *first_waiting(void) {
     return NULL;
 }
 
-/* Draws one of those that wait; there is one. */
+static Runner *highest_waiting(void) {
+    Runner *highest = first_waiting();
+    Int number;
+    for (number = 0; number < runner_count; number++)
+        if (runners[number]->where == WAITS && runners[number]->priority > highest->priority)
+            highest = runners[number];
+    return highest;
+}
+
+/* One of those that wait, by the seed; there is one. */
 static Runner *draw_waiting(void) {
+    if (turns_have_priorities())
+        return highest_waiting();
     Int chosen = (Int)draw((ULong)count_waiting()), number;
     for (number = 0; runners[number]->where != WAITS || chosen-- > 0; number++)
         continue;
@@ -274,11 +296,15 @@ void vgModuleLocal_acquire_sched_lock(struct sched_lock *lock) {
     take_process_turn();
 }
 
-/* The running thread goes on if it is drawn. */
+/* The running thread goes on if its slice is over and it is drawn. */
 static void release_to_yield(Runner *self) {
     wait_for_rest(self);
-    self->where = WAITS;
+    lose_priority(self);
+    if (!self->gives || count_waiting() == 0)
+        self->where = WAITS;
     Runner *next = draw_waiting();
+    self->where = WAITS;
+    self->gives = False;
     owner = NULL;
     give_to(next);
     if (next != self)
@@ -297,12 +323,15 @@ static void leave_to_arbiter(Runner *with_turn) {
  * which may give up a lock, the threads that it wakes count as well. */
 static void release_to_system(Runner *self) {
     Bool drawn = turns_are_drawn();
+    if (self->call == __NR_sched_yield)
+        lose_priority(self);
+    self->gives = False;
     self->where = AWAY;
     self->rests = False;
     if (self->call != __NR_futex)
         wait_for_rest(self);
     owner = NULL;
-    if (self->call == __NR_futex && drawn)
+    if ((self->call == __NR_futex && drawn) || turns_have_priorities())
         leave_to_arbiter(NULL);
     else if (self->call != __NR_sched_yield && (!drawn || draw((ULong)count_waiting() + 1) == 0))
         leave_to_arbiter(self);
@@ -371,6 +400,10 @@ void lock_leaves_system(void) {
     owner->in_system = False;
     note_woken(&owner->sleeping);
     leave();
+}
+
+void lock_gives_way(void) {
+    owner->gives = True;
 }
 
 Bool lock_is_shared(void) {

@@ -14,6 +14,9 @@ void lock_loses_thread(void);
 void lock_enters_system(UInt call, const UWord *arguments);
 void lock_leaves_system(void);
 
+/* The running thread gives way as drawn, not since its slice is over: to another one. */
+void lock_gives_way(void);
+
 /* Whether there is another thread. */
 Bool lock_is_shared(void);
 

@@ -9,6 +9,7 @@
 #include "options.h"
 #include "outcome.h"
 #include "output.h"
+#include "parting.h"
 #include "processes.h"
 #include "requests.h"
 #include "summary.h"
@@ -27,6 +28,7 @@ static void begin(void) {
     begin_threads();
     begin_calls();
     begin_windows();
+    begin_parting();
     if (options.parent_trace == NULL)
         take_trace(options.trace);
     has_trace = begin_processes();

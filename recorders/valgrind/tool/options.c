@@ -1,6 +1,6 @@
 #include "options.h"
 
-Options options = {.trace = "run.trace", .labels = True, .callers = 5, .switch_every = 4, .seed = 1};
+Options options = {.trace = "run.trace", .labels = True, .callers = 5, .switch_every = BY_SEED, .seed = 1};
 
 void refuse(const HChar *what, const HChar *name) {
     VG_(printf)("pmtrim-record: %s%s\n", what, name);
@@ -72,12 +72,16 @@ Bool take_option(const HChar *word) {
     } else if VG_BINT_CLO (word, "--first-process", options.first_process, 0, 2147483647) {
     } else if VG_BINT_CLO (word, "--switch-every", options.switch_every, 0, 1000000) {
     } else if VG_BINT_CLO (word, "--seed", options.seed, 0, 1000000) {
+    } else if VG_STR_CLO (word, "--counts", options.counts) {
+    } else if VG_BOOL_CLO (word, "--part-each", options.part_each) {
     } else
         return False;
     return True;
 }
 
 void check_options(void) {
+    if (options.parent_trace != NULL && !options.one_trace)
+        options.counts = NULL;
     Bool window = options.start_after != NULL || options.stop_at != NULL || options.first_event > 0 || options.last_event > 0;
     if (options.one_trace && window)
         refuse("--one-trace has no windows: record all, or each process by itself", "");

@@ -4,7 +4,7 @@
 
 #include "core.h"
 
-enum { MOST_NAMES = 64, MOST_FUNCTIONS = 64, MOST_CALLERS = 12 };
+enum { MOST_NAMES = 64, MOST_FUNCTIONS = 64, MOST_CALLERS = 12, BY_SEED = -1 };
 
 /* A name by which files are pools: a file's own, or how names begin. PREFIX_OR_FILE is a prefix too, of which the last lines say what
  * it took, since a file's own name may have been meant. */
@@ -38,8 +38,10 @@ typedef struct {
     Bool one_trace;    /* all processes write one trace */
     Bool whole;        /* the trace may have more events and labels than pmtrim reads at once */
     Int first_process; /* set with parent_trace: the number of the process in which the program began */
-    Int switch_every; /* a thread gives way after one in so many fences and flushes; 0: never */
+    Int switch_every; /* a turn ends at one in so many places where it may; 0: never */
     Int seed;
+    const HChar *counts; /* a file for what --seeds tells of a run */
+    Bool part_each;    /* a test: the code is left before each access, once */
     const HChar *start_after, *stop_at;
     Int first_event, last_event; /* the window, by numbers of events of the whole run; 0: none */
     PersistFunction persists[MOST_FUNCTIONS];

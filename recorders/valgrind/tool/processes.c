@@ -4,6 +4,7 @@
 #include "events.h"
 #include "options.h"
 #include "output.h"
+#include "parting.h"
 #include "rest.h"
 #include "threads.h"
 #include "turns.h"
@@ -190,8 +191,10 @@ Bool begin_processes(void) {
 }
 
 void child_was_begun(void) {
-    if (options.one_trace)
-        common->begun++;
+    if (!options.one_trace)
+        return;
+    part_from_now_on();
+    common->begun++;
 }
 
 void become_child(void) {
@@ -200,6 +203,7 @@ void become_child(void) {
     take_process_turn();
     common->come++;
     enter();
+    part_from_now_on();
 }
 
 void before_becoming_another(void) {

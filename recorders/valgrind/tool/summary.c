@@ -2,6 +2,7 @@
 #include "bases.h"
 #include "calls.h"
 #include "children.h"
+#include "common.h"
 #include "cut.h"
 #include "events.h"
 #include "ignored.h"
@@ -14,6 +15,7 @@
 #include "processes.h"
 #include "syscalls.h"
 #include "threads.h"
+#include "turns.h"
 #include "windows.h"
 #include "lock.h"
 
@@ -89,10 +91,16 @@ static void add_switches(void) {
         add(", %llu carried into the window", carried_events);
     if (thread_count() > 1)
         add(", %llu switch%s between threads", switches().all, switches().all == 1 ? "" : "es");
+    if (thread_count() > 1 && common->meetings.points > 0)
+        add(", turns ended before %llu of %llu accesses at which threads meet", common->meetings.parted, common->meetings.points);
 }
 
-/* Threads that never met, which no seed changes. */
+/* Threads that never met, which no seed changes; and where none could be stopped between its load and its store. */
 static void print_meeting(void) {
+    if (thread_count() > 1 && common->meetings.points == 0)
+        VG_(printf)("%sno turn could end before an access: %s\n", recorder_name(),
+                    turns_are_drawn() ? "the threads share no line of a pool and no lock, and other memory is no place for it"
+                                      : "with --switch-every 0 threads give way only where they wait");
     if (thread_count() > 1 && switches().back == 0)
         VG_(printf)("%sthe threads ran one after another: none went on between two events of another one, so the trace shows no more than "
                     "one thread would\n",
@@ -237,6 +245,20 @@ static void print_functions(void) {
     }
 }
 
+/* For the program that records several seeds. */
+static void write_counts(void) {
+    HChar line[128];
+    SysRes opened;
+    if (options.counts == NULL)
+        return;
+    opened = VG_(open)(options.counts, VKI_O_WRONLY | VKI_O_CREAT | VKI_O_TRUNC, 0666);
+    if (sr_isError(opened))
+        return;
+    VG_(sprintf)(line, "%llu %llu %llu\n", event_count(), thread_count(), common->meetings.points);
+    VG_(write)((Int)sr_Res(opened), line, (Int)VG_(strlen)(line));
+    VG_(close)((Int)sr_Res(opened));
+}
+
 void print_summary(void) {
     HChar path[TEXT_BYTES / 4];
     settle_events();
@@ -266,6 +288,7 @@ void print_summary(void) {
     add_all_missing();
     add_next(ignored);
     VG_(printf)("%s\n", text);
+    write_counts();
     if (unknown_instruction != 0)
         VG_(printf)("%sthe program came to %s: if it ended there, build it with -march=x86-64-v3, or without that instruction\n",
                     recorder_name(), unknown_text);

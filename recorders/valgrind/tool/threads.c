@@ -1,8 +1,10 @@
 #include "threads.h"
 #include "common.h"
 #include "lock.h"
+#include "meetings.h"
 #include "options.h"
 #include "output.h"
+#include "parting.h"
 #include "pending.h"
 #include "processes.h"
 #include "turns.h"
@@ -105,8 +107,10 @@ void set_open_flush(ThreadId thread, OpenFlush open) {
 
 void thread_created(ThreadId parent, ThreadId child) {
     threads[child] = (Thread){.serial = ++last_serial};
-    if (parent != VG_INVALID_THREADID)
-        lock_expects_thread();
+    if (parent == VG_INVALID_THREADID)
+        return;
+    part_from_now_on();
+    lock_expects_thread();
 }
 
 /* The thread of a number has ended. */
@@ -149,5 +153,5 @@ void only_thread(ThreadId thread) {
         return;
     forget_numbers();
     forget_pending();
-    only_turn();
+    forget_meetings();
 }

@@ -1,5 +1,4 @@
 #include "turns.h"
-#include "common.h"
 #include "lock.h"
 #include "options.h"
 #include "processes.h"
@@ -8,14 +7,35 @@
 enum { FREE_TURNS = 50000, BLOCKS_OF_TURN = 2000 };
 
 UWord gives_way;
+ULong turns_begun;
 
 static ULong random_state;
+
+/* A turn ends at one in so many places where it may. */
+static ULong rate;
+static Bool by_priority;
 
 /* The core counts what is left of a slice as run where a thread gives way. */
 static ULong blocks_skipped, blocks_run, turns_given;
 
+/* Seeds differ in how often a turn ends, as some faults need many short turns and others few long ones. One in four is of the kind that has
+ * priorities (Burckhardt et al., A Randomized Scheduler with Probabilistic Guarantees of Finding Bugs, ASPLOS 2010), where turns that end
+ * are fewer. */
+static void choose_rate(UInt seed) {
+    static const UChar rates[] = {2, 4, 8, 16};
+    UInt group = seed / 4;
+    by_priority = options.switch_every == BY_SEED && seed % 4 == 0 && !options.one_trace;
+    if (options.switch_every != BY_SEED)
+        rate = (ULong)options.switch_every;
+    else if (by_priority)
+        rate = 4ULL << 2 * (group % 4);
+    else
+        rate = rates[(seed - group) % 4];
+}
+
 void begin_turns(void) {
     random_state = ((ULong)options.seed + 1) * 0x9E3779B97F4A7C15ULL | 1;
+    choose_rate((UInt)options.seed);
 }
 
 ULong draw(ULong count) {
@@ -26,7 +46,17 @@ ULong draw(ULong count) {
 }
 
 Bool turns_are_drawn(void) {
-    return options.switch_every > 0;
+    return rate > 0;
+}
+
+Bool turns_have_priorities(void) {
+    return by_priority;
+}
+
+/* Not drawn: threads are created while another one draws. */
+ULong first_priority(ULong ordinal) {
+    ULong mixed = (ordinal + (ULong)options.seed * 1000003) * 0x9E3779B97F4A7C15ULL;
+    return LOWEST_AT_FIRST + ((mixed ^ mixed >> 32) * 0xBF58476D1CE4E5B9ULL >> 33);
 }
 
 static Int rest_of_slice(ThreadId thread) {
@@ -45,38 +75,25 @@ static void end_slice(ThreadId thread) {
     gives_way = 1;
 }
 
-static Bool may_give_way(void) {
+Bool may_give_way(void) {
     return turns_are_drawn() && (lock_is_shared() || has_other_processes());
 }
 
-void give_way(void) {
+Bool give_way(void) {
     ThreadId thread = VG_(get_running_tid)();
     if (!may_give_way() || thread == VG_INVALID_THREADID)
-        return;
-    if (turns_given > FREE_TURNS + blocks_run / BLOCKS_OF_TURN || draw((ULong)options.switch_every) > 0)
-        return;
+        return False;
+    if (turns_given > FREE_TURNS + blocks_run / BLOCKS_OF_TURN || draw(rate) > 0)
+        return False;
     turns_given++;
+    lock_gives_way();
     end_slice(thread);
-}
-
-void give_way_at_line(ULong line, ThreadId thread) {
-    if (!may_give_way())
-        return;
-    Touched *place = &common->touched[line * 0x9E3779B97F4A7C15ULL >> 50];
-    UInt process = (UInt)own_process();
-    Bool other = place->thread != thread || place->process != process;
-    Bool shared = place->line == line && place->thread != VG_INVALID_THREADID && other;
-    *place = (Touched){line, process, thread};
-    if (shared)
-        give_way();
+    return True;
 }
 
 void turn_starts(ThreadId thread, ULong blocks) {
     gives_way = 0;
+    turns_begun++;
     blocks_run = blocks - blocks_skipped;
     lock_leaves_system();
-}
-
-void only_turn(void) {
-    VG_(memset)(common->touched, 0, sizeof common->touched);
 }
