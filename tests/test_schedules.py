@@ -1,18 +1,17 @@
-"""pmtrim-record: a turn ends before an access, so that seeds find races natively rare; programs with locks stay right, and code that is left
-and begun again does what it did."""
+"""pmtrim-record: a turn ends before an access, so that seeds find races natively rare; programs with locks stay right, code that is left and
+begun again does what it did, and nothing waits for ever without a word."""
 import os
 import re
 import resource
+import signal
 import subprocess
+import time
 
 from checks import Checks, add_tests, need_command
-from program import TOP, NotThere, find
+from program import TOP
+from recorded import FOLDER, RECORD, Recorded, build_recorder, events_of, run
 
-FOLDER = TOP / "recorders/valgrind"
-RECORD = FOLDER / "pmtrim-record"
-RACES = TOP / "tests/lib/schedules/races.c"
-COMPILER = ["gcc", "-O1", "-g", "-mclwb", "-Wall", "-Wextra", "-Wno-unused-parameter", "-Werror", "-pthread", "-I", FOLDER]
-UNDRAWN = "turns that were drawn without the seed"
+SOURCES = TOP / "tests/lib/schedules"
 # The program's kind, how often, how many seeds and how many of these find it at least. Natively none does at so few turns.
 FOUND = {
     "lost": ("lost", 100, 5, 4),
@@ -20,6 +19,8 @@ FOUND = {
     "stack": ("stack", 50, 8, 2),
     "copied": ("copied", 20, 3, 2),
 }
+# What is written, line by line, and to which addresses of the pool is stored.
+ENDING = {"spawn": ("spawn", ["one 0 3", ""], ["0x0"]), "file": ("file", ["has it", ""], ["0x40", "0x80"])}
 TABLE = "create table t(a,b); with recursive c(x) as (select 1 union all select x+1 from c where x<99) insert into t select x, x*1.5 from c; "
 EACH = {
     "ls": ["ls", "-l", "/usr/lib"],
@@ -29,81 +30,42 @@ EACH = {
 }
 
 
-def run(words, **options):
-    return subprocess.run([str(word) for word in words], stdin=subprocess.DEVNULL, capture_output=True, text=True, errors="backslashreplace", timeout=600, **options)
-
-
 def setUpModule():
-    find()
-    built = run(["bash", "-c", ". tests/lib/shared.sh && build_recorder"], cwd=TOP)
-    if built.returncode != 0:
-        raise NotThere(built.stdout)
+    build_recorder()
 
 
-def events_of(trace):
-    return [line.split(" ") for line in trace.read_text().splitlines()[1:]]
-
-
-def rebuilt(trace, length):
-    """A file of zeros with the trace's stores."""
-    memory = bytearray(length)
-    for fields in events_of(trace):
-        if fields[0] == "store":
-            address, data = int(fields[2], 16), bytes.fromhex(fields[3])
-            memory[address : address + len(data)] = data
-    return bytes(memory)
-
-
-class Recorded(Checks):
-    """Runs of a program, each with a pool and a trace of its own."""
+class Raced(Recorded):
+    """Runs of races.c."""
 
     def setUp(self):
-        self.folder = self.new_folder()
-        self.pool = self.folder / "pool"
-        self.races = self.folder / "races"
-        built = run([*COMPILER, RACES, "-o", self.races])
-        self.expect("races.c is built", built.returncode == 0, built.stderr)
-
-    def record(self, words, *options):
-        """What a run by the seed alone wrote, and its trace: where a thread gets no processor for ten seconds it is run again."""
-        trace = self.folder / "trace"
-        for _ in range(5):
-            done = run([RECORD, "--trace", trace, "--labels", "no", *options, *words])
-            if UNDRAWN not in done.stderr:
-                break
-        return trace, done
+        super().setUp()
+        self.races = self.build(SOURCES / "races.c")
 
     def race(self, kind, times, seed, *options):
-        return self.record([self.races, kind, self.pool, times], "--seed", seed, *options)
-
-    def is_file(self, name, trace):
-        last = self.pool.read_bytes()
-        self.expect(f"{name}: the pool, rebuilt", any(last) and rebuilt(trace, len(last)) == last, "it differs")
+        return self.record("--labels", "no", "--seed", seed, *options, self.races, kind, self.pool, times)
 
 
-class Races(Recorded):
+class Races(Raced):
     """Seeds find what natively is rare."""
 
     def finds(self, row):
         kind, times, seeds, wanted = row
-        found = [seed for seed in range(1, seeds + 1) if int(self.race(kind, times, seed)[1].stdout) > 0]
+        found = [seed for seed in range(1, seeds + 1) if int(self.race(kind, times, seed).stdout) > 0]
         self.expect(f"{kind}: seeds that find it", len(found) >= wanted, found)
 
     def test_one_seed(self):
         """The same seed gives the same run, and its trace has each store."""
         for kind, times, seed in (("lost", 60, 1), ("stack", 20, 4), ("crowd", 6, 2)):
-            first = self.race(kind, times, seed)
-            self.is_file(kind, first[0])
-            text = first[0].read_text()
-            again = self.race(kind, times, seed)
-            self.expect(f"{kind}: one seed, one run", (text, first[1].stdout) == (again[0].read_text(), again[1].stdout), "they differ")
+            runs = [(self.race(kind, times, seed).stdout, self.trace.read_text()) for _ in range(2)]
+            self.is_file(kind)
+            self.expect(f"{kind}: one seed, one run", runs[0] == runs[1], "they differ")
 
     def test_without(self):
         """With --switch-every 0 a thread goes on until it waits, and that is told; the rate may be chosen."""
-        done = self.race("lost", 100, 1, "--switch-every", 0)[1]
+        done = self.race("lost", 100, 1, "--switch-every", 0)
         self.expect_equal("no turn ends", done.stdout, "0\n")
         self.expect("no turn ends: told", "no turn could end before an access: with --switch-every 0" in done.stderr, done.stderr)
-        done = self.race("lost", 100, 1, "--switch-every", 1)[1]
+        done = self.race("lost", 100, 1, "--switch-every", 1)
         ended, met = map(int, re.search(r"turns ended before (\d+) of (\d+) accesses", done.stderr).groups())
         self.expect("each turn ends", ended == met > 100, done.stderr)
 
@@ -116,27 +78,25 @@ class Races(Recorded):
         self.expect_equal("one thread", told, "pmtrim-record: the program has one thread in the trace: a seed changes nothing")
 
 
-class Right(Recorded):
+class Right(Raced):
     """What is right stays right, by every kind of schedule."""
 
     def keeps_right(self, kind):
         for seed in (1, 2, 4, 12):
-            trace, done = self.race(kind, 30 if kind == "right" else 8, seed)
+            done = self.race(kind, 30 if kind == "right" else 8, seed)
             self.expect(f"{kind} by seed {seed}", done.stdout == "0\n" and "turns ended before" in done.stderr, done.stdout + done.stderr)
-            self.is_file(f"{kind} by seed {seed}", trace)
-            report = run([self.program, "check", trace]).stdout
+            self.is_file(f"{kind} by seed {seed}")
+            report = run([self.program, "check", self.trace]).stdout
             verdicts = re.findall(r"^(?:persist|ordered) \d+ (\w+)$", report, re.M)
             self.expect(f"{kind} by seed {seed}: claims", len(verdicts) > 50 and set(verdicts) == {"pass"}, report[-200:])
 
     def test_each_store(self):
         """Every kind of store, by threads that are stopped at each access where they meet: the replayed trace is the file."""
-        stores = self.folder / "stores"
-        built = run([*COMPILER, "-mavx2", TOP / "tests/lib/valgrind/stores.c", "-o", stores])
-        self.expect("stores.c is built", built.returncode == 0, built.stderr)
+        stores = self.build(TOP / "tests/lib/valgrind/stores.c", "-mavx2")
         for threads in (2, 4):
-            trace, done = self.record([stores, self.pool, threads], "--switch-every", 1, "--pool", self.pool)
+            done = self.record("--switch-every", 1, "--pool", self.pool, stores, self.pool, threads)
             self.expect(f"stores of {threads}", done.returncode == 0 and "not recorded" not in done.stderr, done.stderr)
-            self.is_file(f"stores of {threads}", trace)
+            self.is_file(f"stores of {threads}")
 
 
 class Each(Checks):
@@ -164,17 +124,86 @@ class Cost(Recorded):
 
     def test_asking(self):
         """Against the same where no turn ends, so that nothing is asked. One pair of five is enough: other programs slow one of two runs."""
-        loads = self.folder / "loads"
-        built = run([*COMPILER, TOP / "tests/lib/schedules/loads.c", "-o", loads])
-        self.expect("loads.c is built", built.returncode == 0, built.stderr)
+        loads = self.build(SOURCES / "loads.c")
         for threads, most in ((1, 1.15), (2, 2.2)):
-            words = [RECORD, "--trace", self.folder / "trace", "--switch-every"]
+            words = [RECORD, "--trace", self.trace, "--switch-every"]
             found = []
             while len(found) < 5 and (not found or min(found) >= most):
                 found.append(self.seconds([*words, 4, loads, self.pool, threads]) / self.seconds([*words, 0, loads, self.pool, threads]))
             self.expect(f"{threads} of threads", min(found) < most, found)
 
 
+class Waits(Recorded):
+    """Where Valgrind does not see that a process waits, the others run; where one keeps its turn and sleeps that is told, and SIGTERM ends it."""
+
+    def setUp(self):
+        super().setUp()
+        self.waits = self.build(SOURCES / "waits.c")
+
+    def words(self, kind, *options):
+        return [str(word) for word in (RECORD, *options, "--trace", self.trace, self.waits, kind, self.pool)]
+
+    def ends_at_once(self, row):
+        kind, written, stores = row
+        done = run(self.words(kind, "--one-trace"))
+        self.expect_equal(kind, (done.returncode, done.stdout.split("\n")), (0, written))
+        events = events_of(self.trace)
+        self.expect_equal(f"{kind}: stores", sorted(fields[2] for fields in events if fields[0] == "store"), stores)
+
+    def told(self, path, seconds=20):
+        """The line of a sleeper, where it comes in time."""
+        until = time.monotonic() + seconds
+        while time.monotonic() < until and "sleeps in the system" not in path.read_text():
+            time.sleep(0.2)
+        return path.read_text()
+
+    def test_thread(self):
+        """Within one process Valgrind waits for ever."""
+        faults = self.folder / "faults"
+        with open(faults, "w") as stderr, subprocess.Popen(self.words("threads"), stdout=subprocess.DEVNULL, stderr=stderr) as running:
+            told = self.told(faults, 120)
+            running.send_signal(signal.SIGTERM)
+            self.expect_equal("a thread that sleeps: SIGTERM", running.wait(timeout=120), -signal.SIGKILL)
+        self.expect("a thread that sleeps: told", re.search(r"threads wait for their turn: thread \d+ has it, and sleeps", told), told)
+
+    def test_process(self):
+        """A process that is stopped, in its turn: it has one now and then."""
+        faults = self.folder / "faults"
+        with open(faults, "w") as stderr, subprocess.Popen(self.words("stopped", "--one-trace"), stdout=subprocess.PIPE, stderr=stderr) as running:
+            child, told = int(running.stdout.readline()), ""
+            for _ in range(10):
+                os.kill(child, signal.SIGSTOP)
+                if "sleeps" in (told := self.told(faults)):
+                    break
+                os.kill(child, signal.SIGCONT)
+                time.sleep(0.5)
+            running.send_signal(signal.SIGTERM)
+            self.expect_equal("a process that sleeps: SIGTERM", running.wait(timeout=120), -signal.SIGTERM)
+        self.expect("a process that sleeps: told", f"process {child} has it, and sleeps in the system" in told, told)
+        self.expect("a process that sleeps: it is ended", "1 process was killed while it ran" in faults.read_text(), faults.read_text())
+
+
+class Children(Recorded):
+    """The trace of a process that another one begins or becomes begins with what was not safe, so that a claim there has its verdict."""
+
+    def claims(self, kind):
+        program, wanted = self.build(SOURCES / "hands_on.c"), "pass" if kind == "saved" else "fail"
+        done = self.record("--trace-children", "yes", "--base", program, kind, self.pool)
+        traces = [path for path in self.folder.iterdir() if re.fullmatch(r"trace(\.\d+)*", path.name)]
+        reports = [run([self.program, "check", path]).stdout for path in traces]
+        found = [verdict for report in reports for verdict in re.findall(r"^persist \d+ (\w+)$", report, re.M)]
+        self.expect_equal(f"{kind}: the claim", found, [wanted])
+        told = next(told for told, report in zip(traces, reports) if "\npersist" in report)
+        carried = [fields[2:] for fields in events_of(told) if fields[0] == "store"][: wanted == "fail"]
+        self.expect_equal(f"{kind}: what it begins with", carried, [["0x64", "09"]] * (wanted == "fail"))
+        base = told.with_name(f"{told.name}.base").read_bytes()
+        self.expect_equal(f"{kind}: its base", base[100], 9 * (wanted == "pass"))
+        left = [path.name for path in self.folder.iterdir() if path.name.endswith(".carried")]
+        self.expect_equal(f"{kind}: nothing else is left", (done.returncode, left), (0, []))
+
+
+add_tests(Waits, Waits.ends_at_once, ENDING)
+add_tests(Children, Children.claims, {kind: kind for kind in ("fork", "vfork", "exec", "spawn", "shell", "twice", "flushed", "saved")})
 add_tests(Races, Races.finds, FOUND)
 add_tests(Right, Right.keeps_right, {"right": "right", "crowd": "crowd"})
 add_tests(Each, Each.is_the_same, EACH)

@@ -2,10 +2,12 @@
 #include "bases.h"
 #include "calls.h"
 #include "events.h"
+#include "inherited.h"
 #include "options.h"
 #include "others.h"
 #include "outcome.h"
 #include "output.h"
+#include "pending.h"
 #include "pools.h"
 #include "processes.h"
 #include "summary.h"
@@ -74,6 +76,8 @@ void execution_failed(void) {
     take_process_turn();
     if (told_of_execution)
         VG_(printf)("pmtrim-record: it did not become another one; %s goes on\n", trace_path());
+    if (told_of_execution)
+        take_back();
     told_of_execution = False;
 }
 
@@ -94,6 +98,8 @@ void before_execution(const HChar *path) {
     else
         VG_(printf)("pmtrim-record: the program becomes another one, which is not recorded; --trace-children yes records it\n");
     print_summary();
+    if (options.children)
+        hand_on();
     write_becoming();
 }
 
@@ -127,11 +133,13 @@ void in_child(ThreadId thread) {
     forget_others();
     only_thread(thread);
     unrecorded_children = 0;
-    if (!options.children)
+    if (!options.children) {
+        forget_pending();
         return;
+    }
     recording = RECORDING;
-    begin_windows();
     notes = (Notes){0};
     open_trace(path_for_child(absolute(options.parent_trace != NULL ? options.parent_trace : options.trace)));
     begin_bases();
+    begin_as_child(thread);
 }

@@ -1,4 +1,5 @@
 #include "lock.h"
+#include "options.h"
 #include "processes.h"
 #include "rest.h"
 #include "turns.h"
@@ -45,14 +46,14 @@ static void leave(void) {
     __atomic_store_n(&guard, 0, __ATOMIC_RELEASE);
 }
 
-static void futex(UInt *word, Int operation, UInt value) {
-    VG_(do_syscall)(__NR_futex, (RegWord)word, (RegWord)operation, value, 0, 0, 0, 0, 0);
+static SysRes futex(UInt *word, Int operation, UInt value, const struct vki_timespec *most) {
+    return VG_(do_syscall)(__NR_futex, (RegWord)word, (RegWord)operation, value, (RegWord)most, 0, 0, 0, 0);
 }
 
 static void call_up(Runner *one) {
     enum { WAKE = 1 | 128 };
     __atomic_store_n(&one->called, 1, __ATOMIC_RELEASE);
-    futex(&one->called, WAKE, 1);
+    futex(&one->called, WAKE, 1, NULL);
 }
 
 static void remove_runner(Int number) {
@@ -204,10 +205,31 @@ static void decide(Runner *self) {
         call_up(next);
 }
 
+/* The thread that has the turn had it for long. If it sleeps, in a call that Valgrind takes for one that does not wait, that is told, once;
+ * and all is ended if it is to end, as nothing of the program would take the signal. Of one trace processes.h sees to that. */
+static void look_at_owner(void) {
+    static Bool told;
+    const Runner *had = owner;
+    Int thread = had == NULL ? 0 : had->kernel_thread, process = VG_(getpid)();
+    if (options.one_trace || thread == 0 || !stays_asleep(process, thread) || owner != had)
+        return;
+    if (!told)
+        VG_(printf)("pmtrim-record: threads wait for their turn: thread %d has it, and sleeps in the system; SIGTERM ends that\n", thread);
+    told = True;
+    if (is_to_end(process))
+        VG_(kill)(process, VKI_SIGKILL);
+}
+
 static void sleep_until_called(Runner *self) {
-    enum { WAIT = 0 | 128 };
-    while (__atomic_load_n(&self->called, __ATOMIC_ACQUIRE) == 0)
-        futex(&self->called, WAIT, 0);
+    enum { WAIT = 0 | 128, TIMED_OUT = 110 };
+    struct vki_timespec most = {LONG_WAIT, 0};
+    while (__atomic_load_n(&self->called, __ATOMIC_ACQUIRE) == 0) {
+        SysRes done = futex(&self->called, WAIT, 0, &most);
+        if (sr_isError(done) && sr_Err(done) == TIMED_OUT) {
+            look_at_owner();
+            most.tv_sec = NEXT_LOOK;
+        }
+    }
 }
 
 static void note_woken(const Sleeping *by) {

@@ -5,6 +5,7 @@
 #include "core.h"
 #include "descriptors.h"
 #include "events.h"
+#include "inherited.h"
 #include "instrument.h"
 #include "options.h"
 #include "outcome.h"
@@ -29,6 +30,7 @@ static void begin(void) {
     begin_calls();
     begin_windows();
     begin_parting();
+    begin_inherited();
     if (options.parent_trace == NULL)
         take_trace(options.trace);
     has_trace = begin_processes();

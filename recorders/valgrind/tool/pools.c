@@ -1,6 +1,7 @@
 #include "pools.h"
 #include "common.h"
 #include "descriptors.h"
+#include "inherited.h"
 #include "options.h"
 #include "others.h"
 
@@ -190,6 +191,7 @@ static Int add_pool(Int descriptor, const struct vg_stat *status, const HChar *n
     learn_by(number, descriptor);
     common->pools.count++;
     pool_may_be_cut(added);
+    inherit(added);
     return number;
 }
 

@@ -10,7 +10,7 @@
 #include "turns.h"
 
 /* Of futex, and of the word that it takes: the number of the owner, and that an owner died. */
-enum { LOCK_PI = 6, UNLOCK_PI = 7, OWNER = 0x3fffffff, OWNER_DIED = 0x40000000 };
+enum { LOCK_PI = 6, UNLOCK_PI = 7, OWNER = 0x3fffffff, OWNER_DIED = 0x40000000, TIMED_OUT = 110 };
 
 /* How many milliseconds until a process counts as slow. */
 enum { LONGEST_WAIT = 2000 };
@@ -21,8 +21,38 @@ static UInt never_came; /* children that were begun, for which too long was wait
 
 /* The kernel hands a lock of this kind to the one that has waited longest, and after an owner's death to the next one too. Where nobody
  * waited then, the word keeps the dead one's number, and the kernel says that there is no such thread. */
-static SysRes call_kernel(Int operation) {
-    return VG_(do_syscall)(__NR_futex, (RegWord)&common->turn, (RegWord)operation, 0, 0, 0, 0, 0, 0);
+static SysRes call_kernel(Int operation, const struct vki_timespec *until) {
+    return VG_(do_syscall)(__NR_futex, (RegWord)&common->turn, (RegWord)operation, 0, (RegWord)until, 0, 0, 0, 0);
+}
+
+static SysRes wait_for_lock(Int seconds) {
+    enum { WALL_CLOCK = 0 };
+    struct vki_timespec until = {0};
+    VG_(do_syscall)(__NR_clock_gettime, WALL_CLOCK, (RegWord)&until, 0, 0, 0, 0, 0, 0);
+    until.tv_sec += seconds;
+    return call_kernel(LOCK_PI, &until);
+}
+
+/* The process whose thread has the turn, by the kernel's number; 0 if it is not known. */
+static Int process_with(Int thread) {
+    Int place;
+    for (place = 0; place < common->places; place++)
+        if (common->processes[place].used && common->processes[place].thread == thread)
+            return common->processes[place].process;
+    return 0;
+}
+
+/* The one that has the turn had it for long. If it sleeps that is told, once; and it is ended if the run is to end. */
+static void look_at_holder(Bool *told) {
+    Int thread = (Int)(__atomic_load_n(&common->turn, __ATOMIC_ACQUIRE) & OWNER), process = process_with(thread);
+    if (process == 0 || !stays_asleep(process, thread))
+        return;
+    if (!*told)
+        VG_(printf)("pmtrim-record: process %d waits for its turn: process %d has it, and sleeps in the system; SIGTERM to one of them ends that\n",
+                    VG_(getpid)(), process);
+    *told = True;
+    if (is_to_end(process) || is_to_end(VG_(getpid)()))
+        VG_(kill)(process, VKI_SIGKILL);
 }
 
 static Bool take_word(UInt from, UInt to) {
@@ -32,13 +62,16 @@ static Bool take_word(UInt from, UInt to) {
 /* Whether its owner before died while it had it. */
 static Bool take_lock(void) {
     UInt own_number = (UInt)VG_(gettid)();
+    Bool told = False;
     while (!take_word(0, own_number)) {
         UInt seen = __atomic_load_n(&common->turn, __ATOMIC_ACQUIRE);
         if ((seen & OWNER) == own_number)
             return True;
-        SysRes done = call_kernel(LOCK_PI);
+        SysRes done = wait_for_lock(told ? NEXT_LOOK : LONG_WAIT);
         if (!sr_isError(done))
             break;
+        if (sr_Err(done) == TIMED_OUT)
+            look_at_holder(&told);
         if (sr_Err(done) == VKI_ESRCH && seen != 0 && take_word(seen, own_number))
             return True;
     }
@@ -61,7 +94,7 @@ static void count_as_slow(void) {
     Int place;
     for (place = 0; place < common->places; place++)
         common->processes[place].slow = !common->processes[place].here;
-    never_came = common->begun - common->come;
+    never_came = common->begun > common->come ? common->begun - common->come : 0;
 }
 
 static void wait_for_others(void) {
@@ -126,7 +159,13 @@ void give_up_process_turn(void) {
     has_turn = False;
     set_here(False);
     if (!take_word((UInt)VG_(gettid)(), 0))
-        call_kernel(UNLOCK_PI);
+        call_kernel(UNLOCK_PI, NULL);
+}
+
+void before_waiting_call(void) {
+    give_up_process_turn();
+    if (own >= 0 && options.one_trace)
+        common->processes[own].slow = True;
 }
 
 /* Counted anew, as one that died may have been about to. */
@@ -193,6 +232,7 @@ Bool begin_processes(void) {
 void child_was_begun(void) {
     if (!options.one_trace)
         return;
+    take_process_turn();
     part_from_now_on();
     common->begun++;
 }

@@ -10,6 +10,9 @@
 void take_process_turn(void);
 void give_up_process_turn(void);
 
+/* The running thread goes into a call in which the kernel may hold it for long, though the core counts it as one that does not wait. */
+void before_waiting_call(void);
+
 /* The first process makes what is in common, and a program that one of the processes became finds it. Both have the turn then. False where
  * the first process has ended: the program is none of the trace. */
 Bool begin_processes(void);

@@ -4,15 +4,21 @@
 /* MOST_NUMBERS is the most that Linux can be told (PID_MAX_LIMIT). */
 enum { PATH_BYTES = 64, MOST_NUMBERS = 1 << 22 };
 
+/* The beginning of a file of the kernel; empty where there is none. */
+static void read_text(const HChar *path, HChar *text, Int room) {
+    SysRes opened = VG_(open)(path, VKI_O_RDONLY, 0);
+    Int length = -1;
+    if (!sr_isError(opened)) {
+        length = VG_(read)((Int)sr_Res(opened), text, room - 1);
+        VG_(close)((Int)sr_Res(opened));
+    }
+    text[length < 0 ? 0 : length] = '\0';
+}
+
 /* After how many numbers of threads the kernel begins anew. */
 static Int read_numbers(void) {
     HChar text[16];
-    SysRes opened = VG_(open)("/proc/sys/kernel/pid_max", VKI_O_RDONLY, 0);
-    if (sr_isError(opened))
-        return MOST_NUMBERS;
-    Int length = VG_(read)((Int)sr_Res(opened), text, sizeof text - 1);
-    VG_(close)((Int)sr_Res(opened));
-    text[length < 0 ? 0 : length] = '\0';
+    read_text("/proc/sys/kernel/pid_max", text, sizeof text);
     Int numbers = (Int)VG_(strtoll10)(text, NULL);
     return numbers > 0 ? numbers : MOST_NUMBERS;
 }
@@ -63,6 +69,27 @@ void pause_between_looks(Int looks) {
         VG_(do_syscall)(__NR_sched_yield, 0, 0, 0, 0, 0, 0, 0, 0);
     else
         VG_(do_syscall)(__NR_nanosleep, (RegWord)&shortly, 0, 0, 0, 0, 0, 0, 0);
+}
+
+Bool stays_asleep(Int kernel_process, Int kernel_thread) {
+    enum { LOOKS = 20 };
+    Int looks;
+    for (looks = 0; looks < LOOKS; looks++) {
+        if (doing_in(kernel_process, kernel_thread) != SLEEPS_THERE)
+            return False;
+        pause_between_looks(QUICK_LOOKS);
+    }
+    return True;
+}
+
+Bool is_to_end(Int kernel_process) {
+    enum { HANGUP = 1 << 0, INTERRUPT = 1 << 1, TERMINATE = 1 << 14 };
+    static const HChar word[] = "\nShdPnd:\t";
+    HChar path[PATH_BYTES], text[4096];
+    VG_(sprintf)(path, "/proc/%d/status", kernel_process);
+    read_text(path, text, sizeof text);
+    const HChar *found = VG_(strstr)(text, word);
+    return found != NULL && (VG_(strtoll16)(found + sizeof word - 1, NULL) & (HANGUP | INTERRUPT | TERMINATE)) != 0;
 }
 
 static Sleeping sleeping_on_futex(const UWord *arguments) {

@@ -21,6 +21,13 @@ Doing doing(Int descriptor, Int kernel_thread);
 enum { QUICK_LOOKS = 200 };
 void pause_between_looks(Int looks);
 
+/* Whether it sleeps at each of some looks; and whether a signal waits for its process that is to end that (SIGHUP, SIGINT, SIGTERM). */
+Bool stays_asleep(Int kernel_process, Int kernel_thread);
+Bool is_to_end(Int kernel_process);
+
+/* After how many seconds of waiting for one that has the turn it is looked at; and again after a shorter time. */
+enum { LONG_WAIT = 10, NEXT_LOOK = 1 };
+
 /* A call of a thread, as far as sleeping and waking go. */
 typedef struct {
     enum { WAKES_NOBODY, WAKES_WORD, WAKES_SLEEPERS, WAKES_ANYBODY } wakes;

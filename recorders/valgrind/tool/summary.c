@@ -10,6 +10,7 @@
 #include "options.h"
 #include "others.h"
 #include "output.h"
+#include "parting.h"
 #include "pending.h"
 #include "pools.h"
 #include "processes.h"
@@ -97,11 +98,11 @@ static void add_switches(void) {
 
 /* Threads that never met, which no seed changes; and where none could be stopped between its load and its store. */
 static void print_meeting(void) {
-    if (thread_count() > 1 && common->meetings.points == 0)
+    if (thread_count() > 1 && common->meetings.points == 0 && (asks || !turns_are_drawn()))
         VG_(printf)("%sno turn could end before an access: %s\n", recorder_name(),
                     turns_are_drawn() ? "the threads share no line of a pool and no lock, and other memory is no place for it"
                                       : "with --switch-every 0 threads give way only where they wait");
-    if (thread_count() > 1 && switches().back == 0)
+    if (thread_count() > 1 && switches().all > 0 && switches().back == 0)
         VG_(printf)("%sthe threads ran one after another: none went on between two events of another one, so the trace shows no more than "
                     "one thread would\n",
                     recorder_name());

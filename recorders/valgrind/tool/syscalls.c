@@ -10,6 +10,7 @@
 #include "output.h"
 #include "pools.h"
 #include "lock.h"
+#include "processes.h"
 #include "robust.h"
 
 enum { KEEPS_OLD_MAPPING = 4, PAGE_BITS = 12, SYNCHRONOUS = 4 };
@@ -18,6 +19,13 @@ SystemCounts system_counts;
 
 /* The call that each thread is in. */
 static UInt *current;
+
+/* Whether the kernel may hold the thread in a call that Valgrind takes for one that does not wait: for a child of vfork, as system and
+ * posix_spawn have one, and for a lock of an open file. */
+static Bool waits_unseen(UInt call, const UWord *arguments) {
+    enum { CLONE_VFORK = 0x4000, OFD_SETLKW = 38 };
+    return (call == __NR_clone && (arguments[0] & CLONE_VFORK)) || (call == __NR_fcntl && arguments[1] == OFD_SETLKW);
+}
 
 void before_call(ThreadId thread, UInt call, UWord *arguments, UInt count) {
     if (current == NULL)
@@ -35,6 +43,8 @@ void before_call(ThreadId thread, UInt call, UWord *arguments, UInt count) {
     if (call == __NR_execve || call == __NR_execveat)
         before_execution(call == __NR_execve ? (const HChar *)arguments[0] : NULL);
     lock_enters_system(call, arguments);
+    if (waits_unseen(call, arguments))
+        before_waiting_call();
 }
 
 void written_by_system(CorePart part, ThreadId thread, Addr start, SizeT length) {
@@ -139,6 +149,7 @@ static void count_unseen(UInt call, const UWord *arguments) {
 }
 
 void after_call(ThreadId thread, UInt call, UWord *arguments, UInt count, SysRes result) {
+    take_process_turn();
     lock_leaves_system();
     if (sr_isError(result)) {
         forget_emptied(thread);

@@ -148,10 +148,12 @@ void forget_numbers(void) {
 }
 
 void only_thread(ThreadId thread) {
+    ThreadId any;
     VG_(memset)(threads, 0, VG_N_THREADS * sizeof *threads);
     if (options.one_trace)
         return;
+    for (any = 0; any < VG_N_THREADS; any++)
+        leave_flushes_open(any, -1);
     forget_numbers();
-    forget_pending();
     forget_meetings();
 }

@@ -16,6 +16,7 @@ static ULong passed;
 static Bool was_opened, carrying;
 
 static void all_was_outside(void);
+static void mark_outside(ULong address, SizeT length);
 
 void begin_windows(void) {
     passed = carried_events = 0;
@@ -111,6 +112,48 @@ void open_window(ThreadId thread) {
     carrying = False;
 }
 
+void begin_as_child(ThreadId thread) {
+    begin_windows();
+    unwrite_pending();
+    if (recording == RECORDING) {
+        recording = BEFORE_WINDOW;
+        open_window(thread);
+    }
+}
+
+/* Begins an event of a thread that is gone. */
+static Bool begin_inherited_event(const HChar *word, ULong address) {
+    was_opened = True;
+    if (recording != RECORDING || !begin_event_by(word, number_of_ended()))
+        return False;
+    put_address(address);
+    carried_events++;
+    return True;
+}
+
+static void end_inherited_event(void) {
+    end_event(options.labels ? "before this program was run" : NULL);
+}
+
+void carry_store(ULong address, const UChar *bytes, const UChar *old, SizeT length) {
+    FollowedStore store = {.thread = VG_INVALID_THREADID, .address = address, .bytes = bytes, .old = old, .length = length};
+    store.written = begin_inherited_event("store", address);
+    if (store.written) {
+        put_bytes(bytes, length);
+        end_inherited_event();
+    }
+    follow_store(&store);
+    mark_outside(address, length);
+}
+
+void carry_flush(ULong line) {
+    Bool written = begin_inherited_event("clwb", line);
+    if (written)
+        end_inherited_event();
+    follow_flush(VG_INVALID_THREADID, line, 0, written);
+    leave_flushes_open(VG_INVALID_THREADID, written ? number_of_ended() : -1);
+}
+
 void begin_or_go_on(ThreadId thread) {
     if (options.one_trace) {
         refused_windows++;
@@ -182,6 +225,13 @@ void mark_stored(ULong address, SizeT length) {
         marks->inside[at] |= mask;
     else if (was_opened)
         marks->inside[at] &= ~mask;
+}
+
+static void mark_outside(ULong address, SizeT length) {
+    ULong mask = ~0ULL >> (64 - length) << (address % 64);
+    Marks *marks = chunk_at(&stored, address, True);
+    marks->ever[word_of(address)] |= mask;
+    marks->inside[word_of(address)] &= ~mask;
 }
 
 static void was_outside(ULong address, void *chunk) {

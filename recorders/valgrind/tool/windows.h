@@ -10,6 +10,13 @@ void begin_windows(void);
 /* A closed window opens. What is not safe then is carried into it: the pending stores and the open flushes. */
 void open_window(ThreadId thread);
 
+/* The process is a copy of its parent: its trace begins with what is not safe. */
+void begin_as_child(ThreadId thread);
+
+/* A store or flush of a program that became this one, which was not safe when it did. */
+void carry_store(ULong address, const UChar *bytes, const UChar *old, SizeT length);
+void carry_flush(ULong line);
+
 /* One trace of several processes has no windows: what asks for them is counted, for the last line. */
 extern ULong refused_windows;
 
