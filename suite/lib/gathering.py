@@ -15,7 +15,7 @@ from runs import TRACE, Run, label_texts
 
 HOW = re.compile(rb"(running|status|signal|became) *(\d*)(?: pools (\d))?")
 HOW_BYTES = 32  # of the first line of a file TRACE.process
-BESIDE = re.compile(r"\.(?:labels|cut|process|told|ignore|functions|shared|(?:base|origin)\d*)$")
+BESIDE = re.compile(r"\.(?:labels|cut|missing|carried|process|told|ignore|functions|shared|(?:base|origin)\d*)$")
 NEXT = re.compile("; next: .*")  # the command to type next names the trace where it stood
 PROCESS = re.compile(r"\.(\d+)(?:\.\d+)?$")
 ENDS = {"running": "not known: it was killed, or ended by _exit, or became another program", "became": "became another program"}

@@ -29,7 +29,7 @@ class Processes(Recorded):
         trace, status, _, faults = self.record(f"processes.{kind}.{children}", words, "--one-trace", *options, **more)
         self.expect(f"{kind} of {children}: its status", status == 0, faults)
         beside = sorted(path.name for path in self.folder.iterdir() if path.name.startswith(f"{trace.name}."))
-        self.expect(f"{kind} of {children}: nothing else is left", set(beside) <= {f"{trace.name}.labels", f"{trace.name}.cut"}, beside)
+        self.expect(f"{kind} of {children}: nothing else is left", set(beside) <= {f"{trace.name}.{ending}" for ending in ("labels", "cut", "missing")}, beside)
         return trace, events_of(trace), faults
 
     def is_file(self, what, trace):

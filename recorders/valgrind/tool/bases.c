@@ -88,7 +88,12 @@ static Bool is_zero(const UChar *bytes, SizeT length) {
 static Bool copy(const Pool *pool, Int descriptor, ULong length, const HChar **why) {
     static UChar bytes[PIECE];
     ULong at;
-    for (at = 0; at < length; at += PIECE) {
+    if (length > 0 && read_pool(pool, 0, bytes, 1) == 0) {
+        *why = "the pool can't be read";
+        return False;
+    }
+    for (at = pool_data_from(pool, 0); at < length; at = pool_data_from(pool, at + PIECE)) {
+        at = at / PIECE * PIECE;
         SizeT piece = length - at < PIECE ? (SizeT)(length - at) : PIECE;
         if (read_pool(pool, at, bytes, piece) < piece) {
             *why = "the pool can't be read";
@@ -113,11 +118,17 @@ static Bool write_origin(const Pool *pool, const HChar **why) {
     return done;
 }
 
+/* Of what has an address in the trace. */
+static ULong base_bytes(const Pool *pool) {
+    ULong length = pool_bytes(pool);
+    return length < POOL_SPAN ? length : POOL_SPAN;
+}
+
 /* Makes the base as long as the pool's file is: whole at first, and later by zeros, since what is written there is in the trace. */
 static void write_base(const Pool *pool, BaseState state) {
     const HChar *why = "";
     Int number = pool_number(pool);
-    ULong length = pool_bytes(pool);
+    ULong length = base_bytes(pool);
     Int descriptor = open_beside("base", number, 0, &why);
     Bool done = descriptor >= 0 && set_length(descriptor, length, &why);
     if (done && state == NO_BASE)
@@ -138,7 +149,7 @@ void keep_bases(void) {
     if (!options.base || recording != RECORDING)
         return;
     for (number = 0; (pool = pool_numbered(number)) != NULL; number++)
-        if (*state_of(number) == NO_BASE || (*state_of(number) == KEPT && pool_bytes(pool) > common->bases.of_pools[number].length))
+        if (*state_of(number) == NO_BASE || (*state_of(number) == KEPT && base_bytes(pool) > common->bases.of_pools[number].length))
             write_base(pool, *state_of(number));
 }
 

@@ -1,8 +1,10 @@
 #include "children.h"
 #include "bases.h"
 #include "calls.h"
+#include "cut.h"
 #include "events.h"
 #include "inherited.h"
+#include "missing.h"
 #include "options.h"
 #include "others.h"
 #include "outcome.h"
@@ -72,16 +74,33 @@ static Bool can_execute(const HChar *path) {
            !sr_isError(VG_(do_syscall)(__NR_access, (RegWord)path, MAY_EXECUTE, 0, 0, 0, 0, 0, 0));
 }
 
+/* The tool runs programs of 64 bits alone: Valgrind ends others, and says less. */
+static void tell_of_32_bits(const HChar *path) {
+    enum { CLASS_AT = 4, OF_32_BITS = 1 };
+    UChar head[CLASS_AT + 1] = {0};
+    SysRes opened = VG_(open)(path, VKI_O_RDONLY, 0);
+    if (sr_isError(opened))
+        return;
+    VG_(read)((Int)sr_Res(opened), head, sizeof head);
+    VG_(close)((Int)sr_Res(opened));
+    if (VG_(memcmp)(head, "\x7f" "ELF", CLASS_AT) == 0 && head[CLASS_AT] == OF_32_BITS)
+        VG_(printf)("pmtrim-record: %s is a program of 32 bits, which can't be recorded, and does not run\n", path);
+}
+
 void execution_failed(void) {
     take_process_turn();
-    if (told_of_execution)
+    if (told_of_execution) {
         VG_(printf)("pmtrim-record: it did not become another one; %s goes on\n", trace_path());
-    if (told_of_execution)
         take_back();
+        begin_cut(trace_place());
+        forget_missing();
+    }
     told_of_execution = False;
 }
 
 void before_execution(const HChar *path) {
+    if (options.children && path != NULL && can_execute(path))
+        tell_of_32_bits(path);
     if (options.one_trace) {
         before_becoming_another();
         return;

@@ -94,6 +94,8 @@ void make_common(const HChar *trace) {
     SysRes made = open_file(VKI_O_CREAT | VKI_O_EXCL);
     if (!sr_isError(made))
         made = take_room(0, PAGES_BEGIN);
+    if (sr_isError(made) && descriptor >= 0)
+        VG_(unlink)(path);
     if (sr_isError(made))
         fail(made);
     map_common();

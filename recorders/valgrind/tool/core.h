@@ -35,4 +35,8 @@ extern SysRes VG_(pread)(Int descriptor, void *buffer, Int count, OffT offset);
 extern Int VG_(fcntl)(Int descriptor, Int command, Addr argument);
 extern SysRes VG_(do_syscall)(UWord number, RegWord, RegWord, RegWord, RegWord, RegWord, RegWord, RegWord, RegWord);
 
+/* Which code is looked at before it runs, whether it has changed. As pub_core_options.h has it. */
+enum { CHECK_ALL_CODE = 2 };
+extern Int VG_(clo_smc_check);
+
 #endif

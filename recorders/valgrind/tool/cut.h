@@ -8,8 +8,11 @@
 /* The trace of which the file speaks, by its name from the root on: the program may go to another folder. */
 void name_cut(const HChar *trace);
 
-/* A trace of this name begins: the file of an earlier one goes. */
+/* A trace of this name begins: till its end the file says that it has none yet, for a run that is killed. */
 void begin_cut(const HChar *trace);
+
+/* The trace has all that it was to have. */
+void end_cut(void);
 
 /* Says after which event the trace ends, and why. No file stands beside a device. */
 void write_cut(ULong events, const HChar *why);

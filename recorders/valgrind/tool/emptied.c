@@ -49,6 +49,10 @@ void find_emptied(ThreadId thread, const Pool *pool, ULong from, ULong end) {
     ULong at = from / WORD * WORD;
     forget_emptied(thread);
     emptied->pool = pool;
+    if (end > POOL_SPAN && from < end) {
+        pool_counts.too_far += pool_data_from(pool, POOL_SPAN) > POOL_SPAN;
+        end = POOL_SPAN;
+    }
     for (at = pool_data_from(pool, at); at < end; at = pool_data_from(pool, at + PIECE)) {
         SizeT place;
         at = at / WORD * WORD;

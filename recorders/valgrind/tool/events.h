@@ -13,6 +13,7 @@ typedef struct {
     const HChar *first_other_flush;    /* its label */
     ULong claims_outside, kernel_unknown;
     ULong set_aside; /* claims of order that a window can't judge */
+    ULong frames;     /* of signal handlers, on a stack in a pool */
     ULong behind_end; /* stores to a file's last page, behind its end */
 } Notes;
 

@@ -27,6 +27,7 @@ void note_system_store(ThreadId thread, Addr start, SizeT length) {
 /* Notes what stands in the file now. */
 static void note_file(ThreadId thread, const Pool *pool, ULong offset, ULong length) {
     UChar bytes[PIECE];
+    length = with_addresses(offset, length);
     while (length > 0) {
         SizeT piece = length < PIECE ? (SizeT)length : PIECE;
         if (read_pool(pool, offset, bytes, piece) < piece) {
@@ -45,16 +46,39 @@ static ULong begun_at(Int descriptor, ULong length) {
     return (ULong)VG_(lseek)(descriptor, 0, VKI_SEEK_CUR) - length;
 }
 
+/* Whether a descriptor is of the memory of a process (/proc/self/mem), and of this one. */
+static Bool is_memory(Int descriptor, Bool *own) {
+    struct vg_stat status;
+    HChar name[MOST_PATH_BYTES], wanted[PATH_BYTES];
+    if (VG_(fstat)(descriptor, &status) != 0 || status.size != 0 || !VKI_S_ISREG(status.mode) || !read_name(descriptor, name))
+        return False;
+    VG_(sprintf)(wanted, "/proc/%d/mem", VG_(getpid)());
+    *own = VG_(strcmp)(name, wanted) == 0;
+    return VG_(strncmp)(name, "/proc/", 6) == 0 && VG_(strcmp)(name + VG_(strlen)(name) - 4, "/mem") == 0;
+}
+
+static void written_to_memory(ThreadId thread, Int descriptor, Addr start, ULong length) {
+    Bool own;
+    if (!is_memory(descriptor, &own))
+        return;
+    if (own)
+        note_system_store(thread, start, length);
+    else
+        system_counts.unseen_writes++;
+}
+
 static void written(ThreadId thread, Int descriptor, ULong offset, ULong length, UWord write_flags) {
     const Pool *pool = pool_of(descriptor);
+    if (pool == NULL && length > 0)
+        written_to_memory(thread, descriptor, offset, length);
     if (pool == NULL || length == 0)
         return;
     Int flags = VG_(fcntl)(descriptor, VKI_F_GETFL, 0);
     if ((write_flags & APPENDS) || ((flags & VKI_O_APPEND) && !(write_flags & NEVER_APPENDS)))
         offset = pool_bytes(pool) - length;
     note_file(thread, pool, offset, length);
-    if ((write_flags & THROUGH) || (flags & WRITE_THROUGH))
-        note_synchronized(thread, pool_address(pool, offset), pool_address(pool, offset + length));
+    if (((write_flags & THROUGH) || (flags & WRITE_THROUGH)) && offset < POOL_SPAN)
+        note_synchronized(thread, pool_address(pool, offset), pool_address(pool, offset + length < POOL_SPAN ? offset + length : POOL_SPAN));
 }
 
 /* The place behind a range that a call has copied to: its own pointer, or the descriptor's position. */

@@ -21,8 +21,9 @@ static Inherited *all;
 static SizeT count;
 
 static void name_file(HChar *path) {
-    VG_(snprintf)(path, PATH_BYTES, "%s.%d.carried", absolute(options.parent_trace != NULL ? options.parent_trace : options.trace),
-                  VG_(getpid)());
+    VG_(snprintf)
+    (path, PATH_BYTES, "%s.%d.carried", absolute(options.parent_trace != NULL ? options.parent_trace : options.trace),
+     VG_(getpid)());
 }
 
 static Inherited of_carried(const Carried *one) {

@@ -2,6 +2,7 @@
 #include "children.h"
 #include "common.h"
 #include "cut.h"
+#include "missing.h"
 #include "options.h"
 #include "outcome.h"
 #include "threads.h"
@@ -124,6 +125,7 @@ void open_trace(const HChar *path) {
     open_files(path, VKI_O_CREAT | VKI_O_TRUNC);
     cut(TRACE_FILE, 0);
     begin_cut(place_of_trace);
+    forget_missing();
     begin_outcome(place_of_trace);
     put(TRACE_FILE, HEAD);
     keep_progress();
@@ -207,9 +209,9 @@ static void give_up(Int done, const HChar *why) {
     end_trace(why);
 }
 
-static void end_labels(const HChar *why) {
+static void end_labels(ULong event, const HChar *why) {
     if (event_count() > 0)
-        VG_(printf)("pmtrim-record: %s.labels ends before event %llu: %s\n", path_of_trace, event_count(), why);
+        VG_(printf)("pmtrim-record: %s.labels ends before event %llu: %s\n", path_of_trace, event, why);
     common->trace.labels_ended = True;
 }
 
@@ -225,7 +227,7 @@ static void write_labels(void) {
     why = write_text(LABEL_FILE, &done);
     if (why != NULL) {
         cut(LABEL_FILE, common->trace.now.written[LABEL_FILE]);
-        end_labels(why);
+        end_labels((ULong)VG_(strtoll10)(common->trace.text[LABEL_FILE], NULL), why);
     }
     is_written(LABEL_FILE);
 }
@@ -234,7 +236,7 @@ static void put_label(const HChar *label) {
     ULong bytes = common->trace.now.written[LABEL_FILE] + (ULong)common->trace.now.waiting[LABEL_FILE];
     if (bytes + LONGEST_LINE > MOST_LABEL_BYTES && !options.whole) {
         write_labels();
-        end_labels("pmtrim reads at most 67108864 bytes of labels (--callers 0 makes them shorter)");
+        end_labels(event_count(), "pmtrim reads at most 67108864 bytes of labels (--callers 0 makes them shorter)");
         return;
     }
     set_end(LABEL_FILE, spell(end_of(LABEL_FILE), event_count(), 10));

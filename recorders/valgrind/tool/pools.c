@@ -128,6 +128,8 @@ static Int word_for(const HChar *name, Bool mapped) {
 
 /* Without names each regular file that is mapped and may be written counts as a pool. */
 static Bool is_pool_file(Int descriptor, const struct vg_stat *status, const HChar *name, Bool mapped) {
+    if (VKI_S_ISDIR(status->mode))
+        return False;
     if (options.name_count == 0)
         return VKI_S_ISREG(status->mode) && (VG_(fcntl)(descriptor, VKI_F_GETFL, 0) & VKI_O_ACCMODE) == VKI_O_RDWR;
     return word_for(name, mapped) >= 0;
@@ -226,9 +228,7 @@ void mapped(Addr start, SizeT length, Int flags, Int descriptor, ULong offset) {
         any_mapped = any_mapped || pool >= 0;
         if (pool < 0)
             other_is_mapped(descriptor);
-        if (pool >= 0 && (offset >= POOL_SPAN || length > POOL_SPAN - offset))
-            pool_counts.too_far++;
-        else if (pool >= 0)
+        if (pool >= 0 && with_addresses(offset, length) == length)
             add((Mapping){start, length, pool, offset});
     }
     find_bounds();
@@ -246,7 +246,7 @@ void moved(Addr from, SizeT old_length, Addr to, SizeT new_length, Bool stays) {
     if (old_length > 0 && !stays)
         take_out(from, whole_pages(old_length));
     take_out(to, whole_pages(new_length));
-    if (in_pool)
+    if (in_pool && with_addresses(address % POOL_SPAN, whole_pages(new_length)) == whole_pages(new_length))
         add((Mapping){to, whole_pages(new_length), (Int)(address / POOL_SPAN), address % POOL_SPAN});
     find_bounds();
 }
@@ -275,6 +275,12 @@ Int pool_number(const Pool *pool) {
 
 ULong pool_address(const Pool *pool, ULong offset) {
     return (ULong)pool_number(pool) * POOL_SPAN + offset;
+}
+
+ULong with_addresses(ULong offset, ULong length) {
+    ULong room = offset < POOL_SPAN ? POOL_SPAN - offset : 0;
+    pool_counts.too_far += length > room;
+    return length < room ? length : room;
 }
 
 const HChar *pool_name(const Pool *pool) {

@@ -59,6 +59,9 @@ Pool *pool_numbered(Int number);
 Int pool_number(const Pool *pool);
 
 ULong pool_address(const Pool *pool, ULong offset);
+
+/* How many bytes of a range of a pool's file have an address: those from POOL_SPAN on have none, which is counted. */
+ULong with_addresses(ULong offset, ULong length);
 const HChar *pool_name(const Pool *pool);
 
 /* The full name of a descriptor's file, of at most MOST_PATH_BYTES with its end; whether there is one. */

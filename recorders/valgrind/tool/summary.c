@@ -1,5 +1,4 @@
 #include "summary.h"
-#include "bases.h"
 #include "calls.h"
 #include "children.h"
 #include "common.h"
@@ -7,18 +6,16 @@
 #include "events.h"
 #include "ignored.h"
 #include "instrument.h"
+#include "missing.h"
 #include "options.h"
 #include "others.h"
 #include "output.h"
 #include "parting.h"
-#include "pending.h"
 #include "pools.h"
 #include "processes.h"
-#include "syscalls.h"
 #include "threads.h"
 #include "turns.h"
 #include "windows.h"
-#include "lock.h"
 
 enum { TEXT_BYTES = 4000 };
 
@@ -34,53 +31,17 @@ static void add(const HChar *format, ...) {
         length = TEXT_BYTES - 1;
 }
 
-/* Whether the line has begun to say what is missing. */
-static Bool any_missing;
-
-/* A thing that is not in the trace, with how often it came. */
-static void add_missing(ULong count, const HChar *what) {
-    if (count == 0)
-        return;
-    add("; %s%s: %llu", any_missing ? "" : "not recorded: ", what, count);
-    any_missing = True;
-}
-
-/* A log, or a database that is not mapped: the pool may be the lesser part of what is saved. */
-static void add_others(void) {
-    HChar names[NAMES_BYTES];
-    ULong saves = saves_of_others();
-    if (!had_pools() || name_others(WRITTEN_AND_SAVED, names) == 0)
-        return;
-    add("; %swrites to %s, synced %llu time%s (see --file)", any_missing ? "" : "not recorded: ", names, saves, saves == 1 ? "" : "s");
-    any_missing = True;
-}
-
-static void add_all_missing(void) {
-    any_missing = False;
-    add_missing(event_counts.before, "events before the window");
-    add_missing(event_counts.after, "events after the window");
-    add_missing(event_counts.missing, "events after the end of the trace");
-    add_missing(notes.other_flushes, "flushes of memory that is in no pool");
-    if (notes.other_flushes > 0 && notes.first_other_flush != NULL)
-        add(", the first at %s", notes.first_other_flush);
-    add_missing(notes.behind_end, "stores behind the end of a pool's file");
-    add_missing(notes.locked, "locked instructions as fences after flushes (--locked-fences notes them)");
-    add_missing(notes.failed_masks, "masks of masked stores, which are noted whole");
-    add_missing(notes.set_aside, "claims that a range is saved before one that was stored to before the window");
-    add_missing(window_was_opened() ? unfollowed_stores : 0, "stores before the window that may not be safe, behind 4000000 others");
-    add_missing(unrestored_stores, "stores before the window that the base has, though they are not safe");
-    add_missing(notes.claims_outside, "claims on memory that is in no pool");
-    add_missing(call_counts.unreturned, "calls of a named function that did not return");
-    add_missing(system_counts.unseen_writes, "calls of the system that may have written to a pool's file");
-    add_missing(system_counts.cut_files, "calls of the system that emptied or moved bytes of a pool's file");
-    add_missing(pool_counts.too_many, "mappings of a 257th pool or a further one");
-    add_missing(pool_counts.too_far, "mappings of bytes of a file from 1 TiB on");
-    add_missing(pool_counts.unreadable, "pools whose file can't be read back after a write by a descriptor");
-    add_missing(lost_bases, "bases of pools");
-    add_missing(unrecorded_children, "child processes (--trace-children yes records them)");
-    add_missing(undrawn_turns, "turns that were drawn without the seed");
-    add_missing(refused_windows, "windows that the program asked for, which one trace of several processes has not");
-    add_others();
+/* What is not in the trace, for the line and for the file beside the trace; whether there is such. */
+static Bool add_missing(void) {
+    Missing all[MOST_MISSING];
+    Int count = find_missing(all), at;
+    for (at = 0; at < count; at++) {
+        add("; %s%s", at == 0 ? "not recorded: " : "", all[at].what);
+        if (all[at].more != NULL)
+            add(": %llu%s", all[at].count, all[at].more);
+    }
+    write_missing(all, count);
+    return count > 0;
 }
 
 static const HChar *recorder_name(void) {
@@ -146,7 +107,7 @@ static void say_cut(void) {
     else if (recording == AFTER_WINDOW && event_counts.after > 0)
         write_cut(event_count(), "the window was closed here, and events came after it");
     else
-        begin_cut(trace_place());
+        end_cut();
 }
 
 /* A name as a word for the shell, with an ending. */
@@ -286,7 +247,7 @@ void print_summary(void) {
         add(" of %u process%s", process_count(), process_count() == 1 ? "" : "es");
     add(" in %s", trace_path());
     add_switches();
-    add_all_missing();
+    add_missing();
     add_next(ignored);
     VG_(printf)("%s\n", text);
     write_counts();
@@ -298,8 +259,7 @@ void print_summary(void) {
 void print_summary_of_process(void) {
     length = 0;
     add("%sprocess %d", recorder_name(), VG_(getpid)());
-    add_all_missing();
-    if (any_missing)
+    if (add_missing())
         VG_(printf)("%s\n", text);
     print_functions();
 }

@@ -51,8 +51,20 @@ void written_by_system(CorePart part, ThreadId thread, Addr start, SizeT length)
     /* Valgrind says of each futex call that it writes the word; those that do are noted after the call */
     if ((part != Vg_CoreSysCall && part != Vg_CoreSignal) || current == NULL || current[thread] == __NR_futex)
         return;
-    if (start - pools_begin < pools_span)
-        note_system_store(thread, start, length);
+    if (start - pools_begin >= pools_span)
+        return;
+    note_system_store(thread, start, length);
+    ULong address;
+    SizeT room;
+    notes.frames += part == Vg_CoreSignal && find_in_pools(start, &address, &room);
+}
+
+/* Code that is stored to: Valgrind looks whether it has changed where it is in no file, unless it is told to look at all. */
+static void look_at_code(UInt call, const UWord *arguments, Addr start) {
+    ULong address;
+    SizeT room;
+    if ((call == __NR_mmap || call == __NR_mprotect) && (arguments[2] & VKI_PROT_EXEC) && find_in_pools(start, &address, &room))
+        VG_(clo_smc_check) = CHECK_ALL_CODE;
 }
 
 static void after_mapping(UInt call, const UWord *arguments, Addr result) {
@@ -158,6 +170,7 @@ void after_call(ThreadId thread, UInt call, UWord *arguments, UInt count, SysRes
         return;
     }
     after_mapping(call, arguments, (Addr)sr_Res(result));
+    look_at_code(call, arguments, call == __NR_mmap ? (Addr)sr_Res(result) : arguments[0]);
     after_file_call(thread, call, arguments, (ULong)sr_Res(result));
     after_synchronizing(thread, call, arguments);
     after_answering(thread, call, arguments);
