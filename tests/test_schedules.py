@@ -70,12 +70,26 @@ class Races(Raced):
         self.expect("each turn ends", ended == met > 100, done.stderr)
 
     def test_seeds(self):
-        """The last line of several seeds says how many accesses could be parted, or that there is one thread."""
-        record = lambda *words: run([RECORD, "--seeds", 2, "--trace", self.folder / "some", *words]).stderr.splitlines()[-1]
-        told = record(self.races, "lost", self.pool, 20)
+        """The last lines of several seeds: a table, how many accesses could be parted, or that there is one thread, and what to type next."""
+        record = lambda *words: run([RECORD, "--seeds", 2, "--trace", self.folder / "some", *words]).stderr.splitlines()[-5:]
+        head, first, second, told, after = record(self.races, "right", self.pool, 4)
+        self.expect_equal("the table", head.split(), ["seed", "events", "meetings", "failed"])
+        rows = [line.split() for line in (first, second)]
+        self.expect("its rows", [row[0] for row in rows] == ["1", "2"] and all(int(row[2]) > 20 and row[3] == "0" for row in rows), rows)
         self.expect("two seeds", re.fullmatch(r"pmtrim-record: turns could end before an access in 2 of 2 seeds, before \d+ to \d+ accesses", told), told)
-        told = record("--file", self.pool, "sh", "-c", f"echo > {self.pool}")
+        words = f"--labels {self.folder / 'some'}.1.labels {self.folder / 'some'}.1"
+        self.expect_equal("the next command", after, f"pmtrim-record: next: pmtrim explain {words}")
+        told = record("--file", self.pool, "sh", "-c", f"echo > {self.pool}")[3]
         self.expect_equal("one thread", told, "pmtrim-record: the program has one thread in the trace: a seed changes nothing")
+
+    def test_explained(self):
+        """Recorded and explained in one step; of seeds it is the first in which a claim fails, and its status is that of the answer."""
+        done = run([RECORD, "--explain", "--trace", self.folder / "one", self.races, "right", self.pool, 4])
+        self.expect("one run", done.returncode == 1 and "assertions that a crash can violate: 0 of" in done.stdout, done.stdout[:300] + done.stderr)
+        done = run([RECORD, "--seeds", 3, "--explain", "--trace", self.folder / "some", self.races, "claim", self.pool, 40])
+        found = re.search(r"claims fail by seed (\d); next: pmtrim explain .*/some\.(\d)\n", done.stderr)
+        self.expect("seeds: the first that fails", found and found[1] == found[2] and done.returncode == 1, done.stderr)
+        self.expect("seeds: its explanation", "a crash can violate" in done.stdout and "isPersist at races.c:" in done.stdout, done.stdout[:300])
 
 
 class Right(Raced):

@@ -329,7 +329,7 @@ class Valgrind(Recorded):
 
     def test_yes_or_no(self):
         shown = re.findall(r"^  (--[a-z-]+)(\[=yes\|no\]| yes\|no)", run([RECORD, "--help"])[1], re.M)
-        self.expect("options that take yes or no", len(shown) == 10, shown)
+        self.expect("options that take yes or no", len(shown) == 11, shown)
         for name, word in shown:
             bare = word.startswith("[")
             for words, wanted, fault in (

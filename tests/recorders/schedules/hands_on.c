@@ -1,6 +1,8 @@
-/* A process stores to a pool, and one that it begins or becomes claims that all is saved: hands_on KIND POOL. Kinds: fork, vfork, exec, spawn,
- * shell, twice (a child's child). `flushed` is as fork, but the line is flushed and not fenced before, and the child fences; `saved` as exec,
- * but all is saved before. `claim` is what the others become. */
+/* A process stores to a pool, and one that it begins or becomes claims that all
+ * is saved: hands_on KIND POOL. Kinds: fork, vfork, exec, spawn, shell, twice
+ * (a child's child). `flushed` is as fork, but the line is flushed and not
+ * fenced before, and the child fences; `saved` as exec, but all is saved
+ * before. `claim` is what the others become. */
 #define _GNU_SOURCE
 #include "pmtrim_record.h"
 #include <fcntl.h>

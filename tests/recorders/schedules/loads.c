@@ -1,4 +1,5 @@
-/* Threads that load lines of their own from a pool all the time, and store now and then: loads POOL THREADS. */
+/* Threads that load lines of their own from a pool all the time, and store now
+ * and then: loads POOL THREADS. */
 #include <fcntl.h>
 #include <pthread.h>
 #include <stdlib.h>

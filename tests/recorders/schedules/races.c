@@ -1,11 +1,15 @@
-/* Threads that race, each natively wrong, and ones that don't: races KIND POOL TIMES. What went wrong is counted and written.
+/* Threads that race, each natively wrong, and ones that don't: races KIND POOL
+ * TIMES. What went wrong is counted and written.
  *
- *     lost    two threads append to a log without a lock: how many places were given twice
- *     reader  the mark is stored before its record, and a thread that only loads looks between: how often it saw no record
- *     stack   nodes are taken off a stack by compare and swap without a count (ABA): how often one was in two hands
- *     copied  as lost, but records are copied by rep movsb: how many records have bytes of both threads
- *     right   a lock of each kind, and a flag that is handed on; each claim holds: how many sums are wrong
- *     crowd   sixteen threads that send each other signals, under one lock: how many sums are wrong
+ *     lost    two threads append to a log without a lock: how many places were
+ * given twice reader  the mark is stored before its record, and a thread that
+ * only loads looks between: how often it saw no record stack   nodes are taken
+ * off a stack by compare and swap without a count (ABA): how often one was in
+ * two hands claim   as reader, and the reader claims that a mark which it saw
+ * is saved copied  as lost, but records are copied by rep movsb: how many
+ * records have bytes of both threads right   a lock of each kind, and a flag
+ * that is handed on; each claim holds: how many sums are wrong crowd   sixteen
+ * threads that send each other signals, under one lock: how many sums are wrong
  */
 #define _GNU_SOURCE
 #include "pmtrim_record.h"
@@ -37,7 +41,7 @@ typedef volatile struct {
 } Pool;
 
 static Pool *pool;
-static long times, wrong, passed_on;
+static long times, wrong, passed_on, claims;
 static pthread_mutex_t lock = PTHREAD_MUTEX_INITIALIZER;
 static pthread_rwlock_t shared = PTHREAD_RWLOCK_INITIALIZER;
 static pthread_spinlock_t spun;
@@ -77,6 +81,8 @@ static void *publish_or_look(void *self) {
             long mark = pool->mark, record = pool->record;
             is_wrong(record < mark);
             pool->seen = mark;
+            if (claims)
+                PMTRIM_IS_PERSIST(&pool->mark, sizeof pool->mark);
             save(&pool->seen, sizeof pool->seen);
         }
     }
@@ -203,11 +209,12 @@ int main(int count, char **words) {
         return 2;
     pool = mmap(NULL, LENGTH, PROT_READ | PROT_WRITE, MAP_SHARED, file, 0);
     times = atol(words[3]);
+    claims = strcmp(words[1], "claim") == 0;
     pthread_spin_init(&spun, PTHREAD_PROCESS_PRIVATE);
     signal(SIGUSR1, interrupt);
     if (strcmp(words[1], "lost") == 0)
         run(2, append);
-    else if (strcmp(words[1], "reader") == 0)
+    else if (strcmp(words[1], "reader") == 0 || strcmp(words[1], "claim") == 0)
         run(2, publish_or_look);
     else if (strcmp(words[1], "copied") == 0)
         run(2, copy);

@@ -1,10 +1,12 @@
-/* Processes and threads that wait where Valgrind does not see that they do: waits KIND POOL. All end by themselves, natively at once, but for
- * `stopped`, and for `threads` under Valgrind.
+/* Processes and threads that wait where Valgrind does not see that they do:
+ * waits KIND POOL. All end by themselves, natively at once, but for `stopped`,
+ * and for `threads` under Valgrind.
  *
- *     spawn    popen, posix_spawn and system, each of which waits for its child by vfork
- *     file     for a lock of an open file (F_OFD_SETLKW) that a child has
- *     stopped  a child runs on and on, until a signal stops it; its parent writes its number, and stores on and on
- *     threads  for a lock of an open file that another thread has
+ *     spawn    popen, posix_spawn and system, each of which waits for its child
+ * by vfork file     for a lock of an open file (F_OFD_SETLKW) that a child has
+ *     stopped  a child runs on and on, until a signal stops it; its parent
+ * writes its number, and stores on and on threads  for a lock of an open file
+ * that another thread has
  */
 #define _GNU_SOURCE
 #include <fcntl.h>
@@ -46,7 +48,8 @@ static void spawn(void) {
     printf("%.3s %d %d\n", line, WEXITSTATUS(status), WEXITSTATUS(system("exit 3")));
 }
 
-/* Takes the lock by an opening of its own, says so, and keeps it for a while. */
+/* Takes the lock by an opening of its own, says so, and keeps it for a while.
+ */
 static void *hold(void *unused) {
     struct flock lock = {.l_type = F_WRLCK};
     int file = open(path, O_RDWR);
