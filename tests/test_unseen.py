@@ -1,4 +1,5 @@
 """pmtrim-record: what it does not record is counted, and stands beside the trace for good; what it records has its own addresses."""
+import os
 import re
 import signal
 
@@ -68,3 +69,17 @@ class Unseen(Recorded):
         self.expect_equal("killed: a store that may be saved later", told.returncode, 0)
         self.record(self.unseen, "memory", self.pool)
         self.expect_equal("a trace of that name that ends", self.beside("cut"), None)
+
+
+class Told(Recorded):
+    """The last line of pmtrace.h says where the trace is, and what to type next, unless that is not wanted."""
+
+    def test_pmtrace(self):
+        program = self.build(TOP / "recorders/examples/list.c", "-I", TOP / "recorders/c")
+        known = {name: value for name, value in os.environ.items() if not name.startswith("PMTRACE")}
+        told = run([program], cwd=self.folder, env=known).stderr
+        events = len(events_of(self.folder / "list.trace"))
+        line = f"pmtrace: {events} events in list.trace; next: pmtrim explain --labels list.trace.labels list.trace\n"
+        self.expect_equal("its last line", told, line)
+        for name, value in (("PMTRACE_QUIET", "1"), ("PMTRACE_FOLDER", str(self.folder))):
+            self.expect_equal(f"with {name}", run([program], cwd=self.folder, env={**known, name: value}).stderr, "")

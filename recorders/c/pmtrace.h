@@ -3057,6 +3057,16 @@ static void pmtrace_say_cut_(void) {
         pmtrace_write_cut_("the window was closed here, and events came after it");
 }
 
+/* The last line: where the trace is, and what to type next. PMTRACE_QUIET in the environment silences it; in a folder of traces, which
+ * others read, there is none. */
+static void pmtrace_tell_end_(void) {
+    const char *name = pmtrace_.name;
+    if (pmtrace_is_wanted_("PMTRACE_QUIET") || pmtrace_is_wanted_("PMTRACE_FOLDER"))
+        return;
+    pmtrace_tell_("%llu event%s in %s; next: pmtrim explain%s%s%s %s", (unsigned long long)pmtrace_.events, pmtrace_.events == 1 ? "" : "s",
+                  name, pmtrace_.labeled ? " --labels " : "", pmtrace_.labeled ? name : "", pmtrace_.labeled ? ".labels" : "", name);
+}
+
 /* Ends the trace. Where a call never gave the lock back the first who comes does it without. */
 static int pmtrace_end_trace_(const char *label, int state) {
     int open = PMTRACE_OPEN_;
@@ -3079,6 +3089,7 @@ static int pmtrace_end_trace_(const char *label, int state) {
     pmtrace_close_files_();
     pmtrace_say_cut_();
     bool missing = pmtrace_tell_missing_();
+    pmtrace_tell_end_();
     if (entered) {
         pmtrace_stop_tracking_();
         pmtrace_reset_();

@@ -47,7 +47,7 @@ def outputs_of(path, program):
 
 def written_by(command, folder):
     with alone() if command.startswith("make ") else contextlib.nullcontext():
-        return run_as_shown(["bash", "-c", command], cwd=folder)[1]
+        return run_as_shown(["env", "-u", "PMTRACE_QUIET", "bash", "-c", command], cwd=folder)[1]
 
 
 def expect_shown(test, document):
