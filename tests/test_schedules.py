@@ -212,6 +212,8 @@ class Children(Recorded):
         self.expect_equal(f"{kind}: what it begins with", carried, [["0x64", "09"]] * (wanted == "fail"))
         base = told.with_name(f"{told.name}.base").read_bytes()
         self.expect_equal(f"{kind}: its base", base[100], 9 * (wanted == "pass"))
+        told = "events of children that have traces of their own (--one-trace has all in one): 4;" in done.stderr
+        self.expect_equal(f"{kind}: what the parent's trace lacks is told", told, kind in ("fork", "flushed", "twice"))
         left = [path.name for path in self.folder.iterdir() if path.name.endswith(".carried")]
         self.expect_equal(f"{kind}: nothing else is left", (done.returncode, left), (0, []))
 

@@ -198,7 +198,7 @@ class Valgrind(Recorded):
             folder = self.folder / f"children.{case}"
             folder.mkdir()
             trace, status, _, faults = self.record(f"children.{case}/run", [program, case, pool], "--trace-children", "yes")
-            found = sorted(text_of(path) for path in folder.iterdir() if path.name.startswith("run.trace.") and "labels" not in path.name)
+            found = sorted(text_of(path) for path in folder.iterdir() if re.fullmatch(r"run\.trace(\.\d+)+", path.name))
             self.expect(f"{case}: its own trace", text_of(trace) == saved(own), text_of(trace))
             self.expect(f"{case}: its children's", found == sorted(saved(words) for words in others), f"{found} {faults}")
             trace, _, _, faults = self.record(f"alone.{case}", [program, case, pool])

@@ -176,7 +176,7 @@ class Windows(Recorded):
         self.expect("a window opens again: told", ", 2 carried into the window" in faults and "events after the window: 3" in faults, faults)
 
     def test_a_child_has_nothing_of_its_parent(self):
-        """A child's window has nothing of its parent's: an order of what was stored there can't be judged, and is not claimed."""
+        """A child's window has nothing that its parent saved: an order of what was stored there can't be judged, and is not claimed."""
         folder, program = self.folder / "inherited.runs", self.build("inherited")
         folder.mkdir()
         words = [program, self.folder / "inherited.pool"]

@@ -20,6 +20,23 @@
 ULong unrecorded_children;
 
 static Bool told_of_execution;
+static ULong *of_children, *of_parent;
+
+void begin_children(void) {
+    SysRes mapped = VG_(do_syscall)(__NR_mmap, 0, VKI_PAGE_SIZE, VKI_PROT_READ | VKI_PROT_WRITE, VKI_MAP_SHARED | VKI_MAP_ANONYMOUS,
+                                    (RegWord)-1, 0, 0, 0);
+    of_parent = of_children;
+    of_children = sr_isError(mapped) ? NULL : (ULong *)sr_Res(mapped);
+}
+
+void count_for_parent(SizeT count) {
+    if (of_parent != NULL)
+        __atomic_fetch_add(of_parent, count, __ATOMIC_RELAXED);
+}
+
+ULong events_of_children(void) {
+    return of_children == NULL ? 0 : __atomic_load_n(of_children, __ATOMIC_RELAXED);
+}
 
 const HChar *absolute(const HChar *path) {
     const HChar *folder = VG_(get_startup_wd)();
@@ -157,8 +174,10 @@ void in_child(ThreadId thread) {
         return;
     }
     recording = RECORDING;
+    begin_windows();
     notes = (Notes){0};
     open_trace(path_for_child(absolute(options.parent_trace != NULL ? options.parent_trace : options.trace)));
     begin_bases();
+    begin_children();
     begin_as_child(thread);
 }

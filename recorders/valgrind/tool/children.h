@@ -7,6 +7,11 @@
 /* How many children are not recorded. */
 extern ULong unrecorded_children;
 
+/* Children that have traces of their own count their events, to the end of this process, in memory that they share with it. */
+void begin_children(void);
+void count_for_parent(SizeT count);
+ULong events_of_children(void);
+
 /* The trace that this process writes: FILE, or of a child FILE and its number behind it. */
 const HChar *path_for_process(void);
 

@@ -74,10 +74,9 @@ static void note_word(ThreadId thread, ULong address, UChar bytes) {
         UInt from = at;
         while (at < WORD && (bytes >> at & 1))
             at++;
-        if (at > from) {
+        if (at > from)
             note_bytes(thread, address + from, zeros, at - from);
-            notes.by_system++;
-        } else
+        else
             at++;
     }
 }
@@ -90,7 +89,6 @@ static void note_run(ThreadId thread, const Pool *pool, Run run) {
     while (length > 0) {
         SizeT piece = length < PIECE ? (SizeT)length : PIECE;
         note_bytes(thread, address, zeros, piece);
-        notes.by_system++;
         address += piece;
         length -= piece;
     }

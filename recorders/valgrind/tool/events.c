@@ -235,7 +235,6 @@ void note_streamed(Addr start, SizeT length, Addr instruction) {
         if (waiting.kind == FLUSH && waiting.thread == thread && waiting.address / LINE_BYTES == address / LINE_BYTES)
             forget_events();
         note_store(start, piece, instruction);
-        notes.streamed++;
         waiting.kind = FLUSH;
         waiting.thread = thread;
         waiting.instruction = instruction;

@@ -8,10 +8,10 @@ typedef enum { CLWB, CLFLUSHOPT, CLFLUSH } FlushKind;
 
 /* For the last line. */
 typedef struct {
-    ULong streamed, locked, failed_masks, by_system;
+    ULong locked, failed_masks;
     ULong other_flushes;               /* of memory that is in no pool */
     const HChar *first_other_flush;    /* its label */
-    ULong claims_outside, kernel_unknown;
+    ULong claims_outside;
     ULong set_aside; /* claims of order that a window can't judge */
     ULong frames;     /* of signal handlers, on a stack in a pool */
     ULong behind_end; /* stores to a file's last page, behind its end */

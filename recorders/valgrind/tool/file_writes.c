@@ -19,7 +19,6 @@ void note_system_store(ThreadId thread, Addr start, SizeT length) {
         if (find_in_pools(start, &address, &room)) {
             piece = room < length ? room : length;
             note_bytes(thread, address, (const UChar *)start, piece);
-            notes.by_system++;
         }
     }
 }
@@ -35,7 +34,6 @@ static void note_file(ThreadId thread, const Pool *pool, ULong offset, ULong len
             return;
         }
         note_bytes(thread, pool_address(pool, offset), bytes, piece);
-        notes.by_system++;
         offset += piece;
         length -= piece;
     }

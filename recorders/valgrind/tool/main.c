@@ -30,6 +30,8 @@ static void begin(void) {
     begin_calls();
     begin_windows();
     begin_parting();
+    if (options.children && !options.one_trace)
+        begin_children();
     begin_inherited();
     if (options.parent_trace == NULL)
         take_trace(options.trace);

@@ -52,6 +52,7 @@ Int find_missing(Missing all[MOST_MISSING]) {
         {pool_counts.too_far, OTHERS, "mappings and writes of bytes of a file from 1 TiB on", ""},
         {pool_counts.unreadable, BYTES, "pools whose file can't be read back after a write by a descriptor", ""},
         {lost_bases, OTHERS, "bases of pools", ""},
+        {events_of_children(), BYTES, "events of children that have traces of their own (--one-trace has all in one)", ""},
         {unrecorded_children, BYTES, "child processes (--trace-children yes records them)", ""},
         {undrawn_turns, OTHERS, "turns that were drawn without the seed", ""},
         {refused_windows, OTHERS, "windows that the program asked for, which one trace of several processes has not", ""},

@@ -38,10 +38,8 @@ static void note_lock(ThreadId thread, UInt owner, Addr lock) {
     if (lock % sizeof(UInt) != 0 || !find_in_pools(lock, &address, &room) || !is_readable(lock, sizeof(UInt)))
         return;
     UInt value = *(const volatile UInt *)lock, marked = (value & WAITERS) | OWNER_DIED;
-    if ((value & OWNER) == owner) {
+    if ((value & OWNER) == owner)
         note_bytes(thread, address, (const UChar *)&marked, sizeof marked);
-        notes.by_system++;
-    }
 }
 
 void note_robust_locks(ThreadId thread) {

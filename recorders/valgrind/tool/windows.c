@@ -1,5 +1,6 @@
 #include "windows.h"
 #include "bases.h"
+#include "children.h"
 #include "chunks.h"
 #include "events.h"
 #include "labels.h"
@@ -113,7 +114,6 @@ void open_window(ThreadId thread) {
 }
 
 void begin_as_child(ThreadId thread) {
-    begin_windows();
     unwrite_pending();
     if (recording == RECORDING) {
         recording = BEFORE_WINDOW;
@@ -193,6 +193,7 @@ void events_passed(ThreadId thread, SizeT count) {
     if (carrying)
         return;
     passed += count;
+    count_for_parent(count);
     if (options.first_event > 1 && passed + 1 == (ULong)options.first_event)
         open_window(thread);
     if (options.last_event > 0 && passed == (ULong)options.last_event)

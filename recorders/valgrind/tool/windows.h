@@ -10,7 +10,7 @@ void begin_windows(void);
 /* A closed window opens. What is not safe then is carried into it: the pending stores and the open flushes. */
 void open_window(ThreadId thread);
 
-/* The process is a copy of its parent: its trace begins with what is not safe. */
+/* The process is a copy of its parent: its trace begins with what is not safe, unless its window opens later. */
 void begin_as_child(ThreadId thread);
 
 /* A store or flush of a program that became this one, which was not safe when it did. */
