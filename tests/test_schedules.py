@@ -7,11 +7,15 @@ import signal
 import subprocess
 import time
 
-from checks import Checks, add_tests, need_command
+from checks import Checks, add_tests
+from needs import need, need_recorder
 from program import TOP
-from recorded import FOLDER, RECORD, Recorded, build_recorder, events_of, run
+from recorded import Recorded
+from recording import events_of
+from running import run
+from valgrind_runs import FOLDER, RECORD
 
-SOURCES = TOP / "tests/lib/schedules"
+SOURCES = TOP / "tests/recorders/schedules"
 # The program's kind, how often, how many seeds and how many of these find it at least. Natively none does at so few turns.
 FOUND = {
     "lost": ("lost", 100, 5, 4),
@@ -30,10 +34,6 @@ EACH = {
 }
 
 
-def setUpModule():
-    build_recorder()
-
-
 class Raced(Recorded):
     """Runs of races.c."""
 
@@ -50,28 +50,28 @@ class Races(Raced):
 
     def finds(self, row):
         kind, times, seeds, wanted = row
-        found = [seed for seed in range(1, seeds + 1) if int(self.race(kind, times, seed).stdout) > 0]
+        found = [seed for seed in range(1, seeds + 1) if int(self.race(kind, times, seed).out) > 0]
         self.expect(f"{kind}: seeds that find it", len(found) >= wanted, found)
 
     def test_one_seed(self):
         """The same seed gives the same run, and its trace has each store."""
         for kind, times, seed in (("lost", 60, 1), ("stack", 20, 4), ("crowd", 6, 2)):
-            runs = [(self.race(kind, times, seed).stdout, self.trace.read_text()) for _ in range(2)]
+            runs = [(self.race(kind, times, seed).out, self.trace.read_text()) for _ in range(2)]
             self.is_file(kind)
             self.expect(f"{kind}: one seed, one run", runs[0] == runs[1], "they differ")
 
     def test_without(self):
         """With --switch-every 0 a thread goes on until it waits, and that is told; the rate may be chosen."""
         done = self.race("lost", 100, 1, "--switch-every", 0)
-        self.expect_equal("no turn ends", done.stdout, "0\n")
-        self.expect("no turn ends: told", "no turn could end before an access: with --switch-every 0" in done.stderr, done.stderr)
+        self.expect_equal("no turn ends", done.out, "0\n")
+        self.expect("no turn ends: told", "no turn could end before an access: with --switch-every 0" in done.err, done.err)
         done = self.race("lost", 100, 1, "--switch-every", 1)
-        ended, met = map(int, re.search(r"turns ended before (\d+) of (\d+) accesses", done.stderr).groups())
-        self.expect("each turn ends", ended == met > 100, done.stderr)
+        ended, met = map(int, re.search(r"turns ended before (\d+) of (\d+) accesses", done.err).groups())
+        self.expect("each turn ends", ended == met > 100, done.err)
 
     def test_seeds(self):
         """The last lines of several seeds: a table, how many accesses could be parted, or that there is one thread, and what to type next."""
-        record = lambda *words: run([RECORD, "--seeds", 2, "--trace", self.folder / "some", *words]).stderr.splitlines()[-5:]
+        record = lambda *words: run([RECORD, "--seeds", 2, "--trace", self.folder / "some", *words]).err.splitlines()[-5:]
         head, first, second, told, after = record(self.races, "right", self.pool, 4)
         self.expect_equal("the table", head.split(), ["seed", "events", "meetings", "failed"])
         rows = [line.split() for line in (first, second)]
@@ -85,11 +85,11 @@ class Races(Raced):
     def test_explained(self):
         """Recorded and explained in one step; of seeds it is the first in which a claim fails, and its status is that of the answer."""
         done = run([RECORD, "--explain", "--trace", self.folder / "one", self.races, "right", self.pool, 4])
-        self.expect("one run", done.returncode == 1 and "assertions that a crash can violate: 0 of" in done.stdout, done.stdout[:300] + done.stderr)
+        self.expect("one run", done.status == 1 and "assertions that a crash can violate: 0 of" in done.out, done.out[:300] + done.err)
         done = run([RECORD, "--seeds", 3, "--explain", "--trace", self.folder / "some", self.races, "claim", self.pool, 40])
-        found = re.search(r"claims fail by seed (\d); next: pmtrim explain .*/some\.(\d)\n", done.stderr)
-        self.expect("seeds: the first that fails", found and found[1] == found[2] and done.returncode == 1, done.stderr)
-        self.expect("seeds: its explanation", "a crash can violate" in done.stdout and "isPersist at races.c:" in done.stdout, done.stdout[:300])
+        found = re.search(r"claims fail by seed (\d); next: pmtrim explain .*/some\.(\d)\n", done.err)
+        self.expect("seeds: the first that fails", found and found[1] == found[2] and done.status == 1, done.err)
+        self.expect("seeds: its explanation", "a crash can violate" in done.out and "isPersist at races.c:" in done.out, done.out[:300])
 
 
 class Right(Raced):
@@ -98,32 +98,36 @@ class Right(Raced):
     def keeps_right(self, kind):
         for seed in (1, 2, 4, 12):
             done = self.race(kind, 30 if kind == "right" else 8, seed)
-            self.expect(f"{kind} by seed {seed}", done.stdout == "0\n" and "turns ended before" in done.stderr, done.stdout + done.stderr)
+            self.expect(f"{kind} by seed {seed}", done.out == "0\n" and "turns ended before" in done.err, done.out + done.err)
             self.is_file(f"{kind} by seed {seed}")
-            report = run([self.program, "check", self.trace]).stdout
+            report = run([self.program, "check", self.trace]).out
             verdicts = re.findall(r"^(?:persist|ordered) \d+ (\w+)$", report, re.M)
             self.expect(f"{kind} by seed {seed}: claims", len(verdicts) > 50 and set(verdicts) == {"pass"}, report[-200:])
 
     def test_each_store(self):
         """Every kind of store, by threads that are stopped at each access where they meet: the replayed trace is the file."""
-        stores = self.build(TOP / "tests/lib/valgrind/stores.c", "-mavx2")
+        stores = self.build(TOP / "tests/recorders/valgrind/stores.c", "-mavx2")
         for threads in (2, 4):
             done = self.record("--switch-every", 1, "--pool", self.pool, stores, self.pool, threads)
-            self.expect(f"stores of {threads}", done.returncode == 0 and "not recorded" not in done.stderr, done.stderr)
+            self.expect(f"stores of {threads}", done.status == 0 and "not recorded" not in done.err, done.err)
             self.is_file(f"stores of {threads}")
 
 
 class Each(Checks):
     """A program that is left before each access, once, writes what it writes."""
 
+    @classmethod
+    def setUpClass(cls):
+        need_recorder()
+
     def is_the_same(self, words):
-        need_command(words[0], words[0])
+        need(words[0], words[0])
         trace = self.new_folder() / "trace"
         tool = ["valgrind", "--tool=pmtrim_record", "--command-line-only=yes", "-q", "--labels=no", "--part-each=yes", f"--trace={trace}"]
         plain = run(words)
-        parted = run([*tool, *words], env={**os.environ, "VALGRIND_LIB": str(FOLDER / "out")})
-        self.expect(words[0], plain.returncode == parted.returncode == 0 and len(plain.stdout) > 5, parted.stderr)
-        self.expect(f"{words[0]}: what it writes", plain.stdout == parted.stdout, parted.stdout[:300])
+        parted = run([*tool, *words], {"VALGRIND_LIB": str(FOLDER / "out")})
+        self.expect(words[0], plain.status == parted.status == 0 and len(plain.out) > 5, parted.err)
+        self.expect(f"{words[0]}: what it writes", plain.out == parted.out, parted.out[:300])
 
 
 class Cost(Recorded):
@@ -132,7 +136,7 @@ class Cost(Recorded):
     def seconds(self, words):
         """Of the processor."""
         before = resource.getrusage(resource.RUSAGE_CHILDREN)
-        run(words).check_returncode()
+        self.expect_equal("its status", run(words).status, 0)
         after = resource.getrusage(resource.RUSAGE_CHILDREN)
         return after.ru_utime + after.ru_stime - before.ru_utime - before.ru_stime
 
@@ -160,7 +164,7 @@ class Waits(Recorded):
     def ends_at_once(self, row):
         kind, written, stores = row
         done = run(self.words(kind, "--one-trace"))
-        self.expect_equal(kind, (done.returncode, done.stdout.split("\n")), (0, written))
+        self.expect_equal(kind, (done.status, done.out.split("\n")), (0, written))
         events = events_of(self.trace)
         self.expect_equal(f"{kind}: stores", sorted(fields[2] for fields in events if fields[0] == "store"), stores)
 
@@ -204,7 +208,7 @@ class Children(Recorded):
         program, wanted = self.build(SOURCES / "hands_on.c"), "pass" if kind == "saved" else "fail"
         done = self.record("--trace-children", "yes", "--base", program, kind, self.pool)
         traces = [path for path in self.folder.iterdir() if re.fullmatch(r"trace(\.\d+)*", path.name)]
-        reports = [run([self.program, "check", path]).stdout for path in traces]
+        reports = [run([self.program, "check", path]).out for path in traces]
         found = [verdict for report in reports for verdict in re.findall(r"^persist \d+ (\w+)$", report, re.M)]
         self.expect_equal(f"{kind}: the claim", found, [wanted])
         told = next(told for told, report in zip(traces, reports) if "\npersist" in report)
@@ -212,10 +216,10 @@ class Children(Recorded):
         self.expect_equal(f"{kind}: what it begins with", carried, [["0x64", "09"]] * (wanted == "fail"))
         base = told.with_name(f"{told.name}.base").read_bytes()
         self.expect_equal(f"{kind}: its base", base[100], 9 * (wanted == "pass"))
-        told = "events of children that have traces of their own (--one-trace has all in one): 4;" in done.stderr
+        told = "events of children that have traces of their own (--one-trace has all in one): 4;" in done.err
         self.expect_equal(f"{kind}: what the parent's trace lacks is told", told, kind in ("fork", "flushed", "twice"))
         left = [path.name for path in self.folder.iterdir() if path.name.endswith(".carried")]
-        self.expect_equal(f"{kind}: nothing else is left", (done.returncode, left), (0, []))
+        self.expect_equal(f"{kind}: nothing else is left", (done.status, left), (0, []))
 
 
 add_tests(Waits, Waits.ends_at_once, ENDING)
