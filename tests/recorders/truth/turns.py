@@ -51,7 +51,8 @@ class Program:
     def one(self):
         chosen, at = self.random.random(), self.place()
         if chosen < 0.4:
-            return [("b", at, self.random.choice((1, 3, 8, 8, 16, 21)), self.random.randrange(1, 128))]
+            length = self.random.choice((1, 3, 8, 8, 16, 21))
+            return [("b", min(at, LINE * LINES - length), length, self.random.randrange(1, 128))]
         if chosen < 0.5:
             return [("a", LINE * LINES + 8 * self.random.randrange(2, 4), self.random.randrange(1, 9))]
         if chosen < 0.7:
