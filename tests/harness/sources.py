@@ -5,7 +5,7 @@ from typing import NamedTuple
 
 TOP = pathlib.Path(__file__).parents[2]
 ITEM = re.compile(r"(pub(?:\(crate\))? )?(?:const )?(fn|struct|enum|trait|type|const) (\w+)")
-OWNER = re.compile(r"(?:pub )?(?:impl(?:<.*?>)? (?:([\w:]+)(?:<.*>)? for )?&?(\w+)|trait (\w+))")
+OWNER = re.compile(r"(?:pub )?(?:impl(?:<.*?>)? (?:([\w:]+)(?:<.*>)? for )?&?(\w+)(<&mut )?|trait (\w+))")
 
 
 class Item(NamedTuple):
@@ -57,8 +57,9 @@ def items_of(crate, path):
     owner = trait = ""
     for at, line in enumerate(lines):
         if found := OWNER.match(line):
-            trait = found[3] or (found[1] or "").split("::")[-1]
-            owner = found[3] or found[2]
+            trait = found[4] or (found[1] or "").split("::")[-1]
+            # of a type that holds a loan, as the prover names it
+            owner = found[4] or found[2] + ("RefMut" if found[3] else "")
         elif line == "}":
             owner = trait = ""
         indent = line[: len(line) - len(line.lstrip())]
