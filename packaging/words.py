@@ -5,7 +5,7 @@ from dataclasses import dataclass, field
 
 FILES, FOLDERS, COMMANDS, NOTHING = "files", "folders", "commands", "nothing"
 # What a word stands for, by the name that help has for it.
-KINDS = {"FILE": FILES, "TRACE": FILES, "SCRIPT": FILES, "BASE": FILES, "OTHER": FILES, "PREFIX": FILES, "PART": FILES, "OUT": FILES, "REPORT": FILES, "DIR": FOLDERS, "PROGRAM": COMMANDS, "CHECKER": COMMANDS, "COMMAND": COMMANDS}
+KINDS = {"FILE": FILES, "TRACE": FILES, "SCRIPT": FILES, "BASE": FILES, "PREFIX": FILES, "PART": FILES, "OUT": FILES, "REPORT": FILES, "DIR": FOLDERS, "PROGRAM": COMMANDS, "CHECKER": COMMANDS, "COMMAND": COMMANDS}
 HEADINGS = ("Commands:", "Arguments:", "Options:")
 # Lines that begin a paragraph of their own.
 OPENING = ("Statuses: ", "Example: ")

@@ -22,7 +22,7 @@ OFFERED = {
     ("pmtrim", "explain", "--only", "d"): ["dropped"],
     ("pmtrim", "draw", "--la"): ["--labels"],
     ("pmtrim", "image", "--po"): ["--pool"],
-    ("pmtrim", "stat", "--comp"): ["--compare", "--compare-labels"],
+    ("pmtrim", "stat", "--j"): ["--json"],
     ("pmtrim", "parts", "--o"): ["--out", "--overlap"],
     ("pmtrim-replay", "--of"): ["--off"],
     ("pmtrim-suite", "re"): ["record", "report"],

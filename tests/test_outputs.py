@@ -42,7 +42,7 @@ class Outputs(Checks):
             self.expect_equal(f"{words} -o -", self.told(*words, "-o", "-", text=text), (0, wanted, ""))
 
     def test_stat(self):
-        for words in ([], ["--json"], ["--write-budget"]):
+        for words in ([], ["--json"]):
             wanted = self.told("stat", *words, "t")
             self.expect("stat tells", wanted[0] == 0 and wanted[1], wanted)
             self.expect_equal(f"stat {words} -o o", self.told("stat", *words, "-o", "o", "t"), (0, "", ""))
@@ -62,8 +62,8 @@ class Outputs(Checks):
         self.expect_equal("the file stays as it was", (self.folder / "o").read_text(), "before")
 
     def test_what_is_read_stays(self):
-        read = (["check", "t"], ["trim", "t"], ["fronts", "t", "1"], ["record", "s"], ["stat", "lost", "--compare", "t"], ["check", "--labels", "l", "t"])
-        for words, name in zip(read, ("t", "t", "t", "s", "t", "l")):
+        read = (["check", "t"], ["trim", "t"], ["fronts", "t", "1"], ["record", "s"], ["stat", "--labels", "l", "t"], ["check", "--labels", "l", "t"])
+        for words, name in zip(read, ("t", "t", "t", "s", "l", "l")):
             before = (self.folder / name).read_text()
             status, out, fault = self.told(*words, "-o", f"./{name}")
             self.expect(f"{words} over {name}", (status, out) == (2, "") and f"'./{name}' is read" in fault, (status, out, fault))

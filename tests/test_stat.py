@@ -1,5 +1,5 @@
-"""Compares the figures of `stat` with a count of the trace's text, and what does nothing with the states of machine.py; and tries budgets,
-those that are refused and those that are not kept, two traces side by side, and words that are refused.
+"""Compares the figures of `stat` with a count of the trace's text, and what does nothing with the states of machine.py; and tries words that
+are refused.
 """
 import json
 import random
@@ -9,7 +9,7 @@ import machine
 from checks import Checks
 from faulty import run_whole, short
 from machine import FENCES, FLUSHES
-from traces import EXAMPLES, all_traces
+from traces import all_traces
 
 TRACES = 100
 KINDS = ("store", "clwb", "clflushopt", "clflush", "sfence", "mfence", "isPersist", "isOrderedBefore")
@@ -77,8 +77,8 @@ def places_of(events, kept, labels):
     return {place: tuple(counts) for place, counts in found.items()}
 
 
-def paid(entry, field="pays"):
-    return tuple(entry[field][name] for name in COUNTS)
+def paid(entry):
+    return tuple(entry["pays"][name] for name in COUNTS)
 
 
 def is_in_order(costs):
@@ -121,25 +121,7 @@ def random_figures(program, folder, seed):
     ):
         if came != right:
             complaints.append(f"{seed} {name}: {came}, wanted {right}")
-    return complaints or kept_budget(program, folder, seed, file, named, wanted)
-
-
-def kept_budget(program, folder, seed, file, named, wanted):
-    """Complaints: a trace does not keep its own budget, or keeps one that allows a place one flush, fence or idle one less."""
-    budget = folder / f"{seed}.budget"
-    budget.write_bytes(run_whole(program, "stat", "--write-budget", "--labels", named, file).out)
-    own = run_whole(program, "stat", "--labels", named, "--budget", budget, file)
-    if own.status != 0 or own.faults or b"over the budget" in own.out:
-        yield f"{seed}: its own budget is not kept: {short(own)}"
-    for place, counts in wanted.items():
-        for at, count in enumerate(counts):
-            if count:
-                less = {**wanted, place: (*counts[:at], count - 1, *counts[at + 1 :])}
-                budget.write_text("".join(f"{' '.join(map(str, cost))} {name}\n" for name, cost in less.items()))
-                told = figures(program, "--labels", named, "--budget", budget, file).get("over", [])
-                status = run_whole(program, "stat", "--labels", named, "--budget", budget, file).status
-                if status != 1 or [(entry["place"], paid(entry, "may_pay")) for entry in told] != [(place, less[place])]:
-                    yield f"{seed} {place} {at}: {status}, {told}"
+    return complaints
 
 
 TRACE = """pmtrace 1
@@ -151,61 +133,25 @@ sfence 1
 clwb 1 0x1000
 """
 NAMED = "2 log.c:75 append < main\n3 log.c:75 append < other\n4 log.c:80 commit\n5 log.c:80 commit\n"
-BUDGET = "2 1 0 0 log.c:75 append\n1 1 0 0 thread 1\n0 0 2 1 log.c:80 commit\n"
-# A budget, the status, and what is told.
-JUDGED = {
-    "own": (BUDGET, 0, None),
-    "in any order": ("\n".join(reversed(BUDGET.splitlines())) + "\n", 0, None),
-    "with comments": (f"# by hand\n\n{BUDGET}", 0, None),
-    "of all places": ("2 1 2 1 *\n", 0, None),
-    "no limit": ("- - - - *\n", 0, None),
-    "nothing idle": ("- 0 - 0 *\n", 1, b"over the budget: 3 of"),
-    "one is more": ("2 0 0 0 log.c:75 append\n- - - - *\n", 1, b"  log.c:75 append:  1/0 idle flushes\n"),
-    "none": ("", 1, b"over the budget: 3 of"),
-    "a place is missing": ("2 1 0 0 log.c:75 append\n0 0 2 1 log.c:80 commit\n", 1, b"  thread 1:  1/0 flushes  1/0 idle flushes\n"),
-    "places that are gone": (f"{BUDGET}7 7 7 7 gone.c:1\n", 0, None),
-    "greatest": ("99999999999999999999999 1 0 0 log.c:75 append\n- - - - *\n", 0, None),
-}
-# The bytes of a budget, its faulty line, and what is wrong there.
-REFUSED = {
-    "cut off": (b"1 1 0 0 a", 1, b"the line does not end"),
-    "no count": (b"1 1 0 0 a\nx 1 0 0 b\n", 2, b"'x' is no count"),
-    "sign": (b"+1 0 0 0 a\n", 1, b"'+1' is no count"),
-    "zeros": (b"01 0 0 0 a\n", 1, b"'01' is no count"),
-    "three counts": (b"1 0 0 a\n", 1, b"'a' is no count"),
-    "no place": (b"1 0 0 0\n", 1, b"four counts and a place are wanted"),
-    "empty place": (b"1 0 0 0 \n", 1, b"four counts and a place are wanted"),
-    "two spaces": (b"1  0 0 0 a\n", 1, b"'' is no count"),
-    "space first": (b" 1 0 0 0 a\n", 1, b"'' is no count"),
-    "twice": (b"1 0 0 0 a\n1 0 0 0 b\n2 0 0 0 a\n", 3, b"the place has a line already"),
-    "carriage return": (b"1 0 0 0 a\r\n", 1, b"hint: the line ends in CR LF"),
-    "not UTF-8": (b"1 0 0 0 \xff\n", 1, b"the place has bytes that can not be shown"),
-    "control": (b"1 0 0 0 a\x1b[2J\n", 1, b"the place has bytes that can not be shown"),
-    "a NUL": (b"\0", 1, b"the line does not end"),
-}
 # Words that are refused, and what is told.
 WORDS = {
-    ("--compare-labels", "l"): "'--compare-labels' stands with '--compare'",
-    ("--write-budget", "--json"): "'--write-budget' stands with '--labels' and '--out' alone",
-    ("--write-budget", "--budget", "b"): "'--write-budget' stands with '--labels' and '--out' alone",
-    ("--write-budget", "--compare", "t"): "'--write-budget' stands with '--labels' and '--out' alone",
     ("--frob",): "'--frob'",
     ("a", "b"): "'b'",
 }
 
 
 class Stats(Checks):
-    """Runs of the program; a check is of a trace, of a budget or of words."""
+    """Runs of the program; a check is of a trace or of words."""
 
     def small(self):
         folder = self.new_folder()
-        for name, text in (("small.trace", TRACE), ("small.labels", NAMED), ("small.budget", BUDGET)):
+        for name, text in (("small.trace", TRACE), ("small.labels", NAMED)):
             (folder / name).write_text(text)
         return folder, ["--labels", folder / "small.labels", folder / "small.trace"]
 
     def test_random_traces(self):
         folder = self.new_folder()
-        calls = [(str(seed), lambda seed=seed: list(random_figures(self.program, folder, seed))) for seed in range(TRACES)]
+        calls = [(str(seed), lambda seed=seed: random_figures(self.program, folder, seed)) for seed in range(TRACES)]
         self.expect_of_all(calls)
 
     def test_examples(self):
@@ -227,9 +173,7 @@ class Stats(Checks):
         lines = [f"{word} {thread} 0x{0x1000 + 64 * thread:x}{bytes_}" for thread in range(256) for word, bytes_ in (("store", " 01"), ("clwb", ""))]
         many.write_text("\n".join(["pmtrace 1", *lines, *(f"sfence {thread}" for thread in range(256))]) + "\n")
         (folder / "long.labels").write_text("".join(f"{number} {'long.c:' + str(number) + ' x' * 90}\n" for number in range(1, 769)))
-        (folder / "none.budget").write_text("")
-        other = EXAMPLES / "redo.trace"
-        for words in ([], ["--labels", folder / "long.labels"], ["--budget", folder / "none.budget"], ["--compare", other], ["--compare", other, "--budget", folder / "none.budget", "--labels", folder / "long.labels"]):
+        for words in ([], ["--labels", folder / "long.labels"]):
             answer = run_whole(self.program, "stat", *words, many)
             rows = answer.out.decode().splitlines()
             self.expect(f"{words}: rows", 10 < len(rows) <= 40, f"{len(rows)} rows")
@@ -251,50 +195,6 @@ class Stats(Checks):
         for given in (["stat"], ["stat", "-"]):
             self.expect_equal(str(given), run_whole(self.program, *given, text=TRACE.encode()), named)
 
-    def test_budgets_are_judged(self):
-        folder, words = self.small()
-        for name, (text, status, told) in JUDGED.items():
-            budget = folder / "tried.budget"
-            budget.write_text(text)
-            answer = run_whole(self.program, "stat", "--budget", budget, *words)
-            right = answer.status == status and not answer.faults and (b"over the budget" in answer.out) == (status == 1)
-            self.expect(name, right and (told is None or told in answer.out), short(answer))
-
-    def test_budgets_are_refused(self):
-        folder, words = self.small()
-        for name, (text, line, told) in REFUSED.items():
-            budget = folder / "bad.budget"
-            budget.write_bytes(text)
-            answer = run_whole(self.program, "stat", "--budget", budget, *words)
-            right = answer.status == 3 and not answer.out and answer.faults.startswith(f"{budget}:{line}: ".encode()) and told in answer.faults
-            self.expect(name, right, short(answer))
-        answer = run_whole(self.program, "stat", "--budget", folder / "none", *words)
-        self.expect("no file", answer.status == 4 and b"cannot open" in answer.faults, short(answer))
-
-    def test_budget_is_written(self):
-        folder, words = self.small()
-        answer = run_whole(self.program, "stat", "--write-budget", *words)
-        lines = [line for line in answer.out.decode().splitlines() if not line.startswith("#")]
-        self.expect_equal("status", answer.status, 0)
-        self.expect_equal("lines", sorted(lines), sorted(BUDGET.splitlines()))
-
-    def test_comparison(self):
-        folder, words = self.small()
-        older = folder / "older.trace"
-        older.write_text(TRACE.replace("clwb 0 0x1000\nclwb 0 0x1000\n", "clwb 0 0x1000\n"))
-        (folder / "older.labels").write_text("2 log.c:75 append\n3 log.c:80 commit\n4 gone.c:1 x\n")
-        beside = ["--compare", older, "--compare-labels", folder / "older.labels"]
-        told = figures(self.program, *beside, *words)
-        wanted = {"log.c:75 append": ((2, 1, 0, 0), (1, 0, 0, 0)), "log.c:80 commit": ((0, 0, 2, 1), (0, 0, 1, 0)), "gone.c:1 x": ((0, 0, 0, 0), (0, 0, 1, 1))}
-        self.expect_equal("changed", {entry["place"]: (paid(entry), paid(entry, "other")) for entry in told["changed"]}, wanted)
-        self.expect_equal("other", told["other"], figures(self.program, older)["summary"])
-        rows = [row.split() for row in run_whole(self.program, "stat", *beside, *words).out.decode().splitlines()]
-        for row in ("events 5 6 +1", "flushes 2 3 +1", "cache lines 1 1 0", "2 +1 1 +1 0 0 0 0 log.c:75 append", "0 0 0 0 0 -1 0 -1 gone.c:1 x"):
-            self.expect(row, row.split() in rows, str(rows))
-        same = run_whole(self.program, "stat", "--compare", folder / "small.trace", folder / "small.trace").out
-        self.expect("the same", b"No place pays more or less.\n" in same, same.decode())
-        self.expect_equal("no other trace", run_whole(self.program, "stat", "--compare", folder / "none", *words).status, 4)
-
     def test_cut(self):
         folder, words = self.small()
         cuts = (
@@ -307,8 +207,6 @@ class Stats(Checks):
             self.expect_equal(f"{text!r}: JSON", figures(self.program, *words)["summary"][0]["cut"], wanted)
             first = run_whole(self.program, "stat", *words).out.decode()
             self.expect(f"{text!r}: text", first.startswith(f"This trace{told}"), first)
-            other = run_whole(self.program, "stat", "--compare", folder / "small.trace", EXAMPLES / "redo.trace").out.decode()
-            self.expect(f"{text!r}: the other one", other.startswith(f"The other trace{told}"), other)
         (folder / "small.trace.cut").write_text("x\n")
         answer = run_whole(self.program, "stat", *words)
         self.expect("a bad one is refused", answer.status == 3 and f"{folder}/small.trace.cut:1: ".encode() in answer.faults, short(answer))

@@ -14,7 +14,7 @@ pub use crate::explaining::{Color, ExplainWords, Form};
 pub use crate::imaging::{
     AddressStores, AskedCrash, ImageRequest, ImageWords, ListWords, PlaceRange, has_place,
 };
-pub use crate::measuring::{StatForm, StatWords};
+pub use crate::measuring::StatWords;
 pub use crate::parting::PartsWords;
 pub use crate::request::{CheckWords, FrontsWords, RecordWords, Request, TraceWords};
 pub use crate::slicing::{SliceSubject, SliceWords};

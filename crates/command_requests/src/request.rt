@@ -117,7 +117,7 @@ impl<'a> Request<'a> {
                     names.push(Some(*script))?;
                 }
             }
-            Request::Stat(words) => names.extend_from_slice(&words.inputs())?,
+            Request::Stat(words) => names.extend_from_slice(&[words.file, words.labels])?,
             _ => {}
         }
         Ok(names)

@@ -1,12 +1,7 @@
 //! The command `stat`: figures of a trace.
 #![tactic(auto)]
 
-mod budget;
-mod budgets;
-mod changes;
 mod columns;
-mod comparing;
-mod judging;
 mod measured;
 mod objects;
 mod stat;

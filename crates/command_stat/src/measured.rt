@@ -3,6 +3,7 @@
 use command_inputs::{
     Fault, Input, Opener, Recalls, counted_reader, cut_of, labels_of, opened, untaken_fault,
 };
+use command_requests::StatWords;
 use pmt_asked::{Choice, Cut, Ignored, Kind, Labels, Options, frame_of};
 use pmt_causes::Origin;
 use pmt_explain_run::explain;
@@ -35,20 +36,19 @@ pub(crate) struct Measured {
 pub(crate) fn measured_of<T: Threads + Sync, O: Opener, I: Read>(
     rt: &T,
     alloc: Global,
+    words: &StatWords<'_>,
     files: &O,
     input: &mut I,
-    file: Option<&str>,
-    labels: Option<&str>,
 ) -> Result<Measured, Fault> {
-    let labels = labels_of(alloc, files, labels)?;
-    let explanation = match file {
+    let labels = labels_of(alloc, files, words.labels)?;
+    let explanation = match words.file {
         Some(name) => {
             let reader = opened(alloc, files, name)?;
-            explained(rt, alloc, &labels, file, reader)?
+            explained(rt, alloc, &labels, words.file, reader)?
         }
-        None => explained(rt, alloc, &labels, file, input)?,
+        None => explained(rt, alloc, &labels, None, input)?,
     };
-    let cut = cut_of(alloc, files, file)?;
+    let cut = cut_of(alloc, files, words.file)?;
     Ok(measures_of(alloc, &explanation, &labels, cut)?)
 }
 

@@ -2,7 +2,6 @@
 
 use crate::columns::{push_column, push_name};
 use crate::measured::Measured;
-use crate::text::push_more;
 use pmt_explanation::{first, per_cent};
 use pmt_pen::Pen;
 use pmt_stat::{Cost, Counts, FenceSizes, PlaceCost};
@@ -150,4 +149,14 @@ fn push_counts(pen: &mut Pen, counts: &Counts) {
     push_column(pen, counts.mfences, 7);
     push_column(pen, counts.persists, 10);
     push_column(pen, counts.orders, 10);
+}
+
+// Adds how many are not shown.
+fn push_more(pen: &mut Pen, count: usize, shown: usize) {
+    if count > shown {
+        pen.fill(
+            "  .. and # more (--json tells all)\n",
+            &[count.saturating_sub(shown) as u64],
+        );
+    }
 }

@@ -1,12 +1,10 @@
 //! Figures as JSON values.
 
-use crate::changes::Changed;
-use crate::judging::Excess;
 use crate::measured::Measured;
 use crate::tables::unfenced;
 use pmt_asked::Cut;
 use pmt_model::OutOfMemory;
-use pmt_stat::{Cost, Counts, Limits, PlaceCost, ThreadCounts};
+use pmt_stat::{Cost, Counts, PlaceCost, ThreadCounts};
 use serde_json::{Map, Value, put};
 use std::alloc::Global;
 
@@ -23,13 +21,9 @@ fn object_of(alloc: Global, fields: Fields) -> Result<Value, OutOfMemory> {
 }
 
 // The figures of a whole trace.
-pub(crate) fn summary_value(
-    alloc: Global,
-    own: &Measured,
-    kind: &str,
-) -> Result<Value, OutOfMemory> {
+pub(crate) fn summary_value(alloc: Global, own: &Measured) -> Result<Value, OutOfMemory> {
     let counts = &own.summary;
-    let kind = Value::try_from_str(alloc, kind)?;
+    let kind = Value::try_from_str(alloc, "summary")?;
     let events = counts_value(alloc, &own.figures.all)?;
     let cut = cut_value(alloc, own.cut.as_ref())?;
     object_of(
@@ -125,45 +119,11 @@ pub(crate) fn thread_value(alloc: Global, row: &ThreadCounts) -> Result<Value, O
 // What a place pays.
 pub(crate) fn place_value(alloc: Global, place: &PlaceCost) -> Result<Value, OutOfMemory> {
     let cost = cost_value(alloc, &place.cost)?;
-    named_value(alloc, "place", place.name.as_str(), "pays", cost)
-}
-
-// A place that pays more than it may.
-pub(crate) fn excess_value(alloc: Global, excess: &Excess<'_>) -> Result<Value, OutOfMemory> {
-    let limits = limits_value(alloc, &excess.limits)?;
-    named_value(alloc, "over", excess.place.name.as_str(), "may_pay", limits)
-}
-
-// An object of a place with one more field.
-fn named_value(
-    alloc: Global,
-    kind: &str,
-    name: &str,
-    key: &'static str,
-    value: Value,
-) -> Result<Value, OutOfMemory> {
-    let kind = Value::try_from_str(alloc, kind)?;
-    let name = Value::try_from_str(alloc, name)?;
-    object_of(
-        alloc,
-        vec![in alloc; ("kind", kind), (key, value), ("place", name)]?,
-    )
-}
-
-// A place that pays more or less than in the other trace.
-pub(crate) fn changed_value(alloc: Global, place: &Changed) -> Result<Value, OutOfMemory> {
-    let other = cost_value(alloc, &place.other)?;
-    let own = cost_value(alloc, &place.own)?;
-    let kind = Value::try_from_str(alloc, "changed")?;
+    let kind = Value::try_from_str(alloc, "place")?;
     let name = Value::try_from_str(alloc, place.name.as_str())?;
     object_of(
         alloc,
-        vec![in alloc;
-            ("kind", kind),
-            ("other", other),
-            ("pays", own),
-            ("place", name),
-        ]?,
+        vec![in alloc; ("kind", kind), ("pays", cost), ("place", name)]?,
     )
 }
 
@@ -177,24 +137,4 @@ fn cost_value(alloc: Global, cost: &Cost) -> Result<Value, OutOfMemory> {
             ("flushes_dropped", Value::from(cost.idle_flushes)),
         ]?,
     )
-}
-
-fn limits_value(alloc: Global, limits: &Limits) -> Result<Value, OutOfMemory> {
-    object_of(
-        alloc,
-        vec![in alloc;
-            ("fences", limit_value(limits.fences)),
-            ("fences_dropped", limit_value(limits.idle_fences)),
-            ("flushes", limit_value(limits.flushes)),
-            ("flushes_dropped", limit_value(limits.idle_flushes)),
-        ]?,
-    )
-}
-
-// The limit; null where there is none.
-fn limit_value(limit: Option<u64>) -> Value {
-    match limit {
-        Some(count) => Value::from(count),
-        None => Value::Null,
-    }
 }

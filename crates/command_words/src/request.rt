@@ -51,7 +51,7 @@ fn asked<'a>(alloc: Global, matches: &ArgMatches<'a>) -> Result<Request<'a>, Fau
         Some(("record", given)) => record(alloc, given),
         Some(("image", given)) => image(alloc, given),
         Some(("slice", given)) => Ok(Request::Slice(slice_words(alloc, given)?)),
-        Some(("stat", given)) => Ok(Request::Stat(stat_words(alloc, given)?)),
+        Some(("stat", given)) => Ok(Request::Stat(stat_words(given))),
         Some(("parts", given)) => Ok(Request::Parts(parts_words(alloc, given)?)),
         Some(("draw", given)) => Ok(Request::Draw(drawing_of(alloc, given)?)),
         Some((_, given)) => trim(alloc, given),

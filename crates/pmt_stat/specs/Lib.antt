@@ -1,4 +1,3 @@
-pub mod Budgets
 pub mod Costs
 pub mod Counting
 pub mod Fencing
