@@ -5,7 +5,6 @@ use Rattle.std.specs.List.{list_any, IsDistinct}
 use Rattle.std.proofs.lemmas.Bool.{eq-eqb, ne_eqb, both_ways}
 use Rattle.std.proofs.lemmas.List.{get_or-map, length-map, map-append}
 use Rattle.std.proofs.lemmas.Option.{get_or_from_slice_get, slice_get_within}
-use Rattle.indexmap.specs.IndexSet.{insert_key}
 use Rattle.pmt_model.specs.Machine.{Act, Stores, Flushes, Clflushes, Fences, Asserts, count}
 use Rattle.pmt_model.specs.Values.{Written}
 use Rattle.pmt_model.specs.Traces.{has_line, with_line}
@@ -15,7 +14,7 @@ use Rattle.pmt_laws.proofs.Histories.{front-le-count}
 use Rattle.pmt_live.specs.declared.open.OpenFlush.{OpenFlush}
 use Rattle.pmt_live.specs.declared.live.LineRow.{LineRow}
 use Rattle.pmt_live.specs.declared.live.LiveLines.{LiveLines}
-use Rattle.pmt_places.specs.Places.{IsPlaceOf}
+use Rattle.pmt_places.specs.Places.{IsPlaceOf, insert_line}
 use Rattle.pmt_live.specs.Live.{row_after, list_at, flushed, IsLiveWith}
 use Rattle.pmt_places.proofs.ListLemmas.{among, map-set_one, list_any-has_line, has_line-less}
 use Rattle.pmt_live.proofs.OpenLemmas.{flushed-more, within-more, lists-flush, each-flush, lists-back, each-back}
@@ -63,7 +62,7 @@ live-there lines h l p live new at lines_same rows lists is =
     let has : has_line l lines ≡ true = line-has l p lines (subst (IsPlaceOf l p) is.placed at) in
     rw has (live-same lines h live new lines_same rows (λ t. ap (list_at t) lists) is)
 
-pub live-known : (lines : List ℕ) (h : List Act) (l : ℕ) (live new : LiveLines) → false ≡ Rattle.std.specs.Prelude.not (list_any (nat_eq l) live.lines) → new.lines ≡ insert_key nat_eq live.lines l →
+pub live-known : (lines : List ℕ) (h : List Act) (l : ℕ) (live new : LiveLines) → false ≡ Rattle.std.specs.Prelude.not (list_any (nat_eq l) live.lines) → new.lines ≡ insert_line live.lines l →
     new.rows.items ≡ live.rows.items → new.open_flushes ≡ live.open_flushes → IsLiveWith lines h live → IsLiveWith (with_line l lines) h new
 live-known lines h l live new known inserted rows lists is =
     let had : list_any (nat_eq l) live.lines ≡ true = not-false (list_any (nat_eq l) live.lines) known in
@@ -75,7 +74,7 @@ live-known lines h l live new known inserted rows lists is =
     not-false true e = refl
     not-false false e = absurd (cc)
 
-pub live-new : (lines : List ℕ) (h : List Act) (l : ℕ) (live new : LiveLines) → true ≡ Rattle.std.specs.Prelude.not (list_any (nat_eq l) live.lines) → new.lines ≡ insert_key nat_eq live.lines l →
+pub live-new : (lines : List ℕ) (h : List Act) (l : ℕ) (live new : LiveLines) → true ≡ Rattle.std.specs.Prelude.not (list_any (nat_eq l) live.lines) → new.lines ≡ insert_line live.lines l →
     IsDistinct nat_eq new.lines → new.rows.items ≡ live.rows.items ++ row_with 0 0 ∷ [] → new.open_flushes ≡ live.open_flushes → IsLiveWith lines h live → IsLiveWith (with_line l lines) h new
 live-new lines h l live new fresh inserted unique rows lists is =
     let absent : list_any (nat_eq l) live.lines ≡ false = not-true (list_any (nat_eq l) live.lines) fresh in

@@ -1,24 +1,15 @@
--- Lines that are found nowhere, and lines that are inserted in their order.
-use Rattle.std.proofs.Common.{◌≡◌, ℕ, suc, ◌+◌, ◌<◌, Bool, true, false, List, length, take, drop, get_or, Some, None, refl, sym, subst, arith}
+-- Lines that are inserted in their order.
+use Rattle.std.proofs.Common.{◌≡◌, ℕ, suc, ◌+◌, ◌<◌, Bool, true, false, List, length, take, drop, get_or, Some, refl, sym, subst, arith}
 use Rattle.std.specs.Prelude.{nat_eq, slice_get}
 use Rattle.std.specs.List.{list_any, IsDistinct}
 use Rattle.std.proofs.lemmas.List.{length-take-le, take-append-drop}
 use Rattle.std.proofs.lemmas.Option.{slice_get_within, slice_get-get_or}
 use Rattle.std.proofs.Math.Seq.{take-suc}
-use Rattle.indexmap.specs.IndexSet.{insert_key}
-use Rattle.pmt_places.specs.Places.{IsFound}
+use Rattle.pmt_places.specs.Places.{insert_line}
 use Rattle.pmt_places.proofs.ListLemmas.{one-place, get-left, list_any-place}
 
--- a line that is found nowhere is none of the lines
-pub not-among : (lines : List ℕ) (l : ℕ) → IsFound l lines None → list_any (nat_eq l) lines ≡ false
-not-among lines l none = go (list_any (nat_eq l) lines) refl
-  where
-    go : (b : Bool) → list_any (nat_eq l) lines ≡ b → b ≡ false
-    go true had = let there = list_any-place lines l had in absurd (none there.0 there.1)
-    go false absent = refl
-
 -- the first lines, and the next one inserted
-pub inserted-next : (lines : List ℕ) (i : ℕ) → IsDistinct nat_eq lines → i < length lines → insert_key nat_eq (take i lines) (get_or lines i 0) ≡ take (i + 1) lines
+pub inserted-next : (lines : List ℕ) (i : ℕ) → IsDistinct nat_eq lines → i < length lines → insert_line (take i lines) (get_or lines i 0) ≡ take (i + 1) lines
 inserted-next lines i once within =
     let next : i + 1 ≡ suc i = omega arith in
     rw (absent (list_any (nat_eq l) (take i lines)) refl, next) (sym (take-suc lines i 0 within))

@@ -1,12 +1,13 @@
 //! The places of lines.
-ghost use Rattle.std.specs.Prelude.{◌≡◌, ◌<◌, ◌^◌, [], not, length, IfOk, IfSome, OnOk, OnErr, nat_eq};
+ghost use Rattle.std.specs.Prelude.{◌≡◌, ◌<◌, ◌^◌, ℕ, [], Some, cond, not, length, IfOk, IfSome, OnOk, OnErr, nat_eq};
+ghost use Rattle.std.specs.HashMap.{get};
 ghost use Rattle.std.specs.List.{IsDistinct, list_any};
-ghost use Rattle.indexmap.specs.IndexSet.{insert_key};
-ghost use Rattle.pmt_places.specs.Places.{IsFound, IsPlaceOf};
+ghost use Rattle.std.specs.Option.{unwrap_or};
+ghost use Rattle.pmt_places.specs.Places.{AreNumbered, IsFound, IsPlaceOf, insert_line};
 
-use indexmap::IndexSet;
 use pmt_model::OutOfMemory;
 use std::alloc::{AllocError, Global};
+use std::collections::HashMap;
 use std::marker::Model;
 
 // How many places are remembered: 8 KiB of them, a quarter of a processor's nearest cache.
@@ -15,10 +16,12 @@ const RECENT: usize = 2048;
 // Of how many more lines at most, once so many look-ups found known ones: half a mebibyte of places, for the next cache.
 const MOST: usize = 131_072;
 
-/// Lines, each with a place: that of its first appearance. A line takes 16 bytes, and some 6 to 11 more of the index.
+/// Lines, each with a place: that of its first appearance. A line takes 28 bytes, and some 6 to 11 more of the index.
 #[derive(Drop)]
 pub struct LinePlaces {
-    lines: IndexSet<u64>,
+    // In order of first appearance.
+    lines: Vec<u64>,
+    places: HashMap<u64, u32>,
     // By the lowest bits of lines the places that were found last: mostly the next line is one of these. Nothing is promised of them.
     recent: [u32; RECENT],
     // The same of more lines: at first of none.
@@ -29,12 +32,13 @@ pub struct LinePlaces {
 
 impl Model for LinePlaces {
     ghost use Rattle.std.specs.Prelude.{ℕ, ◌^◌, ◌<◌, List, length};
+    ghost use Rattle.pmt_places.specs.Places.{AreNumbered};
 
     ghost Value = { List ℕ };
 
-    ghost view = { λ p. p.lines.keys };
+    ghost view = { λ p. p.lines.items };
 
-    ghost invariant = { λ p. length p.lines.keys < 2 ^ 32 };
+    ghost invariant = { λ p. AreNumbered p.lines.items p.places × (length p.lines.items < 2 ^ 32) };
 }
 
 impl LinePlaces {
@@ -43,7 +47,8 @@ impl LinePlaces {
         ensures { result ≡ [] }
     {
         LinePlaces {
-            lines: IndexSet::new(alloc),
+            lines: Vec::new(alloc),
+            places: HashMap::new(alloc),
             recent: [0; RECENT],
             known: Vec::new(alloc),
             missed: 0,
@@ -115,7 +120,7 @@ impl LinePlaces {
         ensures here { IfOk result (λ found. IsPlaceOf line found.0 self.new) }
         ensures small { IfOk result (λ found. found.0 < 2 ^ 32) }
         ensures added { IfOk result (λ found. found.1 ≡ not (list_any (nat_eq line) self.old)) }
-        ensures lines { OnOk result (self.new ≡ insert_key nat_eq self.old line) }
+        ensures lines { OnOk result (self.new ≡ insert_line self.old line) }
         ensures unique { OnOk result (IsDistinct nat_eq self.new) }
         ensures same { OnErr result (self.new ≡ self.old) }
     {
@@ -132,16 +137,13 @@ impl LinePlaces {
         ensures here { IfOk result (λ found. IsPlaceOf line found.0 self.new) }
         ensures small { IfOk result (λ found. found.0 < 2 ^ 32) }
         ensures added { IfOk result (λ found. found.1 ≡ not (list_any (nat_eq line) self.old)) }
-        ensures lines { OnOk result (self.new ≡ insert_key nat_eq self.old line) }
+        ensures lines { OnOk result (self.new ≡ insert_line self.old line) }
         ensures unique { OnOk result (IsDistinct nat_eq self.new) }
         ensures same { OnErr result (self.new ≡ self.old) }
     {
-        if self.lines.len() >= u32::MAX as usize {
-            return Err(AllocError);
-        }
-        let Ok((place, is_new)) = self.lines.insert_full(line) else {
-            return Err(AllocError);
-        };
+        let next = self.lines.len();
+        let place = number_of(&mut self.lines, &mut self.places, line)?;
+        let is_new = place == next;
         self.remember(line, place);
         if !is_new {
             self.remember_known(line, place)?;
@@ -195,7 +197,50 @@ impl LinePlaces {
     {
         match self.recent(line) {
             Some(place) => Some(place),
-            None => self.lines.get_index_of(&line),
+            None => match self.places.get(&line) {
+                Some(place) => Some(*place as usize),
+                None => None,
+            },
         }
     }
+}
+
+// The place of the line, which is the next one if it is new.
+#[inline(always)]
+fn number_of(
+    lines: &mut Vec<u64>,
+    places: &mut HashMap<u64, u32>,
+    line: u64,
+) -> Result<usize, OutOfMemory>
+    requires { AreNumbered lines.old.items places.old × (length lines.old.items < 2 ^ 32) }
+    ensures numbered { AreNumbered lines.new.items places.new }
+    ensures few { length lines.new.items < 2 ^ 32 }
+    ensures here { IfOk result (λ place. IsPlaceOf line place lines.new.items) }
+    ensures small { IfOk result (λ place. place < 2 ^ 32) }
+    ensures added { IfOk result (λ place. nat_eq place (length lines.old.items) ≡ not (list_any (nat_eq line) lines.old.items)) }
+    ensures lines { OnOk result (lines.new.items ≡ insert_line lines.old.items line) }
+    ensures same { OnErr result (lines.new.items ≡ lines.old.items) }
+{
+    let next = lines.len();
+    if next >= u32::MAX as usize {
+        return Err(AllocError);
+    }
+    lines.reserve(1)?;
+    let place = reach(places, line, next as u32)? as usize;
+    if place == next {
+        lines.push(line)?;
+    }
+    Ok(place)
+}
+
+// The place of the line, which is the next one if it has none yet.
+#[inline(always)]
+fn reach(places: &mut HashMap<u64, u32>, line: u64, next: u32) -> Result<u32, OutOfMemory>
+    ensures place { IfOk result (λ place. place ≡ unwrap_or (get nat_eq places.old line) next) }
+    ensures small { IfOk result (λ place. place < 2 ^ 32) }
+    ensures after { IfOk result (λ place. (l : ℕ) → get nat_eq places.new l ≡ cond (nat_eq line l) (Some place) (get nat_eq places.old l)) }
+    ensures same { OnErr result ((l : ℕ) → get nat_eq places.new l ≡ get nat_eq places.old l) }
+{
+    let place = places.entry(line)?.or_insert(next);
+    Ok(*place)
 }

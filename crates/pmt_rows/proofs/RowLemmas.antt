@@ -5,14 +5,13 @@ use Rattle.std.specs.List.{list_any, IsDistinct}
 use Rattle.std.proofs.lemmas.Bool.{eq-eqb, ne_eqb, both_ways}
 use Rattle.std.proofs.lemmas.List.{get_or-map, length-map, map-append}
 use Rattle.std.proofs.lemmas.Option.{get_or_from_slice_get, slice_get_within}
-use Rattle.indexmap.specs.IndexSet.{insert_key}
 use Rattle.pmt_model.specs.Machine.{Act, Stores, Flushes, Clflushes}
 use Rattle.pmt_model.specs.Values.{Written}
 use Rattle.pmt_model.specs.Traces.{has_line, with_line}
 use Rattle.pmt_model.specs.Findings.{last_flush}
 use Rattle.pmt_safety.specs.Safety.{last_line_store}
 use Rattle.pmt_links.specs.Linked.{raised}
-use Rattle.pmt_places.specs.Places.{IsPlaceOf}
+use Rattle.pmt_places.specs.Places.{IsPlaceOf, insert_line}
 use Rattle.pmt_places.proofs.ListLemmas.{among, map-same, map-set_one, list_any-has_line, has_line-less}
 use Rattle.pmt_rows.specs.declared.rows.Row.{Row}
 use Rattle.pmt_rows.specs.declared.rows.Rows.{Rows}
@@ -54,7 +53,7 @@ known-there lines h safe l p r new at places rows is =
     let has : has_line l lines ≡ true = line-has l p lines (ap (λ ls. slice_get ls p) (sym is.placed) ∙ at) in
     rw has (known-same lines h safe r new places rows is)
 
-pub known-old : (lines : List ℕ) (h : List Act) (safe : ℕ → ℕ) (l : ℕ) (r new : Rows) → false ≡ not (list_any (nat_eq l) r.places) → new.places ≡ insert_key nat_eq r.places l → new.rows.items ≡ r.rows.items →
+pub known-old : (lines : List ℕ) (h : List Act) (safe : ℕ → ℕ) (l : ℕ) (r new : Rows) → false ≡ not (list_any (nat_eq l) r.places) → new.places ≡ insert_line r.places l → new.rows.items ≡ r.rows.items →
     IsKnownWith lines h safe r → IsKnownWith (with_line l lines) h safe new
 known-old lines h safe l r new known inserted rows is =
     let had : list_any (nat_eq l) r.places ≡ true = not-false (list_any (nat_eq l) r.places) known in
@@ -66,7 +65,7 @@ known-old lines h safe l r new known inserted rows is =
     not-false true e = refl
     not-false false e = absurd (cc)
 
-pub known-new : (lines : List ℕ) (h : List Act) (safe : ℕ → ℕ) (l : ℕ) (r new : Rows) → true ≡ not (list_any (nat_eq l) r.places) → new.places ≡ insert_key nat_eq r.places l → IsDistinct nat_eq new.places →
+pub known-new : (lines : List ℕ) (h : List Act) (safe : ℕ → ℕ) (l : ℕ) (r new : Rows) → true ≡ not (list_any (nat_eq l) r.places) → new.places ≡ insert_line r.places l → IsDistinct nat_eq new.places →
     new.rows.items ≡ r.rows.items ++ row_of 0 0 0 ∷ [] → IsKnownWith lines h safe r → IsKnownWith (with_line l lines) h safe new
 known-new lines h safe l r new fresh inserted unique rows is =
     let absent : list_any (nat_eq l) r.places ≡ false = not-true (list_any (nat_eq l) r.places) fresh in

@@ -5,10 +5,9 @@ use Rattle.std.specs.List.{list_any, IsDistinct}
 use Rattle.std.proofs.lemmas.Bool.{and_from, and_parts, cases_eq, eq-eqb, leb-true, le-leb, lt-ltb, ltb-true}
 use Rattle.std.proofs.lemmas.List.{get_or_append_left, get_or_default, get_or_push, get_or-set_other, get_or-set_same, length-append, length-set}
 use Rattle.std.proofs.lemmas.Option.{slice_get_within, same_Some}
-use Rattle.indexmap.specs.IndexSet.{insert_key}
 use Rattle.pmt_model.specs.Values.{Written, IsStore}
 use Rattle.pmt_model.specs.Machine.{writes}
-use Rattle.pmt_places.specs.Places.{IsPlaceOf}
+use Rattle.pmt_places.specs.Places.{IsPlaceOf, insert_line}
 use Rattle.pmt_places.proofs.ListLemmas.{one-place, push-cases, get-left, among}
 use Rattle.pmt_words.specs.Lasts.{last_at, is_in, with_store}
 use Rattle.pmt_words.proofs.LineLemmas.{byte-from_writes}
@@ -49,7 +48,7 @@ word-within t k p i are at few = omega (arith, few, are.words, slice_get_within 
 pub absent : (k : ℕ) (ks : List ℕ) → true ≡ not (list_any (nat_eq k) ks) → (p : ℕ) → IsPlaceOf k p ks → ⊥
 absent k ks new p at = let e : true ≡ false = subst (λ b. true ≡ not b) (among ks k p at) new in absurd (cc)
 
-pub insert-new : (k : ℕ) (ks : List ℕ) → true ≡ not (list_any (nat_eq k) ks) → insert_key nat_eq ks k ≡ ks ++ k ∷ []
+pub insert-new : (k : ℕ) (ks : List ℕ) → true ≡ not (list_any (nat_eq k) ks) → insert_line ks k ≡ ks ++ k ∷ []
 insert-new k ks new = go (list_any (nat_eq k) ks) new
   where
     go : (b : Bool) → true ≡ not b → (if b then ks else ks ++ k ∷ []) ≡ ks ++ k ∷ []

@@ -1,5 +1,5 @@
-use Rattle.std.proofs.Common.{◌≡◌, ◌+◌, ◌-◌, suc, ◌<◌, length, subst, sym, ap, ◌∙◌, arith}
-use Rattle.std.proofs.lemmas.Grind.{elements}
+use Rattle.std.proofs.Common.{◌≡◌, ◌+◌, ◌-◌, suc, ◌<◌, length, refl, subst, sym, ap, ◌∙◌, arith}
+use Rattle.pmt_model.specs.Traces.{IsAct, act_of}
 use Rattle.pmt_explain.proofs.FollowingLemmas.{event-at}
 use Rattle.pmt_dropping.specs.Behind.{IsBehind}
 use Rattle.pmt_dropping.specs.Dropping.{TellsReason}
@@ -45,6 +45,15 @@ reason-reason-requires-clause-after c =
     let inside : c.loop-index.index < length c.args.after.now = omega (arith, c.requires.following.size, ap (λ xs. length xs) c.events-events.ensures.value, ap (λ U. length U.events) c.trace-2.ensures) in
     following-at T c.args.after.now i _ c.requires.following inside
 
+pub reason-reason-requires-clause-is : goal.reason-reason-requires-clause-is
+reason-reason-requires-clause-is c =
+    let T = c.args.safe.now.trace.now in
+    let e = c.index-events-index.result in
+    let next : c.loop-index.index + 1 ≡ suc c.loop-index.index = omega arith in
+    let within : c.loop-index.index < length c.events-events.result.now = omega (arith, c.loop-index-test.true) in
+    let is = event-at T T.format c.events-events.result.now c.loop-index.index e refl (c.events-events.ensures.value ∙ ap (λ U. U.events) c.trace-2.ensures) within c.index-events-index.is in
+    subst (λ k. IsAct T k (act_of T.format e.thread e.op)) (sym next) is
+
 pub loop-index-preserved : goal.loop-index-preserved
 loop-index-preserved c =
     let T = c.args.safe.now.trace.now in
@@ -67,6 +76,3 @@ returns c =
     let T = c.args.safe.now.trace.now in
     let all : length c.events-events.result.now ≡ length T.events = ap (λ xs. length xs) (c.events-events.ensures.value ∙ ap (λ U. U.events) c.trace-2.ensures) in
     dropped-all T c.loop-index.index c.loop-index.list.items (omega (arith, c.loop-index-test.false, all)) c.loop-index.invariant.listed
-
-pub returns-in_err-go_on : goal.returns-in_err-go_on
-returns-in_err-go_on c = grind (arith, elements)

@@ -2,7 +2,7 @@ use Rattle.std.proofs.Common.{List, ℕ, get_or, sym, ap, subst, ◌∙◌, arit
 use Rattle.std.proofs.lemmas.Grind.{elements}
 use Rattle.std.specs.Prelude.{nat_eq}
 use Rattle.std.specs.List.{IsDistinct}
-use Rattle.indexmap.specs.IndexSet.{insert_key}
+use Rattle.pmt_places.specs.Places.{insert_line}
 use Rattle.pmt_live.proofs.PlaceLemmas.{inserted-next}
 use Rattle.pmt_live.proofs.live.copied.Goals as goal
 
@@ -10,7 +10,7 @@ pub loop-line-preserved : goal.loop-line-preserved
 loop-line-preserved c = λ once.
     let lines = c.lines-line-items.result.now in
     let i = c.loop-line.line-index in
-    c.in_ok-insert.ensures.lines ∙ ap (λ (ks : List ℕ). insert_key nat_eq ks (get_or lines i 0)) (c.loop-line.invariant once)
+    c.in_ok-insert.ensures.lines ∙ ap (λ (ks : List ℕ). insert_line ks (get_or lines i 0)) (c.loop-line.invariant once)
     ∙ inserted-next lines i (subst (IsDistinct nat_eq) (sym c.lines-line-items.ensures) once) (omega arith)
 
 pub returns : goal.returns
