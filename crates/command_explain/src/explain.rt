@@ -3,13 +3,13 @@ ghost use Rattle.std.specs.Prelude.{◌≤◌, IfOk};
 ghost use Rattle.pmt_explain_run.specs.Sweeping.{IsSweptTrace};
 
 use crate::colors::colored;
+use crate::page_of;
 use crate::sources::sources_of;
 use crate::taking::{Taken, taken_of};
 use command_inputs::{
     Doing, Fault, Opener, Watch, cut_of, labels_of, no_failure, read_file, read_ignored,
     write_named,
 };
-use command_page::page_of;
 use command_requests::{Color, ExplainWords, Form};
 use pmt_asked::{Cut, Labels};
 use pmt_explain_json::json_text;

@@ -1,7 +1,7 @@
 //! `parts`: a trace of any length, cut into parts while it is read.
 ghost use Rattle.std.specs.Prelude.{◌≡◌, List, [], None, OnOk, IfOk};
 ghost use Rattle.pmt_parts.specs.declared.part.Part.{Part};
-ghost use Rattle.pmt_part_run.specs.Runs.{IsCutText};
+ghost use Rattle.pmt_parts.specs.Runs.{IsCutText};
 ghost use Rattle.command_parts.specs.Counting.{IsCounted, IsLongText};
 
 use crate::files::Written;
@@ -9,7 +9,7 @@ use crate::labels::PartLabels;
 use crate::writing::{Beside, PartFiles};
 use command_inputs::{Fault, Opener, cut_of, opened, write_answer};
 use command_requests::PartsWords;
-use pmt_part_run::give_parts;
+use pmt_parts::give_parts;
 use std::alloc::Global;
 use std::io::{Read, Write};
 

@@ -2,8 +2,7 @@
 
 use command_inputs::{Fault, Input, piece_fault, system_fault};
 use command_requests::PartsWords;
-use pmt_part_run::{PartError, Refusal};
-use pmt_parts::PieceError;
+use pmt_parts::{PartError, PieceError, Refusal};
 use std::alloc::Global;
 
 /// The fault of the trace of which no more parts are made for this.

@@ -10,8 +10,7 @@ use crate::stale::remove_later;
 use command_inputs::{Fault, Opener};
 use command_requests::PartsWords;
 use pmt_asked::Cut;
-use pmt_part_run::{PartError, PartTaker};
-use pmt_parts::Part;
+use pmt_parts::{Part, PartError, PartTaker};
 use std::alloc::Global;
 use std::io::Read;
 

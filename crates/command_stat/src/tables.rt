@@ -3,8 +3,8 @@
 use crate::columns::{push_column, push_name};
 use crate::measured::Measured;
 use pmt_explanation::{first, per_cent};
+use pmt_fates::{Cost, Counts, FenceSizes, PlaceCost};
 use pmt_pen::Pen;
-use pmt_stat::{Cost, Counts, FenceSizes, PlaceCost};
 
 // The most places and threads that are shown.
 const PLACES: usize = 8;

@@ -3,8 +3,8 @@
 use crate::measured::Measured;
 use crate::tables::unfenced;
 use pmt_asked::Cut;
+use pmt_fates::{Cost, Counts, PlaceCost, ThreadCounts};
 use pmt_model::OutOfMemory;
-use pmt_stat::{Cost, Counts, PlaceCost, ThreadCounts};
 use serde_json::{Map, Value, put};
 use std::alloc::Global;
 

@@ -7,9 +7,9 @@ use Rattle.pmt_model.specs.Traces.{Recording, act, has_line}
 use Rattle.pmt_model.specs.Pushing.{with_event}
 use Rattle.pmt_laws.proofs.Histories.{front-le-count}
 use Rattle.pmt_live.specs.declared.live.LiveLines.{LiveLines}
-use Rattle.pmt_places.specs.Places.{IsFound}
+use Rattle.pmt_tables.specs.Places.{IsFound}
 use Rattle.pmt_live.specs.Live.{IsLiveWith}
-use Rattle.pmt_places.proofs.ListLemmas.{list_any-has_line, not-among}
+use Rattle.pmt_tables.proofs.ListLemmas.{list_any-has_line, not-among}
 use Rattle.pmt_book.specs.Ends.{whole_history}
 use Rattle.pmt_book.proofs.HistoryLemmas.{whole_history-with_event}
 

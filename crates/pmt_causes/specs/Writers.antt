@@ -1,8 +1,8 @@
 -- The last stores to all bytes.
 use Rattle.std.specs.Prelude.{◌≡◌, ◌^◌}
 use Rattle.pmt_model.specs.Traces.{Recording}
-use Rattle.pmt_writers.specs.declared.last_writers.LastWriters.{LastWriters}
-use Rattle.pmt_writers.specs.Writers.{AreWriters}
+use Rattle.pmt_explain.specs.declared.last_writers.LastWriters.{LastWriters}
+use Rattle.pmt_explain.specs.Writers.{AreWriters}
 
 -- They tell the last store to each byte, whatever its address.
 pub record AreAllWriters (T : Recording) (w : LastWriters) : Type 0 where

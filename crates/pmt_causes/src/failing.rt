@@ -18,10 +18,9 @@ use crate::fencing::next_fences;
 use crate::flushing::next_flushes;
 use crate::grouping::{Group, Keyed, groups};
 use crate::limit::first;
-use pmt_explain::{SafePlaces, ordered_failure, persist_failure};
+use pmt_explain::{LastWriters, SafePlaces, ordered_failure, persist_failure};
 use pmt_model::{Op, OutOfMemory, Range, Trace};
 use pmt_reasons::Failure;
-use pmt_writers::LastWriters;
 use std::alloc::Global;
 
 /// Failed assertions by cause.

@@ -4,9 +4,9 @@ use crate::shapes::push_shape;
 use crate::words::{
     push_assertion, push_cause, push_claim, push_event, push_kept, push_reason, push_shown,
 };
-use pmt_names::line_address;
 use pmt_pen::Pen;
 use pmt_picture::{Crash, MOST_CRASHES, Picture, Subject};
+use pmt_text::line_address;
 
 // The width of a letter of the told lines, in tenths of a pixel.
 const LETTER: u64 = 79;

@@ -5,9 +5,9 @@ use crate::marks::push_mark;
 use crate::missing::missing_letters;
 use crate::page::Page;
 use crate::words::{push_event_words, push_reason};
-use pmt_names::{line_address, word_of};
 use pmt_pen::Pen;
 use pmt_picture::{Column, Picture, line_of_op};
+use pmt_text::{line_address, word_of};
 
 // The most letters of a label that stands upright.
 const LABEL_LETTERS: u64 = 28;

@@ -2,9 +2,9 @@
 use crate::marks::{push_missing_mark, push_small_missing};
 use crate::page::Page;
 use pmt_model::Format;
-use pmt_names::line_address;
 use pmt_pen::Pen;
 use pmt_picture::{Missing, Wanted};
+use pmt_text::line_address;
 
 /// Adds what is missing in the band, from left to right.
 pub fn push_missing(pen: &mut Pen, page: Page<'_>) {

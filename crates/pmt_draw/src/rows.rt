@@ -5,9 +5,9 @@ use crate::marks::{push_small_flush, worth_of};
 use crate::missing::push_missing_flushes;
 use crate::page::Page;
 use crate::segments::push_bar;
-use pmt_names::line_address;
 use pmt_pen::Pen;
 use pmt_picture::{Role, Row};
+use pmt_text::line_address;
 
 /// Adds the rows of the lines that have something in the band.
 pub fn push_rows(pen: &mut Pen, page: Page<'_>) {

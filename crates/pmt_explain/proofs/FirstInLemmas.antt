@@ -10,16 +10,16 @@ use Rattle.pmt_model.specs.Traces.{Recording, IsTrace, IsAct, history, count_at}
 use Rattle.pmt_model.specs.Findings.{last_store_number}
 use Rattle.pmt_laws.proofs.Histories.{act-unique, act-within, count-mono}
 use Rattle.pmt_laws.proofs.OverwrittenLemmas.{last_store_number-is}
-use Rattle.pmt_words.specs.Lasts.{last_at, IsLeastAbove, IsNewest}
-use Rattle.pmt_words.specs.Written.{last_number}
-use Rattle.pmt_words.proofs.LineLemmas.{IsSize, size-of_format, store-of_trace, writes-line}
-use Rattle.pmt_words.proofs.LineLemmas.IsSize.{Bytes32, Bytes64, Bytes128, Bytes256}
-use Rattle.pmt_places.specs.Places.{IsPlaceOf}
-use Rattle.pmt_writers.specs.declared.last_writers.LastWriters.{LastWriters}
-use Rattle.pmt_writers.specs.declared.blocks.Stores.{Stores as BlockStores}
-use Rattle.pmt_writers.specs.Blocks.{stores_at}
-use Rattle.pmt_writers.specs.Writers.{AreStores, Knows}
-use Rattle.pmt_writers.proofs.BlockLemmas.{told-at, told-none}
+use Rattle.pmt_tables.specs.Lasts.{last_at, IsLeastAbove, IsNewest}
+use Rattle.pmt_tables.specs.Written.{last_number}
+use Rattle.pmt_tables.proofs.LineLemmas.{IsSize, size-of_format, store-of_trace, writes-line}
+use Rattle.pmt_tables.proofs.LineLemmas.IsSize.{Bytes32, Bytes64, Bytes128, Bytes256}
+use Rattle.pmt_tables.specs.Places.{IsPlaceOf}
+use Rattle.pmt_explain.specs.declared.last_writers.LastWriters.{LastWriters}
+use Rattle.pmt_explain.specs.declared.blocks.Stores.{Stores as BlockStores}
+use Rattle.pmt_explain.specs.Blocks.{stores_at}
+use Rattle.pmt_explain.specs.Writers.{AreStores, Knows}
+use Rattle.pmt_explain.proofs.BlockLemmas.{told-at, told-none}
 use Rattle.pmt_reasons.specs.declared.failure.ByteStore.{ByteStore}
 use Rattle.pmt_reasons.specs.Failures.{IsLastIn, IsNoLater, persisted_at}
 use Rattle.pmt_explain.specs.declared.first_in.Search.{Search}

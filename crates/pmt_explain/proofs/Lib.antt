@@ -1,3 +1,5 @@
+pub mod BlockLemmas
+pub mod WriterLemmas
 pub mod CauseOfLemmas
 pub mod LastStoreLemmas
 pub mod LosingLemmas

@@ -8,7 +8,7 @@ use Rattle.std.proofs.lemmas.List.{get_or-map, get_or-set_same, length-map, map-
 use Rattle.std.proofs.lemmas.Map.Made.{AllPairs-from_IsDistinct}
 use Rattle.std.proofs.lemmas.Option.{get_or_from_slice_get, slice_get_within, same_Some}
 use Rattle.indexmap.specs.IndexSet.{insert_key}
-use Rattle.pmt_places.specs.Places.{IsFound, IsPlaceOf}
+use Rattle.pmt_tables.specs.Places.{IsFound, IsPlaceOf}
 use Rattle.pmt_explain.specs.declared.numbers.Numbered.{Numbered}
 use Rattle.pmt_explain.specs.Numbers.{Numbers, number_in, number_at, line_in, IsTable, Puts, Reaches}
 

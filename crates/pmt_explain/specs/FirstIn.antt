@@ -2,8 +2,8 @@
 use Rattle.std.specs.Prelude.{◌≡◌, ℕ, ◌+◌, ◌*◌, ◌/◌, ◌%◌, ◌-◌, ◌^◌, ◌<◌, ◌≤◌, true, List, Option}
 use Rattle.pmt_model.specs.Values.{Span}
 use Rattle.pmt_model.specs.Traces.{IsTrace}
-use Rattle.pmt_words.specs.Lasts.{last_at}
-use Rattle.pmt_words.specs.Written.{last_number}
+use Rattle.pmt_tables.specs.Lasts.{last_at}
+use Rattle.pmt_tables.specs.Written.{last_number}
 use Rattle.pmt_reasons.specs.declared.failure.ByteStore.{ByteStore}
 use Rattle.pmt_explain.specs.declared.first_in.Search.{Search}
 use Rattle.pmt_explain.specs.Losing.{IsFirstIn}

@@ -1,3 +1,5 @@
+pub mod Blocks
+pub mod Writers
 pub mod CauseOf
 pub mod LastStores
 pub mod Losing

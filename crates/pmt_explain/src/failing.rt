@@ -9,15 +9,15 @@ ghost use Rattle.pmt_reasons.specs.Failures.{IsFailureAt, IsPersistFailure, IsOr
 ghost use Rattle.pmt_explain.specs.Losing.{Anywhere, IsFirstAmong};
 ghost use Rattle.pmt_explain.specs.Keeping.{IsStoreOff, KeepsWithout, IsCrashAfter, IsFirstCrash};
 ghost use Rattle.pmt_explain.specs.Saving.{AreSafePlaces};
-ghost use Rattle.pmt_writers.specs.Writers.{Knows};
+ghost use Rattle.pmt_explain.specs.Writers.{Knows};
 
+use crate::LastWriters;
 use crate::first_in::first_in;
 use crate::lost::line_of_store;
 use crate::saving::SafePlaces;
 use crate::wanted::Wanted;
 use pmt_model::{Op, OutOfMemory, Range, Trace};
 use pmt_reasons::{ByteStore, Failure};
-use pmt_writers::LastWriters;
 use std::alloc::Global;
 
 /// The crash that violates the assertion with this number: of an isPersist one at its place, which loses the first store that it

@@ -1,21 +1,21 @@
 //! The first one of the last stores to bytes of a range that is wanted.
 
 ghost use Rattle.std.specs.Prelude.{◌≡◌, ℕ, ◌+◌, ◌*◌, ◌%◌, ◌^◌, ◌<◌, ◌≤◌, true, length};
-ghost use Rattle.pmt_places.specs.Places.{IsPlaceOf};
-ghost use Rattle.pmt_words.specs.Lasts.{last_at};
-ghost use Rattle.pmt_words.specs.Written.{last_number};
-ghost use Rattle.pmt_writers.specs.Blocks.{AreBlocks};
-ghost use Rattle.pmt_writers.specs.Writers.{Knows};
+ghost use Rattle.pmt_tables.specs.Places.{IsPlaceOf};
+ghost use Rattle.pmt_tables.specs.Lasts.{last_at};
+ghost use Rattle.pmt_tables.specs.Written.{last_number};
+ghost use Rattle.pmt_explain.specs.Blocks.{AreBlocks};
+ghost use Rattle.pmt_explain.specs.Writers.{Knows};
 ghost use Rattle.pmt_explain.specs.FirstIn.{GoesOn, IsBlockIn, IsSearch, IsWordIn, range_of};
 ghost use Rattle.pmt_explain.specs.Losing.{Anywhere, IsFirstIn};
 ghost use Rattle.pmt_explain.specs.Saving.{AreSafePlaces};
 ghost use Rattle.pmt_explain.specs.Wanting.{IsWithin, Wants};
 
+use crate::LastWriters;
 use crate::wanted::{Wanted, bound_of, comes_after, earlier, is_wanted};
 use pmt_model::{Range, Trace};
 use pmt_reasons::ByteStore;
-use pmt_words::Words;
-use pmt_writers::LastWriters;
+use pmt_tables::Words;
 
 /// What is searched for: a wanted store, the last one to one of the bytes from `low` to `high`.
 #[derive(Clone, Copy)]

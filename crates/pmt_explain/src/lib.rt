@@ -5,6 +5,7 @@
 
 mod ahead;
 mod at_end;
+mod blocks;
 pub mod bytes;
 pub mod causing;
 mod completed;
@@ -12,6 +13,7 @@ mod crash;
 pub mod failing;
 mod first_in;
 mod last_stores;
+pub mod last_writers;
 pub mod lines;
 pub mod losing;
 mod lost;
@@ -24,6 +26,7 @@ mod wanted;
 pub use crate::bytes::{CrashByte, StoredByte, crash_bytes};
 pub use crate::causing::cause;
 pub use crate::failing::{failure, failure_by, ordered_failure, persist_failure};
+pub use crate::last_writers::LastWriters;
 pub use crate::lines::{LineCount, crash_lines};
 pub use crate::losing::lost_in_range;
 pub use crate::lost_grouping::{LostGroup, lost_groups};

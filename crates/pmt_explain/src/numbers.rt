@@ -4,7 +4,7 @@ ghost use Rattle.std.specs.Prelude.{◌≡◌, [], min, IfOk, OnOk};
 ghost use Rattle.pmt_explain.specs.Numbers.{number_at, number_in, Puts, Reaches};
 
 use pmt_model::OutOfMemory;
-use pmt_places::LinePlaces;
+use pmt_tables::LinePlaces;
 use std::alloc::Global;
 use std::marker::Model;
 

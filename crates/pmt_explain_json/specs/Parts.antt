@@ -20,7 +20,7 @@ use Rattle.pmt_asked.specs.declared.labels.Labels.{Labels}
 use Rattle.pmt_reasons.specs.declared.mend.Mend.{Mend}
 use Rattle.pmt_reasons.specs.declared.mend.Mend.TheVariants as mends
 use Rattle.pmt_asked.specs.Labelling.{label_of}
-use Rattle.pmt_names.specs.Naming.{line_address}
+use Rattle.pmt_text.specs.Naming.{line_address}
 
 -- A line of the answer: the value, and LF.
 abbrev pub json_line : Data → List ℕ

@@ -10,8 +10,8 @@ use crate::objects::{object_made, object_value};
 use crate::words::{address_of, address_text, words_of};
 use pmt_asked::{Labels, frame_of};
 use pmt_model::{OutOfMemory, Range, Trace};
-use pmt_names::line_address;
 use pmt_reasons::{ByteStore, Cause, Mend, Reason};
+use pmt_text::line_address;
 use serde_json::Value;
 use std::alloc::Global;
 

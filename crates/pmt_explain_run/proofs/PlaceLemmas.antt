@@ -11,7 +11,7 @@ use Rattle.pmt_model.specs.Findings.{IsSafe}
 use Rattle.pmt_laws.proofs.Histories.{act-within, history-step}
 use Rattle.pmt_safety.specs.Safety.{IsSafeFrom}
 use Rattle.pmt_reasons.specs.Causes.{IsPending}
-use Rattle.pmt_ending.specs.SafePlaces.{IsSafePlace as TellsPlace}
+use Rattle.pmt_sweep.specs.SafePlaces.{IsSafePlace as TellsPlace}
 use Rattle.pmt_explain.specs.Following.{past_of}
 use Rattle.pmt_explain.specs.Saving.{IsSafePlace, TellsSafe}
 

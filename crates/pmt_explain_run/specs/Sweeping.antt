@@ -3,8 +3,8 @@ use Rattle.std.specs.Prelude.{◌≡◌, length}
 use Rattle.pmt_model.specs.Analyses.{IsFindings, IsVerdicts}
 use Rattle.pmt_model.specs.Keeping.{IsKeep}
 use Rattle.pmt_model.specs.Traces.{history, lines_of}
-use Rattle.pmt_flags.specs.Flags.{marked_from}
-use Rattle.pmt_ending.specs.SafePlaces.{AreSafePlaces}
+use Rattle.pmt_tables.specs.Flags.{marked_from}
+use Rattle.pmt_sweep.specs.SafePlaces.{AreSafePlaces}
 use Rattle.pmt_explain_run.specs.declared.sweeping.SweptTrace.{SweptTrace}
 
 pub record IsSweptTrace (x : SweptTrace) : Type 0 where

@@ -1,10 +1,10 @@
 //! From which place on each store is safe, as an explanation takes it.
 ghost use Rattle.std.specs.Prelude.{◌≡◌, unwrap_or, IfOk};
-ghost use Rattle.pmt_ending.specs.SafePlaces.{AreSafePlaces as AreEntries};
+ghost use Rattle.pmt_sweep.specs.SafePlaces.{AreSafePlaces as AreEntries};
 ghost use Rattle.pmt_explain.specs.Saving.{AreSafePlaces};
 
-use pmt_ending::SafePlaces;
 use pmt_model::{OutOfMemory, Trace};
+use pmt_sweep::SafePlaces;
 use std::alloc::Global;
 
 // Of each event that is a store, in order, the first place from which on every run has it persisted; one more than the last number

@@ -6,7 +6,7 @@ ghost use Rattle.pmt_taking.specs.Sourcing.{IsFaultOf, TellsTaken, told_by};
 ghost use Rattle.pmt_explain_run.specs.Sweeping.{IsSweptTrace};
 
 use pmt_model::{OutOfMemory, Trace};
-use pmt_pass::{Swept, sweep};
+use pmt_sweep::{Swept, sweep};
 use pmt_taking::{TakeError, take_trace};
 use pmt_text::EventSource;
 use std::alloc::Global;

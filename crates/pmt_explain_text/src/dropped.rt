@@ -3,13 +3,13 @@
 use pmt_causes::{DroppedKey, Group, Origin, ReasonKind, Spot};
 use pmt_explanation::{first, first_of};
 use pmt_model::{Op, Trace};
-use pmt_names::word_of;
 use pmt_pen::Pen;
 use pmt_place_text::Strayed;
 use pmt_reasons::Reason;
 use pmt_telling::{
     HEAD, Section, Telling, line_address, place_of, push_count, push_label, push_wrapped,
 };
+use pmt_text::word_of;
 
 // What does nothing, where these flushes may have been meant for stores.
 pub(crate) fn dropped_section(told: &Telling<'_>, strayed: &[Strayed]) -> Section {

@@ -3,9 +3,9 @@
 use pmt_asked::frame_of;
 use pmt_causes::{FailureKey, Group};
 use pmt_model::Op;
-use pmt_names::word_of;
 use pmt_pen::Pen;
 use pmt_telling::{Telling, WIDTH, plural, push_cut, width_of};
+use pmt_text::word_of;
 
 // The most events that are named beside the one in full.
 const NAMED: usize = 10;

@@ -2,10 +2,10 @@
 
 use pmt_failures::ShownFailure;
 use pmt_model::{Event, Op, Range, Trace, line_of};
-use pmt_names::word_of;
 use pmt_pen::Pen;
 use pmt_reasons::Mend;
 use pmt_telling::{HEAD, Telling, line_address, next_fence, push_place, push_wrapped};
+use pmt_text::word_of;
 
 // Adds what mends it.
 pub(crate) fn push_fix(pen: &mut Pen, told: &Telling<'_>, shown: &ShownFailure) {

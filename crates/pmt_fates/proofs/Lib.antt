@@ -7,3 +7,7 @@ pub mod RowGroupLemmas
 pub mod RowLemmas
 pub mod RowPlaceLemmas
 pub mod SaverLemmas
+pub mod CountingLemmas
+pub mod FencingLemmas
+pub mod StatOrderLemmas
+pub mod TallyLemmas

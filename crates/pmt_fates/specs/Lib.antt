@@ -7,3 +7,8 @@ pub mod Saved
 pub mod Savers
 pub mod Standings
 pub mod Tallies
+pub mod Costs
+pub mod Counting
+pub mod Fencing
+pub mod Figures
+pub mod Tallying

@@ -6,7 +6,7 @@ use Rattle.std.proofs.lemmas.List.{get_or_past}
 use Rattle.std.proofs.lemmas.Option.{slice_get-get_or, slice_get_within, same_Some}
 use Rattle.pmt_model.specs.Selections.{IsRising, Has}
 use Rattle.pmt_explain.proofs.GroupingLemmas.{get-before, get-last}
-use Rattle.pmt_flags.specs.Flags.{is_kept_at}
+use Rattle.pmt_tables.specs.Flags.{is_kept_at}
 use Rattle.pmt_hints.specs.Hints.{AreThose}
 use Rattle.pmt_hints.specs.Flagging.{AreFlags}
 

@@ -11,7 +11,7 @@ use Rattle.pmt_model.specs.Traces.{Recording, IsAct, act, event}
 use Rattle.pmt_model.specs.Selections.{IsRising, Has}
 use Rattle.pmt_model.specs.Keeping.{IsKeep}
 use Rattle.pmt_laws.proofs.Histories.{act-unique, act-within}
-use Rattle.pmt_flags.specs.Flags.{is_kept_at}
+use Rattle.pmt_tables.specs.Flags.{is_kept_at}
 use Rattle.pmt_hints.specs.declared.near_open.State.{State}
 use Rattle.pmt_hints.specs.declared.near_open.State.TheVariants.{Neither, Open, Other}
 use Rattle.pmt_hints.specs.Hints.{AreThose, IsOpenAtStore, IsOpenFlush}

@@ -5,7 +5,7 @@ ghost use Rattle.pmt_model.specs.Traces.{act_of, event};
 ghost use Rattle.pmt_model.specs.Analyses.{IsVerdicts};
 ghost use Rattle.pmt_model.specs.Keeping.{IsKeep};
 ghost use Rattle.pmt_model.specs.Selections.{IsRising};
-ghost use Rattle.pmt_flags.specs.Flags.{is_kept_at};
+ghost use Rattle.pmt_tables.specs.Flags.{is_kept_at};
 ghost use Rattle.pmt_hints.specs.Hints.{AreThose, IsOpenAtStore, IsOpenFlush, IsOpenThroughout, IsToldOnPath, IsToldOpen};
 ghost use Rattle.pmt_hints.specs.Flagging.{AreFlags};
 ghost use Rattle.pmt_hints.specs.Parting.{AreParted};

@@ -15,8 +15,8 @@ use crate::near_stores::{is_left_unsafe, near_stores};
 use crate::numbers::selection_of;
 use crate::per_thread::PerThread;
 use pmt_explain::SafePlaces;
-use pmt_flags::marked_numbers;
 use pmt_model::{Format, Op, OutOfMemory, Selection, Trace, line_of};
+use pmt_tables::marked_numbers;
 use std::alloc::Global;
 use std::collections::HashMap;
 

@@ -19,7 +19,7 @@ use Rattle.pmt_live.specs.declared.live.LineRow.{LineRow}
 use Rattle.pmt_live.specs.declared.live.LiveLines.{LiveLines}
 use Rattle.pmt_live.specs.Live.{row_after, list_at, flushed, IsLiveWith}
 use Rattle.pmt_live.specs.Fencing.{number_of, place_in, DecidesFence, front_by, decided_with, decided_by, IsAtFence, IsPastFence}
-use Rattle.pmt_places.proofs.ListLemmas.{map-same, map-set_one}
+use Rattle.pmt_tables.proofs.ListLemmas.{map-same, map-set_one}
 use Rattle.pmt_live.proofs.OpenLemmas.{lists-fence, each-fence}
 
 abbrev pub row_with : ℕ → ℕ → LineRow

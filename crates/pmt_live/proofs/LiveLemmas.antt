@@ -14,9 +14,9 @@ use Rattle.pmt_laws.proofs.Histories.{front-le-count}
 use Rattle.pmt_live.specs.declared.open.OpenFlush.{OpenFlush}
 use Rattle.pmt_live.specs.declared.live.LineRow.{LineRow}
 use Rattle.pmt_live.specs.declared.live.LiveLines.{LiveLines}
-use Rattle.pmt_places.specs.Places.{IsPlaceOf, insert_line}
+use Rattle.pmt_tables.specs.Places.{IsPlaceOf, insert_line}
 use Rattle.pmt_live.specs.Live.{row_after, list_at, flushed, IsLiveWith}
-use Rattle.pmt_places.proofs.ListLemmas.{among, map-set_one, list_any-has_line, has_line-less}
+use Rattle.pmt_tables.proofs.ListLemmas.{among, map-set_one, list_any-has_line, has_line-less}
 use Rattle.pmt_live.proofs.OpenLemmas.{flushed-more, within-more, lists-flush, each-flush, lists-back, each-back}
 
 abbrev row_with : ℕ → ℕ → LineRow

@@ -5,8 +5,8 @@ use Rattle.std.specs.List.{list_any, IsDistinct}
 use Rattle.std.proofs.lemmas.List.{length-take-le, take-append-drop}
 use Rattle.std.proofs.lemmas.Option.{slice_get_within, slice_get-get_or}
 use Rattle.std.proofs.Math.Seq.{take-suc}
-use Rattle.pmt_places.specs.Places.{insert_line}
-use Rattle.pmt_places.proofs.ListLemmas.{one-place, get-left, list_any-place}
+use Rattle.pmt_tables.specs.Places.{insert_line}
+use Rattle.pmt_tables.proofs.ListLemmas.{one-place, get-left, list_any-place}
 
 -- the first lines, and the next one inserted
 pub inserted-next : (lines : List ℕ) (i : ℕ) → IsDistinct nat_eq lines → i < length lines → insert_line (take i lines) (get_or lines i 0) ≡ take (i + 1) lines

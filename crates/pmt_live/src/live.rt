@@ -7,12 +7,12 @@ ghost use Rattle.pmt_model.specs.Traces.{Recording, IsAct, history, with_line};
 ghost use Rattle.pmt_model.specs.Values.{Written};
 ghost use Rattle.pmt_live.specs.Live.{IsLive, IsLiveWith, IsKnown, HasRoom, Keeps, list_at};
 ghost use Rattle.pmt_live.specs.Fencing.{DecidesFence};
-ghost use Rattle.pmt_places.specs.Places.{IsFound, IsPlaceOf};
+ghost use Rattle.pmt_tables.specs.Places.{IsFound, IsPlaceOf};
 
 use crate::fencing::decide;
 use crate::open::{OpenFlush, OpenFlushes};
 use pmt_model::OutOfMemory;
-use pmt_places::LinePlaces;
+use pmt_tables::LinePlaces;
 use std::alloc::Global;
 
 /// The number of stores to a line, and its front.

@@ -7,7 +7,7 @@ use Rattle.std.proofs.Common.{subst}
 use Rattle.pmt_model.specs.Values.{Written, line_of}
 use Rattle.pmt_model.specs.Machine.{Stores, writes}
 use Rattle.pmt_model.specs.Traces.{Recording, IsTrace, IsEventIn, IsAct}
-use Rattle.pmt_words.proofs.LineLemmas.{writes-line}
+use Rattle.pmt_tables.proofs.LineLemmas.{writes-line}
 use Rattle.pmt_part_laws.specs.Parts.{IsWellFormed}
 
 -- what holds of all holds of one

@@ -12,7 +12,7 @@ use Rattle.pmt_slices.proofs.CuttingLemmas.{kept-event, kept-act, act-origin, pl
 use Rattle.pmt_asked.specs.declared.ignoring.ByteRange.{ByteRange}
 use Rattle.pmt_parts.specs.Making.{IsPartBut}
 use Rattle.pmt_parts.specs.Aside.{IsOlderOrdered, AsideByWhole, AsideIsAll}
-use Rattle.pmt_parts.proofs.CarryLemmas.{subsequence, has-late}
+use Rattle.pmt_parts.proofs.PartsCarryLemmas.{subsequence, has-late}
 
 module _ (T : Recording) (ranges : List ByteRange) (q r : ℕ) (K : List ℕ) (part : IsPartBut T ranges q r K) where
   s : IsSubsequence T K

@@ -1,278 +1,100 @@
--- What a part without the ignored stores of its carry carries at each place of its stretch.
-use Rattle.std.proofs.Common.{◌≡◌, ℕ, ◌<◌, ◌≤◌, ◌⊎◌, inl, inr, false, List, length, refl, sym, ap, subst, ◌∙◌, le_antisymm, arith}
+-- The events that are marked are the carry.
+use Rattle.std.proofs.Common.{◌≡◌, ℕ, zero, suc, ◌<◌, ◌≤◌, inl, inr, Bool, true, false, List, [], ◌∷◌, length, min, get_or, set, get_or-set_same, get_or-set_other, map, reverse, sym, ap, subst, ◌∙◌, true≢false, arith}
 use Rattle.std.specs.Prelude.{◌↔◌}
-use Rattle.std.proofs.lemmas.Bool.{cases_lt}
-use Rattle.pmt_model.specs.declared.event.Op.{Op}
-use Rattle.pmt_model.specs.declared.event.Op.TheVariants as ops
-use Rattle.pmt_model.specs.Values.{Written, Layout}
-use Rattle.pmt_model.specs.Machine.{Act, Stores, Flushes, Clflushes, Fences}
-use Rattle.pmt_model.specs.Traces.{Recording, IsAct, act_of, count_at}
-use Rattle.pmt_model.specs.Fronts.{front_at}
-use Rattle.pmt_model.specs.Selections.{Has, cut, matching_place}
-use Rattle.pmt_laws.proofs.Histories.{act-unique, act-within, front-mono}
-use Rattle.pmt_laws.proofs.CutLemmas.{place-mono}
-use Rattle.pmt_safety.specs.Safety.{safe_store_at}
-use Rattle.pmt_safety.proofs.SafetyLemmas.{front-below}
-use Rattle.pmt_explain.specs.Following.{ByFence, ByItself, IsCompletedAfter}
-use Rattle.pmt_asked.specs.declared.ignoring.ByteRange.{ByteRange}
-use Rattle.pmt_asked.specs.Ignoring.{is_op_ignored, is_event_ignored, is_ignored}
-use Rattle.pmt_slices.specs.Slices.{IsSubsequence}
-use Rattle.pmt_slices.proofs.CuttingLemmas.{kept-event, kept-act, act-origin, placed-later, later-origin, placed-by}
-use Rattle.pmt_slices.proofs.CoverLemmas.{completed-safe}
-use Rattle.pmt_part_laws.specs.Parts.{IsPending, IsLastOpen, IsCarried}
-use Rattle.pmt_part_laws.proofs.FenceLemmas.{flush-dec, last-since, NoneSince}
-use Rattle.pmt_parts.specs.Making.{IsTaken, IsPartBut}
-use Rattle.pmt_parts.specs.Laws.{PartCarriesAt}
+use Rattle.std.proofs.lemmas.Bool.{cases_lt, cases_eq}
+use Rattle.std.proofs.lemmas.List.{take_all, length-set}
+use Rattle.pmt_model.specs.Machine.{Stores, Flushes, Fences}
+use Rattle.pmt_model.specs.Traces.{Recording, act, history}
+use Rattle.pmt_model.specs.Fronts.{front, front_at}
+use Rattle.pmt_model.specs.Selections.{IsRising, Has}
+use Rattle.pmt_laws.proofs.Histories.{act-within}
+use Rattle.pmt_tables.specs.Flags.{is_kept_at}
+use Rattle.pmt_part_laws.specs.Parts.{IsCarried, IsCarry}
+use Rattle.pmt_parts.specs.Meeting.{TellsCarried, AreCarried}
 
--- ---- Any trace
+pub length-set-same : (marked : List Bool) (m : ℕ) (told : Bool) → length (set marked m told) ≡ length marked
+length-set-same marked m told = length-set marked m told
 
--- a store is pending exactly if no flush of its line after it is complete
-pending-is : (T : Recording) (l j n : ℕ) (w : Written) → IsAct T j (Stores l w) → (front_at T l n < count_at T l j) ↔ ¬ IsCompletedAfter T l j n
-pending-is T l j n w is = (
-  λ above done. omega (arith, (front-below T l n j w is).0 above, (completed-safe T l j n w is).0 done),
-  λ none. (front-below T l n j w is).1 (elim (cases_lt (safe_store_at T l n) j) [ inl later ↦ later | inr safe ↦ absurd (none ((completed-safe T l j n w is).1 safe)) ]),
-)
+-- one more event is marked or not
+pub marks-more : (T : Recording) (m n : ℕ) (marked : List Bool) (told : Bool) → length marked ≡ n → m < n → TellsCarried T n (suc m) told → AreCarried T (suc m) n marked → AreCarried T m n (set marked m told)
+marks-more T m n marked told size within tells old zero after by = absurd (omega (arith, after))
+marks-more T m n marked told size within tells old (suc i) after by = elim (cases_eq i m) [
+  | inl e ↦
+      let value : get_or (set marked m told) i false ≡ told = ap (λ k. get_or (set marked m told) k false) e ∙ get_or-set_same marked m told false (omega (arith, size, within)) in
+      let here : TellsCarried T n (suc i) told = subst (λ k. TellsCarried T n (suc k) told) (sym e) tells in
+      subst (λ b. TellsCarried T n (suc i) b) (sym value) here
+  | inr apart ↦ subst (λ b. TellsCarried T n (suc i) b) (sym (get_or-set_other marked m i told false apart)) (old (suc i) (omega (arith, after, apart)) by)
+]
 
--- a flush is ignored by no range
-flush-op : (f : Layout) (ranges : List ByteRange) (u t l : ℕ) (op : Op) → act_of f u op ≡ Flushes t l → is_op_ignored ranges op ≡ false
-flush-op f ranges u t l (ops.Store w) e = absurd (cc)
-flush-op f ranges u t l (ops.Clwb a) e = refl
-flush-op f ranges u t l (ops.ClflushOpt a) e = refl
-flush-op f ranges u t l (ops.Clflush a) e = refl
-flush-op f ranges u t l ops.Sfence e = refl
-flush-op f ranges u t l ops.Mfence e = refl
-flush-op f ranges u t l (ops.IsPersist r) e = refl
-flush-op f ranges u t l (ops.IsOrderedBefore r s) e = refl
+-- past the last event the history stays
+history-end : (T : Recording) (n : ℕ) → length T.events ≤ n → history T n ≡ history T (length T.events)
+history-end T n past = ap (λ xs. reverse (map (act T.format) xs)) (take_all n T.events past ∙ sym (take_all (length T.events) T.events (omega arith)))
 
-flush-told : (T : Recording) (ranges : List ByteRange) (k t l : ℕ) → IsAct T k (Flushes t l) → is_ignored T ranges k ≡ false
-flush-told T ranges k t l (e, is, flushes) = ap (is_event_ignored ranges) is ∙ flush-op T.format ranges e.thread t l e.op flushes
+-- so what is carried is that of the end
+carried-end : (T : Recording) (n k : ℕ) → length T.events ≤ n → IsCarried T n k ↔ IsCarried T (length T.events) k
+carried-end T n k past = (there, back)
+  where
+    same : (l : ℕ) → front_at T l n ≡ front_at T l (length T.events)
+    same l = ap (front l) (history-end T n past)
 
-module _ (T : Recording) (ranges : List ByteRange) (q r : ℕ) (K : List ℕ) (part : IsPartBut T ranges q r K) where
-  -- ---- The part
-
-  pub subsequence : IsSubsequence T K
-  subsequence = record { rising = part.rising; within = λ k has. go k ((part.just k).0 has) }
-    where
-      go : (k : ℕ) → IsTaken T ranges q k ⊎ ((q < k) × (k ≤ r)) → k ≤ length T.events
-      go k (inl (inl store, told)) = (act-within T k (Stores store.line store.what) store.is_store).1
-      go k (inl (inr flush, told)) = (act-within T k (Flushes flush.thread flush.line) flush.is_flush).1
-      go k (inr x) = omega (arith, x.1, part.within)
-
-  pub has-late : (k : ℕ) → q < k → k ≤ r → Has K k
-  has-late k after by = (part.just k).1 (inr (after, by))
-
-  -- an event up to the place is carried
-  pub early : (k : ℕ) → Has K k → k ≤ q → IsTaken T ranges q k
-  early k has by = elim ((part.just k).0 has) [ inl taken ↦ taken | inr x ↦ absurd (omega (arith, x.0, by)) ]
-
-  pub by-end : (k : ℕ) → Has K k → k ≤ r
-  by-end k has = go ((part.just k).0 has)
-    where
-      go : IsTaken T ranges q k ⊎ ((q < k) × (k ≤ r)) → k ≤ r
-      go (inl (inl store, told)) = omega (arith, store.by_now, part.order)
-      go (inl (inr flush, told)) = omega (arith, flush.by_now, part.order)
-      go (inr x) = x.1
-
-  -- an act of the part is that of the event that it comes from
-  pub act-back : (k : ℕ) (a : Act) → Has K k → IsAct (cut T K) (matching_place K k) a → IsAct T k a
-  act-back k a has is =
-      let o = act-origin T K (matching_place K k) a subsequence is in
-      let same : o.number ≡ k = le_antisymm (placed-by T K o.number k subsequence o.chosen (omega (arith, o.place))) (placed-by T K k o.number subsequence has (omega (arith, o.place))) in
-      subst (λ i. IsAct T i a) same o.is_act
-
-  pub told-same : (k : ℕ) → Has K k → is_ignored (cut T K) ranges (matching_place K k) ≡ is_ignored T ranges k
-  told-same k has = ap (is_event_ignored ranges) (kept-event T K k subsequence has)
-
-  -- of a store of the part that comes by place q no flush is complete there
-  incomplete : (l j : ℕ) (w : Written) → Has K j → IsAct T j (Stores l w) → j ≤ q → ¬ IsCompletedAfter T l j q
-  incomplete l j w has is by = go (early j has by).0
-    where
-      go : IsCarried T q j → ¬ IsCompletedAfter T l j q
-      go (inl store) =
-          let same = act-unique T j (Stores store.line store.what) (Stores l w) store.is_store is in
-          let line : store.line ≡ l = cc in
-          (pending-is T l j q w is).0 (subst (λ m. front_at T m q < count_at T m j) line store.above)
-      go (inr flush) = let same = act-unique T j (Flushes flush.thread flush.line) (Stores l w) flush.is_flush is in absurd cc
-
-  -- ---- Flushes that are complete
-
-  complete-back : (l j n : ℕ) → IsCompletedAfter (cut T K) l (matching_place K j) (matching_place K n) → IsCompletedAfter T l j n
-  complete-back l j n (i, after, ByFence t fence flush is later by) =
-      let o = act-origin T K i (Flushes t l) subsequence flush in
-      let p = act-origin T K fence (Fences t) subsequence is in (
-        o.number,
-        later-origin K j o.number (omega (arith, after, o.place)),
-        ByFence t p.number o.is_act p.is_act (later-origin K o.number p.number (omega (arith, later, o.place, p.place))) (placed-by T K p.number n subsequence p.chosen (omega (arith, by, p.place))),
-      )
-  complete-back l j n (i, after, ByItself flush by) =
-      let o = act-origin T K i (Clflushes l) subsequence flush in
-      (o.number, later-origin K j o.number (omega (arith, after, o.place)), ByItself o.is_act (placed-by T K o.number n subsequence o.chosen (omega (arith, by, o.place))))
-
-  -- the events of the part by which a flush is complete
-  kept-fence : (l j n t i fence : ℕ) → q ≤ n → n ≤ r → j < i → i < fence → fence ≤ n → Has K i → Has K fence → IsAct T i (Flushes t l) → IsAct T fence (Fences t) →
-      IsCompletedAfter (cut T K) l (matching_place K j) (matching_place K n)
-  kept-fence l j n t i fence from within after later by has_flush has_fence flush is = (
-    matching_place K i,
-    placed-later T K j i subsequence has_flush after,
-    ByFence t (matching_place K fence) (kept-act T K i (Flushes t l) subsequence has_flush flush) (kept-act T K fence (Fences t) subsequence has_fence is)
-        (placed-later T K i fence subsequence has_fence later) (place-mono K fence n by),
-  )
-
-  -- a flush by place q whose thread has not fenced since, or a later one of its line by its thread, is carried
-  open-kept : (l j t i : ℕ) → ¬ IsCompletedAfter T l j q → j < i → i ≤ q → IsAct T i (Flushes t l) → (k : ℕ) × (i ≤ k) × (k ≤ q) × Has K k × IsAct T k (Flushes t l)
-  open-kept l j t i none after by flush = elim (last-since T (Flushes t l) i q (flush-dec t l)) [
-    | inl x ↦ (x.0, omega (arith, x.1.after), x.1.by_now, carried x.0 (omega (arith, x.1.after)) x.1.by_now x.1.is_act x.1.none_later, x.1.is_act)
-    | inr last ↦ (i, omega arith, by, carried i (omega arith) by flush last, flush)
-  ]
-    where
-      carried : (k : ℕ) → i ≤ k → k ≤ q → IsAct T k (Flushes t l) → NoneSince T (Flushes t l) k q → Has K k
-      carried k since now is last = (part.just k).1 (inl (
-        inr (record {
-          thread = t;
-          line = l;
-          is_flush = is;
-          by_now = now;
-          last = last;
-          unfenced = λ m later before fence. none (k, omega (arith, after, since), ByFence t m is fence later before);
-        }),
-        flush-told T ranges k t l is,
-      ))
-
-  complete-there : (l j n : ℕ) (w : Written) → q ≤ n → n ≤ r → Has K j → IsAct T j (Stores l w) → IsCompletedAfter T l j n → IsCompletedAfter (cut T K) l (matching_place K j) (matching_place K n)
-  complete-there l j n w from within has is (i, after, ByItself flush by) = elim (cases_lt q i) [
-    | inl late ↦
-        let chosen = has-late i late (omega (arith, by, within)) in
-        (matching_place K i, placed-later T K j i subsequence chosen after, ByItself (kept-act T K i (Clflushes l) subsequence chosen flush) (place-mono K i n by))
-    | inr soon ↦ absurd (incomplete l j w has is (omega (arith, after, soon)) (i, after, ByItself flush soon))
-  ]
-  complete-there l j n w from within has is (i, after, ByFence t fence flush at later by) = elim (cases_lt q fence) [
-    | inl late ↦ elim (cases_lt q i) [
-      | inl fresh ↦ kept-fence l j n t i fence from within after later by (has-late i fresh (omega (arith, later, by, within))) (has-late fence late (omega (arith, by, within))) flush at
-      | inr old ↦
-          let k = open-kept l j t i (incomplete l j w has is (omega (arith, after, old))) after old flush in
-          kept-fence l j n t k.0 fence from within (omega (arith, after, k.1)) (omega (arith, k.2, late)) by k.3 (has-late fence late (omega (arith, by, within))) k.4 at
-    ]
-    | inr soon ↦ absurd (incomplete l j w has is (omega (arith, after, later, soon)) (i, after, ByFence t fence flush at later soon))
-  ]
-
-  module _ (n : ℕ) (from : q ≤ n) (within : n ≤ r) (k : ℕ) where
-    -- ---- Stores
-
-    has-pending : IsPending T n k → is_ignored T ranges k ≡ false → Has K k
-    has-pending x told = elim (cases_lt q k) [
-      | inl late ↦ has-late k late (omega (arith, x.by_now, within))
-      | inr soon ↦
-          let grown = front-mono T x.line q n from in
-          (part.just k).1 (inl (inl (record { line = x.line; what = x.what; is_store = x.is_store; by_now = soon; above = omega (arith, x.above, grown) }), told))
-    ]
-
-    pending-there : Has K k → IsPending T n k → IsPending (cut T K) (matching_place K n) (matching_place K k)
-    pending-there has x =
-        let is = kept-act T K k (Stores x.line x.what) subsequence has x.is_store in
-        record {
-          line = x.line;
-          what = x.what;
-          is_store = is;
-          by_now = place-mono K k n x.by_now;
-          above = (pending-is (cut T K) x.line (matching_place K k) (matching_place K n) x.what is).1
-              (λ done. (pending-is T x.line k n x.what x.is_store).0 x.above (complete-back x.line k n done));
-        }
-
-    pending-back : Has K k → IsPending (cut T K) (matching_place K n) (matching_place K k) → IsPending T n k
-    pending-back has x =
-        let is = act-back k (Stores x.line x.what) has x.is_store in
-        record {
-          line = x.line;
-          what = x.what;
-          is_store = is;
-          by_now = placed-by T K k n subsequence has x.by_now;
-          above = (pending-is T x.line k n x.what is).1
-              (λ done. (pending-is (cut T K) x.line (matching_place K k) (matching_place K n) x.what x.is_store).0 x.above (complete-there x.line k n x.what from within has is done));
-        }
-
-    -- ---- Flushes
-
-    has-open : IsLastOpen T n k → Has K k
-    has-open x = elim (cases_lt q k) [
-      | inl late ↦ has-late k late (omega (arith, x.by_now, within))
-      | inr soon ↦ (part.just k).1 (inl (
-        inr (record {
-          thread = x.thread;
-          line = x.line;
-          is_flush = x.is_flush;
-          by_now = soon;
-          last = λ j later by flush. x.last j later (omega (arith, by, from)) flush;
-          unfenced = λ j later by fence. x.unfenced j later (omega (arith, by, from)) fence;
-        }),
-        flush-told T ranges k x.thread x.line x.is_flush,
-      ))
-    ]
-
-    open-there : Has K k → IsLastOpen T n k → IsLastOpen (cut T K) (matching_place K n) (matching_place K k)
-    open-there has x = record {
+    there : IsCarried T n k → IsCarried T (length T.events) k
+    there (inl x) = inl (record { line = x.line; what = x.what; is_store = x.is_store; by_now = (act-within T k (Stores x.line x.what) x.is_store).1; above = omega (arith, x.above, same x.line) })
+    there (inr x) = inr (record {
       thread = x.thread;
       line = x.line;
-      is_flush = kept-act T K k (Flushes x.thread x.line) subsequence has x.is_flush;
-      by_now = place-mono K k n x.by_now;
-      last = λ j later by flush.
-          let o = act-origin T K j (Flushes x.thread x.line) subsequence flush in
-          x.last o.number (later-origin K k o.number (omega (arith, later, o.place))) (placed-by T K o.number n subsequence o.chosen (omega (arith, by, o.place))) o.is_act;
-      unfenced = λ j later by fence.
-          let o = act-origin T K j (Fences x.thread) subsequence fence in
-          x.unfenced o.number (later-origin K k o.number (omega (arith, later, o.place))) (placed-by T K o.number n subsequence o.chosen (omega (arith, by, o.place))) o.is_act;
-    }
+      is_flush = x.is_flush;
+      by_now = (act-within T k (Flushes x.thread x.line) x.is_flush).1;
+      last = λ j after by is. x.last j after (omega (arith, by, past)) is;
+      unfenced = λ j after by is. x.unfenced j after (omega (arith, by, past)) is;
+    })
 
-    -- a flush that is carried is the last one of its line by its thread, and no fence has come
-    none-between : (t l j : ℕ) → Has K k → IsAct T k (Flushes t l) → k < j → j ≤ q → (IsAct T j (Flushes t l) → ⊥) × (IsAct T j (Fences t) → ⊥)
-    none-between t l j has is after by = go (early k has (omega (arith, after, by))).0
-      where
-        go : IsCarried T q k → (IsAct T j (Flushes t l) → ⊥) × (IsAct T j (Fences t) → ⊥)
-        go (inl store) = let same = act-unique T k (Stores store.line store.what) (Flushes t l) store.is_store is in absurd cc
-        go (inr flush) =
-            let same = act-unique T k (Flushes flush.thread flush.line) (Flushes t l) flush.is_flush is in
-            let thread : flush.thread ≡ t = cc in
-            let line : flush.line ≡ l = cc in (
-              λ at. flush.last j after by (subst (λ u. IsAct T j (Flushes u flush.line)) (sym thread) (subst (λ m. IsAct T j (Flushes t m)) (sym line) at)),
-              λ at. flush.unfenced j after by (subst (λ u. IsAct T j (Fences u)) (sym thread) at),
-            )
-
-    open-back : Has K k → IsLastOpen (cut T K) (matching_place K n) (matching_place K k) → IsLastOpen T n k
-    open-back has x = record {
+    back : IsCarried T (length T.events) k → IsCarried T n k
+    back (inl x) = inl (record { line = x.line; what = x.what; is_store = x.is_store; by_now = omega (arith, x.by_now, past); above = omega (arith, x.above, same x.line) })
+    back (inr x) = inr (record {
       thread = x.thread;
       line = x.line;
-      is_flush = is;
-      by_now = placed-by T K k n subsequence has x.by_now;
-      last = λ j later by flush. elim (cases_lt q j) [
-        | inl late ↦
-            let chosen = has-late j late (omega (arith, by, within)) in
-            x.last (matching_place K j) (placed-later T K k j subsequence chosen later) (place-mono K j n by) (kept-act T K j (Flushes x.thread x.line) subsequence chosen flush)
-        | inr soon ↦ (none-between x.thread x.line j has is later soon).0 flush
-      ];
-      unfenced = λ j later by fence. elim (cases_lt q j) [
-        | inl late ↦
-            let chosen = has-late j late (omega (arith, by, within)) in
-            x.unfenced (matching_place K j) (placed-later T K k j subsequence chosen later) (place-mono K j n by) (kept-act T K j (Fences x.thread) subsequence chosen fence)
-        | inr soon ↦ (none-between x.thread x.line j has is later soon).1 fence
-      ];
-    }
-      where
-        is : IsAct T k (Flushes x.thread x.line)
-        is = act-back k (Flushes x.thread x.line) has x.is_flush
+      is_flush = x.is_flush;
+      by_now = omega (arith, x.by_now, past);
+      last = λ j after by is. x.last j after (act-within T j (Flushes x.thread x.line) is).1 is;
+      unfenced = λ j after by is. x.unfenced j after (act-within T j (Fences x.thread) is).1 is;
+    })
 
-    has-taken : IsTaken T ranges n k → Has K k
-    has-taken (inl x, told) = has-pending x told
-    has-taken (inr x, told) = has-open x
+carried-min : (T : Recording) (n last k : ℕ) → last ≡ min n (length T.events) → IsCarried T n k ↔ IsCarried T last k
+carried-min T n last k is = elim (cases_lt n (length T.events)) [
+  | inl before ↦ let e : n ≡ last = omega (arith, is, before) in (λ x. subst (λ p. IsCarried T p k) e x, λ x. subst (λ p. IsCarried T p k) (sym e) x)
+  | inr past ↦
+      let e : length T.events ≡ last = omega (arith, is, past) in
+      let end = carried-end T n k past in
+      (λ x. subst (λ p. IsCarried T p k) e (end.0 x), λ x. end.1 (subst (λ p. IsCarried T p k) (sym e) x))
+]
 
-    carried-there : Has K k → IsCarried T n k → IsCarried (cut T K) (matching_place K n) (matching_place K k)
-    carried-there has (inl x) = inl (pending-there has x)
-    carried-there has (inr x) = inr (open-there has x)
+-- a mark is that of an event
+mark-some : (marked : List Bool) (i : ℕ) → get_or marked i false ≡ true → i < length marked
+mark-some [] i e = absurd (true≢false (sym e))
+mark-some (b ∷ marked) zero e = omega arith
+mark-some (b ∷ marked) (suc i) e = omega (arith, mark-some marked i e)
 
-    carried-back : Has K k → IsCarried (cut T K) (matching_place K n) (matching_place K k) → IsCarried T n k
-    carried-back has (inl x) = inl (pending-back has x)
-    carried-back has (inr x) = inr (open-back has x)
+marked-within : (marked : List Bool) (k : ℕ) → is_kept_at marked k ≡ true → (0 < k) × (k ≤ length marked)
+marked-within marked zero e = absurd (true≢false (sym e))
+marked-within marked (suc i) e = (omega arith, omega (arith, mark-some marked i e))
 
-pub part_carries_at : PartCarriesAt
-part_carries_at T ranges q r n K k part from within = (
-  λ taken. let has = has-taken T ranges q r K part n from within k taken in (has, (carried-there T ranges q r K part n from within k has taken.0, told-same T ranges q r K part k has ∙ taken.1)),
-  λ x. (carried-back T ranges q r K part n from within k x.0 x.1.0, sym (told-same T ranges q r K part k x.0) ∙ x.1.1),
-)
+-- what is carried is an event
+carried-some : (T : Recording) (n k : ℕ) → IsCarried T n k → (0 < k) × (k ≤ n)
+carried-some T n k (inl x) = (omega (arith, (act-within T k (Stores x.line x.what) x.is_store).0), x.by_now)
+carried-some T n k (inr x) = (omega (arith, (act-within T k (Flushes x.thread x.line) x.is_flush).0), x.by_now)
+
+pub carry-marked : (T : Recording) (n last : ℕ) (marked : List Bool) (numbers : List ℕ) → last ≡ min n (length T.events) → length marked ≡ last → AreCarried T 0 last marked → IsRising 0 numbers →
+    ((k : ℕ) → Has numbers k ↔ (is_kept_at marked k ≡ true)) → IsCarry T n numbers
+carry-marked T n last marked numbers is size carried rising just = record { rising = rising; just = λ k. (there k, back k) }
+  where
+    there : (k : ℕ) → Has numbers k → IsCarried T n k
+    there k has =
+        let mark = (just k).0 has in
+        let within = marked-within marked k mark in
+        (carried-min T n last k is).1 ((carried k within.0 (omega (arith, within.1, size))).0 mark)
+
+    back : (k : ℕ) → IsCarried T n k → Has numbers k
+    back k x =
+        let here = (carried-min T n last k is).0 x in
+        let within = carried-some T last k here in
+        (just k).1 ((carried k within.0 within.1).1 here)

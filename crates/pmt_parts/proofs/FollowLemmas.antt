@@ -13,7 +13,7 @@ use Rattle.pmt_asked.specs.declared.ignoring.ByteRange.{ByteRange}
 use Rattle.pmt_parts.specs.declared.part.Part.{Part}
 use Rattle.pmt_parts.specs.Making.{IsTaken, IsPartBut, IsPartOf}
 use Rattle.pmt_parts.specs.Picking.{through, AreChosen}
-use Rattle.pmt_parts.proofs.CarryLemmas.{subsequence, has-late, by-end, part_carries_at}
+use Rattle.pmt_parts.proofs.PartsCarryLemmas.{subsequence, has-late, by-end, part_carries_at}
 use Rattle.pmt_parts.proofs.PickLemmas.{AreIn, has-through, rising-through, cut-through}
 
 -- a cut has no more events than it has numbers

@@ -13,7 +13,7 @@ use Rattle.pmt_model.specs.Machine.{Stores, Flushes}
 use Rattle.pmt_asked.specs.declared.ignoring.ByteRange.{ByteRange}
 use Rattle.pmt_parts.specs.declared.part.Part.{Part}
 use Rattle.pmt_parts.specs.Making.{IsTaken, IsPartBut, IsPartOf, ComesNext}
-use Rattle.pmt_parts.proofs.CarryLemmas.{by-end}
+use Rattle.pmt_parts.proofs.PartsCarryLemmas.{by-end}
 use Rattle.pmt_parts.proofs.ChosenLemmas.{has-both, rising-both}
 
 -- before the first event nothing is carried

@@ -1,4 +1,6 @@
+pub mod LaterLemmas
 pub mod CarryLemmas
+pub mod PartsCarryLemmas
 pub mod PickLemmas
 pub mod ChosenLemmas
 pub mod GrowLemmas
@@ -8,3 +10,5 @@ pub mod AsideLemmas
 pub mod MetLemmas
 pub mod PieceLemmas
 pub mod TextLemmas
+pub mod AnsweredLemmas
+pub mod RunLemmas

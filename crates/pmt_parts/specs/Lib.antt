@@ -1,3 +1,4 @@
+pub mod Meeting
 pub mod Making
 pub mod Picking
 pub mod Cutting
@@ -5,3 +6,5 @@ pub mod Reading
 pub mod LongTexts
 pub mod Aside
 pub mod Laws
+pub mod Runs
+pub mod Running

@@ -5,10 +5,18 @@
 #![tactic(auto)]
 
 pub mod aside;
+pub mod carrying;
+mod later;
 pub mod laws;
 pub mod part;
 pub mod pieces;
+mod reading;
+pub mod run;
+pub mod taker;
 
 pub use crate::aside::set_aside;
+pub use crate::carrying::carry_at;
 pub use crate::part::{Part, next_part, number_at, place_in};
 pub use crate::pieces::{PieceError, Pieces};
+pub use crate::run::give_parts;
+pub use crate::taker::{PartError, PartTaker, Refusal};

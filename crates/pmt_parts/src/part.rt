@@ -9,8 +9,8 @@ ghost use Rattle.pmt_part_laws.specs.Laws.{stretch};
 ghost use Rattle.pmt_parts.specs.Making.{IsPartOf, ComesNext};
 ghost use Rattle.pmt_parts.specs.Picking.{AreChosen, number_in, through};
 
+use crate::carry_at;
 use pmt_asked::{ByteRange, is_ignored};
-use pmt_carry::carry_at;
 use pmt_model::{Event, Format, OutOfMemory, Selection, Trace};
 use pmt_taking::add;
 use std::alloc::Global;

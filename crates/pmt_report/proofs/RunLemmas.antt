@@ -5,7 +5,7 @@ use Rattle.std.specs.Io.KnownBytes.{Appends}
 use Rattle.std.specs.List.{list_any}
 use Rattle.pmt_model.specs.Traces.{Recording}
 use Rattle.pmt_text.specs.Coming.{Coming, ComesWhole}
-use Rattle.pmt_flags.specs.Flags.{marked_from}
+use Rattle.pmt_tables.specs.Flags.{marked_from}
 use Rattle.pmt_trimming.specs.Streaming.{IsTextOfTrimmed}
 use Rattle.pmt_trimming.specs.WholeTexts.{IsTextOfWhole}
 use Rattle.pmt_text.specs.declared.kind.SourceError.{SourceError}

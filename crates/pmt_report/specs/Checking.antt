@@ -3,8 +3,8 @@ use Rattle.std.specs.Prelude.{◌≡◌, length, Option}
 use Rattle.pmt_model.specs.Traces.{Recording, IsTrace}
 use Rattle.pmt_model.specs.Analyses.{IsAnalysis}
 use Rattle.pmt_text.specs.Coming.{Coming, ComesWhole}
-use Rattle.pmt_flags.specs.Flags.{marked_from}
-use Rattle.pmt_pass.specs.Passing.{HasSwept}
+use Rattle.pmt_tables.specs.Flags.{marked_from}
+use Rattle.pmt_sweep.specs.Passing.{HasSwept}
 use Rattle.pmt_report.specs.declared.checked.CheckedTrace.{CheckedTrace}
 use Rattle.pmt_report.specs.declared.checked.Taken.{Taken}
 

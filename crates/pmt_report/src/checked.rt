@@ -7,7 +7,7 @@ ghost use Rattle.pmt_text.specs.Counting.{failure_count, inner_device};
 ghost use Rattle.pmt_text.specs.Sources.{CountsReads};
 ghost use Rattle.pmt_taking.specs.Blocks.{Shown, TakesBlock, shown_by};
 ghost use Rattle.pmt_taking.specs.Sourcing.{IsFaultOf, TellsRefusal, TellsTaken, told_by};
-ghost use Rattle.pmt_pass.specs.Passing.{HasSwept};
+ghost use Rattle.pmt_sweep.specs.Passing.{HasSwept};
 ghost use Rattle.pmt_analysis.specs.Workers.{is_worker_count};
 ghost use Rattle.pmt_report.specs.Blockwise.{IsTakenSoFar};
 ghost use Rattle.pmt_report.specs.Checking.{HasTaken, IsCheckOf, IsFoundIn};
@@ -16,7 +16,7 @@ ghost use Rattle.pmt_report.specs.Runs.{IsAnalysisFault, coming_from_reader, run
 use crate::fault::{RunError, run_error};
 use pmt_analysis::are_allowed;
 use pmt_model::{OutOfMemory, Trace};
-use pmt_pass::{Sweeper, Swept};
+use pmt_sweep::{Sweeper, Swept};
 use pmt_taking::{TakeError, take_block};
 use pmt_text::{Counted, EventSource, TextSource};
 use std::alloc::Global;

@@ -5,8 +5,8 @@ ghost use Rattle.pmt_text.specs.Spelling.{numeral};
 ghost use Rattle.pmt_report.specs.Entries.{entries, finding_entry, finding_line, flushed_word, is_before, assertion_word, verdict_entry, verdict_word};
 ghost use Rattle.pmt_report.specs.Reports.{report_end, report_head};
 
-use pmt_ending::Noted;
 use pmt_model::{Finding, Verdict};
+use pmt_sweep::Noted;
 use pmt_text::line_text::{LINE_ROOM, put, put_decimal, put_word};
 
 // Spells the first line of a report, and answers where it begins; so do the others.

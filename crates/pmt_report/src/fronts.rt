@@ -2,7 +2,7 @@
 ghost use Rattle.std.specs.Prelude.{◌≡◌, ◌++◌, length, IfOk, OnOk};
 ghost use Rattle.std.specs.List.{flat_map};
 ghost use Rattle.pmt_model.specs.Traces.{Recording};
-ghost use Rattle.pmt_places.specs.Places.{IsPlaceOf};
+ghost use Rattle.pmt_tables.specs.Places.{IsPlaceOf};
 ghost use Rattle.pmt_report.specs.FrontsOf.{AreLinesOf};
 ghost use Rattle.pmt_report.specs.Reports.{fronts_text, line_entry, lines_at};
 

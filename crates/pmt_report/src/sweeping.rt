@@ -6,10 +6,9 @@ ghost use Rattle.pmt_taking.specs.Sourcing.{IsFaultOf, TellsTaken, told_by};
 ghost use Rattle.pmt_analysis.specs.Analysing.{IsAnalysed};
 
 use pmt_analysis::Analysis;
-use pmt_ending::all_told;
-use pmt_flags::marked_numbers;
 use pmt_model::{OutOfMemory, Trace};
-use pmt_pass::{Swept, sweep};
+use pmt_sweep::{Swept, all_told, sweep};
+use pmt_tables::marked_numbers;
 use pmt_taking::{TakeError, take_trace};
 use pmt_text::EventSource;
 use std::alloc::Global;

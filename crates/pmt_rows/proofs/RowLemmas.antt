@@ -10,9 +10,9 @@ use Rattle.pmt_model.specs.Values.{Written}
 use Rattle.pmt_model.specs.Traces.{has_line, with_line}
 use Rattle.pmt_model.specs.Findings.{last_flush}
 use Rattle.pmt_safety.specs.Safety.{last_line_store}
-use Rattle.pmt_links.specs.Linked.{raised}
-use Rattle.pmt_places.specs.Places.{IsPlaceOf, insert_line}
-use Rattle.pmt_places.proofs.ListLemmas.{among, map-same, map-set_one, list_any-has_line, has_line-less}
+use Rattle.pmt_rows.specs.Linked.{raised}
+use Rattle.pmt_tables.specs.Places.{IsPlaceOf, insert_line}
+use Rattle.pmt_tables.proofs.ListLemmas.{among, map-same, map-set_one, list_any-has_line, has_line-less}
 use Rattle.pmt_rows.specs.declared.rows.Row.{Row}
 use Rattle.pmt_rows.specs.declared.rows.Rows.{Rows}
 use Rattle.pmt_rows.specs.Known.{row_after, IsKnownWith, KeptAtOthers, KeptBySame}

@@ -4,12 +4,12 @@ ghost use Rattle.pmt_model.specs.Machine.{Act, Stores, Flushes, Clflushes};
 ghost use Rattle.pmt_model.specs.Traces.{with_line};
 ghost use Rattle.pmt_model.specs.Values.{Written};
 ghost use Rattle.pmt_safety.specs.Safety.{last_line_store};
-ghost use Rattle.pmt_links.specs.Linked.{raised};
-ghost use Rattle.pmt_places.specs.Places.{IsPlaceOf};
+ghost use Rattle.pmt_rows.specs.Linked.{raised};
+ghost use Rattle.pmt_tables.specs.Places.{IsPlaceOf};
 ghost use Rattle.pmt_rows.specs.Known.{IsKnown, IsKnownWith, row_after};
 
 use pmt_model::OutOfMemory;
-use pmt_places::LinePlaces;
+use pmt_tables::LinePlaces;
 use std::alloc::Global;
 
 /// Of a line the numbers of its last store, of its last store that is safe, and of its last flush or clflush: 0 where there is none.

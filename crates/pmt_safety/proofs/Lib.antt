@@ -3,3 +3,4 @@ pub mod SafetyLemmas
 pub mod RedundantLemmas
 pub mod KeptLemmas
 pub mod VerdictLemmas
+pub mod MarkingLemmas

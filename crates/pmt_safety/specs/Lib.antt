@@ -1,2 +1,3 @@
 pub mod Safety
 pub mod Closed
+pub mod Marking

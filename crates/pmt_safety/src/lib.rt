@@ -2,4 +2,5 @@
 #![tactic(auto)]
 
 pub mod closed;
+pub mod marking;
 pub mod safety;

@@ -11,8 +11,8 @@ use Rattle.pmt_model.specs.Machine.{Act, Stores, Flushes, Clflushes, Fences}
 use Rattle.pmt_model.specs.Traces.{Recording, IsAct, act_of}
 use Rattle.pmt_model.specs.Assertions.{InSpan}
 use Rattle.pmt_laws.proofs.Histories.{act-unique}
-use Rattle.pmt_spans.specs.declared.spanned.Spanned.{Spanned}
-use Rattle.pmt_spans.specs.Spans.{IsSpanned, LinesAreMet}
+use Rattle.pmt_tables.specs.declared.spanned.Spanned.{Spanned}
+use Rattle.pmt_tables.specs.Spans.{IsSpanned, LinesAreMet}
 use Rattle.pmt_explain.specs.Following.{IsFirst, IsFenceAfter}
 use Rattle.pmt_explain.proofs.FirstLemmas.{first-here, first-over}
 use Rattle.pmt_slices.specs.declared.coming.Coming.{Coming}

@@ -6,7 +6,7 @@ use Rattle.pmt_model.specs.Traces.{Recording, IsAct}
 use Rattle.pmt_model.specs.Findings.{IsFlushOf}
 use Rattle.pmt_model.specs.Assertions.{InSpan}
 use Rattle.pmt_safety.specs.Closed.{IsLastIn}
-use Rattle.pmt_flags.specs.Flags.{is_kept_at}
+use Rattle.pmt_tables.specs.Flags.{is_kept_at}
 use Rattle.pmt_explain.specs.Following.{IsFirst, IsFenceAfter, IsCompletedAfter}
 use Rattle.pmt_slices.specs.declared.coming.Coming.{Coming}
 use Rattle.pmt_slices.specs.declared.scan.Scan.{Scan}

@@ -9,8 +9,8 @@ ghost use Rattle.pmt_slices.specs.Scanning.{IsComing, IsScan};
 
 use crate::coming::Coming;
 use pmt_model::{Format, OutOfMemory, Range};
-use pmt_spans::Spanned;
-use pmt_spans::laws::lines_are_met;
+use pmt_tables::Spanned;
+use pmt_tables::span_laws::lines_are_met;
 use std::alloc::Global;
 
 /// What comes after a place and up to an assertion: of each line that a range meets, and of the fences.

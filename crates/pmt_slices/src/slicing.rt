@@ -13,8 +13,8 @@ ghost use Rattle.pmt_slices.specs.Scanning.{HasChosen, IsGoneBack};
 use crate::choosing::{choose_store, only};
 use crate::scan::Scan;
 use crate::unwritten::Unwritten;
-use pmt_flags::marked_numbers;
 use pmt_model::{Format, Op, OutOfMemory, Range, Selection, Trace, WordStore, line_of};
+use pmt_tables::marked_numbers;
 use std::alloc::Global;
 
 /// The slice of the assertion with this number: the rising numbers of the assertion, of the last stores to the bytes of its ranges, and of

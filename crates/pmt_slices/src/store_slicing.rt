@@ -12,8 +12,8 @@ use crate::after::coming_after;
 use crate::choosing::{choose, choose_store, nothing};
 use crate::coming::Coming;
 use crate::cutting::Slice;
-use pmt_flags::marked_numbers;
 use pmt_model::{Op, OutOfMemory, Selection, Trace, WordStore};
+use pmt_tables::marked_numbers;
 use std::alloc::Global;
 
 // What comes after a store, up to the end. A number is one more than that of the last event where there is no such event.

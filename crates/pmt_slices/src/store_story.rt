@@ -13,8 +13,8 @@ ghost use Rattle.pmt_slices.specs.StoreStories.{AreOthers, IsOfOthers, IsOfStory
 
 use crate::choosing::{choose, choose_store, nothing};
 use crate::store_slicing::{Fate, fate_of};
-use pmt_flags::marked_numbers;
 use pmt_model::{Format, Op, OutOfMemory, Selection, Trace, WordStore, line_of};
+use pmt_tables::marked_numbers;
 use std::alloc::Global;
 
 // The most flushes of other lines that a story has, but for the last one.

@@ -13,9 +13,9 @@ ghost use Rattle.pmt_slices.specs.Stories.{HasLost, IsStory, IsTold};
 use crate::after::coming_after;
 use crate::choosing::{choose, choose_store, only};
 use crate::coming::Coming;
-use pmt_flags::marked_numbers;
 use pmt_model::{Op, OutOfMemory, Selection, Trace, WordStore};
 use pmt_reasons::Failure;
+use pmt_tables::marked_numbers;
 use std::alloc::Global;
 
 /// What an event is in a story; of several, the one that stands first here.

@@ -2,8 +2,8 @@
 
 use crate::telling::thread_of;
 use pmt_model::{Addr, Event, Op, Range, Trace};
-use pmt_names::word_of;
 use pmt_pen::Pen;
+use pmt_text::word_of;
 
 /// How events are spelled.
 #[derive(Clone, Copy)]

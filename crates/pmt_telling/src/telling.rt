@@ -63,7 +63,7 @@ pub fn failure_of(choice: &Choice) -> Option<u64> {
 
 /// The address of the first byte of the trace's line.
 pub fn line_address(trace: &Trace, line: u64) -> u64 {
-    pmt_names::line_address(trace.format(), line)
+    pmt_text::line_address(trace.format(), line)
 }
 
 /// The line of the store; 0 of another event.

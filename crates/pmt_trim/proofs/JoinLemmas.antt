@@ -14,7 +14,7 @@ use Rattle.pmt_model.specs.Keeping.{IsKept, Stays, ByFence, ByFlush, ByClflush, 
 use Rattle.pmt_laws.proofs.Histories.{event-some, act-within}
 use Rattle.pmt_trim.specs.Kept as kept
 use Rattle.pmt_trim.specs.Kept.{IsKeptFor, IsLineKept, AreLinesKept, AreAllKept}
-use Rattle.pmt_flags.specs.Flags.{is_kept_at, MarksThese}
+use Rattle.pmt_tables.specs.Flags.{is_kept_at, MarksThese}
 use Rattle.pmt_trim.specs.Marking.{op_stays}
 use Rattle.pmt_trim.proofs.LineLemmas.{kept-line}
 

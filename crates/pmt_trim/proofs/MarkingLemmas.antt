@@ -4,8 +4,8 @@ use Rattle.std.specs.Prelude.{◌↔◌}
 use Rattle.std.proofs.Math.Seq.{take-suc}
 use Rattle.std.proofs.lemmas.Bool.{cases_eq, false≢true}
 use Rattle.pmt_model.specs.Selections.{Has}
-use Rattle.pmt_flags.specs.Flags.{is_kept_at, MarksThese}
-use Rattle.pmt_flags.proofs.MarkLemmas.{is_kept_at-set}
+use Rattle.pmt_tables.specs.Flags.{is_kept_at, MarksThese}
+use Rattle.pmt_tables.proofs.MarkLemmas.{is_kept_at-set}
 
 -- the numbers with one more at the end
 has-push : (ks : List ℕ) (n k : ℕ) → Has (ks ++ n ∷ []) k ↔ (Has ks k ⊎ (n ≡ k))

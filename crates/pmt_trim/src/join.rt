@@ -2,12 +2,12 @@
 ghost use Rattle.std.specs.Prelude.{◌≡◌, ℕ, ◌≤◌, map, length, IfOk};
 ghost use Rattle.pmt_model.specs.Selections.{Has};
 ghost use Rattle.pmt_model.specs.Keeping.{IsKeep};
-ghost use Rattle.pmt_flags.specs.Flags.{MarksThese};
+ghost use Rattle.pmt_tables.specs.Flags.{MarksThese};
 ghost use Rattle.pmt_trim.specs.Kept.{AreAllKept};
 ghost use Rattle.pmt_trim.specs.Marking.{op_stays};
 
-use pmt_flags::marked_numbers;
 use pmt_model::{Event, Op, OutOfMemory, Selection, Trace};
+use pmt_tables::marked_numbers;
 use std::alloc::Global;
 
 /// All that is kept of the trace: what is kept for its lines, one list for each, and the stores and assertions.

@@ -9,7 +9,7 @@ use Rattle.pmt_model.specs.Shortest.{HasSameVectors}
 use Rattle.pmt_laws.proofs.Histories.{act-within}
 use Rattle.pmt_laws.proofs.CutLemmas.{place-low, place-kept}
 use Rattle.pmt_laws.proofs.WholeSelections.{cut-whole}
-use Rattle.pmt_flags.specs.Flags.{is_kept_at}
+use Rattle.pmt_tables.specs.Flags.{is_kept_at}
 use Rattle.pmt_trimming.specs.AllEvents.{all_marks}
 
 -- the marks are those of the events' numbers

@@ -27,8 +27,8 @@ use Rattle.pmt_trimming.specs.declared.stream.Stream.{Stream}
 use Rattle.pmt_trimming.specs.Leaving.{EndsWithKept, HaveLeft, IsStreamOf, kept_line, kept_lines}
 use Rattle.pmt_trimming.specs.LineQueues.{kept_text, kept_texts, Pops}
 use Rattle.pmt_trimming.proofs.HeadlineLemmas.{keep-is-trimmed}
-use Rattle.pmt_flags.specs.Flags.{marked_from}
-use Rattle.pmt_flags.proofs.FlagLemmas.{marked-rise, has-marked}
+use Rattle.pmt_tables.specs.Flags.{marked_from}
+use Rattle.pmt_tables.proofs.FlagLemmas.{marked-rise, has-marked}
 
 -- ---- Events and their text
 

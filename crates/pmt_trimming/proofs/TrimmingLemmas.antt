@@ -10,7 +10,7 @@ use Rattle.pmt_model.specs.Traces.{Recording}
 use Rattle.pmt_model.specs.Pushing.{with_event, with_events}
 use Rattle.pmt_model.specs.Selections.{IsRising, Has, IsSelection}
 use Rattle.pmt_model.specs.Keeping.{IsKept, IsKeep}
-use Rattle.pmt_flags.specs.Flags.{is_kept_at}
+use Rattle.pmt_tables.specs.Flags.{is_kept_at}
 use Rattle.pmt_trimming.specs.Passing.{AreFlags}
 use Rattle.pmt_trimming.proofs.SettlingLemmas.{kept-some}
 

@@ -7,8 +7,8 @@ ghost use Rattle.pmt_trimming.specs.Headline.{IsShortest};
 ghost use Rattle.pmt_trimming.specs.AllEvents.{all_marks};
 
 use crate::trimming::trim;
-use pmt_flags::marked_numbers;
 use pmt_model::{Event, OutOfMemory, Selection, Trace};
+use pmt_tables::marked_numbers;
 use std::alloc::Global;
 
 /// The selection of all events, which cuts nothing: the longest there is.

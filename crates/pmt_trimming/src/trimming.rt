@@ -6,8 +6,8 @@ ghost use Rattle.pmt_trimming.specs.Headline.{IsTrimmed};
 ghost use Rattle.pmt_trimming.specs.Passing.{AreFlags};
 
 use crate::pass::Pass;
-use pmt_flags::marked_numbers;
 use pmt_model::{OutOfMemory, Selection, Trace};
+use pmt_tables::marked_numbers;
 use std::alloc::Global;
 
 /// The trimmed trace, and the selection of the events that it keeps of this one.

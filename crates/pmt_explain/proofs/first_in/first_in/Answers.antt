@@ -1,7 +1,7 @@
 use Rattle.std.proofs.Common.{◌+◌, subst, sym, arith, ◌∙◌}
 use Rattle.std.proofs.lemmas.Grind.{elements}
 use Rattle.std.specs.Prelude.{nat_le}
-use Rattle.pmt_writers.specs.Writers.{Knows}
+use Rattle.pmt_explain.specs.Writers.{Knows}
 use Rattle.pmt_explain.specs.declared.first_in.Search.{Search}
 use Rattle.pmt_explain.proofs.FirstInLemmas.{in-all, next-block, range-is}
 use Rattle.pmt_explain.proofs.first_in.first_in.Goals as goal

@@ -1,6 +1,6 @@
 use Rattle.std.proofs.Common.{◌≡◌, not, true, subst, arith}
 use Rattle.std.proofs.lemmas.Bool.{false≢true}
-use Rattle.pmt_words.specs.Lasts.{last_at}
+use Rattle.pmt_tables.specs.Lasts.{last_at}
 use Rattle.pmt_explain.specs.Wanting.{Wants}
 use Rattle.pmt_explain.proofs.first_in.has_none.Goals as goal
 

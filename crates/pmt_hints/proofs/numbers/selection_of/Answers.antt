@@ -1,4 +1,4 @@
-use Rattle.pmt_flags.proofs.FlagLemmas.{rising-no_fall}
+use Rattle.pmt_tables.proofs.FlagLemmas.{rising-no_fall}
 use Rattle.pmt_hints.proofs.numbers.selection_of.Goals as goal
 
 pub unreachable-requires : goal.unreachable-requires

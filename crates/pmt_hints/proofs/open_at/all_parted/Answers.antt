@@ -1,7 +1,7 @@
 use Rattle.std.proofs.Common.{ℕ, sym, ap, ◌∙◌}
 use Rattle.std.specs.Prelude.{not}
 use Rattle.std.specs.List.{filter}
-use Rattle.pmt_flags.specs.Flags.{is_kept_at}
+use Rattle.pmt_tables.specs.Flags.{is_kept_at}
 use Rattle.pmt_hints.proofs.PartingLemmas.{parted-flags}
 use Rattle.pmt_hints.proofs.open_at.all_parted.Goals as goal
 

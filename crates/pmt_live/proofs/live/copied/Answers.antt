@@ -2,7 +2,7 @@ use Rattle.std.proofs.Common.{List, ℕ, get_or, sym, ap, subst, ◌∙◌, arit
 use Rattle.std.proofs.lemmas.Grind.{elements}
 use Rattle.std.specs.Prelude.{nat_eq}
 use Rattle.std.specs.List.{IsDistinct}
-use Rattle.pmt_places.specs.Places.{insert_line}
+use Rattle.pmt_tables.specs.Places.{insert_line}
 use Rattle.pmt_live.proofs.PlaceLemmas.{inserted-next}
 use Rattle.pmt_live.proofs.live.copied.Goals as goal
 

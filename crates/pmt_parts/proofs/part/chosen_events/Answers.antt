@@ -1,6 +1,6 @@
 use Rattle.std.proofs.Common.{◌≡◌, ℕ, Bool, ◌-◌, ◌++◌, filter, sym, ap, subst, ◌∙◌}
 use Rattle.std.specs.Prelude.{not}
-use Rattle.pmt_flags.proofs.FlagLemmas.{rising-no_fall}
+use Rattle.pmt_tables.proofs.FlagLemmas.{rising-no_fall}
 use Rattle.pmt_model.specs.Selections.{IsRising}
 use Rattle.pmt_asked.specs.Ignoring.{is_ignored}
 use Rattle.pmt_part_laws.specs.Laws.{stretch}

@@ -1,7 +1,7 @@
 use Rattle.std.proofs.Common.{arith, length, refl}
 use Rattle.std.proofs.lemmas.Grind.{elements}
 use Rattle.pmt_text.specs.Counting.{inner_device}
-use Rattle.pmt_flags.specs.Flags.{marked_from}
+use Rattle.pmt_tables.specs.Flags.{marked_from}
 use Rattle.pmt_report.specs.Checking.{IsCheckOf}
 use Rattle.pmt_report.specs.Reports.{report}
 use Rattle.pmt_report.specs.Runs.{coming_from_reader}

@@ -3,7 +3,7 @@ use Rattle.std.specs.Prelude.{if◌then◌else◌}
 use Rattle.pmt_model.specs.Traces.{Recording, IsTrace}
 use Rattle.pmt_model.specs.Pushing.{with_events}
 use Rattle.pmt_taking.specs.Blocks.{Shown, shown_by}
-use Rattle.pmt_pass.specs.Passing.{HasSwept}
+use Rattle.pmt_sweep.specs.Passing.{HasSwept}
 use Rattle.pmt_report.specs.Blockwise.{IsTakenSoFar}
 use Rattle.pmt_report.proofs.checked.take_others.Given as goal
 

@@ -2,7 +2,7 @@ use Rattle.std.proofs.Common.{ℕ, subst}
 use Rattle.pmt_model.specs.Values.{Layout}
 use Rattle.pmt_model.specs.Pushing.{empty}
 use Rattle.pmt_taking.specs.Blocks.{shown_by}
-use Rattle.pmt_pass.specs.Passing.{HasSwept}
+use Rattle.pmt_sweep.specs.Passing.{HasSwept}
 use Rattle.pmt_report.specs.declared.checked.Taken.{Taken}
 use Rattle.pmt_report.proofs.BlockLemmas.{first-block, fault-kept, told-kept, counts-kept}
 use Rattle.pmt_report.proofs.checked.taken_whole.Goals as goal

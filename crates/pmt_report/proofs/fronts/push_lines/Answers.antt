@@ -1,6 +1,6 @@
 use Rattle.std.proofs.Common.{ℕ, List, length, get_or, refl, ◌∙◌, subst}
 use Rattle.std.proofs.lemmas.Option.{slice_get-get_or}
-use Rattle.pmt_places.specs.Places.{IsPlaceOf}
+use Rattle.pmt_tables.specs.Places.{IsPlaceOf}
 use Rattle.pmt_report.specs.Reports.{line_entry}
 use Rattle.pmt_report.proofs.FrontsLemmas.{entries-all, entries-more}
 use Rattle.pmt_report.proofs.fronts.push_lines.Goals as goal

@@ -2,7 +2,7 @@ use Rattle.std.proofs.Common.{List, ℕ, sym, ap, subst, ◌∙◌}
 use Rattle.pmt_model.specs.declared.finding.Finding.{Finding}
 use Rattle.pmt_model.specs.Analyses.{IsFindings}
 use Rattle.pmt_model.specs.Keeping.{IsKeep}
-use Rattle.pmt_flags.specs.Flags.{marked_from}
+use Rattle.pmt_tables.specs.Flags.{marked_from}
 use Rattle.pmt_report.proofs.sweeping.swept_trace.Goals as goal
 
 pub new-analysis-requires : goal.new-analysis-requires

@@ -1,5 +1,5 @@
 use Rattle.std.proofs.Common.{◌≡◌, length, take}
-use Rattle.pmt_flags.specs.Flags.{MarksThese}
+use Rattle.pmt_tables.specs.Flags.{MarksThese}
 use Rattle.pmt_trim.proofs.join.mark_all.Given as goal
 
 abbrev pub invariant-loop-number : goal.invariant-loop-number

@@ -1,2 +1,0 @@
-pub mod LaterLemmas
-pub mod CarryLemmas

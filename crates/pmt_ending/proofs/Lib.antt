@@ -1,4 +1,0 @@
-mod NotedLemmas
-mod MarkingLemmas
-mod MarkedLemmas
-mod LostLemmas

@@ -1,8 +1,0 @@
-use Rattle.std.proofs.Common.{◌-◌}
-use Rattle.pmt_model.specs.Traces.{Recording}
-use Rattle.pmt_ending.specs.Entries.{AreLostAfter, AreMarked}
-use Rattle.pmt_ending.proofs.LostLemmas.{AreLateTo}
-use Rattle.pmt_ending.proofs.lost.lost_stores.Given as goal
-
-abbrev pub invariant-loop-number : goal.invariant-loop-number
-invariant-loop-number l = (T : Recording) → AreMarked T l.entries → AreLostAfter T l.before → AreLateTo T (l.number - 1) l.lost.items

@@ -1,2 +1,0 @@
-pub mod ThreadLemmas
-pub mod FlushedLemmas

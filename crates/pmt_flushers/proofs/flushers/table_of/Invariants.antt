@@ -1,6 +1,0 @@
-use Rattle.std.proofs.Common.{take}
-use Rattle.pmt_flushers.proofs.ThreadLemmas.{IsTableOf}
-use Rattle.pmt_flushers.proofs.flushers.table_of.Given as goal
-
-abbrev pub invariant-loop-thread : goal.invariant-loop-thread
-invariant-loop-thread l = IsTableOf l.table (take l.thread-index l.threads)

@@ -1,8 +1,0 @@
-//! What the set is after each act: the function has an empty body, and its contract states a law.
-
-ghost use Rattle.pmt_flushers.specs.Flushed.{FlushersGoOn};
-
-/// A store to the line clears the set, a flush of it adds its thread, and no other act changes it.
-pub fn flushers_go_on()
-    ensures { FlushersGoOn }
-{}

@@ -1,9 +1,0 @@
-use Rattle.std.proofs.Common.{◌-◌, ◌+◌, vec_len}
-use Rattle.pmt_known.proofs.FlushedLemmas.{IsReaching}
-use Rattle.pmt_known.proofs.flushed.FlushedLines.reach.Given as goal
-
-abbrev pub invariant-loop-self : goal.invariant-loop-self
-invariant-loop-self l = IsReaching l.place l.initial.self.lines.items l.self.lines.items
-
-abbrev pub decreases-loop-self : goal.decreases-loop-self
-decreases-loop-self l = l.place + 1 - vec_len l.self.lines

@@ -1,5 +1,0 @@
-use Rattle.std.proofs.Common.{arith}
-use Rattle.pmt_known.proofs.known.Known.find.Goals as goal
-
-pub returns-clause-found : goal.returns-clause-found
-returns-clause-found c = grind arith

@@ -1,5 +1,0 @@
-use Rattle.std.proofs.Common.{arith}
-use Rattle.pmt_known.proofs.known.Known.into_ends.Goals as goal
-
-pub returns : goal.returns
-returns c = grind arith

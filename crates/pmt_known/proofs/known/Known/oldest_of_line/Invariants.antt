@@ -1,8 +1,0 @@
-use Rattle.std.proofs.Common.{ℕ, ◌*◌}
-use Rattle.pmt_model.specs.Traces.{Recording}
-use Rattle.pmt_known.specs.Reading.{IsLineAt, last_in_line}
-use Rattle.pmt_known.proofs.ReadingLemmas.{IsOldestBelow}
-use Rattle.pmt_known.proofs.known.Known.oldest_of_line.Given as goal
-
-abbrev pub invariant-loop-word : goal.invariant-loop-word
-invariant-loop-word l = (T : Recording) (n k : ℕ) → IsLineAt T n k l.place l.self → IsOldestBelow 0 l.self.format.line_size (l.word * 8) (last_in_line T n k) l.oldest

@@ -1,5 +1,0 @@
-use Rattle.pmt_links.proofs.LinkedLemmas.{pending_is_below}
-use Rattle.pmt_links.proofs.laws.pending_is_below.Goals as goal
-
-pub returns : goal.returns
-returns c = pending_is_below

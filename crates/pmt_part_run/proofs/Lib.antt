@@ -1,2 +1,0 @@
-pub mod AnsweredLemmas
-pub mod RunLemmas

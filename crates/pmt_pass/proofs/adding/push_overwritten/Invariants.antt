@@ -1,6 +1,0 @@
-use Rattle.std.proofs.Common.{◌≡◌, ◌++◌, take}
-use Rattle.pmt_pass.specs.Adding.{overwritten}
-use Rattle.pmt_pass.proofs.adding.push_overwritten.Given as goal
-
-abbrev pub invariant-loop-index : goal.invariant-loop-index
-invariant-loop-index l = l.found.items ≡ l.fn.found.items ++ overwritten (take l.index l.over)

@@ -1,8 +1,0 @@
-use Rattle.std.proofs.Common.{◌+◌, length}
-use Rattle.pmt_model.specs.Traces.{Recording, IsTrace}
-use Rattle.pmt_model.specs.Pushing.{with_events}
-use Rattle.pmt_pass.specs.Passing.{HasSwept, IsPassOf}
-use Rattle.pmt_pass.proofs.sweeping.Sweeper.take.Given as goal
-
-abbrev pub invariant-loop-index : goal.invariant-loop-index
-invariant-loop-index l = (T : Recording) → HasSwept T l.fn.self → IsTrace (with_events T l.events) → IsPassOf (with_events T l.events) (length T.events + l.index) l.self

@@ -1,0 +1,19 @@
+//! What a fence makes of the flushes that wait for it: each function has an empty body, and its contract states a law.
+
+ghost use Rattle.pmt_rows.specs.Waiting.{FenceRaises, OpenTells, WaitsOn};
+
+/// A fence that goes over its thread's open flushes, from the newest to the oldest, and takes the last safe store of each line to the
+/// store that the flush marks where that is later, leaves the last safe stores as they are after it.
+pub fn fence_raises()
+    ensures { FenceRaises }
+{}
+
+/// A thread has an open flush exactly where one waits.
+pub fn open_tells()
+    ensures { OpenTells }
+{}
+
+/// What waits goes on event by event.
+pub fn waits_on()
+    ensures { WaitsOn }
+{}

@@ -1,4 +1,0 @@
-pub mod CountingLemmas
-pub mod FencingLemmas
-pub mod OrderLemmas
-pub mod TallyLemmas

@@ -1,0 +1,8 @@
+use Rattle.std.proofs.Common.{length}
+use Rattle.pmt_model.specs.Traces.{Recording}
+use Rattle.pmt_sweep.specs.Ends.{AreEndsOf}
+use Rattle.pmt_sweep.proofs.MarkedLemmas.{AreMarkedTo, AreLostAfterTo}
+use Rattle.pmt_sweep.proofs.marking.mark_lost.Given as goal
+
+abbrev pub invariant-loop-place : goal.invariant-loop-place
+invariant-loop-place l = (T : Recording) → AreEndsOf T (length T.events) l.rows l.fn.entries → AreMarkedTo T l.fn.entries l.entries l.place × AreLostAfterTo T l.place l.before

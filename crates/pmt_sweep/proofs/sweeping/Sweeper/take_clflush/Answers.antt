@@ -1,0 +1,27 @@
+use Rattle.std.proofs.Common.{◌≡◌, suc, ◌+◌, ◌++◌, not, sym, ap, subst, ◌∙◌, arith}
+use Rattle.pmt_model.specs.declared.finding.Finding.TheVariants.{RedundantFlush}
+use Rattle.pmt_model.specs.Machine.{Clflushes}
+use Rattle.pmt_sweep.specs.Adding.{found_if}
+use Rattle.pmt_sweep.specs.PassFlags.{AreFlagsTo}
+use Rattle.pmt_sweep.proofs.FlagLemmas.{flags-clflush}
+use Rattle.pmt_sweep.proofs.PassKnownLemmas.{known-clflush, known-next}
+use Rattle.pmt_sweep.proofs.VerdictLemmas.{verdicts-act}
+use Rattle.pmt_sweep.proofs.sweeping.Sweeper.take_clflush.Goals as goal
+
+pub clflush-requires : goal.clflush-requires
+clflush-requires c = (c.requires.0, c.requires.1, c.requires.2.known, c.requires.3)
+
+pub returns : goal.returns
+returns c T n pass is =
+    let s = c.args.self.now in
+    let b = c.in_ok-is_kept.is_kept in
+    let number : c.len.result + 1 ≡ suc n = omega (arith, c.len.ensures, pass.kept.all) in
+    let pushed = c.in_ok-push_if.ensures ∙ ap (λ i. s.found.items ++ found_if (not b) (RedundantFlush i)) number in
+    record {
+      format = pass.format;
+      known = c.in_ok-is_kept.ensures.known T n pass.known is;
+      found = known-next T n s.found.items c.push_if.new.found.items pass.found (found_if (not b) (RedundantFlush (suc n)), pushed, known-clflush T (suc n) c.args.line b is (c.in_ok-is_kept.ensures.redundant T n pass.known is));
+      over = pass.over;
+      kept = subst (AreFlagsTo T (suc n)) (sym c.in_ok-push.ensures.items) (flags-clflush T n c.args.line s.kept.items b is (c.in_ok-is_kept.ensures.kept T n pass.known is) pass.kept);
+      verdicts = verdicts-act T n s.verdicts.items (Clflushes c.args.line) is (λ e. cc) pass.verdicts;
+    }

@@ -1,0 +1,14 @@
+-- Which of the flushes that wait for a fence are kept.
+use Rattle.std.specs.Prelude.{◌≡◌, ℕ, suc, ◌<◌, ◌↔◌, List, ◌∷◌, ◌++◌}
+use Rattle.pmt_model.specs.Machine.{Fences}
+use Rattle.pmt_model.specs.Traces.{Recording, IsAct, history}
+use Rattle.pmt_model.specs.Keeping.{IsKept}
+use Rattle.pmt_safety.specs.Safety.{safe_store_at}
+use Rattle.pmt_rows.specs.Waiting.{Waiting, waiting, raise_all}
+
+-- Of the flushes that wait for a fence, those are kept that take the last safe store of their line to a later one, from the newest to the
+-- oldest.
+abbrev pub KeptByRaise : Type 0
+KeptByRaise =
+    (T : Recording) (t n : ℕ) (older newer : List Waiting) (w : Waiting) → IsAct T (suc n) (Fences t) → waiting t (history T n) ≡ older ++ w ∷ newer →
+    IsKept T w.number ↔ (raise_all newer (λ l. safe_store_at T l n) w.line < w.store)

@@ -1,0 +1,53 @@
+//! Whether a range persists before another.
+ghost use Rattle.std.specs.Prelude.{◌≡◌, ℕ, ◌↔◌, true};
+ghost use Rattle.pmt_model.specs.Assertions.{OrderedPasses};
+ghost use Rattle.pmt_model.specs.Traces.{Recording, history};
+ghost use Rattle.pmt_model.specs.Values.{Span};
+ghost use Rattle.pmt_tables.specs.Spans.{IsSpanned};
+ghost use Rattle.pmt_sweep.specs.Known.{IsKnownOf};
+ghost use Rattle.pmt_sweep.specs.Lines.{AreSafeFrom, IsLineOrdered};
+ghost use Rattle.pmt_sweep.specs.Placed.{IsLineOf};
+
+use crate::Known;
+use crate::latest::Latest;
+use crate::line_order::{is_line_ordered, latest_of};
+use crate::placed::Placed;
+use pmt_model::Range;
+use pmt_tables::Spanned;
+
+/// Whether `isOrderedBefore` of these ranges passes after the events so far. It takes one step a line of the first range that is whole in it,
+/// else one a word.
+#[inline(never)]
+pub fn is_ordered(known: &Known, first: Range, second: Range) -> bool
+    requires { (T : Recording) × (n : ℕ) × IsKnownOf T n known.now }
+    ensures { (T : Recording) (n : ℕ) → IsKnownOf T n known.now → (result ≡ true) ↔ OrderedPasses (history T n) first second }
+{
+    let format = known.format();
+    let before = Spanned::new(format, first);
+    let after = Spanned::new(format, second);
+    let latest = latest_of(known, &before);
+    for line in after.first..after.last + 1 {
+        if !is_placed_ordered(known, &before, &latest, &after, line) {
+            return false;
+        }
+    }
+    true
+}
+
+// Whether the last stores to bytes of the first range come no later than those to the second range's bytes of this line.
+#[inline(always)]
+fn is_placed_ordered(
+    known: &Known,
+    first: &Spanned,
+    latest: &Latest,
+    second: &Spanned,
+    line: u64,
+) -> bool
+    requires { (T : Recording) × (n : ℕ) × (A : Span) × (B : Span) × IsLineOf T n B second.now line known.now × IsSpanned T.format A first.now }
+    ensures { (T : Recording) (n : ℕ) (A B : Span) → IsLineOf T n B second.now line known.now → IsSpanned T.format A first.now → AreSafeFrom T n known.now.links A latest.now → (result ≡ true) ↔ IsLineOrdered T n known.now.links A B line }
+{
+    match known.find(line) {
+        Some(place) => is_line_ordered(known, first, latest, second, &Placed { line, place }),
+        None => true,
+    }
+}

@@ -1,0 +1,10 @@
+pub mod FlagLemmas
+pub mod MarkLemmas
+pub mod SpanLemmas
+pub mod ByteLemmas
+pub mod AddingLemmas
+pub mod WordLemmas
+pub mod SeenLemmas
+pub mod LineLemmas
+pub mod WrittenLemmas
+pub mod ListLemmas

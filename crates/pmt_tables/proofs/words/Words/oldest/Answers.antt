@@ -1,0 +1,28 @@
+use Rattle.std.proofs.Common.{arith}
+use Rattle.std.proofs.lemmas.Grind.{elements}
+use Rattle.pmt_tables.proofs.ByteLemmas.{least-same}
+use Rattle.pmt_tables.proofs.SeenLemmas.{read-is, read-whole, read-table}
+use Rattle.pmt_tables.proofs.words.Words.oldest.Goals as goal
+
+pub returns-then-known-ge-FIRST_TABLE : goal.returns-then-known-ge-FIRST_TABLE
+returns-then-known-ge-FIRST_TABLE c =
+    least-same 0 c.args.low c.args.high _ _ c.oldest.result (λ k from to. read-table c.args.self.now c.self.inside.words.items c.self.inside.tables.items c.self.view_is c.self.invariant c.args.word c.index-known.result.now c.requires.within c.index-known.ensures
+    c.index.result.now (omega (arith, c.if-known-ge-FIRST_TABLE.true)) c.index.ensures k (omega (arith, to, c.requires.eight))) c.oldest.ensures
+
+pub number_in-requires-clause-whole : goal.number_in-requires-clause-whole
+number_in-requires-clause-whole c =
+    read-is c.args.self.now c.self.inside.words.items c.self.inside.tables.items c.self.view_is c.self.invariant c.args.word c.index-known.result.now c.requires.within c.index-known.ensures (omega (arith, c.if-known-ge-FIRST_TABLE.false))
+
+pub returns : goal.returns
+returns c =
+    least-same 0 c.args.low c.args.high _ _ c.number_in.result (λ k from to. read-whole c.args.self.now c.self.inside.words.items c.self.inside.tables.items c.self.view_is c.self.invariant c.args.word c.index-known.result.now c.requires.within c.index-known.ensures
+    (omega (arith, c.if-known-ge-FIRST_TABLE.false)) k (omega (arith, to, c.requires.eight))) c.number_in.ensures.oldest
+
+pub index-known-requires : goal.index-known-requires
+index-known-requires c = grind (arith, elements)
+
+pub index-requires : goal.index-requires
+index-requires c = grind (arith, elements)
+
+pub oldest-requires-clause-eight : goal.oldest-requires-clause-eight
+oldest-requires-clause-eight c = grind (arith, elements)

@@ -1,0 +1,6 @@
+pub mod Flags
+pub mod Spans
+pub mod Lasts
+pub mod Packed
+pub mod Written
+pub mod Places

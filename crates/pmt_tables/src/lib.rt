@@ -1,0 +1,18 @@
+//! What any pass over a trace may hold: places of lines, the lines of a range, of each byte of words the last store to it, marked events.
+//!
+//! The definitions stand in `specs/`.
+#![tactic(auto)]
+
+pub mod flags;
+pub mod line_places;
+mod packed;
+pub mod span_laws;
+pub mod spanned;
+mod table;
+pub mod word_laws;
+pub mod words;
+
+pub use crate::flags::{marked_count, marked_numbers};
+pub use crate::line_places::LinePlaces;
+pub use crate::spanned::{LineBytes, Spanned};
+pub use crate::words::{Overwrite, Words};

@@ -1,4 +1,0 @@
-mod LineLemmas
-mod EntryLemmas
-mod LatestLemmas
-mod OrderLemmas

@@ -1,8 +1,0 @@
-use Rattle.std.proofs.Common.{ℕ, ◌<◌}
-use Rattle.pmt_model.specs.Traces.{Recording}
-use Rattle.pmt_known.specs.Known.{IsKnownOf}
-use Rattle.pmt_verdicts.specs.Lines.{IsLineSafe}
-use Rattle.pmt_verdicts.proofs.persist.is_persisted.Given as goal
-
-abbrev pub invariant-loop-line : goal.invariant-loop-line
-invariant-loop-line l = (T : Recording) (n : ℕ) → IsKnownOf T n l.known → (k : ℕ) → k < l.line → IsLineSafe T n l.fn.range k

@@ -1,4 +1,0 @@
-pub mod Latest
-pub mod Placed
-pub mod Lines
-pub mod Verdicts

@@ -1,2 +1,0 @@
-pub mod WaitingLemmas
-pub mod OpenLemmas
