@@ -3,7 +3,7 @@
 Each public call is of the fixed surface, whose calls stand in tests/surface, or another crate calls it, or docs/DECISIONS.md names it
 in its decision on what is public. A call is known by its name, and if a type stands before it, by its type. There are few must-fail edits,
 each with a control, and each wrong body that is named here has an edit or a test of its name. rows.py names the worked rows, and what runs
-each. docs/ARCHITECTURE.md lists each crate once, docs/PROOFS.md each ported crate, and the files that documents for contributors name are
+each. crates.txt says of each crate what it is for, docs/PROOFS.md lists each ported crate, and the files that documents for contributors name are
 there. docs/explain.schema.json has the objects and the names that the proved statements of pmt_explain_json spell, and docs/EXPLAIN.md names
 their members.
 """
@@ -116,13 +116,13 @@ def stale():
 
 
 def unlisted_crates():
-    """Complaints: crates that docs/ARCHITECTURE.md does not list, or lists twice, and listed ones that are not there."""
-    section = (TOP / "docs/ARCHITECTURE.md").read_text().split("## The crates")[1].split("\n## ")[0]
-    listed = [name for names in re.findall(r"^  - ((?:`\w+`(?:, )?)+):", section, re.M) for name in re.findall(r"\w+", names)]
-    known = re.findall(r"^(\w+)[^:#]*:", (TOP / "crates.txt").read_text(), re.M)
+    """Complaints: crates of which crates.txt has not one line with a comment above it that says what each is for, and lines of no crate."""
+    lines = (TOP / "crates.txt").read_text().splitlines()
+    listed = [found[0] for above, line in zip(["", *lines], lines) if (found := re.findall(r"^(\w+)[^:#]*:", line)) and above.startswith("# ")]
+    known = {path.name for path in TOP.glob("crates/*") if (path / "src").is_dir()}
     for name in sorted({*listed, *known}):
         if listed.count(name) != 1 or name not in known:
-            yield f"{name}: docs/ARCHITECTURE.md lists it {listed.count(name)} times, crates.txt {known.count(name)} times"
+            yield f"{name}: crates.txt says {listed.count(name)} times what it is for, and the crate is {'' if name in known else 'not '}there"
 
 
 def unlisted_ports():

@@ -75,7 +75,7 @@ impl LastWriters {
 
     /// The first store to the block at this place.
     #[inline(always)]
-    pub fn first_store(&self, place: usize) -> u32
+    pub(crate) fn first_store(&self, place: usize) -> u32
         requires within { place < length self.now.blocks.stores.items }
         ensures { result ≡ (stores_at self.now.blocks place).first }
     {

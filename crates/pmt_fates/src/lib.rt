@@ -4,11 +4,11 @@
 //! The definitions stand in `specs/`.
 #![tactic(auto)]
 
-pub mod costs;
-pub mod counts;
+mod costs;
+mod counts;
 mod fate;
-pub mod fences;
-pub mod figures;
+mod fences;
+mod figures;
 mod marking;
 mod own_fences;
 mod paths;
@@ -17,12 +17,12 @@ pub mod places;
 mod row_places;
 mod rows;
 pub mod saved_before;
-pub mod standing;
+mod standing;
 mod tally;
 
 pub use crate::costs::{Cost, PlaceCost, cost_of, sort_places};
 pub use crate::counts::Counts;
-pub use crate::fences::{BARS, FenceSizes};
+pub use crate::fences::FenceSizes;
 pub use crate::figures::{Figures, ThreadCounts, figures_of};
 pub use crate::place_row::PlaceRow;
 pub use crate::places::{PlaceTable, place_table};

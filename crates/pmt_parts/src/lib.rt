@@ -4,19 +4,18 @@
 //! definitions, which its contract states.
 #![tactic(auto)]
 
-pub mod aside;
-pub mod carrying;
+mod aside;
+mod carrying;
 mod later;
 pub mod laws;
 pub mod part;
-pub mod pieces;
+mod pieces;
 mod reading;
-pub mod run;
-pub mod taker;
+mod run;
+mod taker;
 
 pub use crate::aside::set_aside;
-pub use crate::carrying::carry_at;
-pub use crate::part::{Part, next_part, number_at, place_in};
+pub use crate::part::{Part, number_at, place_in};
 pub use crate::pieces::{PieceError, Pieces};
 pub use crate::run::give_parts;
 pub use crate::taker::{PartError, PartTaker, Refusal};

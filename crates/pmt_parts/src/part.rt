@@ -9,7 +9,7 @@ ghost use Rattle.pmt_part_laws.specs.Laws.{stretch};
 ghost use Rattle.pmt_parts.specs.Making.{IsPartOf, ComesNext};
 ghost use Rattle.pmt_parts.specs.Picking.{AreChosen, number_in, through};
 
-use crate::carry_at;
+use crate::carrying::carry_at;
 use pmt_asked::{ByteRange, is_ignored};
 use pmt_model::{Event, Format, OutOfMemory, Selection, Trace};
 use pmt_taking::add;
@@ -60,7 +60,7 @@ impl Part {
     ///
     /// # Errors
     /// Where memory was refused. It is the part of no trace then.
-    pub fn extend(&mut self, block: &Trace) -> Result<(), OutOfMemory>
+    pub(crate) fn extend(&mut self, block: &Trace) -> Result<(), OutOfMemory>
         requires room { length self.old.trace.events + length block.now.events ≤ event_limit }
         requires format { self.old.trace.format ≡ block.now.format }
         requires numbered { self.old.end + length block.now.events < 2 ^ 64 }
@@ -99,7 +99,7 @@ impl Part {
 ///
 /// # Errors
 /// Where memory was refused.
-pub fn next_part(
+pub(crate) fn next_part(
     alloc: Global,
     part: &Part,
     overlap: u64,

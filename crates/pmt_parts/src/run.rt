@@ -6,9 +6,10 @@ ghost use Rattle.pmt_parts.specs.Reading.{coming};
 ghost use Rattle.pmt_parts.specs.Runs.{IsCutText};
 ghost use Rattle.pmt_parts.specs.Running.{IsCutSoFar};
 
+use crate::part::next_part;
 use crate::reading::{first_part, read_on};
 use crate::taker::{PartError, PartTaker};
-use crate::{Part, Pieces, next_part};
+use crate::{Part, Pieces};
 use pmt_asked::ByteRange;
 use std::alloc::Global;
 use std::io::Read;

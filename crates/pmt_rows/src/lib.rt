@@ -4,11 +4,11 @@
 //! The definitions stand in `specs/`.
 #![tactic(auto)]
 
-pub mod fencing;
+mod fencing;
 pub mod flusher_laws;
-pub mod flushers;
+mod flushers;
 pub mod link_laws;
-pub mod links;
+mod links;
 pub mod open;
 pub mod row_laws;
 pub mod rows;

@@ -3,7 +3,8 @@ ghost use Rattle.std.specs.Prelude.{◌≡◌, [], ◌++◌, OnOk};
 ghost use Rattle.pmt_model.specs.declared.finding.Finding.TheVariants.{Overwritten};
 ghost use Rattle.pmt_sweep.specs.Adding.{found_if, overwritten, with_verdict};
 
-use crate::{Noted, note};
+use crate::Noted;
+use crate::noted::note;
 use pmt_model::{Finding, OutOfMemory, Verdict};
 use pmt_tables::Overwrite;
 

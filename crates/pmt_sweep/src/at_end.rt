@@ -5,11 +5,12 @@ ghost use Rattle.pmt_sweep.specs.Known.{IsKnownOf};
 ghost use Rattle.pmt_sweep.specs.Late.{AreKnownLate};
 ghost use Rattle.pmt_sweep.specs.SafePlaces.{AreSafePlaces};
 
+use crate::ends::Ends;
+use crate::known::Known;
 use crate::lost::lost_stores;
 use crate::marking::mark_lost;
 use crate::noted::Noted;
 use crate::safe_places::SafePlaces;
-use crate::{Ends, Known};
 use pmt_model::OutOfMemory;
 use std::alloc::Global;
 

@@ -5,7 +5,7 @@ ghost use Rattle.pmt_model.specs.Traces.{Recording, event};
 ghost use Rattle.pmt_sweep.specs.Known.{IsKnownOf};
 ghost use Rattle.pmt_sweep.specs.Verdicts.{IsVerdictAt};
 
-use crate::Known;
+use crate::known::Known;
 use crate::order::is_ordered;
 use crate::persist::is_persisted;
 use pmt_model::{Op, Verdict};

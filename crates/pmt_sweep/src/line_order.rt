@@ -8,7 +8,7 @@ ghost use Rattle.pmt_sweep.specs.Reading.{IsLineAt};
 ghost use Rattle.pmt_sweep.specs.Lines.{AreSafeFrom, AreSafeFromBelow, IsAtLine, IsLineBefore, IsLineOrdered, IsNewestIn, IsToldFrom};
 ghost use Rattle.pmt_sweep.specs.Placed.{IsLineOf};
 
-use crate::Known;
+use crate::known::Known;
 use crate::latest::Latest;
 use crate::placed::Placed;
 use pmt_tables::Spanned;

@@ -8,7 +8,7 @@ ghost use Rattle.pmt_sweep.specs.Known.{IsKnownOf};
 ghost use Rattle.pmt_sweep.specs.Lines.{AreSafeFrom, IsLineOrdered};
 ghost use Rattle.pmt_sweep.specs.Placed.{IsLineOf};
 
-use crate::Known;
+use crate::known::Known;
 use crate::latest::Latest;
 use crate::line_order::{is_line_ordered, latest_of};
 use crate::placed::Placed;

@@ -7,7 +7,7 @@ ghost use Rattle.pmt_sweep.specs.Known.{IsKnownOf};
 ghost use Rattle.pmt_sweep.specs.Lines.{IsAtLine, IsLineSafe};
 ghost use Rattle.pmt_sweep.specs.Placed.{IsLineOf};
 
-use crate::Known;
+use crate::known::Known;
 use crate::placed::Placed;
 use pmt_model::Range;
 use pmt_tables::Spanned;

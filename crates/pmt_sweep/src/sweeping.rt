@@ -11,8 +11,11 @@ ghost use Rattle.pmt_sweep.specs.SafePlaces.{AreSafePlaces};
 ghost use Rattle.pmt_sweep.specs.Passing.{HasSwept, IsPassOf};
 
 use crate::adding::{move_overwritten, push_if, push_verdict};
+use crate::at_end::Ended;
 use crate::joining::joined;
-use crate::{Ended, Known, Noted, SafePlaces, verdict};
+use crate::judging::verdict;
+use crate::known::Known;
+use crate::{Noted, SafePlaces};
 use pmt_model::{Event, Finding, Format, Op, OutOfMemory, Trace, Verdict, WordStore, line_of};
 use pmt_tables::Overwrite;
 use std::alloc::Global;

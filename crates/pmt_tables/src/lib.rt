@@ -3,8 +3,8 @@
 //! The definitions stand in `specs/`.
 #![tactic(auto)]
 
-pub mod flags;
-pub mod line_places;
+mod flags;
+mod line_places;
 mod packed;
 pub mod span_laws;
 pub mod spanned;
@@ -14,5 +14,5 @@ pub mod words;
 
 pub use crate::flags::{marked_count, marked_numbers};
 pub use crate::line_places::LinePlaces;
-pub use crate::spanned::{LineBytes, Spanned};
+pub use crate::spanned::Spanned;
 pub use crate::words::{Overwrite, Words};
