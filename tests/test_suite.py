@@ -13,7 +13,7 @@ from program import TOP
 from running import run
 from sarif_types import sarif_schema
 from schemas import complaints
-from suites import CLEAN, KNOWN_BUGS, NEW_BUG, RIGHT, SUITE, Programs, counting_pmtrim, files_in, ids_of, put_run, put_save, report_of, suite
+from suites import CLEAN, KNOWN_BUGS, NEW_BUG, RIGHT, SUITE, Programs, counting_pmtrim, files_in, ids_of, put_run, put_save, report_of, rows_of, suite
 
 sys.path.insert(0, str(TOP / "suite/lib"))
 from functions import spans_of  # noqa: E402  (the folder is known only now)
@@ -119,8 +119,14 @@ class Written(Checks):
         self.expect_equal("where", (place["artifactLocation"]["uri"], place["region"]["startLine"]), ("src/save.c", 15))
         related = {each["message"]["text"].split(":")[0]: each["physicalLocation"]["region"]["startLine"] for each in failure["relatedLocations"]}
         self.expect_equal("events", related, {"claim": 15, "keeps": 12, "loses": 10})
+        titles = [result["message"]["text"].partition(". ")[0] for result in results]
+        wanted = ["A crash can keep what [src/save.c:12](2) stores without what [src/save.c:10](3) stores", "A crash at the end can lose what event 1 stores", "A crash at the end can lose what [src/save.c:10](1) stores"]
+        self.expect_equal("titles", titles, wanted)
+        self.expect("what mends each", all(". Fix: " in result["message"]["text"] for result in results), titles)
         unlabelled = next(result for result in results if result["properties"]["places"] == ["(plain)"])["locations"][0]["physicalLocation"]
         self.expect_equal("without a label the line of the trace", (unlabelled["artifactLocation"]["uri"], unlabelled["region"]["startLine"]), (str(self.runs / "plain/trace").replace(str(self.runs), f"file://{self.runs}"), 2))
+        told = self.report("--sarif", "-")
+        self.expect("standard output has it alone", json.loads(told.out)["runs"][0]["results"] == results and told.err.startswith("3 runs"), told)
         self.expect_equal("the schemas can refuse", self.complaints('{"version": "2.1.0", "runs": [{}]}'), 2 * [["$.runs[0]: 'tool' is a required property"]])
 
     def test_suppressed(self):
@@ -138,13 +144,36 @@ class Written(Checks):
     def test_junit(self):
         put_run(self.runs / "empty", [], cut="0 no event came\n")
         put_run(self.runs / "refused", ["clwb 0 \x01"])
+        put_save(self.runs / "b", line=40)
+        for name, status in (("fails", "1"), ("dies", "signal SIGABRT"), ("b", "3"), ("clean", "0")):
+            if not (self.runs / name).exists():
+                put_run(self.runs / name, CLEAN)
+            (self.runs / name / "status").write_text(f"{status}\n")
         told = self.report("--junit", "j.xml")
         suites = tree.parse(self.folder / "j.xml").getroot()
         cases = {case.get("name"): [child.tag for child in case if child.tag != "system-out"] for case in suites.iter("testcase")}
-        self.expect_equal("cases", cases, {"a": ["failure"], "clean": [], "empty": ["skipped"], "plain": ["failure"], "refused": ["error"]})
+        self.expect_equal("cases", cases, {"a": ["failure"], "b": ["failure"], "clean": [], "dies": ["error"], "empty": ["skipped"], "fails": ["error"], "plain": ["failure"], "refused": ["error"]})
         counts = {name: suites[0].get(name) for name in ("tests", "failures", "errors", "skipped")}
-        self.expect_equal("counts", counts, {"tests": "5", "failures": "2", "errors": "1", "skipped": "1"})
+        self.expect_equal("counts", counts, {"tests": "8", "failures": "3", "errors": "3", "skipped": "1"})
+        ended = {case.get("name"): case[0].get("message") for case in suites.iter("testcase") if case.get("name") in ("fails", "dies")}
+        self.expect_equal("how programs failed", ended, {"fails": "the program ended with status 1", "dies": "the program ended by signal SIGABRT"})
+        of_b = next(case for case in suites.iter("testcase") if case.get("name") == "b")[0]
+        self.expect("by its own events", all(text in of_b.text for text in ("src/save.c:45 save", "runs/b/trace", "  fix ")) and "runs/a/trace" not in of_b.text, of_b.text)
+        self.expect("and how it ended", of_b.get("message").endswith("; the program ended with status 3"), of_b.get("message"))
+        self.expect("it is told", "not ended well: dies: it ended by signal SIGABRT\n" in told.out, told.out)
         self.expect_equal("the status is that of the refused trace", told.status, 3)
+
+    def test_lines(self):
+        """A line for each new cause, as compilers write it, and as GitHub takes it."""
+        (ident,) = ids_of(self.runs, "failure") if self.report() else ()
+        wanted = "src/save.c:15: error: A crash can keep what src/save.c:12 stores without what src/save.c:10 stores. No flush of the cache line follows the store by then. Fix: "
+        told = self.report("--format", "gcc")
+        self.expect("gcc", told.status == 1 and told.out.count("\n") == 3 and told.out.startswith(wanted) and told.out.split("\n")[0].endswith(f" [failure {ident}]"), told)
+        self.expect("without a label the line of the trace", f"{self.runs}/plain/trace:2: error: A crash at the end can lose what event 1 stores. " in told.out, told)
+        put_run(self.runs / "x", ["store 0 0x40 01"], ["a,b%c:d.c:99999999999 f"])
+        told = self.report("--format", "github")
+        self.expect("github", f"::error file=src/save.c,line=15,title=failure (isOrderedBefore unflushed) {ident}::A crash can keep " in told.out, told)
+        self.expect("what GitHub would read, and a line that is no number of one", f"::error file={self.runs}/x/trace,line=2,title=never_persisted" in told.out and "a,b%25c:d.c:f stores" in told.out, told)
 
     def test_pages(self):
         self.report("--html", "pages")
@@ -185,7 +214,7 @@ class Baselines(Checks):
 
     def test_round_trip(self):
         told = self.report()
-        self.expect("it is not there", told.status == 4 and "No such file" in told.err, told)
+        self.expect("it is not there", told.status == 1 and f"note: there is no {self.file} yet, so nothing is known" in rows_of(told.out), told)
         told = self.report("--update-baseline")
         self.expect("it is made", told.status == 0 and f"2 lines added to {self.file}" in told.out, told)
         text = self.file.read_text()
@@ -213,7 +242,8 @@ class Baselines(Checks):
         for line in ("* failure src/*", "0123 failure src/* # why", "* broken src/* # why", "* failure a b # why", "* failure src/* #"):
             self.file.write_text(f"{line}\n")
             told = self.report()
-            self.expect(line, (told.status, told.out) == (3, "") and f"{self.file}:1: " in told.err, told)
+            self.expect(line, told.status == 3 and f"not judged: {self.file}:1: " in told.out and ": 2 causes, 2 new" in told.out, told)
+            self.expect("and stays", self.report("--update-baseline").status == 3 and self.file.read_text() == f"{line}\n", line)
 
 
 class Shares(Checks):
@@ -244,14 +274,14 @@ class Shares(Checks):
     def test_missing(self):
         self.shard(1, 3), self.shard(2, 3), self.shard(1, 2)
         one, two, other, out = (self.runs / name for name in ("report-1-of-3.json", "report-2-of-3.json", "report-1-of-2.json", "out.json"))
-        (self.runs / "old.json").write_text(one.read_text().replace("report 2", "report 0"))
+        (self.runs / "old.json").write_text(one.read_text().replace("report 3", "report 0"))
         (self.runs / "none.json").write_text("[]")
         (self.runs / "odd.json").write_text(one.read_text().replace('"kind": "failure"', '"kind": "bug"'))
         for words, line, status in (
             ([one, two], "the report of shard 3/3 is not among those", 4),
             ([one, two, other], "this is shard 1/2, and", 4),
             ([one, two, one], "this is shard 1/3, and so is", 4),
-            ([one, self.runs / "old.json"], "this is no report of this version ('pmtrim-suite report 2') but 'pmtrim-suite report 0'", 3),
+            ([one, self.runs / "old.json"], "this is no report of this version ('pmtrim-suite report 3') but 'pmtrim-suite report 0'", 3),
             ([self.runs / "none.json"], "this is no report of this version", 3),
             ([self.runs / "odd.json"], "this is no report (this is no cause)", 3),
             ([self.runs / "bad/trace"], "this is no report", 3),
@@ -363,15 +393,15 @@ class Suites(Checks):
         self.expect_equal("runs", names, ["right-1", "save-1", "save-2"])
         self.expect_equal("how one ended", [(runs / "save-1" / file).read_text() for file in ("command", "status")], ["./save\n", "0\n"])
         told = self.report()
-        self.expect("one bug, in two runs", "3 runs of 2 programs" in told.out and "8 of 32 stores" not in told.out and "16 of 64 stores, in 2 of 3 runs: save-1, save-2" in told.out, told.out)
+        self.expect("one bug, in two runs", "3 runs of 2 programs" in told.out and "8 of 32 stores" not in told.out and "16 of 66 stores, in 2 of 3 runs: save-1, save-2" in told.out, told.out)
 
     def test_workflow(self):
-        """The steps of the workflow that docs/SUITE.md shows: they pass with a baseline, and the report fails for a new bug."""
-        steps = re.findall(r"^ +- run: (.*?)(?: #.*)?$", (TOP / "docs/SUITE.md").read_text().split("```yaml")[1].split("```")[0], re.M)
+        """The steps of the workflow that docs/SUITE.md shows, but what it installs: they pass where nothing is known, and fail for a new bug."""
+        need_recorder()
+        _, *steps = re.findall(r"^ +(?:- )?run: (.*?)(?: #.*)?$", (TOP / "docs/SUITE.md").read_text().split("```yaml")[1].split("```")[0], re.M)
         known = {"PATH": f"{SUITE.parent}:{os.environ['PATH']}"}
         self.programs.add("right", RIGHT)
         (self.programs.folder / "Makefile").write_text("all:\n\t@true\ncheck:\n\t@./right\n")
-        (self.programs.folder / "pmtrim.baseline").write_text("# nothing is known\n")
         for body, wanted in ((RIGHT, [0, 0, 0]), (NEW_BUG, [0, 0, 1])):
             self.programs.add("right", body)
             told = [run(["sh", "-c", step], known, cwd=self.programs.folder) for step in steps]

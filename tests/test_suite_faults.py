@@ -74,9 +74,12 @@ class Faults(Checks):
         self.expect_line("a record that was killed", ".recording: pmtrim-suite record is under way, or was killed", 4)
 
     def test_no_runs(self):
+        """There is no run: the reports say so."""
+        junit = self.new_folder() / "j.xml"
         for folder in (self.new_folder(), self.runs / "none"):
-            told = suite("report", folder)
-            self.expect(f"{folder}", (told.status, told.out) == (4, "") and str(folder) in told.err, told)
+            told = suite("report", folder, "--junit", junit)
+            self.expect(f"{folder}", told.status == 4 and f"not judged: {folder}: there is no " in told.out, told)
+            self.expect("it is an error", f'<error type="file" message="{folder}: there is no ' in junit.read_text(), junit.read_text())
 
     def test_pmtrim(self):
         """What pmtrim says when it fails, and a pmtrim of another version."""
@@ -91,7 +94,7 @@ class Faults(Checks):
             program = put_program(self.new_folder() / "pmtrim", text)
             self.expect_line(text, line, status, known={"PMTRIM": str(program)})
         told = suite("report", self.runs, known={"PMTRIM": "/none"})
-        self.expect("no pmtrim", told.status == 4 and "/none: there is no such program" in told.err, told)
+        self.expect("no pmtrim", told.status == 4 and "/none: there is no such program" in told.out, told)
 
     def test_words(self):
         for words, wanted in (

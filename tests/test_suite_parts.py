@@ -8,7 +8,7 @@ from checks import Checks
 from needs import need_recorder
 from program import TOP
 from running import run
-from suites import KNOWN_BUGS, Programs, counting_pmtrim, put_save, report_of, suite
+from suites import KNOWN_BUGS, Programs, counting_pmtrim, put_save, report_of, rows_of, suite
 from test_parts import long_trace, parts_at, text_of
 
 TRACES = 24
@@ -119,7 +119,7 @@ class Parts(Checks):
             answer = run([self.program, *words[1:]])
             self.expect(f"{words}", answer.status in (0, 1) and wanted in answer.out, answer)
         # events 45, 46, 66 and 67, by which parts 3 and 5 end
-        self.expect("what parts do not tell", "aside: save: its parts do not tell of 4 flushes whether they do nothing, which stores are saved late, what hints there are\n" in told.out, told.out)
+        self.expect("what parts do not tell", "aside: save: its parts do not tell of 4 flushes whether they do nothing, which stores are saved late, what hints there are\n" in rows_of(told.out), told.out)
         again = suite("report", runs)
         self.expect("no part is explained again", "1 run unchanged since the last report" in again.out.splitlines()[0], again.out)
 
@@ -158,7 +158,7 @@ class Parts(Checks):
         for path in runs.glob(f"save/{second.name}*"):
             path.unlink()
         told = suite("report", runs)
-        self.expect("one is missing", told.status == 3 and "trace.0003.trace: the part before it is missing, or is of another run" in told.out, told)
+        self.expect("one is missing", told.status == 3 and "trace.0003.trace: the part before it is missing, or is of another run" in rows_of(told.out), told)
 
     def test_recorded_by_itself(self):
         """One bug and more events than a trace has: the run in parts has the cause and the count of a short run, and a base for its first part."""

@@ -40,11 +40,10 @@ def escaped(place):
 class Baseline:
     """The lines of a file. Where it has no file, or it is not there yet, it has no line."""
 
-    def __init__(self, path, may_be_new=False):
+    def __init__(self, path):
         self.path = path
-        self.text = ""
-        if path is not None and not (may_be_new and not os.path.lexists(path)):
-            self.text = read_text(path)
+        self.is_missing = path is not None and not os.path.lexists(path)
+        self.text = "" if path is None or self.is_missing else read_text(path)
         self.entries = [self.entry(number, line) for number, line in enumerate(self.text.splitlines(), 1) if line.strip() and not line.startswith("#")]
 
     def entry(self, number, line):
@@ -69,6 +68,6 @@ class Baseline:
         text += "" if text.endswith("\n") else "\n"
         first = text.count("\n")
         lines = [f"{cause.id} {cause.kind} {glob.escape(escaped(cause.place))} # {NOT_JUDGED}" for cause in causes]
-        self.text = "".join([text, *(f"{line}\n" for line in lines)])
+        self.text, self.is_missing = "".join([text, *(f"{line}\n" for line in lines)]), False
         write_whole(self.path, self.text)
         self.entries += [self.entry(first + number, line) for number, line in enumerate(lines, 1)]

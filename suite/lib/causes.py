@@ -50,11 +50,16 @@ class Cause:
     count: int  # how often it came
     of: Optional[int]  # of how many stores of that place
     runs: dict  # by the name of the run, how often it came there
-    example: Example
+    examples: dict  # by the name of the run, an event that shows it there
 
     @property
     def id(self):
         return id_of(self.kind, self.reason, self.names)
+
+    @property
+    def example(self):
+        """That of the shortest run."""
+        return min(self.examples.values(), key=lambda example: example.order)
 
     @property
     def place(self):
@@ -71,13 +76,19 @@ class Cause:
         """Failed assertions first, then what is lost for good; what comes in most runs before others."""
         return (KINDS.index(self.kind), -len(self.runs), -self.count, self.names, self.reason)
 
+    @property
+    def sorted(self):
+        """As it stands in a file: the same in whichever order the runs came."""
+        return {name: dict(sorted(value.items())) if isinstance(value, dict) else value for name, value in dataclasses.asdict(self).items()}
+
     def join(self, other):
         """Takes what another part of the runs has of the same cause."""
         self.count += other.count
         self.of = None if self.of is None else self.of + (other.of or 0)
         for run, count in other.runs.items():
             self.runs[run] = self.runs.get(run, 0) + count
-        self.example = min(self.example, other.example, key=lambda example: example.order)
+        for run, example in other.examples.items():
+            self.examples[run] = min(example, self.examples.get(run, example), key=lambda example: example.order)
 
 
 def add_cause(causes, cause):
@@ -86,3 +97,16 @@ def add_cause(causes, cause):
         causes[cause.id].join(cause)
     else:
         causes[cause.id] = cause
+
+
+def read_cause(value):
+    """A cause as it stands in a file. KeyError, TypeError: it is none."""
+    cause = Cause(**{**value, "examples": {run: Example(**example) for run, example in value["examples"].items()}})
+    examples = list(cause.examples.values())
+    texts = [cause.reason, *cause.names, *cause.runs, *(text for example in examples for text in (example.run, example.trace, example.show))]
+    numbers = [cause.count, *cause.runs.values(), *(example.events for example in examples)]
+    places = [place for example in examples for place in [*example.places, *(place for _, _, place in example.told if place)]]
+    is_whole = all(isinstance(text, str) for text in texts) and all(isinstance(number, int) for number in numbers) and all(len(place) == 3 for place in places)
+    if cause.kind not in KINDS or not cause.names or cause.runs.keys() != cause.examples.keys() or not all(example.places for example in examples) or not is_whole:
+        raise TypeError("this is no cause")
+    return cause

@@ -43,13 +43,15 @@ class Pmtrim:
         self.running = set()
         self.stopped = False
 
-    def lines(self, words):
-        """The lines of an answer, one after another. Fault after the last one: in pmtrim's own words, with its status."""
+    def lines(self, words, file=None):
+        """The lines of an answer, one after another; a file is open for it, by its number. Fault after the last one: in pmtrim's own words,
+        with its status."""
         with tempfile.TemporaryFile() as told:
             with self.lock:
                 if self.stopped:
                     return
-                process = subprocess.Popen([self.program, *words], stdin=subprocess.DEVNULL, stdout=subprocess.PIPE, stderr=told, text=True, errors="replace")
+                pipes = {"stdin": subprocess.DEVNULL, "stdout": subprocess.PIPE, "stderr": told, "pass_fds": [file.fileno()] if file else []}
+                process = subprocess.Popen([self.program, *words], text=True, errors="replace", **pipes)
                 self.running.add(process)
             try:
                 yield from process.stdout

@@ -1,5 +1,8 @@
 """What `pmtrim explain --json` says of one run, as causes."""
+import contextlib
+import dataclasses
 import json
+import re
 import sys
 from typing import NamedTuple, Optional
 
@@ -7,6 +10,11 @@ from causes import CUT, DROPPED, EMPTY, FAILURE, HINT, LATE, NEVER_PERSISTED, OV
 from faults import REFUSED, Fault
 
 SCHEMA = 3  # of the JSON, docs/EXPLAIN.md
+TAKEN = ("cause", FAILURE, NEVER_PERSISTED, "place", DROPPED, OVERWRITTEN, UNWRITTEN, HINT)  # the kinds of lines that are read
+KIND = re.compile(r'"kind":"(\w+)"')
+# What a failure has of each cache line and byte, which may be as much as the trace: no quote stands so inside a text.
+OF_BYTES = re.compile(r',"lines":\[.*?\](?=,"lost":\{)|,"ranges":\[.*?\](?=,"whole_lines":)')
+UNFENCED = "unfenced: "  # before the labels of stores that are lost though their cache lines are flushed later
 LINE_SIZES = (32, 64, 128, 256)
 WHY = {
     "unflushed": "no flush of the cache line follows the store by then",
@@ -58,8 +66,19 @@ def why_of(value):
     return Why(sys.intern(cause["cause"]), None, None, fix)
 
 
+@dataclasses.dataclass
+class Group:
+    """Failed assertions of one claim at one place, which lose a store for one reason: their numbers."""
+
+    assertion: str
+    label: Optional[str]
+    events: list
+
+
 class RunReader:
     """Takes the lines of JSON of one run, one after another."""
+
+    aside = frozenset()  # numbers of assertions that are not told of
 
     def __init__(self, run, places, cut, show):
         self.run = run
@@ -68,38 +87,70 @@ class RunReader:
         self.show = show  # the command that shows a finding, by words for `explain`
         self.causes = {}
         self.summary = None
-        self.groups, self.failures, self.lost, self.tallies = [], 0, {}, {}
+        self.taken = TAKEN
+        self.groups, self.failed = [], {}  # the failed assertions, and those that are told in full, by their numbers
+        self.lost, self.rows = {}, []  # why cache lines lose stores; what became of the stores of places
+        self.stores, self.tallies = {}, {}
+
+    @contextlib.contextmanager
+    def readable(self):
+        """Fault: what comes of the answer is not of its form."""
+        try:
+            yield
+        except (ValueError, KeyError, TypeError, AttributeError, IndexError, StopIteration) as error:
+            raise Fault(REFUSED, f"{self.run.trace}: pmtrim explain --json answers what this can't read: {error}; are they of one version?") from error
 
     def take(self, line):
         """Takes a line. Fault: it is none of JSON of this form."""
-        try:
-            value = json.loads(line)
+        found = KIND.search(line)
+        if self.summary is not None and (found is None or found[1] not in self.taken):
+            return
+        with self.readable():
+            value = json.loads(OF_BYTES.sub("", line) if found and found[1] == FAILURE else line)
             kind = value["kind"]
             if self.summary is None and (kind != "summary" or value["schema"] != SCHEMA):
                 raise Fault(REFUSED, f"{self.run.trace}: pmtrim explain answers in schema {value.get('schema')}, and this reads {SCHEMA}; are they of one version?")
-            getattr(self, f"take_{kind}", lambda _: None)(value)
-        except (ValueError, KeyError, TypeError, AttributeError, IndexError, StopIteration) as error:
-            raise Fault(REFUSED, f"{self.run.trace}: pmtrim explain --json answers what this can't read: {error}; are they of one version?") from error
+            getattr(self, f"take_{kind}")(value)
+
+    def check_answered(self):
+        if self.summary is None:
+            raise Fault(REFUSED, f"{self.run.trace}: pmtrim explain --json did not answer")
 
     def take_summary(self, value):
         self.summary = value
 
     def take_cause(self, value):
-        self.groups.append((value["assertion"], value["count"]))
+        self.groups.append(Group(value["assertion"], value["label"], [event for event in value["events"] if event not in self.aside]))
 
     def take_failure(self, value):
-        """The failures stand in the order of their groups."""
-        assertion, count = self.groups[self.failures]
-        self.failures += 1
-        self.add_failure(assertion, count, value)
+        self.failed[value["event"]["event"]] = value
 
-    def add_failure(self, assertion, count, value):
+    def begin(self, taken):
+        """From here on the lines are of another answer, of which these kinds are read."""
+        self.summary, self.taken = None, taken
+        if "place" in taken:
+            self.rows = []
+
+    def add_failures(self, alike, most):
+        """Adds the causes of failed assertions, of which so many of those that are alike are told in full. Answers of how many others it is
+        not known which stores they lose."""
+        unknown = 0
+        with self.readable():
+            for each in alike:
+                asked = each.asked(most)
+                others = len(each.events) - len(asked)
+                unknown += 0 if each.are_one else others
+                for number, event in enumerate(asked):
+                    self.add_failure(each.group, 1 if number else 1 + others, self.failed[event])
+        return unknown
+
+    def add_failure(self, group, count, value):
         stores = [("loses", value["lost"])] if value["kept"] is None else [("keeps", value["kept"]), ("loses", value["lost"])]
         event, why = value["event"], why_of(value)
-        told = [["claim", told_event(event), event["label"]]]
+        told = [["claim", told_event(event), group.label]]
         told += [[role, f"byte {found['byte']} of {told_event(found['store'])}", found["store"]["label"]] for role, found in stores]
-        labels = [event["label"], *(found["store"]["label"] for _, found in reversed(stores))]
-        self.add(FAILURE, f"{assertion} {why.cause}", labels, count, None, event["event"], [*told, *why.told()], ["--failure", str(event["event"])])
+        labels = [group.label, *(found["store"]["label"] for _, found in reversed(stores))]
+        self.add(FAILURE, f"{group.assertion} {why.cause}", labels, count, event["event"], [*told, *why.told()], ["--failure", str(event["event"])])
 
     def take_never_persisted(self, value):
         """There may be as many as stores, so no more is kept than what tells a place why."""
@@ -112,25 +163,33 @@ class RunReader:
         losses = next(self.lost[line] for line in (address // size * size for size in LINE_SIZES) if line in self.lost)
         return next(why for first, last, why in losses if first <= event["event"] <= last)
 
-    def take_place(self, value):
-        self.add_lost(value)
-        self.add_late(value)
+    @property
+    def has_two_reasons(self):
+        """Whether a place may lose stores for good for more than one reason."""
+        return len({why.cause for losses in self.lost.values() for _, _, why in losses}) > 1
 
-    def add_lost(self, value):
+    def take_place(self, value):
+        self.rows.append(value)
+
+    def add_places(self):
+        """What became of the stores of each place."""
+        with self.readable():
+            for value in self.rows:
+                label = (value["label"] or "").removeprefix(UNFENCED)
+                place = self.places.of(label).name
+                self.stores[place] = self.stores.get(place, 0) + value["stores"]
+                self.add_lost(label, value)
+                if value["late"]:
+                    event = value["first_late"]
+                    told = [["store", told_event(event), label], ["why", "it is not safe when its thread has made two more fences", None]]
+                    self.add(LATE, "late", [label], value["late"], event["event"], told)
+
+    def add_lost(self, label, value):
         """What a place loses for good."""
         if value["never_persisted"]:
             event = value["first_never_persisted"]
             why = self.why_lost(event)
-            told = [["store", told_event(event), event["label"]], *why.told()]
-            self.add(NEVER_PERSISTED, why.cause, [event["label"]], value["never_persisted"], value["stores"], event["event"], told)
-
-    def add_late(self, value):
-        if value["late"]:
-            self.tell_late(value["first_late"], value["late"], value["stores"])
-
-    def tell_late(self, event, count, of):
-        told = [["store", told_event(event), event["label"]], ["why", "it is not safe when its thread has made two more fences", None]]
-        self.add(LATE, "late", [event["label"]], count, of, event["event"], told)
+            self.add(NEVER_PERSISTED, why.cause, [label], value["never_persisted"], event["event"], [["store", told_event(event), label], *why.told()])
 
     def take_dropped(self, value):
         event = value["event"]
@@ -146,7 +205,7 @@ class RunReader:
     def take_hint(self, value):
         event, why = value["first"], HINTS.get(value["hint"], "mostly a slip")
         told = [["event", told_event(event), event["label"]], ["why", why, None]]
-        self.add(HINT, value["hint"], [event["label"]], value["count"], None, event["event"], told)
+        self.add(HINT, value["hint"], [event["label"]], value["count"], event["event"], told)
 
     def tally(self, kind, reason, count, events):
         """Counts a finding, of which there may be as many as events; the first with these labels is told."""
@@ -156,35 +215,41 @@ class RunReader:
     def add_tallies(self):
         for (kind, reason, *labels), (count, events) in self.tallies.items():
             told = [[role, told_event(event), event["label"]] for role, event in events]
-            self.add(kind, reason, labels, count, None, events[0][1]["event"], told)
+            self.add(kind, reason, labels, count, events[0][1]["event"], told)
 
-    def add(self, kind, reason, labels, count, of, event, told, words=None):
+    def add(self, kind, reason, labels, count, event, told, words=None):
         """Adds a finding to its cause. A trace that was cut does not tell what is lost for good."""
         if kind == NEVER_PERSISTED and self.cut:
             return
-        add_cause(self.causes, self.cause_of(kind, reason, labels, count, of, event, told, words))
+        add_cause(self.causes, self.cause_of(kind, reason, labels, count, event, told, words))
 
-    def cause_of(self, kind, reason, labels, count, of, event, told, words):
+    def cause_of(self, kind, reason, labels, count, event, told, words=None):
         """The cause of a finding."""
         places = [self.places.of(label) for label in labels]
         words = ["--only", kind, "--from", str(event), "--to", str(event)] if words is None else words
         told = [[role, text, list(self.places.of(label)) if label else None] for role, text, label in told]
         example = Example(self.run.name, str(self.run.trace), self.summary["events"], event, [list(place) for place in places], told, self.show(words))
-        return Cause(kind, reason, [place.name for place in places], count, of, {self.run.name: count}, example)
+        return Cause(kind, reason, [place.name for place in places], count, None, {self.run.name: count}, {self.run.name: example})
 
     def finish(self):
         """All causes of the run, once the last line was taken."""
-        if self.summary is None:
-            raise Fault(REFUSED, f"{self.run.trace}: pmtrim explain --json did not answer")
+        self.add_places()
         self.add_tallies()
         if self.note:
             kind, event = (CUT, self.cut[0]) if self.summary["events"] else (EMPTY, None)
-            self.add(kind, kind, [None], 1, None, event, [["why", self.note, None]], [])
-        return list(self.causes.values())
+            self.add(kind, kind, [None], 1, event, [["why", self.note, None]], [])
+        return count_of(self.causes, self.stores)
 
     @property
     def note(self):
         return note_of(self.summary["events"], self.cut)
+
+
+def count_of(causes, stores):
+    """The causes, those of stores with how many stores their places make."""
+    for cause in causes.values():
+        cause.of = stores[cause.place] if cause.kind in (NEVER_PERSISTED, LATE) else None
+    return list(causes.values())
 
 
 def note_of(events, cut):

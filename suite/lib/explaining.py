@@ -5,26 +5,39 @@ import dataclasses
 import hashlib
 import json
 import os
+import re
 import shlex
+import tempfile
+import time
 from typing import Optional
 
-from causes import KINDS, Cause, Example
-from explained import RunReader
+from apart import AT_ONCE, alike_in, most_asked
+from causes import FAILURE, NEVER_PERSISTED, read_cause
+from events import relabelled
+from explained import UNFENCED, RunReader
 from faults import FILE_FAULT, Fault
-from files import add_file, make_folder, read_text, write_whole
-from joining import Joined, PartReader, questions
+from files import add_file, make_folder, read_if_there, read_text, write_whole
+from joining import ALIKE, Joined, PartReader, questions, told_aside
 from labels import Places
 from parts import read_parts
 from runs import ENDINGS, EXPLAINED
 
-FORM = "pmtrim-suite explained 2"
+FORM = "pmtrim-suite explained 3"
+FLUSHED = re.compile(r"never-persisted \d+ flushed\n")
 
 
-def explain_words(run):
-    """The words that name a run and the files beside it."""
-    labels = ["--labels", str(run.beside(".labels"))] if run.has(".labels") else []
+def explain_words(run, labels=None):
+    """The words that name a run and the files beside it, or other labels."""
+    labels = labels or (str(run.beside(".labels")) if run.has(".labels") else None)
+    labels = ["--labels", labels] if labels else []
     ignored = ["--ignore-file", str(run.beside(".ignore"))] if run.has(".ignore") else []
     return [*labels, *ignored, str(run.trace)]
+
+
+def ignored_labels(run):
+    """The options that leave out, of stores in UNFENCED, those that the file beside the trace leaves out by their labels."""
+    lines = (read_if_there(run.beside(".ignore")) or "").splitlines()
+    return [word for line in lines if line.startswith("label ") for word in ("--ignore-label", f"{UNFENCED}{line.removeprefix('label ')}")]
 
 
 def shown_by(run):
@@ -41,8 +54,9 @@ class Explained:
     claims: int
     note: Optional[str]
     causes: list
-    aside: Optional[str] = None
-    was_known: bool = False
+    aside: Optional[str]
+    seconds: float  # how long that took
+    was_known: bool
 
 
 class Explainer:
@@ -73,7 +87,9 @@ class Explainer:
             value = json.loads(read_text(path))
             if value["form"] == FORM:
                 return value["said"], True
+        begun = time.monotonic()
         said = explain_anew()
+        said["seconds"] = round(time.monotonic() - begun, 3)
         write_whole(path, json.dumps({"form": FORM, "said": said}))
         return said, False
 
@@ -82,14 +98,43 @@ class Explainer:
         (piece,) = run.pieces
         name = self.digest(piece, self.digest(run)) if run.parts else self.digest(run)
         said, was_known = self.known_or(f"{name}.json", lambda: self.explain_anew(run, piece))
-        return Explained(said["events"], said["claims"], said["note"], [read_cause(cause) for cause in said["causes"]], None, was_known)
+        return Explained(said["events"], said["claims"], said["note"], [read_cause(cause) for cause in said["causes"]], said["aside"], said["seconds"], was_known)
 
     def explain_anew(self, run, piece):
         reader = RunReader(piece, self.places(run), run.cut(), shown_by(piece))
-        for line in self.pmtrim.lines(["explain", "--json", "--limit", "all", *explain_words(piece)]):
-            reader.take(line)
+        self.ask(reader, [], piece)
+        aside = told_aside({ALIKE: self.ask_more(reader, piece)})
         causes = reader.finish()
-        return {"events": reader.summary["events"], "claims": reader.summary["assertions"], "note": reader.note, "causes": [dataclasses.asdict(cause) for cause in causes]}
+        return {"events": reader.summary["events"], "claims": reader.summary["assertions"], "note": reader.note, "aside": aside, "causes": [dataclasses.asdict(cause) for cause in causes]}
+
+    def ask(self, reader, options, piece, labels=None, file=None):
+        """Has a reader take an answer."""
+        for line in self.pmtrim.lines(["explain", "--json", "--limit", "all", *options, *explain_words(piece, labels)], file):
+            reader.take(line)
+        reader.check_answered()
+
+    def ask_relabelled(self, reader, options, piece, numbers, name):
+        """The same, where `name` gives events of these numbers other labels, so that what is told together else is told apart."""
+        with tempfile.TemporaryFile("w", encoding="utf-8", errors="surrogateescape") as file:
+            file.writelines(relabelled(piece.trace, numbers, name))
+            file.flush()
+            self.ask(reader, options, piece, f"/dev/fd/{file.fileno()}", file)
+
+    def ask_more(self, reader, piece):
+        """Asks for failed assertions in full that may be of other causes than the first one of their group, and for what is lost for good by
+        its reasons. Answers of how many failed assertions it is not known which stores they lose."""
+        alike = alike_in(piece.trace, reader.groups, reader.places)
+        most = most_asked(alike, reader.summary["events"])
+        wanted = [event for each in alike for event in each.asked(most) if event not in reader.failed]
+        if wanted:
+            reader.begin((FAILURE,))
+        for first in range(0, len(wanted), AT_ONCE):
+            self.ask_relabelled(reader, ["--only", FAILURE], piece, set(wanted[first : first + AT_ONCE]), lambda number, _: str(number))
+        if reader.has_two_reasons:
+            reader.begin(("place",))
+            flushed = {int(line.split()[1]) for line in self.pmtrim.lines(["check", str(piece.trace)]) if FLUSHED.fullmatch(line)}
+            self.ask_relabelled(reader, [*ignored_labels(piece), "--only", NEVER_PERSISTED], piece, flushed, lambda _, label: f"{UNFENCED}{label}")
+        return reader.add_failures(alike, most)
 
     def places(self, run):
         return Places(run.program, self.sources, run.functions())
@@ -101,20 +146,11 @@ class Explainer:
 
     def explain_part_anew(self, run, piece, part):
         reader = PartReader(piece, part, self.places(run), shown_by(piece))
-        words = ["explain", "--json", "--limit", "all"]
         for question, options in questions(part):
             reader.ask(question)
-            for line in self.pmtrim.lines([*words, *options, *explain_words(piece)]):
-                reader.take(line)
-        for group, events in reader.asked_later:
-            self.explain_failure(reader, [*words, "--failure", str(events[0]), *explain_words(piece)], group, events)
+            self.ask(reader, options, piece)
+        reader.unknown[ALIKE] = self.ask_more(reader, piece)
         return reader.said()
-
-    def explain_failure(self, reader, words, group, events):
-        """Takes the first failed assertion of a group that the part does not set aside."""
-        for line in self.pmtrim.lines(words):
-            if '"kind":"failure"' in line:
-                reader.add_group(group, events, json.loads(line))
 
     def begin(self, workers, run):
         """Begins to explain a run, or each of its parts; answers what is waited for."""
@@ -132,7 +168,8 @@ class Explainer:
         if faults or len(run.parts) < 2:
             return (faults or outcomes)[0]
         run_of_parts = Joined(run, [said for said, _ in outcomes], shown_by(run.pieces[-1])([]))
-        return Explained(run_of_parts.events, run_of_parts.claims, run_of_parts.note, run_of_parts.causes(), run_of_parts.aside, all(known for _, known in outcomes))
+        seconds, known = sum(said["seconds"] for said, _ in outcomes), all(known for _, known in outcomes)
+        return Explained(run_of_parts.events, run_of_parts.claims, run_of_parts.note, run_of_parts.causes(), run_of_parts.aside, seconds, known)
 
     def explain_all(self, runs, jobs, progress):
         """Of each run in turn what it has, or its fault."""
@@ -173,16 +210,3 @@ def outcome_of(future):
         return fault
     except OSError as error:
         return Fault(FILE_FAULT, f"{error.filename or 'pmtrim'}: {error.strerror or error}")
-
-
-def read_cause(value):
-    """A cause as it stands in a file. KeyError, TypeError: it is none."""
-    example = Example(**value["example"])
-    cause = Cause(**{**value, "example": example})
-    texts = [cause.reason, example.run, example.trace, example.show, *cause.names, *cause.runs]
-    numbers = [cause.count, example.events, *cause.runs.values()]
-    triples = [*example.places, *example.told, *(place for _, _, place in example.told if place)]
-    is_whole = all(isinstance(text, str) for text in texts) and all(isinstance(number, int) for number in numbers) and all(len(triple) == 3 for triple in triples)
-    if cause.kind not in KINDS or not cause.names or not example.places or not is_whole:
-        raise TypeError("this is no cause")
-    return cause

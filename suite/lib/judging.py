@@ -1,6 +1,6 @@
 """What of a report is new, what is known, and the status that follows."""
 from baseline import Baseline
-from faults import NEW
+from faults import NEW, Fault
 
 
 class Judged:
@@ -10,14 +10,22 @@ class Judged:
         self.report = report
         self.words = words  # the command that made the report
         self.fail_on = options.fail_on
-        self.baseline = Baseline(options.baseline, options.update_baseline)
+        self.baseline = self.read_baseline(options.baseline)
         self.failing = sorted((cause for cause in report.causes.values() if cause.kind in self.fail_on), key=lambda cause: cause.order)
         self.added = 0
         self.part()
-        if options.update_baseline and self.new:
+        if options.update_baseline and self.baseline.path and self.new:
             self.added = len(self.new)
             self.baseline.add(self.new)
             self.part()
+
+    def read_baseline(self, path):
+        """The baseline; where it is refused, that is a fault of the report, and nothing is known."""
+        try:
+            return Baseline(path)
+        except Fault as fault:
+            self.report.faults.append([fault.status, str(fault)])
+            return Baseline(None)
 
     def part(self):
         reasons = [(cause, self.baseline.why(cause)) for cause in self.failing]

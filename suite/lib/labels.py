@@ -38,9 +38,15 @@ class Places:
         self.program = program
         self.sources = os.path.join(os.path.abspath(sources), "")
         self.functions = functions
+        self.known = {}
 
     def of(self, label):
         """The place of an event with this label, or with none."""
+        if label not in self.known:
+            self.known[label] = self.found(label)
+        return self.known[label]
+
+    def found(self, label):
         if not label:
             return Place(f"({self.program})", None, None)
         frame = label.removesuffix(BEFORE_WINDOW).partition(CALLER)[0]

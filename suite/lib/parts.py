@@ -1,14 +1,15 @@
 """Runs in parts, as pmtrim parts writes them: which there are, and for what each answers."""
+import itertools
 import os
 import pathlib
 import re
 from typing import NamedTuple
 
+from events import events_in
 from faults import REFUSED, Fault
-from files import read_if_there, read_text
+from files import read_text
 
 NAME = re.compile(r"(?P<prefix>.*)\.(?P<number>\d{4,})\.trace", re.S)
-CALLER = " < "
 
 
 class Part(NamedTuple):
@@ -76,33 +77,18 @@ def read_parts(traces):
 
 
 class Head(NamedTuple):
-    """What stands in a part before the events that it answers for: claims, and stores by their places, which are innermost frames of
-    labels, or threads."""
+    """What stands in a part before the events that it answers for: claims, and stores by their places."""
 
     claims: int
     stores: dict
 
 
-def read_head(part):
+def read_head(part, places):
     """What an earlier part answers for."""
-    labels = head_labels(part)
     claims, stores = 0, {}
-    with open(part.trace, encoding="ascii", errors="replace") as file:
-        next(file, None)
-        for number, line in zip(range(1, part.own_first), file):
-            claims += line.startswith("is")
-            if line.startswith("store "):
-                place = (labels[number], None) if number in labels else (None, int(line.split(" ", 2)[1]))
-                stores[place] = stores.get(place, 0) + 1
+    for _, line, label in itertools.islice(events_in(part.trace), part.own_first - 1):
+        claims += line.startswith("is")
+        if line.startswith("store "):
+            place = places.of(label).name
+            stores[place] = stores.get(place, 0) + 1
     return Head(claims, stores)
-
-
-def head_labels(part):
-    """The innermost frames of the labels of those events."""
-    frames = {}
-    for line in (read_if_there(f"{part.trace}.labels") or "").split("\n"):
-        number, _, label = line.partition(" ")
-        if not number.isdecimal() or int(number) >= part.own_first:
-            break
-        frames[int(number)] = label.partition(CALLER)[0]
-    return frames

@@ -1,16 +1,17 @@
 """Reports: the runs of a folder, or of a share of them, and their causes; as a file, and as one out of several."""
 import dataclasses
 import json
+import re
 from typing import Optional
 
-from causes import CUT, EMPTY, add_cause
-from explaining import read_cause
+from causes import CUT, EMPTY, add_cause, read_cause
 from faults import FILE_FAULT, REFUSED, Fault
 from files import read_text
 from joining import ASIDE
 
-FORM = "pmtrim-suite report 2"
+FORM = "pmtrim-suite report 3"
 WHOLE = (1, 1)
+ENDED_BADLY = re.compile(r"[1-9]\d*|signal \S+")
 
 
 @dataclasses.dataclass
@@ -29,6 +30,14 @@ class RunRow:
     note: Optional[str]  # why the trace is not all of what happened
     parts: int = 0  # how many it was cut into
     aside: Optional[str] = None  # what these do not tell
+    seconds: float = 0.0  # how long it took to explain
+
+    @property
+    def failed(self):
+        """How its program failed; None where it did not, or where that is not known."""
+        if self.ended is None or not ENDED_BADLY.fullmatch(self.ended):
+            return None
+        return f"ended {'by' if self.ended.startswith('signal') else 'with status'} {self.ended}"
 
 
 @dataclasses.dataclass
@@ -51,10 +60,11 @@ class Report:
         return sum(run.parts for run in self.runs)
 
     def notes(self):
-        """What is told of traces that are not all of what happened: those without events, those that were cut, and what parts do not tell."""
+        """What is told of runs beside their causes: programs that failed, traces that are not all of what happened, and what is not told."""
         rows = sorted((run.name, run.note, run.events) for run in self.runs if run.note)
         notes = {kind: [f"{name}: {note}" for name, note, events in rows if bool(events) == (kind == CUT)] for kind in (EMPTY, CUT)}
-        return {**notes, ASIDE: [f"{name}: {aside}" for name, aside in sorted((run.name, run.aside) for run in self.runs if run.aside)]}
+        failed = {"not ended well": [f"{name}: it {how}" for name, how in sorted((run.name, run.failed) for run in self.runs if run.failed)]}
+        return {**failed, **notes, ASIDE: [f"{name}: {aside}" for name, aside in sorted((run.name, run.aside) for run in self.runs if run.aside)]}
 
     @property
     def all_faults(self):
@@ -72,7 +82,7 @@ class Report:
         if isinstance(outcome, Fault):
             row.status, row.fault = outcome.status, f"{run.name}: {outcome}"
             return
-        row.events, row.claims, row.note, row.aside = outcome.events, outcome.claims, outcome.note, outcome.aside
+        row.events, row.claims, row.note, row.aside, row.seconds = outcome.events, outcome.claims, outcome.note, outcome.aside, outcome.seconds
         self.known_runs += outcome.was_known
         for cause in outcome.causes:
             add_cause(self.causes, cause)
@@ -85,7 +95,7 @@ class Report:
             "folders": sorted(self.folders),
             "runs": [dataclasses.asdict(run) for run in sorted(self.runs, key=lambda run: run.name)],
             "faults": sorted(self.faults),
-            "causes": [{"id": cause.id, **dataclasses.asdict(cause), "runs": dict(sorted(cause.runs.items()))} for _, cause in sorted(self.causes.items())],
+            "causes": [{"id": cause.id, **cause.sorted} for _, cause in sorted(self.causes.items())],
         }
         return json.dumps(value, indent=1) + "\n"
 

@@ -5,6 +5,7 @@ import re
 import shlex
 from typing import NamedTuple
 
+from events import labels_in
 from faults import FILE_FAULT, Fault, of_file
 from files import read_if_there
 from parts import series_of
@@ -118,8 +119,5 @@ def check_runs(folder, runs):
 
 
 def label_texts(run):
-    """The labels of a run, each once. What is no labels file is refused when the run is explained."""
-    if not run.has(".labels"):
-        return []
-    with open(run.beside(".labels"), encoding="utf-8", errors="replace", newline="\n") as file:
-        return list(dict.fromkeys(line.rstrip("\n").partition(" ")[2] for line in file if line != "\n"))
+    """The labels of a run, each once."""
+    return list(dict.fromkeys(label for _, label in labels_in(run.trace)))

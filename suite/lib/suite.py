@@ -8,6 +8,7 @@ from commands import Pmtrim, find_pmtrim
 from explaining import Explainer
 from faults import FILE_FAULT, NO_MEMORY, Fault
 from files import write_whole
+from findings import told_lines
 from judging import Judged
 from junit import junit_text
 from pages import write_pages
@@ -16,6 +17,7 @@ from recording import record
 from reports import Report, joined
 from runs import check_folder, check_runs, find_runs
 from sarif import sarif_text
+from screen import shown
 from stopping import Ended, end_by, take_signals
 from telling import printable, told
 from words import HELP, HELPS, merge_words, record_words, report_words
@@ -25,11 +27,23 @@ VERSION = f"pmtrim-suite {NUMBER}"
 
 
 def write_outputs(judged, options):
-    """The files that are asked for, but for the report and the pages."""
-    if options.sarif:
-        write_whole(options.sarif, sarif_text(judged, NUMBER))
-    if options.junit:
-        write_whole(options.junit, junit_text(judged))
+    """All that is asked for but the report and the pages. What is written to standard output as - stands there alone, and what a person reads
+    goes to standard error. Fault: of the first file that can't be written, once the others are."""
+    texts = [(options.sarif, lambda: sarif_text(judged, NUMBER)), (options.junit, lambda: junit_text(judged))]
+    faults = []
+    for path, text in texts:
+        try:
+            if path == "-":
+                print(text(), end="", flush=True)
+            elif path:
+                write_whole(path, text())
+        except Fault as fault:
+            faults.append(fault)
+    if faults:
+        raise faults[0]
+    stream = sys.stderr if "-" in (options.sarif, options.junit) else sys.stdout
+    text = shown(told(judged), stream) if options.format == "text" else "\n".join(map(printable, told_lines(judged, options.format)))
+    print(text, end="\n" if text else "", file=stream, flush=True)
 
 
 def kind_words(options):
@@ -42,35 +56,41 @@ def report_path(folder, shard):
     return os.path.join(folder, name)
 
 
-def explained_report(explainer, folder, shard, jobs, progress):
-    """The report of a folder, or of a share of its runs; and these runs."""
-    runs, faults = find_runs(folder)
-    check_runs(folder, runs)
-    share = shard.share(runs)
-    report = Report([str(folder)], [], {}, [[fault.status, str(fault)] for fault in faults], tuple(shard))
-    for run, outcome in explainer.explain_all(share, jobs, progress):
+def explained_report(explainer, options, report, progress):
+    """Adds to the report what is said of the runs of a folder, or of a share of them; answers these runs."""
+    runs, faults = find_runs(options.folder)
+    report.faults += [[fault.status, str(fault)] for fault in faults]
+    check_runs(options.folder, runs)
+    share = options.shard.share(runs)
+    for run, outcome in explainer.explain_all(share, options.jobs, progress):
         report.add_run(run, outcome)
-    if shard.of == 1:
+    if options.shard.of == 1:
         explainer.forget_others()
-    return report, share
+    return share
 
 
 def run_report(options, here):
-    pmtrim, progress = Pmtrim(find_pmtrim(here)), Progress()
+    progress, pmtrim, runs = Progress(), None, []
+    report = Report([str(options.folder)], [], {}, [], tuple(options.shard))
+    source = [] if options.source == "." else ["--source", options.source]
+    words = shlex.join(["pmtrim-suite", "report", options.folder, *source, *kind_words(options)])
     try:
-        check_folder(options.folder)
-        explainer = Explainer(pmtrim, options.folder, options.source)
-        report, runs = explained_report(explainer, options.folder, options.shard, options.jobs, progress)
-        source = [] if options.source == "." else ["--source", options.source]
-        judged = Judged(report, options, shlex.join(["pmtrim-suite", "report", options.folder, *source, *kind_words(options)]))
-        if options.html:
+        try:
+            check_folder(options.folder)
+            pmtrim = Pmtrim(find_pmtrim(here))
+            runs = explained_report(Explainer(pmtrim, options.folder, options.source), options, report, progress)
+        except Fault as fault:
+            report.faults.append([fault.status, str(fault)])
+        judged = Judged(report, options, words)
+        if options.html and pmtrim:
             write_pages(judged, pmtrim, runs, options.html, options.source, progress)
     finally:
-        pmtrim.stop()
+        if pmtrim:
+            pmtrim.stop()
         progress.clear()
-    write_whole(report_path(options.folder, options.shard), report.text())
+    if os.path.isdir(options.folder):
+        write_whole(report_path(options.folder, options.shard), report.text())
     write_outputs(judged, options)
-    print(told(judged), flush=True)
     return judged.status
 
 
@@ -79,7 +99,6 @@ def run_merge(options, _here):
     judged = Judged(report, options, shlex.join(["pmtrim-suite", "merge", options.out, *options.reports, *kind_words(options)]))
     write_whole(options.out, report.text())
     write_outputs(judged, options)
-    print(told(judged), flush=True)
     return judged.status
 
 

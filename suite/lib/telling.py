@@ -25,14 +25,14 @@ def place_of(cause):
     return Place(*cause.example.places[0]).shown
 
 
-def full(cause, report):
-    """A cause in full: what and where, how often, by which events, and the command that shows one."""
-    rows = [f"new: {cause.what} at {place_of(cause)}", f"  {'id':{WIDTH}}{cause.id}", f"  {'how often':{WIDTH}}{often(cause, report)}"]
-    for role, text, place in cause.example.told:
+def full(cause, report, example):
+    """A cause in full: what and where, how often, by which events of a run, and the command that shows one."""
+    rows = [f"new: {cause.what} at {Place(*example.places[0]).shown}", f"  {'id':{WIDTH}}{cause.id}", f"  {'how often':{WIDTH}}{often(cause, report)}"]
+    for role, text, place in example.told:
         at = f" at {Place(*place).shown}" if place else ""
         number, found, words = text.partition(": ")
         rows.append(f"  {role:{WIDTH - 1}} {f'{number}{at}: {words}' if found and place else text}")
-    return [*rows, f"  {'show it':{WIDTH}}{cause.example.show}"]
+    return [*rows, f"  {'show it':{WIDTH}}{example.show}"]
 
 
 def line(cause, report):
@@ -104,7 +104,8 @@ def told_next(judged):
     if not judged.new:
         return []
     path = judged.baseline.path or "pmtrim.baseline"
-    return ["", f"next: {judged.new[0].example.show}", f"to take what is new as known: {judged.words} --baseline {shlex.quote(path)} --update-baseline"]
+    missing = ["", f"note: there is no {path} yet, so nothing is known"] if judged.baseline.is_missing else []
+    return [*missing, "", f"next: {judged.new[0].example.show}", f"to take what is new as known: {judged.words} --baseline {shlex.quote(path)} --update-baseline"]
 
 
 def printable(row):
@@ -113,13 +114,13 @@ def printable(row):
 
 
 def told(judged):
-    """The whole text."""
+    """The whole text, in rows."""
     rows = [first_line(judged), *told_counts(judged.report)]
     for cause in judged.new[:MOST_FULL]:
-        rows += ["", *full(cause, judged.report)]
+        rows += ["", *full(cause, judged.report, cause.example)]
     if len(judged.new) > MOST_FULL:
         rows += ["", "new too:", *(line(cause, judged.report) for cause in judged.new[MOST_FULL:])]
     rows += told_runs(judged.report) + told_known(judged) + told_others(judged) + told_unused(judged) + told_next(judged)
     if judged.added:
         rows += ["", f"{counted(judged.added, 'line')} added to {judged.baseline.path}: say there why each may stay"]
-    return "\n".join(printable(row) for row in rows)
+    return list(map(printable, rows))

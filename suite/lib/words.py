@@ -60,10 +60,14 @@ Statuses: 2 wrong options; 4 a file can't be read or written; else that of COMMA
 Example: pmtrim-suite record runs -- make check"""
 
 OUTPUTS = """\
-  --baseline FILE    the causes that are known, a line each, with why
-  --update-baseline  adds those that are new to FILE, which need not be there yet
-  --sarif FILE       writes the causes as SARIF 2.1.0, for build servers and editors
-  --junit FILE       writes the runs as JUnit XML; a run with a new cause has failed
+  --baseline FILE    the causes that are known, a line each, with why; it need not be there yet
+  --update-baseline  adds those that are new to FILE
+  --sarif FILE       writes the causes as SARIF 2.1.0, for build servers and editors; - is standard
+                     output, and then what people read goes to standard error
+  --junit FILE       writes the runs as JUnit XML; a run with a new cause has failed, and one that
+                     ended with a status is an error; - as for --sarif
+  --format HOW       how to say what is new: in full, or a line each as compilers do, or as GitHub
+                     takes it from a log [default: text] [possible values: text, gcc, github]
   --fail-on KIND..   which kinds of causes may be new [default: failure never_persisted]
                      [possible values: failure, never_persisted, late, dropped, overwritten,
                      unwritten, hint, cut, empty]
@@ -73,7 +77,8 @@ REPORT = f"""\
 Explains the traces below DIR, and says which causes are new, where, and how often.
 
 Usage: pmtrim-suite report DIR [--baseline FILE] [--update-baseline] [--sarif FILE] [--junit FILE]
-                           [--html DIR] [--fail-on KIND..] [--source DIR] [--shard I/N] [--jobs N]
+                           [--format HOW] [--html DIR] [--fail-on KIND..] [--source DIR]
+                           [--shard I/N] [--jobs N]
 
 Arguments:
   DIR  the folder of the runs: each file below it named trace or *.trace is one, but the parts that
@@ -101,7 +106,7 @@ MERGE = f"""\
 Makes one report of those of shards, or of several folders.
 
 Usage: pmtrim-suite merge OUT [--baseline FILE] [--update-baseline] [--sarif FILE] [--junit FILE]
-                          [--fail-on KIND..] REPORT..
+                          [--format HOW] [--fail-on KIND..] REPORT..
 
 Arguments:
   OUT       the report that is written, as JSON
@@ -171,6 +176,7 @@ def add_outputs(parser):
     parser.add_argument("--update-baseline", action="store_true")
     parser.add_argument("--sarif")
     parser.add_argument("--junit")
+    parser.add_argument("--format", choices=("text", "gcc", "github"), default="text")
     parser.add_argument("--fail-on", type=read_kinds, default=FAILING)
 
 

@@ -1,6 +1,7 @@
 """What the tests of pmtrim-suite make: runs below a folder, programs that record themselves, and a pmtrim that tells of its calls."""
 import json
 import os
+import re
 
 from program import TOP
 from running import run
@@ -23,6 +24,11 @@ CLEAN = ["store 0 0x0 01", "clwb 0 0x0", "sfence 0", "isPersist 0 0x0 1"]
 def suite(*words, known=None, cwd=TOP):
     """Runs pmtrim-suite, on the program under test."""
     return run([SUITE, *words], known, cwd=cwd)
+
+
+def rows_of(text):
+    """The text, each row on one line again."""
+    return re.sub(r"\n {5,}", " ", text)
 
 
 def put_run(folder, events, labels=None, **beside):

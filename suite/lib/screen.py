@@ -1,0 +1,1 @@
+../../replay/lib/screen.py
