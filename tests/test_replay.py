@@ -30,10 +30,12 @@ class Sets(Replayed):
             self.expect_set(path, trace, base, [], 1, around)
             self.expect_set(path, trace, base, ["--off", "64"], 64, range(last + 1))
             self.expect_set(path, trace, base, ["--off", str(number % 3), "--at", ",".join(map(str, some))], number % 3, some)
+            held = choose.choice(trace.lines(last) or [0])
+            self.expect_set(path, trace, base, ["--hold", f"{held * trace.size:#x}"], 1, around, [held])
 
-    def expect_set(self, path, trace, base, words, off, places):
+    def expect_set(self, path, trace, base, words, off, places, held=()):
         """Each image of the set was seen by a checker, and no other one, and each once."""
-        wanted = {image for place in places for image in images_at(trace, place, base, off)}
+        wanted = {image for place in places for image in images_at(trace, place, base, off, held)}
         copies = self.empty_folder("copies")
         status, told, _ = self.replay([*words, path, "--", "sh", "-c", 'cp "$1" "$2/$(basename "$(dirname "$1")")"', "x", "{}", copies])
         found = [path.read_bytes() for path in sorted(copies.iterdir())]

@@ -22,6 +22,10 @@ class Crash(NamedTuple):
             words += ["--line", f"{line * line_size:#x}:{stores}"]
         return words
 
+    def holding(self, fronts):
+        """The same crash, but that these lines have their fronts of stores."""
+        return self._replace(lines=tuple(sorted({*self.lines, *fronts.items()}))) if self.is_all else self
+
     def persisted(self, bounds):
         """How many stores of each line that is not safe are persisted; `bounds` are its front and count."""
         counts = {line: (count if self.is_all else front) for line, (front, count) in bounds.items()}

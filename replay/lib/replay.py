@@ -18,6 +18,7 @@ from parts import make_base
 from pools import check_stores, find_pools
 from processes import Ended, Processes, Stopped
 from results import KeptResults, Results, identity_of, remove_tree
+from screen import shown
 from telling import MOST_STORES, Progress, Texts, next_words, summary, table
 from trace import Trace
 from words import HELP, part_asked, take_words
@@ -52,6 +53,7 @@ class Replay:
         check_is_there(options.trace)
         self.commands.fronts(0, 1)
         self.trace = Trace(options.trace)
+        self.held = self.trace.lines_held(options.hold)
         self.pools = find_pools(options.trace)
         check_stores(self.pools, self.trace)
         self.last = max(last for _, last in options.at) if options.at else len(self.trace.lines)
@@ -114,7 +116,9 @@ class Replay:
                     self.set_fronts(memory, crash.place)
                 before = crash.place
                 self.places += 1
-            yield crash, memory
+            fronts = {line: memory.open[line][0] for line in self.held & memory.open.keys()}
+            if all(fronts.get(line, stores) == stores for line, stores in crash.lines):
+                yield crash.holding(fronts), memory
 
     def set_fronts(self, memory, place):
         bounds = self.commands.fronts(place, self.trace.line_size)
@@ -214,7 +218,7 @@ class Replay:
         failures = [self.failures[number] for number in sorted(self.failures)]
         if failures:
             lines += ["", *table(self.trace, failures), "", *next_words(self.trace, failures[0])]
-        print("\n".join(lines), flush=True)
+        print(shown(lines, sys.stdout), flush=True)
 
     def clean_up(self):
         self.results.close()

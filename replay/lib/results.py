@@ -30,6 +30,7 @@ def identity_of(options, pools):
         "base": [[digest_of(pool.base), pool.origin] for pool in pools],
         "checker": [digest_of(shutil.which(options.checker[0])), *options.checker],
         "--off": options.off,
+        "--hold": sorted(options.hold),
         "--at": options.at and [list(places) for places in options.at],
         "--seconds": options.seconds,
     }

@@ -129,8 +129,9 @@ def next_words(trace, result):
 def summary(trace, places, options, counts, seconds):
     """What was run."""
     off = counted(options.off, "cache line")
+    held = f", and held at the front: {', '.join(options.hold)}" if options.hold else ""
     known = f" ({counts.known} of them in an earlier run)" if counts.known else ""
     return [
-        f"{trace.path}: {counted(len(trace.lines), 'event')}, {counted(places, 'place')}, at most {off} off the front or the count",
+        f"{trace.path}: {counted(len(trace.lines), 'event')}, {counted(places, 'place')}, at most {off} off the front or the count{held}",
         f"{counted(counts.crashes, 'crash').replace('crashs', 'crashes')}, {counted(counts.images, 'different image')}: {counts.failed} failed{known}; {seconds:.1f} s",
     ]

@@ -2,7 +2,7 @@
 import bisect
 import re
 
-from faults import FILE_FAULT, REFUSED, Fault, of_file
+from faults import FILE_FAULT, REFUSED, WRONG_WORDS, Fault, of_file
 
 FENCES = ("sfence", "mfence")
 LABEL = "label "
@@ -41,10 +41,21 @@ class Trace:
         at = bisect.bisect_right(self.ignored, (address, float("inf"))) - 1
         return at >= 0 and address + len(written) <= self.ignored[at][1] or self.is_at_place(number)
 
-    def is_at_place(self, number):
-        """Whether the innermost frame of the event's label is that of a place that needs no saving, or begins so."""
+    def is_at_place(self, number, places=None):
+        """Whether the innermost frame of the event's label is one of these places, or of those that need no saving, or begins so."""
         frame = self.labels[number].partition(" < ")[0] if number in self.labels else None
-        return frame is not None and any(frame.startswith(place[:-1]) if place.endswith("*") else frame == place for place in self.places)
+        return frame is not None and any(frame.startswith(place[:-1]) if place.endswith("*") else frame == place for place in places or self.places)
+
+    def lines_held(self, wanted):
+        """The cache lines of these addresses, and those that stores of these places write. Fault: there is none."""
+        held = set()
+        for word in wanted:
+            is_address = re.fullmatch("0x[0-9a-f]{1,12}", word)
+            lines = {int(word, 16) // self.line_size} if is_address else {address // self.line_size for number, address, _ in self.stores() if self.is_at_place(number, [word])}
+            if not lines:
+                raise Fault(WRONG_WORDS, f"--hold {word}: no store has this place in its label")
+            held |= lines
+        return held
 
     def may_raise(self, number):
         """Whether the event may make stores safe: a fence, or a clflush."""

@@ -8,8 +8,8 @@ from faults import WRONG_WORDS, Fault
 HELP = """\
 Runs a recovery, or another checker, on the pool as crashes leave it.
 
-Usage: pmtrim-replay [--at PLACES] [--off K] [--jobs N] [--keep DIR] [--seconds S]
-                     TRACE -- CHECKER [ARGUMENT]..
+Usage: pmtrim-replay [--at PLACES] [--off K] [--hold WHAT].. [--jobs N] [--keep DIR]
+                     [--seconds S] TRACE -- CHECKER [ARGUMENT]..
        pmtrim-replay --base PART
 
 Arguments:
@@ -21,6 +21,9 @@ Options:
   --at PLACES   other places: numbers and ranges of them, as 12,40-60; each number of a range is a
                 place
   --off K       how many cache lines may be off, 0 to 64 (1)
+  --hold WHAT   leaves a cache line at its front in all crashes: that of an address, as 0x1040, or
+                those to which a place stores, as 'stats.c:12 bump' or 'stats.c:*', by the labels;
+                may be given more than once
   -j, --jobs N  how many checkers run at once (one for each processor)
   --keep DIR    keeps in DIR what the checkers said, and the images of the first 20 that failed. The
                 same words go on where a run was stopped
@@ -105,6 +108,7 @@ def take_words(words):
     parser = Parser(prog="pmtrim-replay", add_help=False, allow_abbrev=False)
     parser.add_argument("--at", type=read_places)
     parser.add_argument("--off", type=number_between(0, MOST_OFF), default=1)
+    parser.add_argument("--hold", action="append", default=[])
     parser.add_argument("-j", "--jobs", type=number_between(1, MOST_JOBS), default=len(os.sched_getaffinity(0)))
     parser.add_argument("--seconds", type=number_between(1, MOST_SECONDS), default=60)
     parser.add_argument("--keep")

@@ -127,6 +127,17 @@ class Faults(Replayed):
         status, told, faults = self.replay(words)
         self.expect("ranges that are none", (status, told) == (3, "") and "locks.trace.ignore:2: '64 to 68' is no range" in faults, faults)
 
+    def test_held_lines(self):
+        """A line that is never flushed and stored to in each round, held by its address or by its place."""
+        rounds = [[("store 0 0x1000 01", "stats.c:9 bump"), ("store 0 0x1040 02", "log.c:1 put"), ("clwb 0 0x1040", "log.c:2 put"), ("sfence 0", "log.c:3 put")]] * 3
+        events = [event for round in rounds for event in round]
+        trace = self.folder / "held.trace"
+        write_trace(trace, "pmtrace 2 64", [words for words, _ in events], bytes(128), 0x1000)
+        trace.with_name("held.trace.labels").write_text("".join(f"{number} {label}\n" for number, (_, label) in enumerate(events, 1)))
+        for words, images in (([], 4), (["--hold", "0x1000"], 2), (["--hold", "stats.c:*"], 2), (["--hold", "0x1040", "--hold", "stats.c:9 bump"], 2)):
+            status, told, faults = self.replay([*words, trace, *of_shell("true")])
+            self.expect(f"{words}", (status, faults, counts_of(told)[1]) == (0, "", images), told + faults)
+
     def test_folders_around_stay(self):
         """What a checker leaves is removed. No folder around its own changes, nor what its links lead to."""
         trace, outside, kept = self.small(), self.empty_folder("outside"), self.empty_folder("of_results")
@@ -180,6 +191,7 @@ class Faults(Replayed):
             (["--at", "3-5", trace, *always], 2, "pmtrim image: place past end 4"),
             (["--at", "5-3", trace, *always], 2, "is no place"),
             (["--off", "65", trace, *always], 2, "65 is no number from 0 to 64"),
+            (["--hold", "stats.c:*", trace, *always], 2, "--hold stats.c:*: no store has this place in its label"),
             (["--frob", trace, *always], 2, "unrecognized arguments: --frob"),
             (["--keep", other, trace, *always], 2, "there are other files in it"),
         ):

@@ -8,13 +8,16 @@ TRACES, MOST_OFF = 10, 64
 ORIGIN, POOL_BYTES = 0x1000 - 5, 1100
 
 
-def images_at(trace, place, base, off):
-    """The pools after the crashes at a place where at most so many lines are off their least, or off their greatest number of stores."""
+def images_at(trace, place, base, off, held=()):
+    """The pools after the crashes at a place where at most so many lines are off their least, or off their greatest number of stores, and held
+    ones have their least."""
     reached = [dict(done) for done in trace.reached[place]]
     least = {line: min(done.get(line, 0) for done in reached) for line in trace.lines(place)}
     greatest = {line: len(trace.stores(line, place)) for line in trace.lines(place)}
     for done in reached:
-        if min(sum(done.get(line, 0) != bound[line] for line in bound) for bound in (least, greatest)) <= off:
+        free = least.keys() - set(held)
+        is_held = all(done.get(line, 0) == least[line] for line in least.keys() & set(held))
+        if is_held and min(sum(done.get(line, 0) != bound[line] for line in free) for bound in (least, greatest)) <= off:
             pool = bytearray(base)
             for address, byte in trace.image(tuple(done.items())):
                 pool[address - ORIGIN] = byte

@@ -126,4 +126,4 @@ class Programs(Replayed):
             self.expect(f"undo_log {words}", done[0] == status and ("add up to" in done[1]) == bool(status), done)
         told = [" ".join(row.split()[:3]) for row in done[1].split("\n")]
         self.expect("what a crash keeps, where that is less, and what it loses", told[6:9] == FIRST_FAILURE, told)
-        self.expect("a crash that loses nothing", told[11:14] == ["checker: status 1", "keeps, as the", "loses nothing"], told)
+        self.expect("a crash that loses nothing", told[11:15] == ["checker: status 1", "keeps, as the", "0300000000000000", "loses nothing"], told)
