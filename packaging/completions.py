@@ -81,7 +81,7 @@ def bash(program):
         name=program.name,
         function="_" + program.name.replace("-", "_"),
         command="${COMP_WORDS[1]-}" if program.commands else TOP,
-        top=f'[ "$COMP_CWORD" -gt 1 ] || command={TOP}\n  ' if program.commands else "",
+        top=f'[[ $COMP_CWORD -lt 2 || $command = *[a-z]* ]] || return 0 # other words are no key of a table\n  [ "$COMP_CWORD" -gt 1 ] || command={TOP}\n  ' if program.commands else "",
         behind=bash_rows(behind),
         options=bash_rows(options),
         others=bash_rows(others),

@@ -12,6 +12,8 @@ WIDEST = 100
 # What is offered, by the words so far; the last one is being typed.
 OFFERED = {
     ("pmtrim", "ch"): ["check"],
+    ("pmtrim", "", ""): [],
+    ("pmtrim", "''", ""): [],
     ("pmtrim", "help", "dr"): ["draw"],
     ("pmtrim", "check", "--workers", "1"): ["1", "16"],
     ("pmtrim", "check", "-j", "1"): ["1", "16"],
