@@ -1,8 +1,13 @@
 """Runs the commands that README.md and docs/ show, and compares what they write."""
 from checks import Checks, add_tests
 from documents import expect_shown
+from needs import need_valgrind
 
-DOCUMENTS = ("README", "docs/COMMANDS", "docs/MODEL", "docs/FORMAT", "docs/EXPLAIN", "docs/REPLAY", "docs/SLICE", "docs/STAT", "docs/PARTS")
+DOCUMENTS = ("README", "docs/GUIDE", "docs/COMMANDS", "docs/MODEL", "docs/FORMAT", "docs/EXPLAIN", "docs/REPLAY", "docs/SLICE", "docs/STAT", "docs/PARTS")
+
+
+def setUpModule():
+    need_valgrind()
 
 
 class Readme(Checks):
