@@ -3,7 +3,7 @@ from checks import Checks, add_tests
 from documents import expect_shown
 from needs import need_valgrind
 
-DOCUMENTS = ("README", "docs/GUIDE", "docs/COMMANDS", "docs/MODEL", "docs/FORMAT", "docs/EXPLAIN", "docs/REPLAY", "docs/SLICE", "docs/STAT", "docs/PARTS")
+PAGES = ("GUIDE", "COMMANDS", "MODEL", "FORMAT", "EXPLAIN", "REPLAY", "SLICE", "STAT", "PARTS", "IMAGE")
 
 
 def setUpModule():
@@ -14,4 +14,4 @@ class Readme(Checks):
     """A test for each document."""
 
 
-add_tests(Readme, expect_shown, {name.rpartition("/")[2].lower(): f"{name}.md" for name in DOCUMENTS})
+add_tests(Readme, expect_shown, {"readme": "README.md"} | {name.lower(): f"docs/{name}.md" for name in PAGES})
