@@ -5,6 +5,7 @@
 #include "pools.h"
 #include "sorting.h"
 #include "threads.h"
+#include "unfenced.h"
 
 /* A chunk has the lines of 1 MiB. */
 enum { CHUNK_BITS = 20, CHUNK_LINES = (1 << CHUNK_BITS) / LINE_BYTES, MOST_OF_LINE = 256, MOST_STORES = 4000000 };
@@ -35,40 +36,13 @@ typedef struct {
     Line *lines[CHUNK_LINES];
 } Chunk;
 
-typedef struct {
-    ULong line, sequence;
-    Addr instruction;
-    Bool written;
-} Open;
-
-/* The open flushes of a thread. */
-typedef struct {
-    Open *all;
-    UInt count, room;
-} OpenFlushes;
-
-/* An open flush of a thread that has ended. */
-typedef struct {
-    Open open;
-    Int number;
-} Left;
-
 ULong unfollowed_stores;
 
 static Chunks all_lines = {.bits = CHUNK_BITS, .bytes = sizeof(Chunk), .name = "pending.chunk"};
 static Store *free_stores;
 static Line *free_lines;
 static ULong sequence, store_count;
-static OpenFlushes *open_flushes;
-static ULong *found_flushes; /* of one line, a thread's each */
-static XArray *left_open;
 static Bool fenced[MOST_THREADS];
-
-void begin_pending(void) {
-    open_flushes = VG_(calloc)("pending.flushes", VG_N_THREADS, sizeof *open_flushes);
-    found_flushes = VG_(calloc)("pending.found", VG_N_THREADS, sizeof *found_flushes);
-    left_open = VG_(newXA)(VG_(malloc), "pending.left", VG_(free), sizeof(Left));
-}
 
 /* Places of lines, stores and the room for them */
 
@@ -166,25 +140,6 @@ static ULong mask_of_store(const Store *store) {
     return ((1ULL << store->length) - 1) << store->offset;
 }
 
-/* When each thread last flushed a line, of flushes that are open: the latest first. An earlier one of a thread ends with its last one. */
-static UInt find_open_flushes(ULong line) {
-    ThreadId thread;
-    UInt at, place, count = 0;
-    for (thread = 1; thread < VG_N_THREADS; thread++) {
-        const OpenFlushes *own = &open_flushes[thread];
-        ULong last = 0;
-        for (at = 0; at < own->count; at++)
-            if (own->all[at].line == line && own->all[at].sequence > last)
-                last = own->all[at].sequence;
-        if (last == 0)
-            continue;
-        for (place = count++; place > 0 && found_flushes[place - 1] < last; place--)
-            found_flushes[place] = found_flushes[place - 1];
-        found_flushes[place] = last;
-    }
-    return count;
-}
-
 /* What stood before a store that is left out stood before those that cover it; where it is not known, it is not known of these. */
 static void pass_on_old(const Store *gone, Store *later) {
     ULong rest = mask_of_store(gone);
@@ -221,12 +176,13 @@ static Bool any_covered(const Store *newest) {
 }
 
 static void leave_out_covered(ULong address, Line *line, Store *newest) {
-    UInt passed = 0, count = find_open_flushes(address);
+    const ULong *flushes;
+    UInt passed = 0, count = find_unfenced(address, &flushes);
     ULong covered = 0;
     Store *next;
     for (; newest != NULL; newest = next) {
         next = newest->next;
-        for (; passed < count && newest->sequence < found_flushes[passed]; passed++)
+        for (; passed < count && newest->sequence < flushes[passed]; passed++)
             covered = 0;
         if ((mask_of_store(newest) & ~covered) == 0) {
             pass_on_old(newest, line->first);
@@ -297,67 +253,25 @@ void follow_store(const FollowedStore *store) {
     unfollowed_stores += words_in(from, end);
 }
 
-static Int by_line(const void *one, const void *other) {
-    const Open *first = one, *second = other;
-    if (first->line != second->line)
-        return first->line < second->line ? -1 : 1;
-    if (first->written != second->written)
-        return first->written ? 1 : -1;
-    return first->sequence < second->sequence ? -1 : 1;
-}
-
-/* Makes room for a flush of a thread. A later flush of a line does all that an earlier one of the thread does. */
-static void make_room(OpenFlushes *own) {
-    UInt at, kept = 0;
-    sort(own->all, own->count, sizeof *own->all, by_line);
-    for (at = 0; at < own->count; at++)
-        if (at + 1 == own->count || own->all[at].line != own->all[at + 1].line || own->all[at].written != own->all[at + 1].written)
-            own->all[kept++] = own->all[at];
-    own->count = kept;
-    if (2 * kept < own->room)
-        return;
-    own->room = 2 * own->room + 16;
-    own->all = VG_(realloc)("pending.flushes", own->all, own->room * sizeof *own->all);
-}
-
 void follow_flush(ThreadId thread, ULong line, Addr instruction, Bool written) {
-    OpenFlushes *own = &open_flushes[thread];
-    Open added = {line, ++sequence, instruction, written};
-    if (options.one_trace)
-        return;
-    if (own->count > 0 && own->all[own->count - 1].line == line && own->all[own->count - 1].written == written)
-        own->count--;
-    if (own->count == own->room)
-        make_room(own);
-    own->all[own->count++] = added;
+    Unfenced added = {line, ++sequence, instruction, written, thread, -1};
+    if (!options.one_trace)
+        add_unfenced(&added);
 }
 
 void follow_full_flush(ULong line) {
     make_safe_until(line, ++sequence);
 }
 
-void follow_fence(ThreadId thread) {
-    OpenFlushes *own = &open_flushes[thread];
-    UInt at;
-    sequence++;
-    for (at = 0; at < own->count; at++) {
-        make_safe_until(own->all[at].line, own->all[at].sequence);
-        if (own->all[at].written && recording == AFTER_WINDOW)
-            fenced[thread_number(thread)] = True;
-    }
-    own->count = 0;
+static void fence_flush(const Unfenced *flush) {
+    make_safe_until(flush->line, flush->sequence);
+    if (flush->written && recording == AFTER_WINDOW)
+        fenced[thread_number(flush->thread)] = True;
 }
 
-Bool leave_flushes_open(ThreadId thread, Int number) {
-    OpenFlushes *own = &open_flushes[thread];
-    Bool any = own->count > 0;
-    UInt at;
-    for (at = 0; at < own->count; at++) {
-        Left left = {own->all[at], number};
-        VG_(addToXA)(left_open, &left);
-    }
-    own->count = 0;
-    return any;
+void follow_fence(ThreadId thread) {
+    sequence++;
+    end_unfenced(thread, fence_flush);
 }
 
 /* All lines, each by its place */
@@ -387,11 +301,8 @@ static void forget_line(ULong address, Line **place) {
 }
 
 void forget_pending(void) {
-    ThreadId thread;
     each_line(forget_line);
-    for (thread = 0; thread < VG_N_THREADS; thread++)
-        open_flushes[thread].count = 0;
-    VG_(dropTailXA)(left_open, VG_(sizeXA)(left_open));
+    forget_unfenced();
     VG_(memset)(fenced, 0, sizeof fenced);
 }
 
@@ -404,19 +315,15 @@ static void unwrite_line(ULong address, Line **place) {
         free_line(place);
 }
 
+static void unwrite_flush(Unfenced *flush) {
+    flush->written = False;
+    flush->number = -1;
+}
+
 void unwrite_pending(void) {
-    ThreadId thread;
-    UInt at;
     each_line(unwrite_line);
-    for (thread = 0; thread < VG_N_THREADS; thread++)
-        for (at = 0; at < open_flushes[thread].count; at++)
-            open_flushes[thread].all[at].written = False;
+    each_unfenced(unwrite_flush);
     VG_(memset)(fenced, 0, sizeof fenced);
-    for (at = 0; at < (UInt)VG_(sizeXA)(left_open); at++) {
-        Left *left = VG_(indexXA)(left_open, at);
-        left->open.written = False;
-        left->number = -1;
-    }
 }
 
 /* A window opens */
@@ -444,11 +351,11 @@ static void take_line(ULong address, Line **place) {
     }
 }
 
-static void take_flush(Open *open, ThreadId thread, Int number) {
-    Carried *added = add_carried(&open->written);
+static void take_flush(Unfenced *flush) {
+    Carried *added = add_carried(&flush->written);
     if (added != NULL)
-        *added = (Carried){.kind = CARRIED_FLUSH, .sequence = open->sequence, .address = open->line, .instruction = open->instruction,
-                           .thread = thread, .number = number};
+        *added = (Carried){.kind = CARRIED_FLUSH, .sequence = flush->sequence, .address = flush->line, .instruction = flush->instruction,
+                           .thread = flush->thread, .number = flush->number};
 }
 
 static Int by_sequence(const void *one, const void *other) {
@@ -456,29 +363,13 @@ static Int by_sequence(const void *one, const void *other) {
     return first < second ? -1 : first > second;
 }
 
-static SizeT count_flushes(void) {
-    SizeT count = (SizeT)VG_(sizeXA)(left_open);
-    ThreadId thread;
-    for (thread = 0; thread < VG_N_THREADS; thread++)
-        count += open_flushes[thread].count;
-    return count;
-}
-
 Carried *take_carried(SizeT *count, SizeT most) {
-    ThreadId thread;
-    UInt at;
-    SizeT room = store_count + count_flushes();
+    SizeT room = store_count + count_unfenced();
     carried_most = room < most ? room : most;
     carried = VG_(malloc)("pending.carried", (carried_most + 1) * sizeof *carried);
     carried_count = 0;
     each_line(take_line);
-    for (thread = 1; thread < VG_N_THREADS; thread++)
-        for (at = 0; at < open_flushes[thread].count; at++)
-            take_flush(&open_flushes[thread].all[at], thread, -1);
-    for (at = 0; at < (UInt)VG_(sizeXA)(left_open); at++) {
-        Left *left = VG_(indexXA)(left_open, at);
-        take_flush(&left->open, VG_INVALID_THREADID, left->number);
-    }
+    each_unfenced(take_flush);
     *count = carried_count;
     if (carried_count > carried_most) {
         VG_(free)(carried);

@@ -16,15 +16,11 @@ typedef struct {
     Bool written; /* it stands in the trace */
 } FollowedStore;
 
-void begin_pending(void);
 void follow_store(const FollowedStore *store); /* a store of each of its words */
 void follow_flush(ThreadId thread, ULong line, Addr instruction, Bool written);
 /* A flush that needs no fence (clflush). */
 void follow_full_flush(ULong line);
 void follow_fence(ThreadId thread);
-
-/* A thread ends: whether a flush of it is open, which stays open under its number, or under none (-1). */
-Bool leave_flushes_open(ThreadId thread, Int number);
 
 /* All is forgotten: the process is a copy of its parent. */
 void forget_pending(void);

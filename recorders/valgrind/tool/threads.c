@@ -8,6 +8,7 @@
 #include "pending.h"
 #include "processes.h"
 #include "turns.h"
+#include "unfenced.h"
 
 typedef struct {
     Int number; /* from 1; 0: it has none */
@@ -22,7 +23,7 @@ static Int ended = -1;
 void begin_threads(void) {
     threads = VG_(calloc)("threads", VG_N_THREADS, sizeof *threads);
     begin_turns();
-    begin_pending();
+    begin_unfenced();
 }
 
 static Number *number_at(Int number) {
@@ -122,7 +123,7 @@ static void end_number(Number *number) {
 
 void thread_ends(ThreadId thread) {
     Int number = threads[thread].number - 1;
-    leave_flushes_open(thread, number);
+    leave_unfenced(thread, number);
     if (number >= 0)
         end_number(number_at(number));
     threads[thread] = (Thread){0};
@@ -153,7 +154,7 @@ void only_thread(ThreadId thread) {
     if (options.one_trace)
         return;
     for (any = 0; any < VG_N_THREADS; any++)
-        leave_flushes_open(any, -1);
+        leave_unfenced(any, -1);
     forget_numbers();
     forget_meetings();
 }

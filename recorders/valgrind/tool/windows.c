@@ -9,6 +9,7 @@
 #include "pending.h"
 #include "pools.h"
 #include "threads.h"
+#include "unfenced.h"
 
 ULong carried_events, refused_windows;
 
@@ -151,7 +152,7 @@ void carry_flush(ULong line) {
     if (written)
         end_inherited_event();
     follow_flush(VG_INVALID_THREADID, line, 0, written);
-    leave_flushes_open(VG_INVALID_THREADID, written ? number_of_ended() : -1);
+    leave_unfenced(VG_INVALID_THREADID, written ? number_of_ended() : -1);
 }
 
 void begin_or_go_on(ThreadId thread) {
