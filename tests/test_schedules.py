@@ -24,7 +24,13 @@ FOUND = {
     "copied": ("copied", 20, 3, 2),
 }
 # What is written, line by line, and to which addresses of the pool is stored.
-ENDING = {"spawn": ("spawn", ["one 0 3", ""], ["0x0"]), "file": ("file", ["has it", ""], ["0x40", "0x80"])}
+SPAWNED, LOCKED = (["one 0 3", ""], ["0x0"]), (["has it", ""], ["0x40", "0x80"])
+ENDING = {
+    "spawn": ("spawn", "--one-trace", *SPAWNED),
+    "file": ("file", "--one-trace", *LOCKED),
+    "threads": ("threads", "--one-trace", *LOCKED),
+    "threads of a process": ("threads", "--one-trace=no", *LOCKED),
+}
 TABLE = "create table t(a,b); with recursive c(x) as (select 1 union all select x+1 from c where x<99) insert into t select x, x*1.5 from c; "
 EACH = {
     "ls": ["ls", "-l", "/usr/lib"],
@@ -162,8 +168,8 @@ class Waits(Recorded):
         return [str(word) for word in (RECORD, *options, "--trace", self.trace, self.waits, kind, self.pool)]
 
     def ends_at_once(self, row):
-        kind, written, stores = row
-        done = run(self.words(kind, "--one-trace"))
+        kind, option, written, stores = row
+        done = run(self.words(kind, option))
         self.expect_equal(kind, (done.status, done.out.split("\n")), (0, written))
         events = events_of(self.trace)
         self.expect_equal(f"{kind}: stores", sorted(fields[2] for fields in events if fields[0] == "store"), stores)
@@ -176,9 +182,9 @@ class Waits(Recorded):
         return path.read_text()
 
     def test_thread(self):
-        """Within one process Valgrind waits for ever."""
+        """Within one process."""
         faults = self.folder / "faults"
-        with open(faults, "w") as stderr, subprocess.Popen(self.words("threads"), stdout=subprocess.DEVNULL, stderr=stderr) as running:
+        with open(faults, "w") as stderr, subprocess.Popen(self.words("asleep"), stdout=subprocess.DEVNULL, stderr=stderr) as running:
             told = self.told(faults, 120)
             running.send_signal(signal.SIGTERM)
             self.expect_equal("a thread that sleeps: SIGTERM", running.wait(timeout=120), -signal.SIGKILL)

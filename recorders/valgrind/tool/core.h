@@ -34,6 +34,7 @@ extern SysRes VG_(mk_SysRes_Success)(UWord result);
 extern SysRes VG_(pread)(Int descriptor, void *buffer, Int count, OffT offset);
 extern Int VG_(fcntl)(Int descriptor, Int command, Addr argument);
 extern SysRes VG_(do_syscall)(UWord number, RegWord, RegWord, RegWord, RegWord, RegWord, RegWord, RegWord, RegWord);
+extern void VG_(vg_yield)(void); /* gives up the lock, and takes it again */
 
 /* Which code is looked at before it runs, whether it has changed. As pub_core_options.h has it. */
 enum { CHECK_ALL_CODE = 2 };

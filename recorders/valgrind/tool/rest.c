@@ -31,26 +31,34 @@ Bool is_numbered_before(Int kernel_thread, Int other) {
     return (ahead < 0 ? ahead + numbers : ahead) < numbers / 2;
 }
 
-static Doing read_doing(Int descriptor) {
+/* The letter by which the kernel says what a thread does; zero where there is no such thread any more. */
+static HChar read_letter(Int descriptor) {
     HChar text[128];
     const HChar *state;
     SysRes got = VG_(pread)(descriptor, text, sizeof text - 1, 0);
     text[sr_isError(got) ? 0 : sr_Res(got)] = '\0';
     state = VG_(strrchr)(text, ')');
-    if (state == NULL || state[1] == '\0' || state[2] == 'Z' || state[2] == 'X')
-        return GONE;
-    return state[2] == 'R' || state[2] == 'D' ? RUNS_THERE : SLEEPS_THERE;
+    return state == NULL || state[1] == '\0' || state[2] == 'Z' || state[2] == 'X' ? '\0' : state[2];
 }
 
-Doing doing_in(Int kernel_process, Int kernel_thread) {
+static HChar letter_in(Int kernel_process, Int kernel_thread) {
     HChar path[PATH_BYTES];
     VG_(sprintf)(path, "/proc/%d/task/%d/stat", kernel_process, kernel_thread);
     SysRes opened = VG_(open)(path, VKI_O_RDONLY, 0);
     if (sr_isError(opened))
-        return sr_Err(opened) == VKI_ENOENT ? GONE : SLEEPS_THERE;
-    Doing found = read_doing((Int)sr_Res(opened));
+        return sr_Err(opened) == VKI_ENOENT ? '\0' : 'S';
+    HChar found = read_letter((Int)sr_Res(opened));
     VG_(close)((Int)sr_Res(opened));
     return found;
+}
+
+/* In state D, as while it waits for a disk, it goes on by itself. */
+static Doing doing_by(HChar letter) {
+    return letter == '\0' ? GONE : letter == 'R' || letter == 'D' ? RUNS_THERE : SLEEPS_THERE;
+}
+
+Doing doing_in(Int kernel_process, Int kernel_thread) {
+    return doing_by(letter_in(kernel_process, kernel_thread));
 }
 
 Int open_doing(Int kernel_thread) {
@@ -60,7 +68,7 @@ Int open_doing(Int kernel_thread) {
 }
 
 Doing doing(Int descriptor, Int kernel_thread) {
-    return descriptor >= 0 ? read_doing(descriptor) : doing_in(VG_(getpid)(), kernel_thread);
+    return doing_by(descriptor >= 0 ? read_letter(descriptor) : letter_in(VG_(getpid)(), kernel_thread));
 }
 
 void pause_between_looks(Int looks) {
@@ -71,11 +79,13 @@ void pause_between_looks(Int looks) {
         VG_(do_syscall)(__NR_nanosleep, (RegWord)&shortly, 0, 0, 0, 0, 0, 0, 0);
 }
 
+/* One that waits for a child of vfork is in state D too. */
 Bool stays_asleep(Int kernel_process, Int kernel_thread) {
     enum { LOOKS = 20 };
     Int looks;
     for (looks = 0; looks < LOOKS; looks++) {
-        if (doing_in(kernel_process, kernel_thread) != SLEEPS_THERE)
+        HChar letter = letter_in(kernel_process, kernel_thread);
+        if (letter == '\0' || letter == 'R')
             return False;
         pause_between_looks(QUICK_LOOKS);
     }

@@ -5,12 +5,13 @@
 #include "emptied.h"
 #include "events.h"
 #include "file_writes.h"
+#include "lock.h"
 #include "others.h"
 #include "outcome.h"
 #include "output.h"
 #include "pools.h"
-#include "lock.h"
 #include "processes.h"
+#include "rest.h"
 #include "robust.h"
 
 enum { KEEPS_OLD_MAPPING = 4, PAGE_BITS = 12, SYNCHRONOUS = 4 };
@@ -20,11 +21,31 @@ SystemCounts system_counts;
 /* The call that each thread is in. */
 static UInt *current;
 
-/* Whether the kernel may hold the thread in a call that Valgrind takes for one that does not wait: for a child of vfork, as system and
- * posix_spawn have one, and for a lock of an open file. */
-static Bool waits_unseen(UInt call, const UWord *arguments) {
-    enum { CLONE_VFORK = 0x4000, OFD_SETLKW = 38 };
-    return (call == __NR_clone && (arguments[0] & CLONE_VFORK)) || (call == __NR_fcntl && arguments[1] == OFD_SETLKW);
+/* Calls that Valgrind takes for ones that do not wait: for a child of vfork, as system and posix_spawn have one, and for a lock of an
+ * open file. */
+static Bool waits_for_child(UInt call, const UWord *arguments) {
+    enum { CLONE_VFORK = 0x4000 };
+    return call == __NR_clone && (arguments[0] & CLONE_VFORK);
+}
+
+static Bool waits_for_open_file(UInt call, const UWord *arguments) {
+    enum { OFD_SETLKW = 38 };
+    return call == __NR_fcntl && arguments[1] == OFD_SETLKW;
+}
+
+/* The kernel would hold the turn with the thread while another one of this process has the lock. */
+static void give_way_for_open_file(const UWord *arguments) {
+    enum { OFD_GETLK = 36, UNLOCKED = 2 };
+    Int looks;
+    for (looks = 0; lock_is_shared() && VG_(am_is_valid_for_client)(arguments[2], sizeof(struct vki_flock), VKI_PROT_READ); looks++) {
+        struct vki_flock lock = *(const struct vki_flock *)arguments[2];
+        SysRes done = VG_(do_syscall)(__NR_fcntl, arguments[0], OFD_GETLK, (RegWord)&lock, 0, 0, 0, 0, 0);
+        if (sr_isError(done) || lock.l_type == UNLOCKED)
+            return;
+        lock_gives_way();
+        VG_(vg_yield)();
+        pause_between_looks(looks);
+    }
 }
 
 void before_call(ThreadId thread, UInt call, UWord *arguments, UInt count) {
@@ -42,8 +63,10 @@ void before_call(ThreadId thread, UInt call, UWord *arguments, UInt count) {
     }
     if (call == __NR_execve || call == __NR_execveat)
         before_execution(call == __NR_execve ? (const HChar *)arguments[0] : NULL);
+    if (waits_for_open_file(call, arguments))
+        give_way_for_open_file(arguments);
     lock_enters_system(call, arguments);
-    if (waits_unseen(call, arguments))
+    if (waits_for_open_file(call, arguments) || waits_for_child(call, arguments))
         before_waiting_call();
 }
 

@@ -1,22 +1,17 @@
-/* Processes and threads that wait where Valgrind does not see that they do:
- * waits KIND POOL. All end by themselves, natively at once, but for `stopped`,
- * and for `threads` under Valgrind.
- *
- *     spawn    popen, posix_spawn and system, each of which waits for its child
- * by vfork file     for a lock of an open file (F_OFD_SETLKW) that a child has
- *     stopped  a child runs on and on, until a signal stops it; its parent
- * writes its number, and stores on and on threads  for a lock of an open file
- * that another thread has
- */
+/* Processes and threads that wait where Valgrind does not see that they do: waits KIND POOL. `spawn`, `file` and `threads` end by
+ * themselves, at once. */
 #define _GNU_SOURCE
 #include <fcntl.h>
 #include <immintrin.h>
 #include <pthread.h>
+#include <sched.h>
+#include <signal.h>
 #include <spawn.h>
 #include <stdio.h>
 #include <stdlib.h>
 #include <string.h>
 #include <sys/mman.h>
+#include <sys/prctl.h>
 #include <sys/wait.h>
 #include <unistd.h>
 
@@ -34,6 +29,7 @@ static void save(int line) {
     _mm_sfence();
 }
 
+/* popen, posix_spawn and system, each of which waits for its child by vfork. */
 static void spawn(void) {
     char line[16] = "", *words[] = {"true", NULL};
     int status = -1;
@@ -48,8 +44,7 @@ static void spawn(void) {
     printf("%.3s %d %d\n", line, WEXITSTATUS(status), WEXITSTATUS(system("exit 3")));
 }
 
-/* Takes the lock by an opening of its own, says so, and keeps it for a while.
- */
+/* Takes a lock of an open file (F_OFD_SETLK) by an opening of its own, says so, and keeps it for a while. */
 static void *hold(void *unused) {
     struct flock lock = {.l_type = F_WRLCK};
     int file = open(path, O_RDWR);
@@ -87,6 +82,23 @@ static void wait_for_thread(int file) {
     pthread_join(other, NULL);
 }
 
+static int pause_for_ever(void *unused) {
+    prctl(PR_SET_PDEATHSIG, SIGKILL);
+    while (pause() != 0)
+        continue;
+    return 0;
+}
+
+/* A thread waits for a child of its own that goes on for ever, while another one would run. */
+static void wait_for_ever(void) {
+    static char stack[65536];
+    pthread_t other;
+    pthread_create(&other, NULL, hold, NULL);
+    clone(pause_for_ever, stack + sizeof stack, CLONE_VFORK | SIGCHLD, NULL);
+    pthread_join(other, NULL);
+}
+
+/* A child runs on and on, until a signal stops it; its parent writes its number, and stores on and on. */
 static void be_stopped(void) {
     volatile long turns = 0;
     pid_t child = fork();
@@ -112,6 +124,8 @@ int main(int count, char **words) {
         wait_for_child(file);
     else if (strcmp(words[1], "threads") == 0)
         wait_for_thread(file);
+    else if (strcmp(words[1], "asleep") == 0)
+        wait_for_ever();
     else
         be_stopped();
     return 0;
