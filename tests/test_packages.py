@@ -50,7 +50,7 @@ class Packages(Checks):
         """What other packages they need: the versions of the C library and of valgrind that are here are among these."""
         of_pmtrim, of_record = (run(["dpkg-deb", "--field", path, "Depends"]).out for path in self.archives)
         self.expect("pmtrim needs", re.fullmatch(r"libc6 \(>= 2\.[0-9.]+\), python3 \(>= 3\.10\)\n", of_pmtrim), of_pmtrim)
-        self.expect_equal("pmtrim-record needs", of_record, "valgrind (>= 1:3.19), valgrind (<< 1:3.20~)\n")
+        self.expect_equal("pmtrim-record needs", of_record, "valgrind (>= 1:3.19), valgrind (<< 1:3.25~)\n")
         for needed in re.findall(r"(\S+) \((\S+) (\S+)\)", of_pmtrim + of_record):
             name, sign, least = needed
             here = run(["dpkg-query", "-W", "-f", "${Version}", name]).out

@@ -1,5 +1,5 @@
 /* The core's headers that the tool needs, and functions that its tool headers leave out: as pub_core_libcfile.h and
- * pub_core_syscall.h of Valgrind 3.19 declare them. */
+ * pub_core_syscall.h of Valgrind 3.19 to 3.24 declare them. */
 #ifndef CORE_H
 #define CORE_H
 

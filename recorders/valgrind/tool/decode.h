@@ -1,4 +1,4 @@
-/* Instructions by their bytes: what the translator of Valgrind 3.19 does not know, or does not tell apart.
+/* Instructions by their bytes: what the translator of Valgrind does not know, or does not tell apart.
  * The encodings are those of the Intel SDM, volume 2. */
 #ifndef DECODE_H
 #define DECODE_H

@@ -62,7 +62,7 @@ static void on_fence(UWord full, Addr instruction) {
     give_way();
 }
 
-/* Valgrind 3.19 says of its processor that it has no clflushopt and no clwb, and libraries would do without. */
+/* Valgrind says of its processor that it has no clflushopt and no clwb, and libraries would do without. */
 static void on_cpuid(VexGuestAMD64State *registers, ULong leaf, ULong part) {
     if ((UInt)leaf == 7 && (UInt)part == 0)
         registers->guest_RBX |= CLFLUSHOPT_AND_CLWB;
