@@ -88,16 +88,25 @@ static void remove_old(const HChar *trace) {
     VG_(unlink)(path);
 }
 
+/* An older trace stays. */
+static void leave_no_empty_file(const HChar *trace) {
+    struct vg_stat status;
+    if (descriptor >= 0)
+        VG_(unlink)(path);
+    if (!sr_isError(VG_(stat)(trace, &status)) && VKI_S_ISREG(status.mode) && status.size == 0)
+        VG_(unlink)(trace);
+}
+
 void make_common(const HChar *trace) {
     name_file(absolute(trace));
     remove_old(trace);
     SysRes made = open_file(VKI_O_CREAT | VKI_O_EXCL);
     if (!sr_isError(made))
         made = take_room(0, PAGES_BEGIN);
-    if (sr_isError(made) && descriptor >= 0)
-        VG_(unlink)(path);
-    if (sr_isError(made))
+    if (sr_isError(made)) {
+        leave_no_empty_file(trace);
         fail(made);
+    }
     map_common();
     common->first_process = VG_(getpid)();
 }

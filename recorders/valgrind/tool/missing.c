@@ -93,6 +93,9 @@ void write_missing(const Missing *all, Int count) {
     }
     if (sr_isError(opened) || !done)
         VG_(printf)("pmtrim-record: %s can't be written\n", path);
-    if (!sr_isError(opened))
-        VG_(close)((Int)sr_Res(opened));
+    if (sr_isError(opened))
+        return;
+    if (!done)
+        VG_(do_syscall)(__NR_ftruncate, sr_Res(opened), 0, 0, 0, 0, 0, 0, 0);
+    VG_(close)((Int)sr_Res(opened));
 }
