@@ -135,6 +135,39 @@ def pending_writers_32(count):
     return pending_writers(count)
 
 
+def ordered_page(count, changes=False):
+    """A byte is persisted, then a page is stored byte by byte; then it is asked again and again whether the byte comes first."""
+    first = BASE + 4096
+    yield byte_store(0, first)
+    yield f"clwb 0 {first:#x}\n"
+    yield "sfence 0\n"
+    for byte in range(4095, -1, -1):
+        yield byte_store(0, BASE + byte)
+    value = 0
+    while True:
+        if changes:
+            yield byte_store(0, BASE + 67 * value % 4096)
+        yield f"isOrderedBefore 0 {first:#x} 1 {BASE:#x} 4096\n"
+        value += 1
+
+
+def changing_page(count):
+    """As ordered_page, and a byte of the page is stored before each question."""
+    return ordered_page(count, True)
+
+
+def lost_line(count):
+    """A page is persisted but for its first line; then it is asked again and again whether it comes before a byte."""
+    for line in range(1, 128):
+        yield byte_store(0, BASE + 32 * line)
+        yield f"clwb 0 {BASE + 32 * line:#x}\n"
+    yield "sfence 0\n"
+    yield byte_store(0, BASE)
+    yield byte_store(0, BASE + 4096)
+    while True:
+        yield f"isOrderedBefore 0 {BASE:#x} 4096 {BASE + 4096:#x} 1\n"
+
+
 def shuffled_lines(count, apart=8192):
     """A page is persisted and another one is not, line by line in no order; then it is asked whether the one comes first."""
     lines = list(range(128))
@@ -209,12 +242,12 @@ def threads_one_line(count):
 
 # Kinds like the traces of programs, and kinds in which an event costs as much as one may.
 COMMON = (log_appends, tree_inserts, redundant_flushes, many_assertions, one_line, one_line_stores, many_lines, threads_256, long_intervals)
-HOSTILE = (pending_writers, pending_writers_32, shuffled_lines, far_lines, unwritten_lines, one_store_a_page, one_lost_store_a_page, line_by_bytes, judged_line_by_bytes,
-           threads_one_line)
+HOSTILE = (pending_writers, pending_writers_32, ordered_page, changing_page, lost_line, shuffled_lines, far_lines, unwritten_lines, one_store_a_page,
+           one_lost_store_a_page, line_by_bytes, judged_line_by_bytes, threads_one_line)
 KINDS = {kind.__name__: kind for kind in COMMON + HOSTILE}
 
 # The bytes of a line, where they aren't 64.
-NARROW = ("pending_writers_32", "shuffled_lines", "far_lines", "unwritten_lines", "one_store_a_page", "one_lost_store_a_page")
+NARROW = ("pending_writers_32", "lost_line", "shuffled_lines", "far_lines", "unwritten_lines", "one_store_a_page", "one_lost_store_a_page")
 WIDE = ("pending_writers", "line_by_bytes", "judged_line_by_bytes")
 LINE_SIZES = dict.fromkeys(NARROW, 32) | dict.fromkeys(WIDE, 256)
 

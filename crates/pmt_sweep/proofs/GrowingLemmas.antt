@@ -1,5 +1,5 @@
 -- What is known of the first events of a trace stays known where more events follow.
-use Rattle.std.proofs.Common.{◌≡◌, ℕ, suc, ◌+◌, ◌-◌, ◌<◌, ◌≤◌, inl, inr, Bool, false, List, length, get_or, map, Some, refl, sym, ap, subst, ◌∙◌, true≢false, arith}
+use Rattle.std.proofs.Common.{◌≡◌, ℕ, suc, ◌+◌, ◌-◌, ◌*◌, ◌<◌, ◌≤◌, inl, inr, Bool, false, List, length, get_or, map, Some, refl, sym, ap, subst, ◌∙◌, true≢false, arith}
 use Rattle.std.specs.Prelude.{◌↔◌, IsTrue, slice_get, slice_index, unwrap_or}
 use Rattle.std.proofs.lemmas.Bool.{cases_lt}
 use Rattle.std.proofs.lemmas.List.{get_or-append-add, length-append}
@@ -29,6 +29,9 @@ use Rattle.pmt_sweep.specs.declared.known.Known.{Known}
 use Rattle.pmt_sweep.specs.Known.{IsKnownAmong, IsKnownOf}
 use Rattle.pmt_sweep.specs.LineWords.{AreWordsOf, word_address}
 use Rattle.pmt_sweep.specs.First.{AreFlushedOf}
+use Rattle.pmt_tables.specs.Lasts.{IsLeastAbove}
+use Rattle.pmt_sweep.specs.declared.oldest.OldestStore.{OldestStore}
+use Rattle.pmt_sweep.specs.Oldest.{AreOldestAmong, AreOldestOf, none_found}
 use Rattle.pmt_sweep.specs.Late.{is_known_late}
 use Rattle.pmt_sweep.specs.declared.sweeping.Sweeper.{Sweeper}
 use Rattle.pmt_sweep.specs.PassKnown.{AreKnownTo}
@@ -170,6 +173,16 @@ module _ (S : Recording) (more : List Event) where
     waiting = subst (λ h. AreWaiting (lines_of (history S size)) h k.waiting) here known.waiting;
   })
 
+  -- what was found of lines
+  oldest-more : (found : List OldestStore) → AreOldestOf S size found → AreOldestOf grown size found
+  oldest-more found are = subst (λ h. AreOldestAmong grown size (lines_of h) found) here (record {
+    few = are.few;
+    each = λ l p at.
+        let it = are.each l p at in
+        let x = get_or found p none_found in
+        record { by_now = it.by_now; oldest = subst (λ h. IsLeastAbove 0 0 S.format.line_size (λ o. unwrap_or (last_store_number (l * S.format.line_size + o) h) 0) x.oldest) (sym (history-more S more x.last_store it.by_now)) it.oldest };
+  })
+
   -- what is kept
   open-more : (k : ℕ) → IsOpenAt S size k → IsOpenAt grown size k
   open-more k o = (o.0, subst (λ h. Has (map number_in (open_flushes o.0 h)) k) here o.1)
@@ -228,6 +241,7 @@ module _ (S : Recording) (more : List Event) where
   pass-more s trace swept = record {
     format = swept.format;
     known = lines-more s.known trace swept.known;
+    oldest = oldest-more s.oldest.found.items swept.oldest;
     found = found-more s.found.items swept.found;
     over = swept.over;
     kept = kept-more s.kept.items swept.kept;

@@ -7,6 +7,7 @@ mod ClflushLemmas
 mod FenceLemmas
 mod KeepingLemmas
 pub mod JudgedLemmas
+mod OldestLemmas
 mod LineLemmas
 mod EntryLemmas
 mod LatestLemmas

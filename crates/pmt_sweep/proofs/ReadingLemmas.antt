@@ -171,8 +171,9 @@ module _ (T : Recording) (n l place : ℕ) (k : Known) (it : IsLineAt T n l plac
       let end : T.format.line_size ≡ high = omega (arith, some, within, all, size) in
       subst (IsNewest low high (last_in_line T n l)) (sym last) (subst (λ m. IsNewest m high (last_in_line T n l) (last_line_store_at T l n)) start (subst (λ m. IsNewest 0 m (last_in_line T n l) (last_line_store_at T l n)) end (newest-whole T n l it.known.trace)))
 
-  pub oldest-of_whole : (low high number : ℕ) → low < high → high ≤ k.format.line_size → high - low ≡ k.format.line_size → IsLeastAbove 0 0 k.format.line_size (last_in_line T n l) number → IsLeastAbove 0 low high (last_in_line T n l) number
-  oldest-of_whole low high number some within all is =
-      let start : 0 ≡ low = omega (arith, some, within, all) in
-      let end : k.format.line_size ≡ high = omega (arith, some, within, all) in
-      subst (λ m. IsLeastAbove 0 m high (last_in_line T n l) number) start (subst (λ m. IsLeastAbove 0 0 m (last_in_line T n l) number) end is)
+-- bytes that are all of a line
+pub oldest-of_whole : (T : Recording) (n l low high number : ℕ) → low < high → high ≤ T.format.line_size → high - low ≡ T.format.line_size → IsLeastAbove 0 0 T.format.line_size (last_in_line T n l) number → IsLeastAbove 0 low high (last_in_line T n l) number
+oldest-of_whole T n l low high number some within all is =
+    let start : 0 ≡ low = omega (arith, some, within, all) in
+    let end : T.format.line_size ≡ high = omega (arith, some, within, all) in
+    subst (λ m. IsLeastAbove 0 m high (last_in_line T n l) number) start (subst (λ m. IsLeastAbove 0 0 m (last_in_line T n l) number) end is)

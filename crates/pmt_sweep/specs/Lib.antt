@@ -9,6 +9,7 @@ pub mod Flags
 pub mod Ends
 pub mod Reading
 pub mod Judged
+pub mod Oldest
 pub mod Latest
 pub mod Placed
 pub mod Lines

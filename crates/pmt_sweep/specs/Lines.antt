@@ -1,10 +1,10 @@
 -- What the assertions ask of the bytes of a range in one line.
-use Rattle.std.specs.Prelude.{◌≡◌, ℕ, ◌-◌, ◌^◌, ◌<◌, ◌≤◌, List, Option, None, MatchOption, slice_index}
+use Rattle.std.specs.Prelude.{◌≡◌, ◌≢◌, ℕ, ◌-◌, ◌^◌, ◌<◌, ◌≤◌, ◌⊎◌, List, Option, Some, None, MatchOption, slice_index}
 use Rattle.pmt_model.specs.Values.{Span, line_of}
 use Rattle.pmt_model.specs.Traces.{Recording}
 use Rattle.pmt_model.specs.Assertions.{InSpan}
 use Rattle.pmt_safety.specs.Safety.{safe_store_at}
-use Rattle.pmt_tables.specs.Lasts.{IsNewest}
+use Rattle.pmt_tables.specs.Lasts.{IsLeastAbove, IsNewest}
 use Rattle.pmt_tables.specs.Written.{last_number}
 use Rattle.pmt_sweep.specs.Judged.{IsByteSafe, IsNoLaterThan}
 use Rattle.pmt_tables.specs.declared.spanned.LineBytes.{LineBytes}
@@ -39,6 +39,12 @@ pub record IsNewestIn (T : Recording) (n : ℕ) (A : Span) (l newest : ℕ) : Ty
   pub are : AreBytesOf T.format A l bytes
   pub told : IsNewest bytes.low bytes.high (last_in_line T n l) newest
 
+-- The oldest of them, or 0 where there is none.
+pub record IsOldestIn (T : Recording) (n : ℕ) (A : Span) (l oldest : ℕ) : Type 0 where
+  pub bytes : LineBytes
+  pub are : AreBytesOf T.format A l bytes
+  pub told : IsLeastAbove 0 bytes.low bytes.high (last_in_line T n l) oldest
+
 -- What stands for the place from which a store is safe that is not.
 abbrev pub no_place : ℕ
 no_place = 2 ^ 32 - 1
@@ -60,11 +66,16 @@ pub record IsLineSafeFrom (T : Recording) (n : ℕ) (entries : List ℕ) (A : Sp
 abbrev pub IsLineTold : Recording → ℕ → List ℕ → Span → ℕ → Option ℕ → Type 0
 IsLineTold T n entries A l o = MatchOption o (EachIn T A l (λ b. last_number T n b ≡ 0)) (IsLineSafeFrom T n entries A l)
 
--- The latest of these places, of all lines.
-pub record AreSafeFrom (T : Recording) (n : ℕ) (entries : List ℕ) (A : Span) (x : Latest) : Type 0 where
+-- Beside each line of B there is another line of which the last store to A is not safe: no store to B comes after that one is safe.
+abbrev pub IsPendingApart : Recording → Span → (ℕ → Option ℕ) → Type 0
+IsPendingApart T B told = (b : ℕ) → InSpan B b → (l : ℕ) × (l ≢ line_of T.format b) × (told l ≡ Some no_place)
+
+-- The latest of these places, of all lines, or of some where no other matters to B.
+pub record AreSafeFrom (T : Recording) (n : ℕ) (entries : List ℕ) (A B : Span) (x : Latest) : Type 0 where
   pub told : ℕ → Option ℕ
   pub latest : IsLatest told x
-  pub each : (l : ℕ) → IsLineTold T n entries A l (told l)
+  pub some : (l p : ℕ) → told l ≡ Some p → IsLineSafeFrom T n entries A l p
+  pub all : IsPendingApart T B told ⊎ ((l : ℕ) → IsLineTold T n entries A l (told l))
 
 -- Of the lines below one.
 pub record AreSafeFromBelow (T : Recording) (n : ℕ) (entries : List ℕ) (A : Span) (end : ℕ) (x : Latest) : Type 0 where

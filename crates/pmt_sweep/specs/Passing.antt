@@ -2,6 +2,7 @@
 use Rattle.std.specs.Prelude.{◌≡◌, ℕ, [], length}
 use Rattle.pmt_model.specs.Traces.{Recording}
 use Rattle.pmt_sweep.specs.Known.{IsKnownOf}
+use Rattle.pmt_sweep.specs.Oldest.{AreOldestOf}
 use Rattle.pmt_sweep.specs.declared.sweeping.Sweeper.{Sweeper}
 use Rattle.pmt_sweep.specs.PassKnown.{AreKnownTo}
 use Rattle.pmt_sweep.specs.PassFlags.{AreFlagsTo}
@@ -11,6 +12,7 @@ use Rattle.pmt_sweep.specs.VerdictsSoFar.{AreVerdictsTo}
 pub record IsPassOf (T : Recording) (n : ℕ) (s : Sweeper) : Type 0 where
   pub format : s.format ≡ T.format
   pub known : IsKnownOf T n s.known
+  pub oldest : AreOldestOf T n s.oldest.found.items
   pub found : AreKnownTo T n s.found.items
   pub over : s.over.items ≡ []
   pub kept : AreFlagsTo T n s.kept.items

@@ -1,6 +1,9 @@
 //! The lines with the greatest numbers.
-ghost use Rattle.std.specs.Prelude.{ℕ, Option};
+ghost use Rattle.std.specs.Prelude.{◌≡◌, ℕ, Option, ◌==◌, ◌&&◌, ◌||◌, not, nat_le};
 ghost use Rattle.pmt_sweep.specs.Latest.{IsLatest, IsLatestBut, Tells, none_told};
+ghost use Rattle.pmt_sweep.specs.Lines.{no_place};
+
+use pmt_tables::Spanned;
 
 // Of lines that each have a number the greatest number with its line, and the greatest of all other lines: 0 where there is none.
 #[derive(Clone, Copy)]
@@ -46,5 +49,12 @@ impl Latest {
         } else {
             self.first
         }
+    }
+    // Whether beside each line of the range there is another line with the number `u32::MAX`.
+    #[inline(always)]
+    pub(crate) fn is_pending_apart(&self, lines: &Spanned) -> bool
+        ensures { result ≡ ((self.now.first == no_place) && ((self.now.second == no_place) || not (nat_le lines.now.first self.now.line && nat_le self.now.line lines.now.last))) }
+    {
+        self.first == u32::MAX && (self.second == u32::MAX || !lines.meets(self.line))
     }
 }

@@ -21,6 +21,7 @@ mod line_words;
 mod lost;
 mod marking;
 mod noted;
+mod oldest;
 mod order;
 mod persist;
 mod placed;

@@ -77,38 +77,8 @@ impl Known {
 
     /// The oldest of the last stores to the bytes from `low` up to the one before `high` of the line at this place, by their distance from
     /// its first byte: its number, or 0 where there is none. One step a word.
-    #[inline(always)]
-    pub fn oldest(&self, place: usize, low: u32, high: u32) -> u32
-        requires line { (T : Recording) × (n : ℕ) × (l : ℕ) × IsLineAt T n l place self.now }
-        requires small { place < 2 ^ 32 }
-        requires some { low < high }
-        requires within { high ≤ self.now.format.line_size }
-        ensures { (T : Recording) (n l : ℕ) → IsLineAt T n l place self.now → IsLeastAbove 0 low high (last_in_line T n l) result }
-    {
-        if high - low == self.format.line_size() as u32 {
-            return self.oldest_of_line(place);
-        }
-        self.oldest_by_words(place, low, high)
-    }
-
-    // The same, of all bytes of the line.
-    #[inline(always)]
-    fn oldest_of_line(&self, place: usize) -> u32
-        requires line { (T : Recording) × (n : ℕ) × (l : ℕ) × IsLineAt T n l place self.now }
-        requires small { place < 2 ^ 32 }
-        ensures { (T : Recording) (n l : ℕ) → IsLineAt T n l place self.now → IsLeastAbove 0 0 self.now.format.line_size (last_in_line T n l) result }
-    {
-        let first = place * self.words_of_line;
-        let mut oldest = 0;
-        for word in 0..self.words_of_line {
-            oldest = older(oldest, self.words.oldest_of_all(first + word));
-        }
-        oldest
-    }
-
-    // The same, by the bytes of each word.
     #[inline(never)]
-    fn oldest_by_words(&self, place: usize, low: u32, high: u32) -> u32
+    pub fn oldest(&self, place: usize, low: u32, high: u32) -> u32
         requires line { (T : Recording) × (n : ℕ) × (l : ℕ) × IsLineAt T n l place self.now }
         requires small { place < 2 ^ 32 }
         requires some { low < high }
@@ -121,6 +91,21 @@ impl Known {
             let part = part_of_word(word, low, high);
             let found = self.words.oldest(first + word, part.low, part.high);
             oldest = older(oldest, found);
+        }
+        oldest
+    }
+
+    // The same, of all bytes of the line.
+    #[inline(always)]
+    pub(crate) fn oldest_of_line(&self, place: usize) -> u32
+        requires line { (T : Recording) × (n : ℕ) × (l : ℕ) × IsLineAt T n l place self.now }
+        requires small { place < 2 ^ 32 }
+        ensures { (T : Recording) (n l : ℕ) → IsLineAt T n l place self.now → IsLeastAbove 0 0 self.now.format.line_size (last_in_line T n l) result }
+    {
+        let first = place * self.words_of_line;
+        let mut oldest = 0;
+        for word in 0..self.words_of_line {
+            oldest = older(oldest, self.words.oldest_of_all(first + word));
         }
         oldest
     }

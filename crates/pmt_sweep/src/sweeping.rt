@@ -15,6 +15,7 @@ use crate::at_end::Ended;
 use crate::joining::joined;
 use crate::judging::verdict;
 use crate::known::Known;
+use crate::oldest::OldestStores;
 use crate::{Noted, SafePlaces};
 use pmt_model::{Event, Finding, Format, Op, OutOfMemory, Trace, Verdict, WordStore, line_of};
 use pmt_tables::Overwrite;
@@ -58,6 +59,8 @@ pub fn sweep(alloc: Global, trace: &Trace) -> Result<Swept, OutOfMemory>
 pub struct Sweeper {
     format: Format,
     known: Known,
+    // Of lines, what assertions asked of them.
+    oldest: OldestStores,
     // What is found, apart from stores that are never persisted.
     found: Vec<Noted>,
     // The stores that a store overwrites: none once they are found.
@@ -79,6 +82,7 @@ impl Sweeper {
         Ok(Sweeper {
             format,
             known: Known::new(alloc, format)?,
+            oldest: OldestStores::new(alloc),
             found: Vec::new(alloc),
             over: Vec::new(alloc),
             kept: Vec::new(alloc),
@@ -183,7 +187,7 @@ impl Sweeper {
     {
         let number = self.kept.len() as u64 + 1;
         self.known.assertion()?;
-        let judged = verdict(&self.known, number, assertion.op);
+        let judged = verdict(&self.known, &mut self.oldest, number, assertion.op);
         push_verdict(&mut self.verdicts, judged)?;
         self.kept.push(true)?;
         Ok(())
@@ -204,11 +208,13 @@ impl Sweeper {
         let Sweeper {
             format: _,
             known,
+            oldest,
             found,
             over,
             kept,
             verdicts,
         } = self;
+        drop(oldest);
         drop(over);
         let Ended { lines, lost, safe } = Ended::of(alloc, known)?;
         let findings = joined(found, lost)?;

@@ -1,8 +1,4 @@
-use Rattle.std.proofs.Common.{◌≡◌, ap, sym, subst}
-use Rattle.pmt_model.specs.Traces.{history}
-use Rattle.pmt_rows.specs.declared.rows.Row.{Row}
-use Rattle.pmt_rows.specs.Known.{row_after}
-use Rattle.pmt_safety.specs.Safety.{safe_store_at}
+use Rattle.std.proofs.Common.{sym, subst}
 use Rattle.pmt_tables.specs.Lasts.{IsNewest}
 use Rattle.pmt_sweep.specs.Reading.{last_in_line}
 use Rattle.pmt_sweep.proofs.ReadingLemmas.{newest-whole}
@@ -10,14 +6,13 @@ use Rattle.pmt_sweep.proofs.LineLemmas.{inner-bytes}
 use Rattle.pmt_sweep.proofs.line_order.newest_in.Goals as goal
 
 pub returns-then-at-lines : goal.returns-then-at-lines
-returns-then-at-lines c = λ T n A it.
+returns-then-at-lines c = λ T n A it last.
     let l = c.args.at.now.line in
-    let row : c.row.result ≡ row_after (λ m. safe_store_at T m n) (history T n) l = c.row.ensures T n l it.line in
     record {
       bytes = record { low = 0; high = T.format.line_size };
       are = inner-bytes T l A c.args.lines.now it.line.known.trace it.spanned c.if-lines-at.true c.if-at-lines.true;
-      told = subst (IsNewest 0 T.format.line_size (last_in_line T n l)) (sym (ap (λ (y : Row). y.last_store) row)) (newest-whole T n l it.line.known.trace);
+      told = subst (IsNewest 0 T.format.line_size (last_in_line T n l)) (sym last) (newest-whole T n l it.line.known.trace);
     }
 
 pub returns : goal.returns
-returns c = λ T n A it. record { bytes = c.bytes-bytes.result; are = c.bytes-bytes.ensures T.format A it.spanned it.from it.to; told = c.newest.ensures T n c.args.at.now.line it.line }
+returns c = λ T n A it last. record { bytes = c.bytes-bytes.result; are = c.bytes-bytes.ensures T.format A it.spanned it.from it.to; told = c.newest.ensures T n c.args.at.now.line it.line }

@@ -1,10 +1,12 @@
 use Rattle.std.proofs.Common.{refl, sym, subst, arith}
 use Rattle.pmt_model.specs.Pushing.{empty}
 use Rattle.pmt_model.specs.Traces.{IsTrace}
+use Rattle.pmt_sweep.specs.Oldest.{AreOldestOf}
 use Rattle.pmt_sweep.specs.PassFlags.{AreFlagsTo}
 use Rattle.pmt_sweep.specs.PassKnown.{AreKnownTo}
 use Rattle.pmt_sweep.specs.VerdictsSoFar.{AreVerdictsTo}
 use Rattle.pmt_sweep.proofs.FlagLemmas.{flags-start}
+use Rattle.pmt_sweep.proofs.OldestLemmas.{oldest-start}
 use Rattle.pmt_sweep.proofs.PassKnownLemmas.{known-start}
 use Rattle.pmt_sweep.proofs.VerdictLemmas.{verdicts-start}
 use Rattle.pmt_sweep.proofs.sweeping.Sweeper.new.Goals as goal
@@ -16,8 +18,9 @@ returns c =
     record {
       format = refl;
       known = c.in_ok-new.ensures T trace refl;
-      found = subst (AreKnownTo T 0) (sym c.new-2.ensures.items) (known-start T);
-      over = c.new-3.ensures.items;
-      kept = subst (AreFlagsTo T 0) (sym c.new-4.ensures.items) (flags-start T);
-      verdicts = subst (AreVerdictsTo T 0) (sym c.new-5.ensures.items) (verdicts-start T);
+      oldest = subst (AreOldestOf T 0) (sym c.new-2.ensures) (oldest-start T);
+      found = subst (AreKnownTo T 0) (sym c.new-3.ensures.items) (known-start T);
+      over = c.new-4.ensures.items;
+      kept = subst (AreFlagsTo T 0) (sym c.new-5.ensures.items) (flags-start T);
+      verdicts = subst (AreVerdictsTo T 0) (sym c.new-6.ensures.items) (verdicts-start T);
     }

@@ -4,10 +4,13 @@ use Rattle.pmt_model.specs.declared.finding.Verdict.{Verdict}
 use Rattle.pmt_model.specs.Machine.{Asserts}
 use Rattle.pmt_model.specs.Traces.{event}
 use Rattle.pmt_sweep.specs.Known.{IsKnownOf}
+use Rattle.pmt_sweep.specs.Oldest.{AreOldestOf}
 use Rattle.pmt_sweep.specs.Verdicts.{IsVerdictAt}
 use Rattle.pmt_sweep.specs.PassFlags.{AreFlagsTo}
+use Rattle.pmt_sweep.specs.Oldest.{AreOldestOf}
 use Rattle.pmt_sweep.specs.VerdictsSoFar.{AreVerdictsTo}
 use Rattle.pmt_sweep.proofs.FlagLemmas.{flags-stays}
+use Rattle.pmt_sweep.proofs.OldestLemmas.{oldest-on}
 use Rattle.pmt_sweep.proofs.PassKnownLemmas.{known-assertion, known-next}
 use Rattle.pmt_sweep.proofs.VerdictLemmas.{verdicts-next}
 use Rattle.pmt_sweep.proofs.sweeping.Sweeper.take_assertion.Goals as goal
@@ -28,11 +31,15 @@ returns c T n pass next is =
     let e = c.args.assertion.now in
     let number : suc n ≡ c.len.result + 1 = omega (arith, c.len.ensures, pass.kept.all) in
     let known = c.in_ok-assertion.ensures T n pass.known is in
-    let judged = c.verdict-judged.ensures T e (subst (λ m. IsKnownOf T m c.assertion.new.self) number known) (subst (λ m. event T m ≡ Some e) number next) refl in
+    let here = subst (λ m. IsKnownOf T m c.assertion.new.self) number known in
+    let oldest = oldest-on T n s.oldest.found.items pass.oldest in
+    let there = subst (λ m. AreOldestOf T m s.oldest.found.items) number oldest in
+    let judged = c.verdict-judged.ensures.tells T e here there (subst (λ m. event T m ≡ Some e) number next) refl in
     let verdict = subst (λ m. IsVerdictAt T m c.verdict-judged.result) (sym number) judged in
     record {
       format = pass.format;
       known = known;
+      oldest = subst (λ m. AreOldestOf T m c.verdict-judged.new.oldest.found.items) (sym number) (c.verdict-judged.ensures.kept T here there);
       found = known-next T n s.found.items s.found.items pass.found ([], sym (append-nil s.found.items), known-assertion T (suc n) is);
       over = pass.over;
       kept = subst (AreFlagsTo T (suc n)) (sym c.in_ok-push.ensures.items) (flags-stays T n s.kept.items Asserts is refl pass.kept);

@@ -6,6 +6,7 @@ use Rattle.pmt_sweep.specs.Flags.{FlagsKept}
 use Rattle.pmt_sweep.specs.Adding.{found_if}
 use Rattle.pmt_sweep.specs.PassFlags.{AreFlagsTo}
 use Rattle.pmt_sweep.proofs.FlagLemmas.{flags-fence}
+use Rattle.pmt_sweep.proofs.OldestLemmas.{oldest-on}
 use Rattle.pmt_sweep.proofs.PassKnownLemmas.{known-fence, known-next}
 use Rattle.pmt_sweep.proofs.VerdictLemmas.{verdicts-act}
 use Rattle.pmt_sweep.proofs.sweeping.Sweeper.take_fence.Goals as goal
@@ -28,6 +29,7 @@ returns c T n pass is =
     record {
       format = pass.format;
       known = c.in_ok-fenced.ensures.known T n pass.known is;
+      oldest = oldest-on T n s.oldest.found.items pass.oldest;
       found = known-next T n s.found.items c.push_if.new.found.items pass.found (found_if fenced.without_flush (FenceWithoutFlush (suc n)), pushed, known-fence T (suc n) t fenced.without_flush is (c.in_ok-fenced.ensures.empty T n pass.known is));
       over = pass.over;
       kept = subst (AreFlagsTo T (suc n)) (sym added) (flags-fence T n t s.kept.items flags fenced.kept is same pass.kept kept (c.in_ok-fenced.ensures.kept T n pass.known is));

@@ -4,6 +4,7 @@ use Rattle.pmt_model.specs.Machine.{Flushes}
 use Rattle.pmt_sweep.specs.Adding.{found_if}
 use Rattle.pmt_sweep.specs.PassFlags.{AreFlagsTo}
 use Rattle.pmt_sweep.proofs.FlagLemmas.{flags-flush}
+use Rattle.pmt_sweep.proofs.OldestLemmas.{oldest-on}
 use Rattle.pmt_sweep.proofs.PassKnownLemmas.{known-flush, known-next}
 use Rattle.pmt_sweep.proofs.VerdictLemmas.{verdicts-act}
 use Rattle.pmt_sweep.proofs.sweeping.Sweeper.take_flush.Goals as goal
@@ -20,6 +21,7 @@ returns c T n pass is =
     record {
       format = pass.format;
       known = c.in_ok-is_redundant.ensures.known T n pass.known is;
+      oldest = oldest-on T n s.oldest.found.items pass.oldest;
       found = known-next T n s.found.items c.push_if.new.found.items pass.found (found_if b (RedundantFlush (suc n)), pushed, known-flush T (suc n) c.args.thread c.args.line b is (c.in_ok-is_redundant.ensures.tells T n pass.known is));
       over = pass.over;
       kept = subst (AreFlagsTo T (suc n)) (sym c.in_ok-push.ensures.items) (flags-flush T n c.args.thread c.args.line s.kept.items is pass.kept);

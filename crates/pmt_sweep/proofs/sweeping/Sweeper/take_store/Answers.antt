@@ -5,6 +5,7 @@ use Rattle.pmt_tables.specs.declared.words.Overwrite.{Overwrite}
 use Rattle.pmt_sweep.specs.Known.{AddsOverwrittenBy}
 use Rattle.pmt_sweep.specs.PassFlags.{AreFlagsTo}
 use Rattle.pmt_sweep.proofs.FlagLemmas.{flags-stays}
+use Rattle.pmt_sweep.proofs.OldestLemmas.{oldest-on}
 use Rattle.pmt_sweep.proofs.PassKnownLemmas.{adds-overwritten, known-next}
 use Rattle.pmt_sweep.proofs.VerdictLemmas.{verdicts-act}
 use Rattle.pmt_sweep.proofs.sweeping.Sweeper.take_store.Goals as goal
@@ -22,6 +23,7 @@ returns c T n pass next =
     record {
       format = pass.format;
       known = c.in_ok-store.ensures.known T n pass.known next;
+      oldest = oldest-on T n s.oldest.found.items pass.oldest;
       found = known-next T n s.found.items c.move_overwritten.new.found.items pass.found adds;
       over = c.in_ok-move_overwritten.ensures.none;
       kept = subst (AreFlagsTo T (suc n)) (sym c.in_ok-push.ensures.items) (flags-stays T n s.kept.items (Stores (line_of T.format w.addr) w) next refl pass.kept);
