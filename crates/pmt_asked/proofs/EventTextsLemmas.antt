@@ -1,12 +1,8 @@
 -- Texts of events, as texts and numbers change.
-use Rattle.std.proofs.Common.{◌≡◌, ◌≢◌, ℕ, zero, suc, ◌+◌, ◌<◌, ◌≤◌, inl, inr, List, [], ◌∷◌, set, get_or, length, Option, None, Some, option_map, slice_get, unwrap_or, refl, sym, ap, ◌∙◌, add-one, arith}
+use Rattle.std.proofs.Common.{◌≡◌, ◌≢◌, ℕ, zero, suc, ◌+◌, ◌<◌, ◌≤◌, inl, inr, List, [], ◌∷◌, set, length, Option, None, Some, option_map, slice_get, unwrap_or, refl, sym, ap, ◌∙◌, add-one, arith}
 use Rattle.std.proofs.lemmas.Bool.{cases_eq}
 use Rattle.std.proofs.lemmas.List.{get_or-set_same, get_or-set_other}
-use Rattle.std.proofs.lemmas.Option.{none-some, slice_get-get_or, slice_get-map, unwrap_or-slice_get}
-use Rattle.std.proofs.lemmas.List.Quantifiers.{position-Some}
-use Rattle.std.proofs.lemmas.Slice.Eq.{bytes_eq-Decides}
-use Rattle.std.specs.List.{position}
-use Rattle.std.specs.Str.{bytes_eq}
+use Rattle.std.proofs.lemmas.Option.{slice_get-map, slice_get_within, unwrap_or-slice_get}
 use Rattle.pmt_asked.specs.Texts.{AreNumbers, all_told, number_at, text_at, told_at}
 
 told-or : {S : Type 0} (tells : S → List ℕ) (texts : List S) (number : Option ℕ) → unwrap_or (option_map (told_at tells texts) number) None ≡ told_at tells texts (unwrap_or number 0)
@@ -58,11 +54,6 @@ told-none tells [] is zero = refl
 told-none tells [] is (suc place) = refl
 told-none tells (x ∷ xs) is number = absurd (omega (arith, is))
 
--- A text that is found is told.
-pub told-found : {S : Type 0} (tells : S → List ℕ) (text : List ℕ) (texts : List S) (place : ℕ) → Some place ≡ position (λ k. bytes_eq text (tells k)) texts → told_at tells texts (place + 1) ≡ Some text
-told-found tells text [] place is = absurd (none-some place (sym is))
-told-found tells text (x ∷ xs) place is =
-    let there = position-Some (λ k. bytes_eq text (tells k)) (x ∷ xs) place x (sym is) in
-    ap (λ k. told_at tells (x ∷ xs) k) (add-one place)
-    ∙ ap (λ o. option_map tells o) (slice_get-get_or (x ∷ xs) place x there.0)
-    ∙ ap Some (sym ((bytes_eq-Decides text (tells (get_or (x ∷ xs) place x))).0 there.1))
+-- A text that stands there is told.
+pub told-found : {S : Type 0} (tells : S → List ℕ) (texts : List S) (place : ℕ) (x : S) → slice_get texts place ≡ Some x → (place < length texts) × (told_at tells texts (place + 1) ≡ Some (tells x))
+told-found tells texts place x at = (slice_get_within texts place x at, ap (λ k. told_at tells texts k) (add-one place) ∙ ap (λ o. option_map tells o) at)

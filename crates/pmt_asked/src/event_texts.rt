@@ -1,17 +1,20 @@
 //! Texts of events.
-ghost use Rattle.std.specs.Prelude.{◌≡◌, ◌≢◌, ◌<◌, ◌≤◌, ◌-◌, ◌^◌, ℕ, true, length, IfOk, OnOk, OnErr, None, Some, [], option_map, slice_get, string_bytes, unwrap_or};
+ghost use Rattle.std.specs.Prelude.{◌≡◌, ◌≢◌, ◌+◌, ◌<◌, ◌≤◌, ℕ, true, length, IfOk, OnOk, OnErr, None, Some, [], option_map, slice_get, string_bytes, unwrap_or};
 ghost use Rattle.pmt_asked.specs.Texts.{number_at, text_at, told_at};
 
-use indexmap::IndexSet;
 use pmt_model::OutOfMemory;
 use std::alloc::{AllocError, Global};
+use std::collections::HashMap;
+use std::hash::{BuildHasher, BuildHasherDefault, FoldHasher};
 use std::marker::Model;
 
 /// Texts of events, each kept once, and 4 bytes of each event up to the last one that has a text.
 #[derive(Drop)]
 pub(crate) struct EventTexts {
     // The texts, in the order in which they came.
-    texts: IndexSet<String>,
+    texts: Vec<String>,
+    // Where a text with this hash stands. Nothing is promised of it.
+    places: HashMap<u64, u32>,
     // Of each event from 0 on the number of its text: one more than its place among them; 0 where it has none.
     numbers: Vec<u32>,
 }
@@ -22,9 +25,9 @@ impl Model for EventTexts {
 
     ghost Value = { List (Option (List ℕ)) };
 
-    ghost view = { λ t. all_told (λ s. string_bytes s) t.texts.keys t.numbers.items };
+    ghost view = { λ t. all_told (λ s. string_bytes s) t.texts.items t.numbers.items };
 
-    ghost invariant = { λ t. AreNumbers t.texts.keys t.numbers.items };
+    ghost invariant = { λ t. AreNumbers t.texts.items t.numbers.items };
 }
 
 impl EventTexts {
@@ -33,7 +36,8 @@ impl EventTexts {
         ensures { result ≡ [] }
     {
         EventTexts {
-            texts: IndexSet::new(alloc),
+            texts: Vec::new(alloc),
+            places: HashMap::new(alloc),
             numbers: Vec::new(alloc),
         }
     }
@@ -42,7 +46,7 @@ impl EventTexts {
     pub(crate) fn is_empty(&self) -> bool
         ensures { result ≡ true → (event : ℕ) → unwrap_or (slice_get self.now event) None ≡ None }
     {
-        self.texts.is_empty()
+        self.texts.as_slice().is_empty()
     }
 
     // Gives the event the text, in the place of one that it has.
@@ -57,7 +61,7 @@ impl EventTexts {
         ensures err { OnErr result ((other : ℕ) → unwrap_or (slice_get self.new other) None ≡ unwrap_or (slice_get self.old other) None) }
     {
         make_room(&mut self.numbers, event)?;
-        let number = number_of(alloc, &mut self.texts, text)?;
+        let number = number_of(alloc, &mut self.texts, &mut self.places, text)?;
         self.numbers[event as usize] = number;
         Ok(())
     }
@@ -68,7 +72,7 @@ impl EventTexts {
     {
         let number = *self.numbers.get(event as usize)?;
         let place = number.checked_sub(1)?;
-        self.texts.get_index(place as usize)
+        self.texts.get(place as usize)
     }
 }
 
@@ -87,31 +91,36 @@ fn make_room(numbers: &mut Vec<u32>, event: u64) -> Result<(), OutOfMemory>
 }
 
 // The number of the text, which is put last where it is new.
-fn number_of(alloc: Global, texts: &mut IndexSet<String>, text: &str) -> Result<u32, OutOfMemory>
-    ensures told { IfOk result (λ number. told_at (λ s. string_bytes s) texts.new.keys number ≡ Some text.now) }
-    ensures within { IfOk result (λ number. number ≤ length texts.new.keys) }
-    ensures more { length texts.old.keys ≤ length texts.new.keys }
-    ensures same { (number : ℕ) → number ≤ length texts.old.keys → text_at texts.new.keys number ≡ text_at texts.old.keys number }
+fn number_of(
+    alloc: Global,
+    texts: &mut Vec<String>,
+    places: &mut HashMap<u64, u32>,
+    text: &str,
+) -> Result<u32, OutOfMemory>
+    ensures told { IfOk result (λ number. told_at (λ s. string_bytes s) texts.new.items number ≡ Some text.now) }
+    ensures within { IfOk result (λ number. number ≤ length texts.new.items) }
+    ensures more { length texts.old.items ≤ length texts.new.items }
+    ensures same { (number : ℕ) → number ≤ length texts.old.items → text_at texts.new.items number ≡ text_at texts.old.items number }
 {
-    if texts.len() >= u32::MAX as usize {
+    let next = texts.len();
+    if next >= u32::MAX as usize {
         return Err(AllocError);
     }
-    match texts.get_index_of(text) {
-        Some(place) => Ok(place as u32 + 1),
-        None => number_of_new(texts, String::from_str(alloc, text)?),
+    let hash = BuildHasherDefault::<FoldHasher>::new().hash_one(text);
+    let place = *places.entry(hash)?.or_insert(next as u32);
+    if is_at(texts.as_slice(), place as usize, text) {
+        return Ok(place + 1);
     }
+    texts.push(String::from_str(alloc, text)?)?;
+    Ok(next as u32 + 1)
 }
 
-// The number of the text, which is put last where it is new.
-fn number_of_new(texts: &mut IndexSet<String>, text: String) -> Result<u32, OutOfMemory>
-    requires { length texts.old.keys < 2 ^ 32 - 1 }
-    ensures told { IfOk result (λ number. told_at (λ s. string_bytes s) texts.new.keys number ≡ Some (string_bytes text)) }
-    ensures within { IfOk result (λ number. number ≤ length texts.new.keys) }
-    ensures more { length texts.old.keys ≤ length texts.new.keys }
-    ensures same { (number : ℕ) → number ≤ length texts.old.keys → text_at texts.new.keys number ≡ text_at texts.old.keys number }
+// Whether the text stands there.
+fn is_at(texts: &[String], place: usize, text: &str) -> bool
+    ensures { result ≡ true → (place < length texts.now) × (told_at (λ s. string_bytes s) texts.now (place + 1) ≡ Some text.now) }
 {
-    let Ok((place, _)) = texts.insert_full(text) else {
-        return Err(AllocError);
-    };
-    Ok(place as u32 + 1)
+    match texts.get(place) {
+        Some(known) => known.as_str() == text,
+        None => false,
+    }
 }
