@@ -10,7 +10,7 @@ use Rattle.pmt_trimming.specs.Streaming.{SourceRun, Streams, Writes, WritesFirst
 use Rattle.pmt_analysis.specs.Analysing.{Analysed, IsAnalysed}
 use Rattle.pmt_report.specs.declared.fault.RunError.{RunError}
 use Rattle.pmt_report.specs.declared.fault.RunError.TheVariants.{BadWorkers, Text, TooMany, Read, PastEnd, OutOfMemory, Write}
-use Rattle.pmt_report.specs.Checks.{IsChecked, IsReportOf, TellsCheck, has_failed}
+use Rattle.pmt_report.specs.Checks.{IsReportOf, TellsCheck, has_failed}
 use Rattle.pmt_report.specs.Faults.{run_status}
 use Rattle.pmt_report.specs.Runs.{IsAnalysisFault, Runs}
 use Rattle.command_inputs.specs.declared.fault.Fault.{Fault}
