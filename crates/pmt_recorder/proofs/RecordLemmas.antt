@@ -14,7 +14,7 @@ use Rattle.pmt_book.specs.declared.fault.BookError.{BookError}
 use Rattle.pmt_book.specs.declared.fault.BookError.TheVariants.{NotInFormat, Full, OutOfMemory}
 use Rattle.pmt_recorder.specs.Strips.{Strip, strip, empty_tapes, has_thread, IsOneOfEach, entries_of, ops_of}
 use Rattle.pmt_recorder.specs.Sealing.{IsSealed}
-use Rattle.pmt_recorder.specs.Scripts.{IsRecorded, Plays, PlaysEach, AtScript, IsInFormat, AreInFormatBelow, HaveOpsOf, IsTornOf, first_fault, RecordFails}
+use Rattle.pmt_recorder.specs.Scripts.{IsRecorded, Plays, PlaysEach, AtScript, IsInFormat, AreInFormatBelow, HaveOpsOf, IsTornOf, first_fault, RecordFails, RecordFailsIf}
 use Rattle.pmt_recorder.specs.declared.fault.RecordError.{RecordError}
 use Rattle.pmt_recorder.specs.declared.fault.RecordError.TheVariants.{BadCount, NotInFormat as NotInFormatAt, Full as FullAt, OutOfMemory as NoMemory, Torn}
 use Rattle.pmt_recorder.proofs.SealLemmas.{length-by_thread, slice_get-by_thread}
@@ -100,20 +100,20 @@ script-known f scripts n s u rest plays = let at = plays 0 n (s, Ok u) (omega ar
 -- a fault that is told fits the scripts
 pub fault_fits :
     (f : Layout) (scripts : List (List Op)) (n : ℕ) (rest : List Played) (e : RecordError) → AreInFormatBelow f scripts n → PlaysFrom f scripts n rest →
-    first_fault n rest ≡ Some e → RecordFails f scripts e
+    first_fault n rest ≡ Some e → RecordFailsIf (Unit {0}) f scripts e
 fault_fits f scripts n [] e below plays is = absurd (none-some e is)
 fault_fits f scripts n ((s, Ok u) ∷ rest) e below plays is =
     fault_fits f scripts (suc n) rest e (below-next f scripts n below (script-known f scripts n s u rest plays)) (plays-from_next f scripts n (s, Ok u) rest plays) is
 fault_fits f scripts n ((s, Err NotInFormat) ∷ rest) e below plays is =
     let at = plays 0 n (s, Err NotInFormat) (omega arith) (omega arith) in
-    let P : RecordError → Type 0 = λ x. RecordFails f scripts x in
+    let P : RecordError → Type 0 = λ x. RecordFailsIf (Unit {0}) f scripts x in
     subst P (same_Some (NotInFormatAt n) e is) ((at.0, at.1, at.2.stopped), below)
 fault_fits f scripts n ((s, Err (Full events)) ∷ rest) e below plays is =
     let at = plays 0 n (s, Err (Full events)) (omega arith) (omega arith) in
-    let P : RecordError → Type 0 = λ x. RecordFails f scripts x in
-    subst P (same_Some (FullAt n events) e is) (at.2.stopped.0, (at.0, at.1, at.2.stopped.1), below)
+    let P : RecordError → Type 0 = λ x. RecordFailsIf (Unit {0}) f scripts x in
+    subst P (same_Some (FullAt n events) e is) (at.2.stopped.0, (at.0, at.1, at.2.stopped.1), below, tt)
 fault_fits f scripts n ((s, Err OutOfMemory) ∷ rest) e below plays is =
-    let P : RecordError → Type 0 = λ x. RecordFails f scripts x in
+    let P : RecordError → Type 0 = λ x. RecordFailsIf (Unit {0}) f scripts x in
     subst P (same_Some NoMemory e is) tt
 
 -- no recorder tells that the number of scripts is wrong
@@ -219,14 +219,14 @@ recorded n f layout scripts strips T len lay have sealed = record {
 -- the fault that is told fits the scripts
 pub told_fits :
     (f layout : Layout) (scripts : List (List Op)) (played shown : List Played) (e : RecordError) → layout ≡ f → length played ≡ length scripts →
-    PlaysEach f scripts played → shown ≡ played → Some e ≡ first_fault 0 shown → RecordFails layout scripts e
+    PlaysEach f scripts played → shown ≡ played → Some e ≡ first_fault 0 shown → RecordFailsIf (Unit {0}) layout scripts e
 told_fits f layout scripts played shown e lay len each same told =
-    let P : Layout → Type 0 = λ g. RecordFails g scripts e in
+    let P : Layout → Type 0 = λ g. RecordFailsIf (Unit {0}) g scripts e in
     subst P (sym lay) (fault_fits f scripts 0 played e (λ u h. absurd (omega arith)) (plays-from_each f scripts played len each) (sym (told ∙ ap (first_fault 0) same)))
 
 -- and is no fault of their number
-pub told-not_count : {X : Type 0} (shown : List Played) (e : RecordError) → Some e ≡ first_fault 0 shown → ◌≡◌ {A = Result X RecordError} (Err e) (Err BadCount) → ⊥
-told-not_count shown e told is = let same : e ≡ BadCount = cc in fault-not_count 0 shown (sym told ∙ ap Some same)
+pub told-not_count : (shown : List Played) (e : RecordError) → Some e ≡ first_fault 0 shown → e ≡ BadCount → ⊥
+told-not_count shown e told is = fault-not_count 0 shown (sym told ∙ ap Some is)
 
 -- where something was made, no fault was told
 pub made-not_told : {X E : Type 0} {P : Type 0} (r : Result X E) (x : X) (e : E) → r ≡ Ok x → ((r ≡ Err e) ↔ P) → P → ⊥

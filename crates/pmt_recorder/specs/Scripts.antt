@@ -1,5 +1,5 @@
 -- What recording scripts gives.
-use Rattle.std.specs.Prelude.{◌≡◌, ℕ, suc, ◌<◌, ◌⊎◌, true, false, not, List, [], ◌∷◌, length, Some, slice_get, slice_index_or, Option, None, Result, Ok, Err, OnOk, IfErr}
+use Rattle.std.specs.Prelude.{◌≡◌, ℕ, suc, ◌+◌, ◌<◌, ◌⊎◌, true, false, not, List, [], ◌∷◌, length, Some, slice_get, slice_index_or, Option, None, Result, Ok, Err, OnOk, IfErr}
 use Rattle.std.specs.List.{AllByRecursion, list_any}
 use Rattle.pmt_model.specs.declared.event.Event.{Event}
 use Rattle.pmt_model.specs.declared.event.Op.{Op}
@@ -84,12 +84,21 @@ IsTornOf n strips (FullAt t events) = ⊥
 IsTornOf n strips NoMemory = ⊥
 IsTornOf n strips (Torn t) = (book : Recording) × SealFails n strips (IsTornTape t) book
 
--- Why no trace was given: the fault of the recorder with the lowest number, so that no op of a lower one's script is at fault.
--- Where every recorder came to the end, the lowest number whose tape is not its part of the book.
-abbrev pub RecordFails : Layout → List (List Op) → RecordError → Type 0
-RecordFails f scripts BadCount = (length scripts ≡ 0) ⊎ (256 < length scripts)
-RecordFails f scripts (NotInFormatAt t) = AtScript scripts t (HasOpNotInFormat f) × AreInFormatBelow f scripts t
-RecordFails f scripts (FullAt t events) = (events ≡ event_limit) × AtScript scripts t (HasOpInFormat f) × AreInFormatBelow f scripts t
-RecordFails f scripts NoMemory = Unit {0}
-RecordFails f scripts (Torn t) =
+-- Why no trace was given, where the book may be full if this is so: the fault of the recorder with the lowest number, so that no op of a lower
+-- one's script is at fault. Where every recorder came to the end, the lowest number whose tape is not its part of the book.
+abbrev pub RecordFailsIf : Type 0 → Layout → List (List Op) → RecordError → Type 0
+RecordFailsIf MayFill f scripts BadCount = (length scripts ≡ 0) ⊎ (256 < length scripts)
+RecordFailsIf MayFill f scripts (NotInFormatAt t) = AtScript scripts t (HasOpNotInFormat f) × AreInFormatBelow f scripts t
+RecordFailsIf MayFill f scripts (FullAt t events) = (events ≡ event_limit) × AtScript scripts t (HasOpInFormat f) × AreInFormatBelow f scripts t × MayFill
+RecordFailsIf MayFill f scripts NoMemory = Unit {0}
+RecordFailsIf MayFill f scripts (Torn t) =
     AreInFormatBelow f scripts (length scripts) × ((strips : List Strip) × HaveOpsOf scripts strips × IsTornOf (length scripts) strips (Torn t))
+
+-- How many ops the scripts have together.
+abbrev pub op_count : List (List Op) → ℕ
+op_count [] = 0
+op_count (script ∷ scripts) = length script + op_count scripts
+
+-- The book is full only if the scripts have more ops together than it has room for.
+abbrev pub RecordFails : Layout → List (List Op) → RecordError → Type 0
+RecordFails f scripts e = RecordFailsIf (event_limit < op_count scripts) f scripts e

@@ -1,7 +1,9 @@
 //! Recording scripts, each by a thread of its own.
-ghost use Rattle.std.specs.Prelude.{◌≡◌, ℕ, ◌<◌, ◌≤◌, ◌↔◌, ◌⊎◌, [], length, map, slice_get, Some, Err, IfOk, IfErr, IfSome, IfNone};
+ghost use Rattle.std.specs.Prelude.{◌≡◌, ℕ, nat_lt, ◌<◌, ◌≤◌, ◌↔◌, ◌⊎◌, [], length, map, slice_get, Some, Err, IfOk, IfErr, IfSome, IfNone};
 ghost use Rattle.pmt_model.specs.Formats.{first_version};
-ghost use Rattle.pmt_recorder.specs.Scripts.{IsRecorded, IsTornOf, Plays, PlaysEach, RecordFails, first_fault, AtScript};
+ghost use Rattle.pmt_model.specs.Traces.{event_limit};
+ghost use Rattle.pmt_model.specs.Values.{Layout};
+ghost use Rattle.pmt_recorder.specs.Scripts.{IsRecorded, IsTornOf, Plays, PlaysEach, RecordFails, RecordFailsIf, first_fault, op_count, AtScript};
 ghost use Rattle.pmt_recorder.specs.Sealing.{IsSealed};
 ghost use Rattle.pmt_recorder.specs.Strips.{IsOneOfEach, empty_tapes};
 
@@ -96,6 +98,39 @@ fn lowest_fault<L: Roll>(played: &[(Tape<L>, Result<(), AppendError>)]) -> Optio
     None
 }
 
+// Whether the scripts have more ops together than a book has room for.
+fn are_over(scripts: &[Vec<Op>]) -> bool
+    ensures { result ≡ nat_lt event_limit (op_count (map (λ script. script.items) scripts.now)) }
+{
+    let mut room: usize = 1_000_000;
+    for script in scripts {
+        let len = script.len();
+        if room < len {
+            return true;
+        }
+        room -= len;
+    }
+    false
+}
+
+// The fault that is told. No book is full of scripts that it has room for; but what a recorder found under the lock is known to nobody
+// later, so that would be told as want of memory.
+fn told_fault(fault: RecordError, scripts: &[Vec<Op>]) -> RecordError
+    ensures fits { (f : Layout) → RecordFailsIf (Unit {0}) f (map (λ script. script.items) scripts.now) fault → RecordFails f (map (λ script. script.items) scripts.now) result }
+    ensures count { result ≡ RecordError.BadCount → fault ≡ RecordError.BadCount }
+{
+    match fault {
+        RecordError::Full { recorder, events } => {
+            if are_over(scripts) {
+                RecordError::Full { recorder, events }
+            } else {
+                RecordError::OutOfMemory
+            }
+        }
+        other => other,
+    }
+}
+
 // The tapes alone.
 fn tapes_of<L: Roll>(
     alloc: Global,
@@ -150,7 +185,7 @@ fn record_over<L: Roll + Send + Sync, G: Gate + Sync, R: Threads + Wait + Sync>(
         return Err(RecordError::OutOfMemory);
     };
     if let Some(fault) = lowest_fault(played.as_slice()) {
-        return Err(fault);
+        return Err(told_fault(fault, scripts));
     }
     let Ok(tapes) = tapes_of(alloc, played) else {
         return Err(RecordError::OutOfMemory);
@@ -164,7 +199,7 @@ fn record_over<L: Roll + Send + Sync, G: Gate + Sync, R: Threads + Wait + Sync>(
 ///
 /// # Errors
 /// `BadCount` unless there are 1 to 256 scripts. Then the fault of the recorder with the lowest number: `NotInFormat` where an op of
-/// its script is a clflush or an mfence, `Full` where the book had 1,000,000 events, or `OutOfMemory`, also where a thread was not
+/// its script is a clflush or an mfence, `Full` where the book had 1,000,000 events, so that the scripts have more ops together, or `OutOfMemory`, also where a thread was not
 /// started for want of memory. Then `Torn` with the lowest number whose tape is not its part of the book.
 pub fn record_scripts<G: Gate + Sync, R: Threads + Wait + Sync>(
     rt: &R,
