@@ -1,8 +1,9 @@
 -- A run from the first part to the last.
-use Rattle.std.proofs.Common.{◌≡◌, ℕ, ◌+◌, ◌-◌, ◌≤◌, List, [], ◌∷◌, ◌++◌, length, length-append, append-nil, append_assoc, take, drop, slice_range, min, Option, None, Some, refl, sym, ap, ap₂, subst, ◌∙◌, arith}
+use Rattle.std.proofs.Common.{◌≡◌, ℕ, ◌+◌, ◌-◌, ◌≤◌, ◌⊎◌, inl, inr, List, [], ◌∷◌, ◌++◌, length, length-append, append-nil, append_assoc, take, drop, slice_range, min, Option, None, Some, refl, sym, ap, ap₂, subst, ◌∙◌, arith}
 use Rattle.std.specs.Prelude.{IfSome}
 use Rattle.std.specs.List.{AllByRecursion, flat_map}
 use Rattle.std.specs.Io.KnownBytes.{Consumes, IsAtEnd, Keeps}
+use Rattle.std.proofs.lemmas.Bool.{cases_lt}
 use Rattle.std.proofs.lemmas.Grind.{flat_map-append}
 use Rattle.std.proofs.lemmas.List.{append_cancel_left, drop_at, drop-drop, take_all}
 use Rattle.std.proofs.Math.Seq.{take-add}
@@ -11,14 +12,15 @@ use Rattle.pmt_model.specs.declared.event.Event.{Event}
 use Rattle.pmt_model.specs.Values.{Layout}
 use Rattle.pmt_model.specs.Traces.{Recording, IsTrace, IsEventIn}
 use Rattle.pmt_text.specs.Coming.{Coming, judged, whole}
-use Rattle.pmt_text.specs.Spelling.{ended, event_text, header, spelling}
+use Rattle.pmt_text.specs.Spelling.{ended, event_line, event_text, header, spelling}
 use Rattle.pmt_text.proofs.WholeLemmas.{read_is_spelled}
 use Rattle.pmt_asked.specs.declared.ignoring.ByteRange.{ByteRange}
 use Rattle.pmt_part_laws.specs.Parts.{IsWellFormed}
 use Rattle.pmt_parts.specs.declared.part.Part.{Part}
+use Rattle.pmt_parts.specs.Cutting.{line_count}
 use Rattle.pmt_parts.specs.Making.{IsPartOf, ComesNext}
-use Rattle.pmt_parts.proofs.PieceLemmas.{consumes-both, consumes-kept}
-use Rattle.pmt_parts.specs.Runs.{answered, FollowOn, AreAllParts, IsCutText}
+use Rattle.pmt_parts.proofs.PieceLemmas.{consumes-both, consumes-kept, line_count-append}
+use Rattle.pmt_parts.specs.Runs.{answered, FollowOn, AreAllParts, IsCutText, KeepsTo}
 use Rattle.pmt_parts.specs.Running.{BeginsWith, IsCutSoFar, Extends, ReadsOn}
 use Rattle.pmt_parts.proofs.AnsweredLemmas.{answered-is}
 
@@ -67,7 +69,7 @@ all-parts T ranges overlap parts chain = record {
 well-trace : (T : Recording) → IsTrace T → IsWellFormed T
 well-trace T is = record { format = is.format; each = is.each }
 
-all-both : (P : Event → Type 0) (xs ys : List Event) → AllByRecursion P xs → AllByRecursion P ys → AllByRecursion P (xs ++ ys)
+pub all-both : {A : Type 0} (P : A → Type 0) (xs ys : List A) → AllByRecursion P xs → AllByRecursion P ys → AllByRecursion P (xs ++ ys)
 all-both P [] ys first second = second
 all-both P (x ∷ xs) ys first second = (first.0, all-both P xs ys first.1 second)
 
@@ -100,6 +102,39 @@ pub body-of : (text piece : List ℕ) (f : Layout) (T : Recording) → text ≡ 
 body-of text piece f T is spelled same =
     append_cancel_left (ended (header f)) piece (flat_map event_text T.events) (sym is ∙ spelled ∙ spelling-is T ∙ ap (λ g. ended (header g) ++ flat_map event_text T.events) (sym same))
 
+-- a line for each event
+ended-line : (line : List ℕ) → 1 ≤ line_count (ended line)
+ended-line line = let one : line_count (10 ∷ []) ≡ 1 = refl in omega (arith, line_count-append line (10 ∷ []), one)
+
+events-lines : (es : List Event) → length es ≤ line_count (flat_map event_text es)
+unfolding event_text
+events-lines [] = omega arith
+events-lines (e ∷ es) =
+    let first : 1 ≤ line_count (event_text e) = ended-line (event_line e) in
+    let both : line_count (flat_map event_text (e ∷ es)) ≡ line_count (event_text e) + line_count (flat_map event_text es) = ap line_count (flat_map-cons event_text e es) ∙ line_count-append (event_text e) (flat_map event_text es) in
+    omega (arith, first, both, events-lines es)
+
+-- so no more events are read than lines
+pub first-few : (most lines : ℕ) (B : Recording) (piece : List ℕ) (part : Part) → piece ≡ spelling B → line_count piece ≤ lines → lines ≤ most + 1 → part.trace.events ≡ B.events → length part.trace.events ≤ most
+first-few most lines B piece part is few bound own =
+    let whole : line_count (spelling B) ≡ line_count (ended (header B.format)) + line_count (flat_map event_text B.events) =
+    ap line_count (spelling-is B) ∙ line_count-append (ended (header B.format)) (flat_map event_text B.events) in
+    omega (arith, whole, ended-line (header B.format), events-lines B.events, few, bound, ap line_count is, ap length own)
+
+pub next-few : (most : ℕ) (before after : Part) (B : Recording) (piece : List ℕ) → piece ≡ flat_map event_text B.events → line_count piece ≤ most - length before.trace.events →
+    Extends before B after → (length after.trace.events ≤ most) ⊎ (after.end ≡ before.end)
+next-few most before after B piece is few more =
+    let count : length B.events ≤ most - length before.trace.events = omega (arith, events-lines B.events, ap line_count is, few) in
+    let long : length after.trace.events ≡ length before.trace.events + length B.events = ap length more.grown ∙ length-append before.trace.events B.events in
+    elim (cases_lt (length before.trace.events) most) [
+      | inl room ↦ inl (omega (arith, count, long, room))
+      | inr full ↦ inr (omega (arith, count, more.ends, full))
+    ]
+
+pub kept-to : (most : ℕ) (part begun next : Part) → (begun.before ≡ part.end) × (begun.end ≡ part.end) → next.before ≡ begun.before → (length next.trace.events ≤ most) ⊎ (next.end ≡ begun.end) → KeepsTo most next
+kept-to most part begun next at same (inl few) = inl few
+kept-to most part begun next at same (inr none) = inr (none ∙ at.1 ∙ sym at.0 ∙ sym same)
+
 -- the first part
 pub first-cut : (ranges : List ByteRange) (overlap : ℕ) (old new : Option (List ℕ)) (begun part : Part) (block : Recording) → Consumes old new (spelling block) → IsTrace block →
     begun.place ≡ 0 → begun.before ≡ 0 → begun.end ≡ 0 → ((T : Recording) → T.format ≡ block.format → IsPartOf T ranges begun) → Extends begun block part → IsCutSoFar ranges overlap old new [] part
@@ -121,10 +156,10 @@ first-cut ranges overlap old new begun part block text is place before end empty
     start = omega arith
 
 -- the part after one
-pub next-cut : (ranges : List ByteRange) (overlap : ℕ) (old mid new : Option (List ℕ)) (parts : List Part) (part begun next : Part) → IsCutSoFar ranges overlap old mid parts part →
+pub next-cut : (ranges : List ByteRange) (most overlap : ℕ) (old mid new : Option (List ℕ)) (parts : List Part) (part begun next : Part) → IsCutSoFar ranges overlap old mid parts part →
     ((T : Recording) → IsPartOf T ranges part → IsPartOf T ranges begun) → begun.trace.format ≡ part.trace.format → begun.place ≡ part.end - min overlap (part.end - part.place) →
-    (begun.before ≡ part.end) × (begun.end ≡ part.end) → ReadsOn mid new begun next → IsCutSoFar ranges overlap old new (parts ++ part ∷ []) next
-next-cut ranges overlap old mid new parts part begun next so_far made format place ends more = record {
+    (begun.before ≡ part.end) × (begun.end ≡ part.end) → ReadsOn most mid new begun next → IsCutSoFar ranges overlap old new (parts ++ part ∷ []) next
+next-cut ranges most overlap old mid new parts part begun next so_far made format place ends more = record {
   read = grown S B.events;
   text = subst (Consumes old new) (spelling-grown S B.events) (consumes-both old mid new (spelling S) (flat_map event_text B.events) so_far.text more.text);
   well = record { format = so_far.well.format; each = all-both (IsEventIn S.format) S.events B.events so_far.well.each (subst (λ f. AllByRecursion (IsEventIn f) B.events) same more.is_trace.each) };

@@ -1,5 +1,5 @@
 -- A run that has come so far.
-use Rattle.std.specs.Prelude.{◌≡◌, ℕ, ◌+◌, List, [], ◌∷◌, ◌++◌, length, Option}
+use Rattle.std.specs.Prelude.{◌≡◌, ℕ, ◌+◌, ◌≤◌, ◌⊎◌, List, [], ◌∷◌, ◌++◌, length, Option}
 use Rattle.std.specs.List.{flat_map}
 use Rattle.std.specs.Io.KnownBytes.{Consumes}
 use Rattle.pmt_model.specs.declared.event.Event.{Event}
@@ -31,11 +31,13 @@ pub record Extends (before : Part) (block : Recording) (after : Part) : Type 0 w
   pub same_format : after.trace.format ≡ block.format
   pub same_place : after.place ≡ before.place
   pub same_before : after.before ≡ before.before
+  pub grown : after.trace.events ≡ before.trace.events ++ block.events
   pub part : (T : Recording) (ranges : List ByteRange) → IsPartOf T ranges before → ComesNext T before.end block → IsPartOf T ranges after
 
--- It has the next events of the text.
-pub record ReadsOn (old new : Option (List ℕ)) (before after : Part) : Type 0 where
+-- It has the next events of the text, as many as it has room for; none where it has none.
+pub record ReadsOn (most : ℕ) (old new : Option (List ℕ)) (before after : Part) : Type 0 where
   pub block : Recording
   pub text : Consumes old new (flat_map event_text block.events)
   pub is_trace : IsTrace block
   pub extends : Extends before block after
+  pub few : (length after.trace.events ≤ most) ⊎ (after.end ≡ before.end)

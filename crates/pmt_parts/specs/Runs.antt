@@ -1,5 +1,5 @@
 -- All parts of a text of any length.
-use Rattle.std.specs.Prelude.{◌≡◌, ℕ, ◌-◌, List, [], ◌∷◌, length, min, drop, Option, IfSome}
+use Rattle.std.specs.Prelude.{◌≡◌, ℕ, ◌-◌, ◌≤◌, ◌⊎◌, List, [], ◌∷◌, length, min, drop, Option, IfSome}
 use Rattle.std.specs.List.{flat_map}
 use Rattle.pmt_model.specs.declared.event.Event.{Event}
 use Rattle.pmt_model.specs.Traces.{Recording}
@@ -13,6 +13,10 @@ use Rattle.pmt_parts.specs.Making.{IsPartOf}
 -- The events that the part answers for: those of its own after the event `before` of the whole.
 abbrev pub answered : Part → List Event
 answered p = drop (matching_place p.numbers.items p.before) p.trace.events
+
+-- The part has at most so many events, or answers for none.
+abbrev pub KeepsTo : ℕ → Part → Type 0
+KeepsTo most p = (length p.trace.events ≤ most) ⊎ (p.end ≡ p.before)
 
 -- Parts of T in order, after one that begins at `place` and ends at `end`. Each answers for what comes after the end of the one before it,
 -- and begins so many events before that, or where the one before it begins if that is later. The last one ends at `last`.

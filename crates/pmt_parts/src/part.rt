@@ -1,5 +1,5 @@
 //! One part of a trace, and the next one made from it.
-ghost use Rattle.std.specs.Prelude.{◌≡◌, ◌⊎◌, suc, ◌+◌, ◌-◌, ◌^◌, ◌<◌, ◌≤◌, ◌++◌, List, Some, length, min, not, filter, true, false, IfOk, OnOk};
+ghost use Rattle.std.specs.Prelude.{◌≡◌, ◌⊎◌, suc, ◌+◌, ◌-◌, ◌^◌, ◌<◌, ◌≤◌, ◌++◌, List, [], Some, length, min, not, filter, true, false, IfOk, OnOk};
 ghost use Rattle.pmt_model.specs.Pushing.{with_event};
 ghost use Rattle.pmt_model.specs.Selections.{IsRising, matching_place};
 ghost use Rattle.pmt_model.specs.Traces.{Recording, event as event_at, event_limit, IsEventIn};
@@ -35,6 +35,7 @@ impl Part {
     pub fn new(alloc: Global, format: Format) -> Self
         ensures part { (T : Recording) (ranges : List ByteRange) → T.format ≡ format → IsPartOf T ranges result }
         ensures format { result.trace.format ≡ format }
+        ensures none { result.trace.events ≡ [] }
         ensures start { (result.place ≡ 0) × (result.before ≡ 0) × (result.end ≡ 0) }
     {
         Part {

@@ -4,6 +4,7 @@ ghost use Rattle.pmt_asked.specs.declared.ignoring.ByteRange.{ByteRange};
 ghost use Rattle.pmt_text.specs.Spelling.{spelling};
 ghost use Rattle.pmt_parts.specs.Reading.{coming};
 ghost use Rattle.pmt_parts.specs.Running.{Extends, IsCutSoFar, ReadsOn};
+ghost use Rattle.pmt_parts.specs.Runs.{KeepsTo};
 
 use crate::taker::{PartError, Refusal};
 use crate::{Part, Pieces};
@@ -18,7 +19,8 @@ pub(crate) fn first_part<R: Read>(
     pieces: &mut Pieces<R>,
     most: u64,
 ) -> Result<Part, PartError>
-    ensures { IfOk result (λ part. (ranges : List ByteRange) (overlap : ℕ) → IsCutSoFar ranges overlap (coming R.remaining pieces.old) (coming R.remaining pieces.new) [] part) }
+    ensures few { IfOk result (KeepsTo most) }
+    ensures cut { IfOk result (λ part. (ranges : List ByteRange) (overlap : ℕ) → IsCutSoFar ranges overlap (coming R.remaining pieces.old) (coming R.remaining pieces.new) [] part) }
 {
     let mut text = Vec::new(alloc);
     pieces.add_to(&mut text, most.saturating_add(1))?;
@@ -35,7 +37,7 @@ pub(crate) fn read_on<R: Read>(
     most: u64,
     part: &mut Part,
 ) -> Result<(), PartError>
-    ensures { OnOk result (ReadsOn (coming R.remaining pieces.old) (coming R.remaining pieces.new) part.old part.new) }
+    ensures { OnOk result (ReadsOn most (coming R.remaining pieces.old) (coming R.remaining pieces.new) part.old part.new) }
 {
     let mut text = Vec::new(alloc);
     push_header(&mut text, part.trace.format())?;

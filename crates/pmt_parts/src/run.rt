@@ -1,9 +1,10 @@
 //! The run from the first part of a text to its last.
 ghost use Rattle.std.specs.Prelude.{◌≡◌, List, [], ◌∷◌, ◌++◌, ℕ, Option, true, false, IfOk, OnOk};
+ghost use Rattle.std.specs.List.{AllByRecursion};
 ghost use Rattle.std.specs.Io.KnownBytes.{IsAtEnd, Keeps};
 ghost use Rattle.pmt_parts.specs.declared.part.Part.{Part};
 ghost use Rattle.pmt_parts.specs.Reading.{coming};
-ghost use Rattle.pmt_parts.specs.Runs.{IsCutText};
+ghost use Rattle.pmt_parts.specs.Runs.{IsCutText, KeepsTo};
 ghost use Rattle.pmt_parts.specs.Running.{IsCutSoFar};
 
 use crate::part::next_part;
@@ -14,9 +15,9 @@ use pmt_asked::ByteRange;
 use std::alloc::Global;
 use std::io::Read;
 
-/// Gives the parts of the reader's text to the taker, each as soon as it is whole. A part has so many events at most, if no more are carried;
-/// it begins so many events before those that it answers for, or where the part before it begins; stores all of whose bytes lie in the
-/// ranges are not carried.
+/// Gives the parts of the reader's text to the taker, each as soon as it is whole. A part has `most` events at most; where as many stand
+/// before those that it would answer for, it answers for none. It begins `overlap` events before those that it answers for, or where the part
+/// before it begins; stores all of whose bytes lie in the ranges are not carried.
 ///
 /// # Errors
 /// The taker's fault; or its fault for a read, for the first line that is refused, for more events than are counted, or for want of memory.
@@ -29,7 +30,7 @@ pub fn give_parts<R: Read + Drop, S: PartTaker>(
     ignored: &[ByteRange],
     taker: &mut S,
 ) -> Result<(), S::Fault>
-    ensures { OnOk result ((parts : List Part) × IsCutText ignored.now overlap (R.remaining input) parts × (S.took [] false taker.old → S.took parts true taker.new)) }
+    ensures { OnOk result ((parts : List Part) × IsCutText ignored.now overlap (R.remaining input) parts × (S.took [] false taker.old → S.took parts true taker.new) × AllByRecursion (KeepsTo most) parts) }
 {
     let mut pieces = Pieces::new(input);
     let mut part = match first_part(alloc, &mut pieces, most) {
@@ -75,6 +76,7 @@ fn part_after<R: Read, S: PartTaker>(
     taker: &mut S,
 ) -> Result<Part, S::Fault>
     ensures part { IfOk result (λ next. (old : Option (List ℕ)) (parts : List Part) → IsCutSoFar ignored.now overlap old (coming R.remaining pieces.old) parts part.now → IsCutSoFar ignored.now overlap old (coming R.remaining pieces.new) (parts ++ part.now ∷ []) next) }
+    ensures few { IfOk result (KeepsTo most) }
     ensures took { OnOk result ((parts : List Part) → S.took parts false taker.old → S.took parts false taker.new) }
 {
     let mut next = match next_part(alloc, part, overlap, ignored) {

@@ -1,10 +1,10 @@
-use Rattle.std.proofs.Common.{◌≡◌, ◌++◌, ap, subst, ◌∙◌}
+use Rattle.std.proofs.Common.{◌≡◌, ◌-◌, ◌++◌, length, arith, ap, subst, ◌∙◌}
 use Rattle.std.proofs.lemmas.Result.{on_ok_weaker}
 use Rattle.std.specs.Io.KnownBytes.{Consumes}
 use Rattle.pmt_model.specs.Traces.{IsTrace}
 use Rattle.pmt_text.specs.Spelling.{ended, header}
 use Rattle.pmt_parts.specs.Reading.{coming}
-use Rattle.pmt_parts.proofs.RunLemmas.{body-of}
+use Rattle.pmt_parts.proofs.RunLemmas.{body-of, next-few}
 use Rattle.pmt_parts.proofs.reading.read_on.Goals as goal
 
 pub returns : goal.returns
@@ -15,10 +15,14 @@ returns g c =
     let f = c.format.result in
     let head : c.push_header.new.text.items ≡ ended (header f) = c.in_ok-push_header.ensures ∙ ap (λ text. text ++ ended (header f)) c.new-text.ensures.items in
     let text : c.add_to.new.text.items ≡ ended (header f) ++ x.0 = x.1 ∙ ap (λ bytes. bytes ++ x.0) head in
+    let room : c.saturating_sub-room.result ≡ c.args.most - length c.args.part.now.trace.events = omega (arith, c.saturating_sub-room.ensures, c.len.ensures.value) in
     on_ok_weaker c.extend.result
-    (λ more. record {
+    (λ more.
+    let piece = body-of c.add_to.new.text.items x.0 f B text c.in_ok-block.ensures (c.format.ensures.value ∙ more.format) in
+    record {
       block = B;
-      text = subst (Consumes (coming R c.args.pieces.now) (coming R c.add_to.new.self)) (body-of c.add_to.new.text.items x.0 f B text c.in_ok-block.ensures (c.format.ensures.value ∙ more.format)) x.2.next;
+      text = subst (Consumes (coming R c.args.pieces.now) (coming R c.add_to.new.self)) piece x.2.next;
+      few = next-few c.args.most c.args.part.now c.extend.new.part B x.0 piece (omega (arith, x.2.lines, room)) more;
       is_trace = subst IsTrace c.block.view_is c.block.invariant;
       extends = more;
     }) c.extend.ensures
