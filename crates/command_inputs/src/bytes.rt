@@ -29,7 +29,12 @@ pub fn has_control(bytes: &[u8]) -> bool {
             return true;
         }
     }
-    bytes[parts * LANES..].iter().any(|byte| is_control(*byte))
+    for byte in &bytes[parts * LANES..] {
+        if is_control(*byte) {
+            return true;
+        }
+    }
+    false
 }
 
 // Whether the byte is a control character.

@@ -6,7 +6,7 @@ use crate::shell::shell_word;
 use std::alloc::{AllocError, Global};
 
 /// What a file is in place of a trace or a script.
-#[derive(Clone, Copy, PartialEq, Eq)]
+#[derive(Clone, Copy)]
 pub(crate) enum Foreign {
     Gzip,
     Zstd,

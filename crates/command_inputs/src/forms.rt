@@ -46,7 +46,7 @@ impl Grammar {
 }
 
 /// What a field of an event holds.
-#[derive(Clone, Copy, PartialEq, Eq)]
+#[derive(Clone, Copy)]
 pub(crate) enum Role {
     Thread,
     Address,
@@ -96,11 +96,19 @@ impl Role {
     // Whether the field, which is spelled rightly, is out of its range.
     pub(crate) fn is_out_of_range(self, field: &[u8]) -> bool {
         match self {
-            Role::Thread => read_number(10, field).is_some_and(|thread| thread > 255),
-            Role::Length => read_number(10, field).is_some_and(|len| len == 0 || len > 4096),
-            Role::Address => read_address(field).is_some_and(|addr| addr >> 48 != 0),
+            Role::Thread => is_outside(read_number(10, field), 0, 255),
+            Role::Length => is_outside(read_number(10, field), 1, 4096),
+            Role::Address => is_outside(read_address(field), 0, (1 << 48) - 1),
             Role::Bytes => field.len() > 16,
         }
+    }
+}
+
+// Whether it is a number, and none from the least to the most one.
+fn is_outside(number: Option<u64>, least: u64, most: u64) -> bool {
+    match number {
+        Some(number) => number < least || number > most,
+        None => false,
     }
 }
 

@@ -6,7 +6,7 @@ use std::os::unix::fs::MetadataExt;
 use std::rt::Files;
 
 /// Why a named file was not opened.
-#[derive(Clone, Copy, Debug)]
+#[derive(Clone, Copy)]
 pub enum OpenError {
     /// There is no such file, or it can't be opened: the system's reason.
     System(io::Error),

@@ -1,6 +1,7 @@
 //! Ranges of bytes as words and files name them: A:N.
 
 use crate::fault::Fault;
+use memchr::memchr;
 use pmt_asked::ByteRange;
 use pmt_text::number::{read_address, read_number};
 use std::alloc::{AllocError, Global};
@@ -22,7 +23,7 @@ pub fn asked_range(alloc: Global, option: &str, text: &str) -> Result<ByteRange,
 
 // The range that `A:N` names, where A and N are spelled as in a trace and the range lies below 2^48.
 pub(crate) fn range_of(text: &[u8]) -> Option<ByteRange> {
-    let colon = text.iter().position(|byte| *byte == b':')?;
+    let colon = memchr(b':', text)?;
     let addr = read_address(&text[..colon])?;
     let len = read_number(10, &text[colon + 1..])?;
     let end = addr.checked_add(len)?;

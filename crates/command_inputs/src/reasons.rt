@@ -157,7 +157,9 @@ fn not_opened(
 ) -> Result<Fault, Fault> {
     match open_fault(alloc, name, error)? {
         Fault::OutOfMemory => Ok(Fault::OutOfMemory),
-        reason if recalls != Recalls::Nothing => Ok(Fault::File.with_reason(alloc, &reason)),
+        reason if !matches!(recalls, Recalls::Nothing) => Ok(Fault::File.with_reason(
+            alloc, &reason,
+        )),
         _ => Ok(Fault::File),
     }
 }

@@ -18,7 +18,7 @@ const BEGUN: usize = 256;
 const FIRST: usize = 32;
 
 /// What a device recalls.
-#[derive(Clone, Copy, PartialEq, Eq)]
+#[derive(Clone, Copy)]
 pub enum Recalls {
     Nothing,
     /// Why a call failed.

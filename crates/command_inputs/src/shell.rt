@@ -7,7 +7,7 @@ use std::alloc::{AllocError, Global};
 /// # Errors
 /// `OutOfMemory`.
 pub fn shell_word(alloc: Global, word: &str) -> Result<String, AllocError> {
-    if !word.is_empty() && word.as_bytes().iter().all(|byte| is_plain(*byte)) {
+    if is_plain_word(word) {
         return String::from_str(alloc, word);
     }
     let mut quoted = String::from_str(alloc, "'")?;
@@ -23,6 +23,16 @@ fn push_letter(quoted: &mut String, letter: char) -> Result<(), AllocError> {
         '\'' => quoted.push_str("'\\''"),
         _ => quoted.push(letter),
     }
+}
+
+// Whether a shell takes the word as it is.
+fn is_plain_word(word: &str) -> bool {
+    for byte in word.as_bytes() {
+        if !is_plain(*byte) {
+            return false;
+        }
+    }
+    !word.is_empty()
 }
 
 // Whether a shell takes the byte as it is.

@@ -179,8 +179,10 @@ impl SourceFolder {
         } else {
             name
         };
-        if inner.split('/').any(|part| part == "..") {
-            return None;
+        for part in inner.split('/') {
+            if part == ".." {
+                return None;
+            }
         }
         Some(inner)
     }

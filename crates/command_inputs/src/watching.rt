@@ -7,7 +7,7 @@ use crate::recalling::Recalling;
 use std::io::{self, Read};
 
 /// What a run is doing.
-#[derive(Clone, Copy, PartialEq, Eq)]
+#[derive(Clone, Copy)]
 pub enum Doing {
     /// It waits for the text of the trace, or nothing is known of it.
     Waiting,

@@ -3,7 +3,7 @@
 use pmt_asked::Options;
 
 /// In which form `explain` tells.
-#[derive(Clone, Copy, PartialEq, Eq)]
+#[derive(Clone, Copy)]
 pub enum Form {
     /// A text for people.
     Text,
@@ -14,7 +14,7 @@ pub enum Form {
 }
 
 /// Whether the text for people has colors.
-#[derive(Clone, Copy, PartialEq, Eq)]
+#[derive(Clone, Copy)]
 pub enum Color {
     /// If a terminal shows it.
     Auto,

@@ -17,16 +17,20 @@ pub(crate) fn push_ignored(pen: &mut Pen, told: &Telling<'_>, counts: &Summary) 
         );
     }
     let ranges = told.screen.ignored.ranges.as_slice();
-    let idle = ranges
-        .iter()
-        .filter(|range| !leaves_out(told, **range))
-        .count();
+    let mut idle = 0usize;
+    for range in ranges {
+        if !leaves_out(told, *range) {
+            idle = idle.saturating_add(1);
+        }
+    }
     push_idle(pen, "ranges", idle, ranges.len());
     let places = told.screen.ignored.places.as_slice();
-    let idle = places
-        .iter()
-        .filter(|place| !has_store(told, *place))
-        .count();
+    let mut idle = 0usize;
+    for place in places {
+        if !has_store(told, place) {
+            idle = idle.saturating_add(1);
+        }
+    }
     push_idle(pen, "labels", idle, places.len());
 }
 

@@ -61,7 +61,7 @@ fn push_waited_for(pen: &mut Pen, told: &Telling<'_>, group: &Group<DroppedKey>,
 fn waited_for(told: &Telling<'_>) -> Result<Vec<Waited>, OutOfMemory> {
     let groups = told.explanation.dropped_groups.as_slice();
     let mut chosen = Vec::new(told.alloc);
-    if !groups.iter().any(|group| is_empty(group)) {
+    if !has_empty(groups) {
         return Ok(chosen);
     }
     let lone = lone_fences(told.alloc, told.trace)?;
@@ -76,6 +76,16 @@ fn waited_for(told: &Telling<'_>) -> Result<Vec<Waited>, OutOfMemory> {
     Ok(chosen)
 }
 
+// Whether one of the groups is of such fences.
+fn has_empty(groups: &[Group<DroppedKey>]) -> bool {
+    for group in groups {
+        if is_empty(group) {
+            return true;
+        }
+    }
+    false
+}
+
 // Whether they are fences for which no flush of their thread waits.
 fn is_empty(group: &Group<DroppedKey>) -> bool {
     matches!(group.key.reason, ReasonKind::Empty)
@@ -83,7 +93,12 @@ fn is_empty(group: &Group<DroppedKey>) -> bool {
 
 // Whether each of these fences is one of the lone ones.
 fn are_lone(lone: &[Lone], fences: &[u64]) -> bool {
-    fences.iter().all(|fence| flush_at(lone, *fence).is_some())
+    for fence in fences {
+        if flush_at(lone, *fence).is_none() {
+            return false;
+        }
+    }
+    true
 }
 
 // The flush that waits at this fence, if it is one of them.

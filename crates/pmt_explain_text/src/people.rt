@@ -45,11 +45,21 @@ pub fn text(
     let mut pen = Pen::new(alloc);
     push_summary(&mut pen, &told, &counts);
     push_sections(&mut pen, sections.as_mut_slice(), screen.rows);
-    if !tells_all(screen.choice) && sections.iter().all(|section| section.total == 0) {
+    if !tells_all(screen.choice) && are_empty(sections.as_slice()) {
         pen.put("\nNothing of what is asked for was found.\n");
     }
     let written = pen.finish()?;
     Ok(written.into_bytes())
+}
+
+// Whether nothing is told in any of the sections.
+fn are_empty(sections: &[Section]) -> bool {
+    for section in sections {
+        if section.total > 0 {
+            return false;
+        }
+    }
+    true
 }
 
 // All that may be told, in order.

@@ -81,14 +81,22 @@ fn push_share(pen: &mut Pen, what: &str, part: u64, whole: u64) {
 
 // Whether an assertion of this kind fails that is asked for.
 fn has_failed(told: &Telling<'_>, kind: AssertionKind) -> bool {
-    let causes = told.explanation.causes.as_slice();
-    causes.iter().any(|cause| cause.key.kind == kind)
+    for cause in told.explanation.causes.as_slice() {
+        if cause.key.kind == kind {
+            return true;
+        }
+    }
+    false
 }
 
 // Whether a store is told as never persisted, since no flush follows.
 fn has_unflushed(told: &Telling<'_>) -> bool {
-    let lost = told.explanation.lost.as_slice();
-    lost.iter().any(|group| is_unflushed(group.cause))
+    for group in told.explanation.lost.as_slice() {
+        if is_unflushed(group.cause) {
+            return true;
+        }
+    }
+    false
 }
 
 const UNRECORDED: &str =

@@ -1,7 +1,6 @@
 //! What each thread and each label has in the trace, in tables.
 
 use pmt_causes::Row;
-use pmt_explanation::first;
 use pmt_pen::Pen;
 use pmt_telling::{Section, Telling, push_label, tells_all};
 
@@ -16,22 +15,20 @@ const LABELS: &str = "table: source places whose flushes and fences do nothing, 
 
 // A row for each thread that makes flushes or fences which do nothing, where there are several threads.
 pub(crate) fn threads_section(told: &Telling<'_>) -> Section {
-    let all = told.explanation.threads.as_slice();
-    let rows = if all.len() > 1 && tells_all(told.screen.choice) {
-        all
-    } else {
-        &all[..0]
-    };
-    let count = rows.iter().filter(|row| row.dropped > 0).count();
-    let mut section = Section::new(told.alloc, THREADS, count, "table rows of threads", "");
-    let mut added = 0usize;
+    let mut section = Section::new(told.alloc, THREADS, 0, "table rows of threads", "");
+    let rows = told.explanation.threads.as_slice();
+    if rows.len() < 2 || !tells_all(told.screen.choice) {
+        return section;
+    }
     for row in rows {
-        if row.dropped > 0 && added < told.explanation.limit {
-            let mut pen = Pen::new(told.alloc);
-            push_counts(&mut pen, row.stores, row.flushes, row.fences, row.dropped);
-            pen.fill("  thread #\n", &[row.key as u64]);
-            section.add(pen);
-            added = added.saturating_add(1);
+        if row.dropped > 0 {
+            if section.total < told.explanation.limit {
+                let mut pen = Pen::new(told.alloc);
+                push_counts(&mut pen, row.stores, row.flushes, row.fences, row.dropped);
+                pen.fill("  thread #\n", &[row.key as u64]);
+                section.add(pen);
+            }
+            section.total = section.total.saturating_add(1);
         }
     }
     section
@@ -39,30 +36,22 @@ pub(crate) fn threads_section(told: &Telling<'_>) -> Section {
 
 // A row for each label where flushes or fences do nothing. Those where most does nothing come first.
 pub(crate) fn labels_section(told: &Telling<'_>) -> Section {
-    let all = told.explanation.labelled.as_slice();
-    let count = all.iter().filter(|row| row.dropped > 0).count();
-    let rows = first(
-        all,
-        if tells_all(told.screen.choice) {
-            count
-        } else {
-            0
-        },
-    );
-    let mut section = Section::new(
-        told.alloc,
-        LABELS,
-        rows.len(),
-        "table rows of source places",
-        "",
-    );
-    for row in first(rows, told.explanation.limit) {
-        let mut pen = Pen::new(told.alloc);
-        push_counts(&mut pen, row.stores, row.flushes, row.fences, row.dropped);
-        pen.put(" ");
-        push_label(&mut pen, told, row.key);
-        pen.put("\n");
-        section.add(pen);
+    let mut section = Section::new(told.alloc, LABELS, 0, "table rows of source places", "");
+    if !tells_all(told.screen.choice) {
+        return section;
+    }
+    for row in told.explanation.labelled.as_slice() {
+        if row.dropped > 0 {
+            if section.total < told.explanation.limit {
+                let mut pen = Pen::new(told.alloc);
+                push_counts(&mut pen, row.stores, row.flushes, row.fences, row.dropped);
+                pen.put(" ");
+                push_label(&mut pen, told, row.key);
+                pen.put("\n");
+                section.add(pen);
+            }
+            section.total = section.total.saturating_add(1);
+        }
     }
     section
 }

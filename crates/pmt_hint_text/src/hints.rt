@@ -70,9 +70,12 @@ fn add_first(
 // The index of the first hint of this kind of a path alone, or of a place.
 fn first_of(told: &Telling<'_>, kind: HintKind, is_path: bool) -> Option<usize> {
     let hints = told.explanation.hints.as_slice();
-    hints
-        .iter()
-        .position(|hint| hint.kind == kind && hint.path.is_some() == is_path)
+    for index in 0..hints.len() {
+        if hints[index].kind == kind && hints[index].path.is_some() == is_path {
+            return Some(index);
+        }
+    }
+    None
 }
 
 /// Adds where the first hint of a screen is, and of how many flushes or stores there it is so.
@@ -108,15 +111,16 @@ fn push_share(pen: &mut Pen, told: &Telling<'_>, index: usize) {
 
 // How many events of the place of the hint are such as it is told of.
 fn events_like(told: &Telling<'_>, hint: &Hint) -> u64 {
-    let rows = told.explanation.places.as_slice();
-    let Some(row) = rows.iter().find(|row| row.place == hint.place) else {
-        return 0;
-    };
-    match hint.kind {
-        HintKind::SplitWord | HintKind::StoredAfterFlush => row.stores,
-        HintKind::OneLineShort => row.flushes,
-        HintKind::OpenAtStore => row.flushes.saturating_sub(row.idle_flushes),
+    for row in told.explanation.places.as_slice() {
+        if row.place == hint.place {
+            return match hint.kind {
+                HintKind::SplitWord | HintKind::StoredAfterFlush => row.stores,
+                HintKind::OneLineShort => row.flushes,
+                HintKind::OpenAtStore => row.flushes.saturating_sub(row.idle_flushes),
+            };
+        }
     }
+    0
 }
 
 /// Whether something is hinted at.

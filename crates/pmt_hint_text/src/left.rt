@@ -20,10 +20,18 @@ pub(crate) fn count_left(told: &Telling<'_>) -> usize {
     if !asks_all_places(told.screen.choice) {
         return 0;
     }
-    let places = told.explanation.places.as_slice();
-    let paths = told.explanation.left_paths.as_slice();
-    let count = places.iter().filter(|row| is_left(told, row)).count();
-    count.saturating_add(paths.iter().filter(|row| is_left_path(told, row)).count())
+    let mut count = 0usize;
+    for row in told.explanation.places.as_slice() {
+        if is_left(told, row) {
+            count = count.saturating_add(1);
+        }
+    }
+    for row in told.explanation.left_paths.as_slice() {
+        if is_left_path(told, row) {
+            count = count.saturating_add(1);
+        }
+    }
+    count
 }
 
 // Adds a hint for each such place, and then for each such path, as many as the limit says.
@@ -71,8 +79,12 @@ fn is_left_path(told: &Telling<'_>, row: &PlaceRow) -> bool {
 
 // Whether there is another hint at the place.
 fn has_hint(told: &Telling<'_>, place: Origin) -> bool {
-    let hints = told.explanation.hints.as_slice();
-    hints.iter().any(|hint| hint.place == place)
+    for hint in told.explanation.hints.as_slice() {
+        if hint.place == place {
+            return true;
+        }
+    }
+    false
 }
 
 // Adds the hint at the place with most such stores, the first one of several, if hints at all places are asked for.

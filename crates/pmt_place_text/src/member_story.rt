@@ -201,7 +201,12 @@ fn push_rows(
     columns: StoryColumns,
     rows: &[StoryRow<'_>],
 ) {
-    let shown = rows.iter().filter(|row| is_other(story, row)).count();
+    let mut shown = 0usize;
+    for row in rows {
+        if is_other(story, row) {
+            shown = shown.saturating_add(1);
+        }
+    }
     let mut others = 0usize;
     for row in rows {
         push_story_row(pen, columns, row);

@@ -127,8 +127,12 @@ fn troubled<'a>(explanation: &'a Explanation, choice: &Choice) -> &'a [PlaceRow]
         return &[];
     }
     let rows = explanation.places.as_slice();
-    let count = rows.iter().filter(|row| is_troubled(row)).count();
-    first(rows, count)
+    for index in 0..rows.len() {
+        if !is_troubled(&rows[index]) {
+            return first(rows, index);
+        }
+    }
+    rows
 }
 
 /// Those of these places that may be told with a story.

@@ -128,13 +128,19 @@ fn tells_of(told: &Telling<'_>, index: usize, store: u64) -> bool {
         return true;
     }
     match told.explanation.counts.get(index) {
-        Some(counts) => counts
-            .stores
-            .told
-            .iter()
-            .any(|count| has_label(count, label)),
+        Some(counts) => is_counted(counts.stores.told.as_slice(), label),
         None => false,
     }
+}
+
+// Whether it is counted in one of them who makes stores with this label.
+fn is_counted(counts: &[Count<Maker>], label: u64) -> bool {
+    for count in counts {
+        if has_label(count, label) {
+            return true;
+        }
+    }
+    false
 }
 
 // Whether it is counted who makes stores with this label.

@@ -20,7 +20,7 @@ pub fn push_draw(pen: &mut Pen, told: &Telling<'_>, words: &str, named: u64, eve
 
 /// Adds the word as a shell reads it.
 pub fn push_word(pen: &mut Pen, word: &str) {
-    if word.as_bytes().iter().all(|byte| is_plain(*byte)) {
+    if is_plain_word(word) {
         pen.put(word);
         return;
     }
@@ -32,6 +32,16 @@ pub fn push_word(pen: &mut Pen, word: &str) {
         }
     }
     pen.put("'");
+}
+
+// Whether a shell takes the word as it is.
+fn is_plain_word(word: &str) -> bool {
+    for byte in word.as_bytes() {
+        if !is_plain(*byte) {
+            return false;
+        }
+    }
+    true
 }
 
 // Whether a shell takes the byte as it is.

@@ -151,7 +151,7 @@ fn push_all(pen: &mut Pen, sections: &[Section]) {
 }
 
 // What a screen shows next of a section.
-#[derive(Clone, Copy, PartialEq, Eq)]
+#[derive(Clone, Copy)]
 enum Step {
     // One more entry, by its short form if it has one.
     Entry,
@@ -240,10 +240,10 @@ fn show(pen: &mut Pen, sections: &mut [Section], index: usize, step: Step, rows:
     };
     let shown = section.shown;
     let whole = section.whole;
-    if step == Step::Entry {
+    if matches!(step, Step::Entry) {
         section.shown = shown.saturating_add(1);
     }
-    if step == Step::Whole || section.shorts.is_empty() {
+    if matches!(step, Step::Whole) || section.shorts.is_empty() {
         section.whole = whole.saturating_add(1);
     }
     let mut all = Pen::new(pen.alloc());
@@ -261,7 +261,13 @@ fn show(pen: &mut Pen, sections: &mut [Section], index: usize, step: Step, rows:
 
 /// How many lines the text has.
 fn lines_of(text: &[u8]) -> usize {
-    text.iter().filter(|byte| **byte == b'\n').count()
+    let mut lines = 0usize;
+    for byte in text {
+        if *byte == b'\n' {
+            lines = lines.saturating_add(1);
+        }
+    }
+    lines
 }
 
 // Adds the entries of the section that are shown, and how many more there are; nothing where none is shown.

@@ -89,7 +89,7 @@ pub fn show<R: AllocGlobal + Wait + Clock, W: Write>(rt: &R, board: &Board, term
             return;
         }
         let doing = state.doing;
-        if doing != Doing::Waiting && write_line(rt.alloc(), doing, seconds, terminal) {
+        if !matches!(doing, Doing::Waiting) && write_line(rt.alloc(), doing, seconds, terminal) {
             state.is_shown = true;
         }
     }
