@@ -126,7 +126,7 @@ fn size_of_pool<O: Opener>(alloc: Global, files: &O, name: &str) -> Result<u64, 
     match files.size(name) {
         Ok(Some(size)) => Ok(size),
         Ok(None) => Err(no_pool(alloc, name)?),
-        Err(error) => Err(open_fault(alloc, name, error)?),
+        Err(error) => Err(open_fault(alloc, name, error)),
     }
 }
 
@@ -151,7 +151,7 @@ fn pool_of(alloc: Global, base: &Base) -> Result<Pool, Fault>
 fn failure_crash(alloc: Global, trace: &Trace, number: u64) -> Result<Crash, Fault> {
     match failure(alloc, trace, number)? {
         Some(found) => Ok(crash_of_failure(alloc, trace, &found)?),
-        None => Err(no_failure(alloc, number)?),
+        None => Err(no_failure(alloc, number)),
     }
 }
 
@@ -241,8 +241,8 @@ fn copy_fault(
 ) -> Result<(), Fault> {
     match (stop, errors.read, errors.written) {
         (Stop::Write, _, Some(error)) if error.kind() == ErrorKind::BrokenPipe => Ok(()),
-        (Stop::Write, _, Some(error)) => Err(system_fault(alloc, "cannot write", output, error)?),
-        (Stop::Read, Some(error), _) => Err(system_fault(alloc, "cannot read", name, error)?),
+        (Stop::Write, _, Some(error)) => Err(system_fault(alloc, "cannot write", output, error)),
+        (Stop::Read, Some(error), _) => Err(system_fault(alloc, "cannot read", name, error)),
         (Stop::Short, _, _) => {
             let line = format!(in alloc; "{name}: fewer bytes came than the file had\n")?;
             Err(Fault::System(line))
@@ -263,7 +263,7 @@ fn write_file<O: Opener>(
     check(alloc, trace, crash, base)?;
     let mut file = match files.create(name, base.name.as_str()) {
         Ok(file) => file,
-        Err(error) => return Err(create_fault(alloc, name, error)?),
+        Err(error) => return Err(create_fault(alloc, name, error)),
     };
     match write_to(alloc, files, trace, crash, base, name, &mut file) {
         Ok(()) => Ok(()),

@@ -60,7 +60,7 @@ fn list_to_file<O: Opener>(
     judge_places(trace, words)?;
     let mut file = match files.create(name, words.file.unwrap_or("")) {
         Ok(file) => file,
-        Err(error) => return Err(create_fault(alloc, name, error)?),
+        Err(error) => return Err(create_fault(alloc, name, error)),
     };
     match list(alloc, trace, words, name, &mut file) {
         Ok(()) => Ok(()),
@@ -187,6 +187,6 @@ fn judge_write<W: Write>(
             lister.is_left = true;
             Ok(())
         }
-        Err(error) => Err(system_fault(alloc, "cannot write", lister.output, error)?),
+        Err(error) => Err(system_fault(alloc, "cannot write", lister.output, error)),
     }
 }

@@ -49,11 +49,11 @@ where
 // The slice of the assertion of this event, which fails.
 fn slice_of_failure(alloc: Global, trace: &Trace, number: u64) -> Result<Slice, Fault> {
     if failure(alloc, trace, number)?.is_none() {
-        return Err(no_failure(alloc, number)?);
+        return Err(no_failure(alloc, number));
     }
     match sliced(alloc, trace, number)? {
         Some(slice) => Ok(slice),
-        None => Err(no_failure(alloc, number)?),
+        None => Err(no_failure(alloc, number)),
     }
 }
 
@@ -64,8 +64,8 @@ fn slice_of_store(alloc: Global, trace: &Trace, number: u64) -> Result<Slice, Fa
         None => {
             let message = format!(in alloc;
                 "invalid value '{number}' for '--store <N>': event {number} is no store that is never persisted or late; explain --only never_persisted and --only late show those that are"
-            )?;
-            Err(Fault::usage(alloc, message.as_str())?)
+            );
+            Err(Fault::usage_of(alloc, message))
         }
     }
 }

@@ -81,7 +81,7 @@ fn explained<T: Threads + Sync, R: Read + Drop>(
         Err(error) => {
             let reader = source.into_input().into_inner();
             let input = Input::new("draw", drawing.file);
-            Err(untaken_fault(alloc, input, error, reader.memory())?)
+            Err(untaken_fault(alloc, input, error, reader.memory()))
         }
     }
 }
@@ -181,7 +181,7 @@ fn picture(
     let lines = lines_of_addresses(alloc, known.trace.format(), addresses)?;
     let subject = subject_of(known, asked, lines.as_slice());
     match refusal_of(known, subject, addresses) {
-        Some(refusal) => Err(refused(alloc, refusal, known.trace.len())?),
+        Some(refusal) => Err(refused(alloc, refusal, known.trace.len())),
         None => Ok(picture_about(alloc, known, subject, lines.as_slice())?),
     }
 }
@@ -261,22 +261,22 @@ fn add_events(events: &mut Vec<u64>, found: &[Unwritten]) -> Result<(), OutOfMem
 }
 
 // The fault of words that are not of the trace with so many events.
-fn refused(alloc: Global, refusal: Refusal, events: usize) -> Result<Fault, AllocError> {
+fn refused(alloc: Global, refusal: Refusal, events: usize) -> Fault {
     let message = match refusal {
         Refusal::PastEnd(number) => format!(in alloc;
             "event {number} lies past the end: the trace has {events} events"
-        )?,
+        ),
         Refusal::NoAssertion(number) => format!(in alloc;
             "event {number} is no assertion, so '--failure {number}' has nothing to draw"
-        )?,
+        ),
         Refusal::Passes(number) => format!(in alloc;
             "the assertion of event {number} passes, so '--failure {number}' has nothing to draw"
-        )?,
+        ),
         Refusal::AbsentLine(address) => format!(in alloc;
             "no event of the trace speaks of the line of '--line {address:#x}'"
-        )?,
+        ),
     };
-    Fault::usage(alloc, message.as_str())
+    Fault::usage_of(alloc, message)
 }
 
 // The text of the picture of what is asked for, with these labels.

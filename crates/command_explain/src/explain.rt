@@ -190,7 +190,7 @@ fn judge_failure(
     if explanation.failing.contains(&number) {
         return Ok(());
     }
-    Err(no_failure(alloc, number)?)
+    Err(no_failure(alloc, number))
 }
 
 // What is asked for of the explained trace with this text.

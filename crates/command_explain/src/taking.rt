@@ -61,7 +61,7 @@ fn take_reader<R: Read + Drop, P: Watch>(
         }
         Err(error) => {
             let input = Input::new("explain", words.file);
-            Err(untaken_fault(alloc, input, error, reader.memory())?)
+            Err(untaken_fault(alloc, input, error, reader.memory()))
         }
     }
 }

@@ -41,7 +41,7 @@ fn stands<O: Opener>(alloc: Global, files: &O, name: &str) -> Result<bool, Fault
     match files.size(name) {
         Ok(size) => Ok(size.is_some()),
         Err(OpenError::System(error)) if is_absent(error.kind()) => Ok(false),
-        Err(error) => Err(open_fault(alloc, name, error)?),
+        Err(error) => Err(open_fault(alloc, name, error)),
     }
 }
 

@@ -47,10 +47,21 @@ impl From<OpenError> for Fault {
 }
 
 impl Fault {
-    /// A usage fault that says this.
-    pub fn usage(alloc: Global, message: &str) -> Result<Fault, OutOfMemory> {
-        let text = format!(in alloc; "error: {message}\n\nFor more information, try '--help'.\n")?;
-        Ok(Fault::Usage(text))
+    /// A usage fault that says this; `OutOfMemory` where memory is refused to it.
+    pub fn usage(alloc: Global, message: &str) -> Fault {
+        let text = format!(in alloc; "error: {message}\n\nFor more information, try '--help'.\n");
+        match text {
+            Ok(text) => Fault::Usage(text),
+            Err(_) => Fault::OutOfMemory,
+        }
+    }
+
+    /// The same, of a message that was made for it.
+    pub fn usage_of(alloc: Global, message: Result<String, OutOfMemory>) -> Fault {
+        match message {
+            Ok(message) => Fault::usage(alloc, message.as_str()),
+            Err(_) => Fault::OutOfMemory,
+        }
     }
 
     /// The exit status.
@@ -134,12 +145,9 @@ fn ended(line: Result<String, OutOfMemory>) -> Result<String, OutOfMemory> {
 }
 
 /// The usage fault of `--failure N` where event N is no assertion that a crash can violate.
-///
-/// # Errors
-/// `OutOfMemory`.
-pub fn no_failure(alloc: Global, number: u64) -> Result<Fault, OutOfMemory> {
+pub fn no_failure(alloc: Global, number: u64) -> Fault {
     let message = format!(in alloc;
         "invalid value '{number}' for '--failure <N>': event {number} is no assertion that a crash can violate; explain --only failure shows those that are"
-    )?;
-    Fault::usage(alloc, message.as_str())
+    );
+    Fault::usage_of(alloc, message)
 }

@@ -19,8 +19,8 @@ pub fn asked_place(alloc: Global, option: &str, text: &str) -> Result<IgnoredPla
     if is_place(text) {
         return Ok(place_of(alloc, text)?);
     }
-    let message = format!(in alloc; "invalid value '{text}' for '{option}': {NAMED}")?;
-    Err(Fault::usage(alloc, message.as_str())?)
+    let message = format!(in alloc; "invalid value '{text}' for '{option}': {NAMED}");
+    Err(Fault::usage_of(alloc, message))
 }
 
 // Whether the text names a place: an innermost frame, with nothing of its callers.

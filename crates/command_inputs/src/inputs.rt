@@ -55,7 +55,7 @@ fn read_trace<R: Read + Drop>(alloc: Global, input: Input<'_>, reader: R) -> Res
         Ok(trace) => Ok(trace),
         Err(error) => {
             let reader = source.into_input().into_inner();
-            Err(untaken_fault(alloc, input, error, reader.memory())?)
+            Err(untaken_fault(alloc, input, error, reader.memory()))
         }
     }
 }
@@ -92,51 +92,42 @@ pub fn read_file<O: Opener>(alloc: Global, files: &O, name: &str) -> Result<Vec<
 pub fn opened<O: Opener>(alloc: Global, files: &O, name: &str) -> Result<O::Reader, Fault> {
     match files.open(name) {
         Ok(reader) => Ok(reader),
-        Err(error) => Err(open_fault(alloc, name, error)?),
+        Err(error) => Err(open_fault(alloc, name, error)),
     }
 }
 
 /// The fault of a named file that was not opened.
-///
-/// # Errors
-/// `OutOfMemory`.
-pub fn open_fault(alloc: Global, name: &str, error: OpenError) -> Result<Fault, Fault> {
+pub fn open_fault(alloc: Global, name: &str, error: OpenError) -> Fault {
     match error {
         OpenError::System(error) => system_fault(alloc, "cannot open", name, error),
-        OpenError::OutOfMemory => Ok(Fault::OutOfMemory),
+        OpenError::OutOfMemory => Fault::OutOfMemory,
     }
 }
 
 /// The fault of a named file that was not created.
-///
-/// # Errors
-/// `OutOfMemory`.
-pub fn create_fault(alloc: Global, name: &str, error: OpenError) -> Result<Fault, Fault> {
+pub fn create_fault(alloc: Global, name: &str, error: OpenError) -> Fault {
     match error {
         OpenError::System(error) => system_fault(alloc, "cannot create", name, error),
-        OpenError::OutOfMemory => Ok(Fault::OutOfMemory),
+        OpenError::OutOfMemory => Fault::OutOfMemory,
     }
 }
 
 /// The fault of the input's line that is refused, where this text is the header and a piece of the input that has so many lines before it,
 /// beside the header.
-///
-/// # Errors
-/// `OutOfMemory`.
 pub fn piece_fault(
     alloc: Global,
     input: Input<'_>,
     text: &[u8],
     before: u64,
     fault: TextError,
-) -> Result<Fault, Fault> {
+) -> Fault {
     let grammar = Grammar::of_trace(line_of_text(text, 1));
     let line = line_of_text(text, fault.line);
     let whole = TextError {
         line: fault.line.saturating_add(before),
         kind: fault.kind,
     };
-    Ok(refused_text(alloc, input, &grammar, line, whole)?)
+    refused_text(alloc, input, &grammar, line, whole).unwrap_or(Fault::OutOfMemory)
 }
 
 /// The fault of this line of the input, which was refused for this: what it is in place of a trace or a script, or else the place, the

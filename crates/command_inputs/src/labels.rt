@@ -112,7 +112,7 @@ fn read_line<R: BufRead>(
 ) -> Result<(), Fault> {
     match reader.by_ref().take(MOST_BYTES).read_until(b'\n', line) {
         Ok(_) => Ok(()),
-        Err(error) => Err(system_fault(alloc, "cannot read", name, error)?),
+        Err(error) => Err(system_fault(alloc, "cannot read", name, error)),
     }
 }
 
@@ -200,10 +200,7 @@ fn label_text(event: u64, rest: Option<&[u8]>, before: u64) -> Result<(u64, &str
 
 // The fault of the line that is refused.
 fn refused(alloc: Global, name: &str, number: u64, line: &[u8], error: LabelError<'_>) -> Fault {
-    match shown_refused(alloc, name, number, line, error) {
-        Ok(fault) => fault,
-        Err(_) => Fault::OutOfMemory,
-    }
+    shown_refused(alloc, name, number, line, error).unwrap_or(Fault::OutOfMemory)
 }
 
 fn shown_refused(

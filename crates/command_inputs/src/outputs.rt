@@ -42,16 +42,16 @@ pub fn check_apart<O: Opener>(
     for output in outputs {
         let name = output.name.as_str();
         if is_same(alloc, files, name, input)? {
-            return Err(written_fault(alloc, name)?);
+            return Err(written_fault(alloc, name));
         }
     }
     Ok(())
 }
 
 // The fault of a file that is read and was to be written.
-pub(crate) fn written_fault(alloc: Global, name: &str) -> Result<Fault, Fault> {
-    let message = format!(in alloc; "'{name}' is read, and can not be written")?;
-    Ok(Fault::usage(alloc, message.as_str())?)
+pub(crate) fn written_fault(alloc: Global, name: &str) -> Fault {
+    let message = format!(in alloc; "'{name}' is read, and can not be written");
+    Fault::usage_of(alloc, message)
 }
 
 // Whether both names are of one file that is there.
@@ -123,7 +123,7 @@ fn write_output<O: Opener>(alloc: Global, files: &O, output: &Output) -> Result<
     let name = output.name.as_str();
     let mut file = match files.create(name, "") {
         Ok(file) => file,
-        Err(error) => return Err(create_fault(alloc, name, error)?),
+        Err(error) => return Err(create_fault(alloc, name, error)),
     };
     let written = match file.write_all(output.text.as_slice()) {
         Ok(()) => file.flush(),
@@ -133,7 +133,7 @@ fn write_output<O: Opener>(alloc: Global, files: &O, output: &Output) -> Result<
         Ok(()) => Ok(()),
         Err(error) => {
             files.remove(name);
-            Err(system_fault(alloc, "cannot write", name, error)?)
+            Err(system_fault(alloc, "cannot write", name, error))
         }
     }
 }

@@ -4,7 +4,7 @@ use crate::fault::Fault;
 use memchr::memchr;
 use pmt_asked::ByteRange;
 use pmt_text::number::{read_address, read_number};
-use std::alloc::{AllocError, Global};
+use std::alloc::Global;
 
 // What a range is.
 const ALLOWED: &str =
@@ -17,7 +17,10 @@ const ALLOWED: &str =
 pub fn asked_range(alloc: Global, option: &str, text: &str) -> Result<ByteRange, Fault> {
     match range_of(text.as_bytes()) {
         Some(range) => Ok(range),
-        None => Err(bad_range(alloc, option, text)?),
+        None => {
+            let message = format!(in alloc; "invalid value '{text}' for '{option}': {ALLOWED}");
+            Err(Fault::usage_of(alloc, message))
+        }
     }
 }
 
@@ -31,10 +34,4 @@ pub(crate) fn range_of(text: &[u8]) -> Option<ByteRange> {
         return None;
     }
     Some(ByteRange { addr, len })
-}
-
-// The usage fault of a wrong range.
-fn bad_range(alloc: Global, option: &str, text: &str) -> Result<Fault, AllocError> {
-    let message = format!(in alloc; "invalid value '{text}' for '{option}': {ALLOWED}")?;
-    Fault::usage(alloc, message.as_str())
 }

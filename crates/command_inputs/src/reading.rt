@@ -20,7 +20,7 @@ pub(crate) fn read_whole<R: Read + Drop>(
     match reader.take(BYTE_LIMIT + 1).read_to_end(&mut bytes) {
         Ok(count) if count as u64 > BYTE_LIMIT => Err(too_long(alloc, name)?),
         Ok(_) => Ok(bytes),
-        Err(error) => Err(system_fault(alloc, "cannot read", name, error)?),
+        Err(error) => Err(system_fault(alloc, "cannot read", name, error)),
     }
 }
 
@@ -32,20 +32,26 @@ fn too_long(alloc: Global, name: &str) -> Result<Fault, AllocError> {
     Ok(Fault::Refused(line))
 }
 
-/// The fault that says what could not be done with what, and the system's reason.
+/// The fault that says what could not be done with what, and the system's reason; `OutOfMemory` where that is the reason, or memory is
+/// refused to it.
+pub fn system_fault(alloc: Global, action: &str, what: &str, error: io::Error) -> Fault {
+    try_system_fault(alloc, action, what, error).unwrap_or(Fault::OutOfMemory)
+}
+
+/// The same.
 ///
 /// # Errors
-/// `OutOfMemory`.
-pub fn system_fault(
+/// Where memory is refused to it.
+pub(crate) fn try_system_fault(
     alloc: Global,
     action: &str,
     what: &str,
     error: io::Error,
-) -> Result<Fault, Fault> {
-    let reason = match reason(alloc, error) {
-        Ok(reason) => reason,
-        Err(fault) => return Ok(fault),
-    };
+) -> Result<Fault, AllocError> {
+    if error.kind() == ErrorKind::OutOfMemory {
+        return Ok(Fault::OutOfMemory);
+    }
+    let reason = reason(alloc, error)?;
     let reason = reason.as_str();
     let line = format!(in alloc; "{action} {what}: {reason}\n")?;
     Ok(Fault::System(line))
@@ -54,13 +60,13 @@ pub fn system_fault(
 /// The system's reason.
 ///
 /// # Errors
-/// `OutOfMemory`, also where that is the reason.
-pub fn reason(alloc: Global, error: io::Error) -> Result<String, Fault> {
+/// `AllocError`, also where that is the reason.
+pub fn reason(alloc: Global, error: io::Error) -> Result<String, AllocError> {
     if error.kind() == ErrorKind::OutOfMemory {
-        return Err(Fault::OutOfMemory);
+        return Err(AllocError);
     }
     let whole = format!(in alloc; "{error}")?;
-    Ok(String::from_str(alloc, reason_of(whole.as_str()))?)
+    String::from_str(alloc, reason_of(whole.as_str()))
 }
 
 // The system's reason without its number.

@@ -8,13 +8,13 @@ use crate::forms::Grammar;
 use crate::input::Input;
 use crate::inputs::{open_fault, refused_text, too_long};
 use crate::opener::{OpenError, Opener};
-use crate::reading::system_fault;
+use crate::reading::try_system_fault;
 use crate::recalling::{Memory, Recalls, counted, uncounted};
 use crate::writing::write_whole;
 use pmt_report::{RecordFault, RunError, run_error};
 use pmt_taking::TakeError;
 use pmt_text::TextError;
-use std::alloc::Global;
+use std::alloc::{AllocError, Global};
 use std::io::{self, Write};
 
 /// The fault, with the reason below its line where the devices recall it.
@@ -38,23 +38,21 @@ pub fn reasoned(
 }
 
 /// The fault of the input whose events were not taken for this, by what its reader recalls: of a refused line its place, its text, and what
-/// is allowed there; of a read that failed the system's reason.
-///
-/// # Errors
-/// `OutOfMemory`.
+/// is allowed there; of a read that failed the system's reason. `OutOfMemory` where memory is refused to it.
 pub fn untaken_fault(
     alloc: Global,
     input: Input<'_>,
     error: TakeError,
     read: Option<&Memory>,
-) -> Result<Fault, Fault> {
+) -> Fault {
     let TakeError::Source(error) = error else {
-        return Ok(Fault::OutOfMemory);
+        return Fault::OutOfMemory;
     };
     let fault = Fault::Run(run_error(error));
-    match reason_of(alloc, &fault, input, read, None)? {
-        Some(reason) => Ok(reason),
-        None => Ok(fault),
+    match reason_of(alloc, &fault, input, read, None) {
+        Ok(Some(reason)) => reason,
+        Ok(None) => fault,
+        Err(_) => Fault::OutOfMemory,
     }
 }
 
@@ -65,7 +63,7 @@ fn reason_of(
     input: Input<'_>,
     read: Option<&Memory>,
     written: Option<&Memory>,
-) -> Result<Option<Fault>, Fault> {
+) -> Result<Option<Fault>, AllocError> {
     match fault {
         Fault::Run(RunError::Text(error)) => refused_trace(alloc, input, read, *error),
         Fault::Run(RunError::TooMany) if read.is_some() => Ok(Some(too_long(alloc, input)?)),
@@ -89,7 +87,7 @@ fn refused_trace(
     input: Input<'_>,
     read: Option<&Memory>,
     error: TextError,
-) -> Result<Option<Fault>, Fault> {
+) -> Result<Option<Fault>, AllocError> {
     let Some(memory) = read else {
         return Ok(None);
     };
@@ -104,7 +102,7 @@ fn refused_script(
     input: Input<'_>,
     read: Option<&Memory>,
     error: TextError,
-) -> Result<Option<Fault>, Fault> {
+) -> Result<Option<Fault>, AllocError> {
     let Some(memory) = read else {
         return Ok(None);
     };
@@ -114,17 +112,21 @@ fn refused_script(
 }
 
 // What is told of a read that failed.
-fn unread(alloc: Global, input: Input<'_>, read: Option<&Memory>) -> Result<Option<Fault>, Fault> {
+fn unread(
+    alloc: Global,
+    input: Input<'_>,
+    read: Option<&Memory>,
+) -> Result<Option<Fault>, AllocError> {
     match error_of(read) {
-        Some(error) => Ok(Some(system_fault(alloc, "cannot read", input.name(), error)?)),
+        Some(error) => Ok(Some(try_system_fault(alloc, "cannot read", input.name(), error)?)),
         None => Ok(None),
     }
 }
 
 // What is told of a write that failed.
-fn unwritten(alloc: Global, written: Option<&Memory>) -> Result<Option<Fault>, Fault> {
+fn unwritten(alloc: Global, written: Option<&Memory>) -> Result<Option<Fault>, AllocError> {
     match error_of(written) {
-        Some(error) => Ok(Some(system_fault(alloc, "cannot write", "the answer", error)?)),
+        Some(error) => Ok(Some(try_system_fault(alloc, "cannot write", "the answer", error)?)),
         None => Ok(None),
     }
 }
@@ -145,22 +147,15 @@ pub fn open_input<O: Opener>(
 ) -> Result<O::Reader, Fault> {
     match files.open(name) {
         Ok(reader) => Ok(reader),
-        Err(error) => Err(not_opened(alloc, name, error, recalls)?),
+        Err(error) => Err(not_opened(alloc, name, error, recalls)),
     }
 }
 
-fn not_opened(
-    alloc: Global,
-    name: &str,
-    error: OpenError,
-    recalls: Recalls,
-) -> Result<Fault, Fault> {
-    match open_fault(alloc, name, error)? {
-        Fault::OutOfMemory => Ok(Fault::OutOfMemory),
-        reason if !matches!(recalls, Recalls::Nothing) => Ok(Fault::File.with_reason(
-            alloc, &reason,
-        )),
-        _ => Ok(Fault::File),
+fn not_opened(alloc: Global, name: &str, error: OpenError, recalls: Recalls) -> Fault {
+    match open_fault(alloc, name, error) {
+        Fault::OutOfMemory => Fault::OutOfMemory,
+        reason if !matches!(recalls, Recalls::Nothing) => Fault::File.with_reason(alloc, &reason),
+        _ => Fault::File,
     }
 }
 

@@ -121,7 +121,7 @@ impl SourceFolder {
                 real,
                 written,
             }),
-            Err(OpenError::System(error)) => Err(system_fault(alloc, "cannot open", given, error)?),
+            Err(OpenError::System(error)) => Err(system_fault(alloc, "cannot open", given, error)),
             Err(OpenError::OutOfMemory) => Err(Fault::OutOfMemory),
         }
     }
@@ -159,7 +159,7 @@ impl SourceFolder {
             return refused(alloc, OUTSIDE);
         }
         if self.is_written(real.as_str()) {
-            return Err(written_fault(alloc, name)?);
+            return Err(written_fault(alloc, name));
         }
         read_real(alloc, files, real.as_str())
     }

@@ -40,6 +40,6 @@ pub fn write_answer<W: Write>(alloc: Global, answer: &[u8], out: &mut W) -> Resu
     match written {
         Ok(()) => Ok(()),
         Err(error) if error.kind() == ErrorKind::BrokenPipe => Ok(()),
-        Err(error) => Err(system_fault(alloc, "cannot write", "the answer", error)?),
+        Err(error) => Err(system_fault(alloc, "cannot write", "the answer", error)),
     }
 }

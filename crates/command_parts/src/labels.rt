@@ -131,7 +131,7 @@ impl<R: Read> LabelFile<'_, R> {
                 self.number = self.number.saturating_add(1);
                 Ok(!self.line.is_empty())
             }
-            Err(error) => Err(piece_error(alloc, self.name, error)?),
+            Err(error) => Err(piece_error(alloc, self.name, error)),
         }
     }
 

@@ -6,14 +6,7 @@ use pmt_parts::{PartError, PieceError, Refusal};
 use std::alloc::Global;
 
 /// The fault of the trace of which no more parts are made for this.
-///
-/// # Errors
-/// `OutOfMemory`.
-pub(crate) fn part_fault(
-    alloc: Global,
-    words: &PartsWords<'_>,
-    error: PartError,
-) -> Result<Fault, Fault> {
+pub(crate) fn part_fault(alloc: Global, words: &PartsWords<'_>, error: PartError) -> Fault {
     let input = input_of(words);
     match error {
         PartError::Read(error) => system_fault(alloc, "cannot read", input.name(), error),
@@ -25,28 +18,28 @@ pub(crate) fn part_fault(
             },
         ) => piece_fault(alloc, input, text.as_slice(), before, fault),
         PartError::TooMany => too_many(alloc, input),
-        PartError::OutOfMemory => Ok(Fault::OutOfMemory),
+        PartError::OutOfMemory => Fault::OutOfMemory,
     }
 }
 
 /// The fault of the input with this name, of which no lines were given for this.
-///
-/// # Errors
-/// `OutOfMemory`.
-pub(crate) fn piece_error(alloc: Global, name: &str, error: PieceError) -> Result<Fault, Fault> {
+pub(crate) fn piece_error(alloc: Global, name: &str, error: PieceError) -> Fault {
     match error {
         PieceError::Read(error) => system_fault(alloc, "cannot read", name, error),
-        PieceError::OutOfMemory => Ok(Fault::OutOfMemory),
+        PieceError::OutOfMemory => Fault::OutOfMemory,
     }
 }
 
 // The fault of events that have no number.
-fn too_many(alloc: Global, input: Input<'_>) -> Result<Fault, Fault> {
+fn too_many(alloc: Global, input: Input<'_>) -> Fault {
     let name = input.name();
     let line = format!(in alloc;
         "{name}: the trace is too long: it has more than 18446744073709551615 events\n"
-    )?;
-    Ok(Fault::Refused(line))
+    );
+    match line {
+        Ok(line) => Fault::Refused(line),
+        Err(_) => Fault::OutOfMemory,
+    }
 }
 
 // What is read for these words.

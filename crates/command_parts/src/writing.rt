@@ -79,9 +79,6 @@ impl<O: Opener, R: Read + Drop> PartTaker for PartFiles<'_, O, R> {
     }
 
     fn fault(&self, alloc: Global, error: PartError) -> Fault {
-        match part_fault(alloc, self.words, error) {
-            Ok(fault) => fault,
-            Err(fault) => fault,
-        }
+        part_fault(alloc, self.words, error)
     }
 }

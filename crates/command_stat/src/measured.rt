@@ -67,7 +67,7 @@ fn explained<T: Threads + Sync, R: Read + Drop>(
         Err(error) => {
             let reader = source.into_input().into_inner();
             let input = Input::new("stat", file);
-            Err(untaken_fault(alloc, input, error, reader.memory())?)
+            Err(untaken_fault(alloc, input, error, reader.memory()))
         }
     }
 }

@@ -2,7 +2,7 @@
 use clap::ArgMatches;
 use command_inputs::Fault;
 use pmt_text::number::read_number;
-use std::alloc::{AllocError, Global};
+use std::alloc::Global;
 
 /// The name of the trace's file; none for standard input.
 pub fn trace_name<'a>(given: &ArgMatches<'a>) -> Option<&'a str> {
@@ -37,7 +37,7 @@ pub fn event_of(
         Some(number) if number > 0 => Ok(Some(number)),
         _ => {
             let allowed = "an event's number: decimal, from 1, without leading zeros";
-            Err(bad_word(alloc, word, shown, allowed)?)
+            Err(bad_word(alloc, word, shown, allowed))
         }
     }
 }
@@ -57,20 +57,12 @@ pub fn number_of(
     };
     match read_number(10, word.as_bytes()) {
         Some(number) => Ok(Some(number)),
-        None => Err(bad_word(alloc, word, shown, "a decimal number without leading zeros")?),
+        None => Err(bad_word(alloc, word, shown, "a decimal number without leading zeros")),
     }
 }
 
 /// The usage fault of an option's wrong value, which says what is allowed.
-///
-/// # Errors
-/// `OutOfMemory`.
-pub fn bad_word(
-    alloc: Global,
-    word: &str,
-    shown: &str,
-    allowed: &str,
-) -> Result<Fault, AllocError> {
-    let message = format!(in alloc; "invalid value '{word}' for '{shown}': {allowed}")?;
-    Fault::usage(alloc, message.as_str())
+pub fn bad_word(alloc: Global, word: &str, shown: &str, allowed: &str) -> Fault {
+    let message = format!(in alloc; "invalid value '{word}' for '{shown}': {allowed}");
+    Fault::usage_of(alloc, message)
 }

@@ -78,7 +78,7 @@ fn asked_line(alloc: Global, word: &str) -> Result<u64, Fault> {
         Some(address) if address < 1 << 48 => Ok(address),
         _ => {
             let allowed = "an address as 0x1000, at most 0xffffffffffff";
-            Err(bad_word(alloc, word, "--line <A>", allowed)?)
+            Err(bad_word(alloc, word, "--line <A>", allowed))
         }
     }
 }
@@ -93,7 +93,7 @@ fn asked_events(alloc: Global, given: &ArgMatches<'_>) -> Result<AskedEvents, Fa
     };
     match events_of(asked) {
         Ok(events) => Ok(events),
-        Err(message) => Err(Fault::usage(alloc, message)?),
+        Err(message) => Err(Fault::usage(alloc, message)),
     }
 }
 

@@ -37,7 +37,7 @@ pub fn choice_of(alloc: Global, given: &ArgMatches<'_>) -> Result<ChoiceWords, F
     let to = event_of(alloc, given, "to", "--to <J>")?;
     let failure = event_of(alloc, given, "failure", "--failure <N>")?;
     if let Some(message) = clash(given, from, to) {
-        return Err(Fault::usage(alloc, message)?);
+        return Err(Fault::usage(alloc, message));
     }
     let is_one_failure = failure.is_some();
     let choice = Choice {
@@ -96,7 +96,7 @@ fn thread_of(alloc: Global, word: Option<&str>) -> Result<Option<u8>, Fault> {
         Some(thread) if thread < 256 => Ok(Some(thread as u8)),
         _ => {
             let allowed = "a thread, from 0 to 255, without leading zeros";
-            Err(bad_word(alloc, text, "--thread <T>", allowed)?)
+            Err(bad_word(alloc, text, "--thread <T>", allowed))
         }
     }
 }
@@ -114,7 +114,7 @@ fn label_of(alloc: Global, word: Option<&str>) -> Result<Option<String>, Fault> 
     match word {
         Some("") => {
             let allowed = "a text that stands in labels";
-            Err(bad_word(alloc, "", "--label <TEXT>", allowed)?)
+            Err(bad_word(alloc, "", "--label <TEXT>", allowed))
         }
         Some(text) => Ok(Some(String::from_str(alloc, text)?)),
         None => Ok(None),

@@ -71,11 +71,11 @@ fn source_of<'a>(alloc: Global, given: &ArgMatches<'a>) -> Result<Option<&'a str
     if given.get_flag("json") {
         let message =
             "'--source' puts source lines into the text or the page, and '--json' has none";
-        return Err(Fault::usage(alloc, message)?);
+        return Err(Fault::usage(alloc, message));
     }
     if given.get_str("labels").is_none() {
         let message = "'--source' wants '--labels', the file that names the source lines of events";
-        return Err(Fault::usage(alloc, message)?);
+        return Err(Fault::usage(alloc, message));
     }
     Ok(Some(folder))
 }
@@ -120,7 +120,7 @@ fn places_of(alloc: Global, given: &ArgMatches<'_>) -> Result<Vec<IgnoredPlace>,
     let words = given.get_strs("ignore-label").unwrap_or(&[]);
     if !words.is_empty() && given.get_str("labels").is_none() {
         let message = "'--ignore-label' wants '--labels', the file that names the events";
-        return Err(Fault::usage(alloc, message)?);
+        return Err(Fault::usage(alloc, message));
     }
     let mut places = Vec::new(alloc);
     for text in words {
@@ -142,7 +142,7 @@ fn asked_limit(alloc: Global, word: Option<&str>, other: usize) -> Result<usize,
         None => {
             let allowed =
                 "a decimal number without leading zeros, or 'all'; 0 shows the summary alone";
-            Err(bad_word(alloc, text, "--limit <N>", allowed)?)
+            Err(bad_word(alloc, text, "--limit <N>", allowed))
         }
     }
 }

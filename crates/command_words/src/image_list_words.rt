@@ -15,7 +15,7 @@ pub fn list_words<'a>(alloc: Global, given: &ArgMatches<'a>) -> Result<ListWords
         return Err(Fault::usage(
             alloc,
             "'--list' stands with '--at', '--off' and '--out' alone",
-        )?);
+        ));
     }
     Ok(ListWords {
         places: places_of(alloc, given)?,
@@ -43,7 +43,7 @@ fn places_of(alloc: Global, given: &ArgMatches<'_>) -> Result<Vec<PlaceRange>, F
         Some(places) => Ok(places),
         None => {
             let allowed = "places and ranges of them, as 12,40-60, decimal without leading zeros";
-            Err(bad_word(alloc, word, "--at <PLACES>", allowed)?)
+            Err(bad_word(alloc, word, "--at <PLACES>", allowed))
         }
     }
 }

@@ -69,7 +69,7 @@ pub fn image_request<'a>(alloc: Global, given: &ArgMatches<'a>) -> Result<ImageR
         return Ok(ImageRequest::List(list_words(alloc, given)?));
     }
     if given.get_str("off").is_some() {
-        return Err(Fault::usage(alloc, "'--off' stands with '--list'")?);
+        return Err(Fault::usage(alloc, "'--off' stands with '--list'"));
     }
     Ok(ImageRequest::Pool(image_words(alloc, given)?))
 }
@@ -85,13 +85,13 @@ fn image_words<'a>(alloc: Global, given: &ArgMatches<'a>) -> Result<ImageWords<'
         file: trace_name(given),
     };
     if words.pool.is_some() != words.origin.is_some() {
-        return Err(Fault::usage(alloc, "'--pool' and '--origin' stand together")?);
+        return Err(Fault::usage(alloc, "'--pool' and '--origin' stand together"));
     }
     if words.pool.is_none() && words.file.is_none() {
         return Err(Fault::usage(
             alloc,
             "a trace from standard input has no pool beside it: name it by '--pool' and '--origin'",
-        )?);
+        ));
     }
     Ok(words)
 }
@@ -104,9 +104,9 @@ fn crash_of(alloc: Global, given: &ArgMatches<'_>) -> Result<AskedCrash, Fault> 
     let lines = lines_of(alloc, given)?;
     match (failure, place) {
         (Some(number), None) if !all && lines.is_empty() => Ok(AskedCrash::Failure(number)),
-        (Some(_), None) => Err(Fault::usage(alloc, "'--all' and '--line' stand with '--at'")?),
+        (Some(_), None) => Err(Fault::usage(alloc, "'--all' and '--line' stand with '--at'")),
         (None, Some(place)) => Ok(AskedCrash::At { place, all, lines }),
-        _ => Err(Fault::usage(alloc, "one of '--failure' and '--at' says which crash")?),
+        _ => Err(Fault::usage(alloc, "one of '--failure' and '--at' says which crash")),
     }
 }
 
@@ -132,7 +132,7 @@ fn line_of_word(alloc: Global, word: &str) -> Result<AddressStores, Fault> {
             word,
             "--line <A:K>",
             "an address and how many stores, as 0x1000:2",
-        )?),
+        )),
     }
 }
 
@@ -148,6 +148,6 @@ fn origin_of(alloc: Global, given: &ArgMatches<'_>) -> Result<Option<u64>, Fault
             word,
             "--origin <A>",
             "an address as 0x1000, at most 0xffffffffffff",
-        )?),
+        )),
     }
 }

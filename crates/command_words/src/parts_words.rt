@@ -67,7 +67,7 @@ fn events_of(alloc: Global, given: &ArgMatches<'_>) -> Result<u64, Fault> {
         Some(events) if events >= 1 && events <= MOST_EVENTS => Ok(events),
         Some(_) => {
             let word = given.get_str("events").unwrap_or("");
-            Err(bad_word(alloc, word, "--events <N>", "a number from 1 to 1000000")?)
+            Err(bad_word(alloc, word, "--events <N>", "a number from 1 to 1000000"))
         }
     }
 }
@@ -79,7 +79,7 @@ fn overlap_of(alloc: Global, given: &ArgMatches<'_>, events: u64) -> Result<u64,
         Some(overlap) if overlap <= events.saturating_sub(1) / 2 => Ok(overlap),
         Some(_) => {
             let word = given.get_str("overlap").unwrap_or("");
-            Err(bad_word(alloc, word, "--overlap <N>", "less than half of --events")?)
+            Err(bad_word(alloc, word, "--overlap <N>", "less than half of --events"))
         }
     }
 }

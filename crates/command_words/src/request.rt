@@ -94,7 +94,7 @@ fn limit_of(alloc: Global, given: &ArgMatches<'_>) -> Result<Option<u64>, Fault>
         Some(limit) => Ok(Some(limit)),
         None => {
             let allowed = "a decimal number without leading zeros, or 'all'";
-            Err(bad_word(alloc, word, "--limit <N>", allowed)?)
+            Err(bad_word(alloc, word, "--limit <N>", allowed))
         }
     }
 }
@@ -107,7 +107,7 @@ fn trim<'a>(alloc: Global, given: &ArgMatches<'a>) -> Result<Request<'a>, Fault>
     if words.out.is_some() {
         let message =
             "'--stream' writes to standard output while it reads; a file of '--out' is written whole";
-        return Err(Fault::usage(alloc, message)?);
+        return Err(Fault::usage(alloc, message));
     }
     Ok(Request::Stream(words))
 }
@@ -141,7 +141,7 @@ fn fronts<'a>(alloc: Global, given: &ArgMatches<'a>) -> Result<Request<'a>, Faul
         })),
         None => {
             let allowed = "a decimal number without leading zeros, at most 18446744073709551615";
-            Err(bad_word(alloc, text, "<PLACE>", allowed)?)
+            Err(bad_word(alloc, text, "<PLACE>", allowed))
         }
     }
 }
@@ -157,7 +157,7 @@ fn place_of(text: &str) -> Option<u64> {
 fn record<'a>(alloc: Global, given: &ArgMatches<'a>) -> Result<Request<'a>, Fault> {
     let names = given.get_strs("SCRIPT").unwrap_or(&[]);
     if names.len() > 256 {
-        return Err(Fault::usage(alloc, "more than 256 scripts")?);
+        return Err(Fault::usage(alloc, "more than 256 scripts"));
     }
     let mut scripts = Vec::new(alloc);
     scripts.extend_from_slice(names)?;

@@ -48,7 +48,7 @@ pub fn slice_words<'a>(alloc: Global, given: &ArgMatches<'a>) -> Result<SliceWor
         return Err(Fault::usage(
             alloc,
             "'--labels' stands with '--out': the labels are written beside that file",
-        )?);
+        ));
     }
     Ok(words)
 }
@@ -63,6 +63,6 @@ fn slice_subject<'a>(alloc: Global, given: &ArgMatches<'a>) -> Result<SliceSubje
         (None, None) | (Some(_), Some(_)) => Err(Fault::usage(
             alloc,
             "a slice is of '--failure <N>' or of '--store <N>': name one of them",
-        )?),
+        )),
     }
 }

@@ -5,7 +5,7 @@ ghost use Rattle.pmt_recorder.specs.Scripts.{IsRecorded};
 ghost use Rattle.pmtrim.specs.Commands.{IsTextOfRecorded, Records};
 
 use command_inputs::{Fault, Input, Opener, Recalls, counted, open_input, reasoned, write_output};
-use pmt_model::{NoGate, Op, OutOfMemory, Trace};
+use pmt_model::{NoGate, Op, Trace};
 use pmt_recorder::{RecordError, record_scripts};
 use pmt_report::RecordFault;
 use pmt_text::{SourceError, read_script_from, write_trace};
@@ -113,18 +113,18 @@ where
     let alloc = rt.alloc();
     match record_scripts(rt, alloc, &NoGate, scripts) {
         Ok(trace) => Ok(trace),
-        Err(error) => Err(record_fault(alloc, error)?),
+        Err(error) => Err(record_fault(alloc, error)),
     }
 }
 
 // What is told where the recording ended with this.
-fn record_fault(alloc: Global, error: RecordError) -> Result<Fault, OutOfMemory> {
+fn record_fault(alloc: Global, error: RecordError) -> Fault {
     match error {
         RecordError::BadCount => Fault::usage(alloc, "1 to 256 scripts are recorded"),
-        RecordError::NotInFormat { .. } | RecordError::Full { .. } => Ok(Fault::Record(
-            RecordFault::Full,
-        )),
-        RecordError::OutOfMemory => Ok(Fault::OutOfMemory),
-        RecordError::Torn { recorder } => Ok(Fault::Record(RecordFault::Torn { recorder })),
+        RecordError::NotInFormat { .. } | RecordError::Full { .. } => {
+            Fault::Record(RecordFault::Full)
+        }
+        RecordError::OutOfMemory => Fault::OutOfMemory,
+        RecordError::Torn { recorder } => Fault::Record(RecordFault::Torn { recorder }),
     }
 }
