@@ -70,20 +70,30 @@ impl Foreign {
     }
 }
 
+// With what files begin that are no text, or not the one that is wanted.
+const STARTS: &[(&[u8], Foreign)] = &[
+    (b"\x1f\x8b", Foreign::Gzip),
+    (b"\x28\xb5\x2f\xfd", Foreign::Zstd),
+    (b"\xfd7zXZ", Foreign::Xz),
+    (b"BZh", Foreign::Bzip2),
+    (b"\xef\xbb\xbf", Foreign::Marked),
+    (b"\xff\xfe", Foreign::Utf16),
+    (b"\xfe\xff", Foreign::Utf16),
+    (b"\x7fELF", Foreign::Program),
+    (b"#!", Foreign::Interpreted),
+];
+
 /// What a file is whose first line this is; none where that is not known.
 pub(crate) fn foreign_of(first: &[u8]) -> Option<Foreign> {
-    match first {
-        [0x1f, 0x8b, ..] => Some(Foreign::Gzip),
-        [0x28, 0xb5, 0x2f, 0xfd, ..] => Some(Foreign::Zstd),
-        [0xfd, b'7', b'z', b'X', b'Z', ..] => Some(Foreign::Xz),
-        [b'B', b'Z', b'h', ..] => Some(Foreign::Bzip2),
-        [0xef, 0xbb, 0xbf, ..] => Some(Foreign::Marked),
-        [0xff, 0xfe, ..] | [0xfe, 0xff, ..] => Some(Foreign::Utf16),
-        [0x7f, b'E', b'L', b'F', ..] => Some(Foreign::Program),
-        [b'#', b'!', ..] => Some(Foreign::Interpreted),
-        _ if first.contains(&0) => Some(Foreign::Binary),
-        _ => None,
+    for (start, foreign) in STARTS {
+        if first.starts_with(start) {
+            return Some(*foreign);
+        }
     }
+    if first.contains(&0) {
+        return Some(Foreign::Binary);
+    }
+    None
 }
 
 /// The fault of an input that is this: `NAME:1: WHAT`, and a hint with the command that does what it wants.
