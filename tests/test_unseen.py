@@ -8,7 +8,7 @@ from recording import events_of
 from running import run
 
 SOURCE = TOP / "tests/recorders/unseen/unseen.c"
-MARK = "0 the run was killed, or is not over: what came after the last event is missing\n"
+MARK = "0 the run was killed, or is not over: later events are missing, and what else is was not counted\n"
 
 
 class Unseen(Recorded):

@@ -203,6 +203,7 @@ class Valgrind(Recorded):
             self.expect(f"{case}: its children's", found == sorted(saved(words) for words in others), f"{found} {faults}")
             trace, _, _, faults = self.record(f"alone.{case}", [program, case, pool])
             self.expect(f"{case}: alone", text_of(trace) == saved(own), text_of(trace))
+            self.is_cut(f"{case}: alone", trace, "3 the program became another one here\n" if case == "becomes" else None)
             told = "becomes another one, which is not recorded" if case == "becomes" else "child processes (--trace-children yes records them): 1"
             self.expect(f"{case}: told", told in faults, faults)
             unseen = "3 events of a child process are not recorded" in faults

@@ -35,6 +35,9 @@ class Places(Recorded):
             self.expect(f"room of {room} bytes: told", right and "events after the end of the trace: 3; no event could be written\n" in told, told)
             unwritten = f"{trace}.cut can't be written: there is no room for it\n" in told
             self.expect(f"room of {room} bytes: what is not written", unwritten == (cut == "") and "labels" not in told, told)
+        status, told = self.record_at(self.folder / "full.one", "--one-trace", self.ends, "saves", self.pool, preexec_fn=limit, restore_signals=False)
+        right = told.endswith("full.one.shared, which the processes of one trace share: File too large\n")
+        self.expect("one trace of processes: nothing is left", (status, right, list(self.folder.glob("full.one*"))) == (2, True, []), told)
 
     def test_files_that_are_no_traces_stay(self):
         """A file that is no trace is not overwritten, by its first words; one that is empty, and an older trace, are."""

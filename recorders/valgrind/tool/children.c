@@ -104,6 +104,10 @@ static void tell_of_32_bits(const HChar *path) {
         VG_(printf)("pmtrim-record: %s is a program of 32 bits, which can't be recorded, and does not run\n", path);
 }
 
+Bool becomes_another(void) {
+    return told_of_execution;
+}
+
 void execution_failed(void) {
     take_process_turn();
     if (told_of_execution) {

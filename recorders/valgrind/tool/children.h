@@ -24,6 +24,7 @@ const HChar *from_folder(const HChar *path);
 /* Told before the program asks to become another one, of which the path is known or NULL, and where the system refuses that. */
 void before_execution(const HChar *path);
 void execution_failed(void);
+Bool becomes_another(void); /* between these */
 
 /* Told after a fork, in the parent and in the child. */
 void in_parent(ThreadId thread);

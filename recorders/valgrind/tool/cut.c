@@ -47,7 +47,7 @@ static Bool is_in_folder(void) {
 void begin_cut(const HChar *trace) {
     name_cut(trace);
     if (is_in_folder())
-        write_line(0, "the run was killed, or is not over: what came after the last event is missing");
+        write_line(0, "the run was killed, or is not over: later events are missing, and what else is was not counted");
 }
 
 void write_cut(ULong events, const HChar *why) {

@@ -4,7 +4,7 @@
 
 #include "core.h"
 
-/* What is missing by it: bytes that may have been stored, or made safe; fences alone; or nothing of the pools that the trace has. */
+/* What is missing by it: bytes that may have been stored, or made safe; fences alone; or nothing by which a verdict could change. */
 typedef enum { BYTES, FENCES, OTHERS } MissingKind;
 
 typedef struct {

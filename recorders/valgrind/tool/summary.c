@@ -106,6 +106,8 @@ static void say_cut(void) {
         write_cut(0, why_empty());
     else if (recording == AFTER_WINDOW && event_counts.after > 0)
         write_cut(event_count(), "the window was closed here, and events came after it");
+    else if (becomes_another())
+        write_cut(event_count(), "the program became another one here");
     else
         end_cut();
 }
