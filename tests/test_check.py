@@ -1,7 +1,8 @@
-"""What `check` writes with --labels, --limit and --quiet; without them its answer is fixed, and tests/test_answers.py compares it."""
+"""What `check` writes with --labels, --limit and --quiet; without them its answer is fixed, and tests/test_answers.py compares it. And what it
+and `explain` say of a trace that lacks something, by the files beside it."""
 import subprocess
 
-from checks import Checks
+from checks import Checks, add_tests
 
 TRACE = (
     "pmtrace 1\nstore 0 0x1000 01\nstore 0 0x1000 02\nclwb 0 0x1000\nsfence 1\nisPersist 0 0x1000 1\n"
@@ -19,6 +20,20 @@ ENTRIES = (
     ("ordered 6 pass", ""),
     ("redundant-flush 7", " at a.c:7"),
 )
+UNSEEN = "Not all that the recorder saw is in the trace:\n"
+# What stands beside a trace: the file's ending and text, what is told first of it, whether what is never persisted is known to be lost, and
+# whether the verdicts are known.
+BESIDE = {
+    "cut": ("cut", "7 a full disk\n", "The trace was cut after event 7: a full disk\n", False, True),
+    "killed": ("cut", "0 the run was killed\n", "The trace was cut: the run was killed\n", False, True),
+    "no room": ("cut", "", "The trace was cut\n", False, True),
+    "bytes": ("missing", "others 2 flushes\nbytes 3 children\n", f"{UNSEEN}  others 2 flushes\n  bytes 3 children\nBytes of the pools may ", False, False),
+    "fences": ("missing", "fences 1 locks", f"{UNSEEN}  fences 1 locks\nFences may have come so: what passes is true, ", True, True),
+    "others": ("missing", "others 2 flushes\n", f"{UNSEEN}  others 2 flushes\n\n", True, True),
+    "nothing known": ("missing", "", f"{UNSEEN}Bytes of the pools may ", False, False),
+}
+WRONG = ("bytes", "bytes 1", "bytes 1 ", "bytes 0 x", "bytes 01 x", "byte 1 x", " bytes 1 x", "bytes 1 x\x01", "bytes 1 x\r\n")
+LOST, CLAIM = "pmtrace 1\nstore 0 0x1000 01\n", "isPersist 0 0x1000 1\n"
 SAVED = "pmtrace 1\nstore 0 0x1000 01\nclwb 0 0x1000\nsfence 0\n"
 
 
@@ -38,8 +53,8 @@ class Check(Checks):
         (self.folder / "saved").write_text(SAVED)
         (self.folder / "l").write_text(LABELS)
 
-    def told(self, *words, text=""):
-        done = subprocess.run([self.program, "check", *words], input=text, capture_output=True, text=True, cwd=self.folder, timeout=60)
+    def told(self, *words, text="", command="check"):
+        done = subprocess.run([self.program, command, *words], input=text, capture_output=True, text=True, cwd=self.folder, timeout=60)
         return done.returncode, done.stdout, done.stderr
 
     def test_plain(self):
@@ -63,6 +78,27 @@ class Check(Checks):
             status, out, fault = self.told(f"--limit={word}", "t")
             self.expect(f"limit {word!r}", (status, out) == (2, "") and f"'{word}'" in fault, fault)
 
+    def tells_first(self, row):
+        """Of a store that is lost, and a claim that passes: what is not known of them. The report and status of check are fixed."""
+        ending, text, head, knows_losses, knows_verdicts = row
+        (self.folder / f"t.{ending}").write_text(text)
+        status, out, told = self.told("t")
+        self.expect("check", (status, out) == (1, report(labels=False)) and told.startswith(head) and told.endswith("\n\n"), told)
+        self.expect_equal("check -q", self.told("-q", "t"), (1, "", told))
+        self.expect_equal("by standard input", self.told(text=TRACE), (1, report(labels=False), ""))
+        for name, trace, wanted in (("lost", LOST, knows_losses), ("saved", SAVED + CLAIM, False)):
+            (self.folder / "t").write_text(trace)
+            status, out, fault = self.told("t", command="explain")
+            self.expect_equal(f"explain, {name}", (status, out.startswith(told), fault), (int(wanted), True, ""))
+        self.expect_equal("the answer", "Nothing that is claimed can be lost: " in out, knows_verdicts)
+
+    def test_wrong_lines_beside(self):
+        for line in WRONG:
+            (self.folder / "t.missing").write_text(f"others 1 x\n{line}")
+            for command in ("check", "explain"):
+                status, out, fault = self.told("t", command=command)
+                self.expect(f"{command}, {line!r}", (status, out) == (3, "") and fault.startswith("t.missing:2: the line does not say what is missing\n"), fault)
+
     def test_quiet(self):
         for words in (["--quiet"], ["-q"], ["-q", "--labels", "l", "--limit", "1"], ["-q", "-j", "2"]):
             self.expect_equal(f"{words}", self.told(*words, "t"), (1, "", ""))
@@ -73,3 +109,6 @@ class Check(Checks):
             self.expect_equal(f"{words} of a refused trace", self.told(*words, "bad"), (3, "", "trace line 2: out-of-range\n"))
             reason = "bad:2: the thread '256' is out of range\n    sfence 256\na thread is a decimal number from 0 to 255, without leading zeros\n"
             self.expect_equal(f"{words} -v", self.told(*words, "-v", "bad"), (3, "", f"trace line 2: out-of-range\n{reason}"))
+
+
+add_tests(Check, Check.tells_first, BESIDE)

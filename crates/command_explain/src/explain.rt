@@ -7,11 +7,11 @@ use crate::page_of;
 use crate::sources::sources_of;
 use crate::taking::{Taken, taken_of};
 use command_inputs::{
-    Doing, Fault, Opener, Watch, cut_of, labels_of, no_failure, read_file, read_ignored,
-    write_named,
+    Doing, Fault, Lacking, Opener, Watch, labels_of, lacking_of, no_failure, read_file,
+    read_ignored, write_named,
 };
 use command_requests::{Color, ExplainWords, Form};
-use pmt_asked::{Cut, Labels};
+use pmt_asked::Labels;
 use pmt_explain_json::json_text;
 use pmt_explain_run::explained;
 use pmt_explain_text::{Screen, source_places, text};
@@ -55,10 +55,10 @@ where
     let labels = labels_of(alloc, files, words.labels)?;
     watch.tell(Doing::Waiting);
     let taken = taken_of(alloc, files, words, input, watch)?;
-    let cut = cut_of(alloc, files, words.file)?;
+    let lacking = lacking_of(alloc, files, words.file)?;
     let known = Known {
         labels,
-        cut,
+        lacking,
         colors: is_colored(words, colors),
     };
     explain_taken(rt, alloc, files, words, &known, taken, out, watch)
@@ -86,8 +86,8 @@ fn add_ignored<O: Opener>(
 struct Known {
     // The labels of its events.
     labels: Labels,
-    // Where and why it was cut, if it was.
-    cut: Option<Cut>,
+    // What it lacks.
+    lacking: Lacking,
     // Whether the text for people has colors.
     colors: bool,
 }
@@ -144,7 +144,7 @@ fn tell<O: Opener, W: Write, P: Watch>(
 {
     judge_failure(alloc, explanation, words.failure)?;
     watch.tell(writing(words.form));
-    let status = if has_failed(explanation, known.cut.is_some()) {
+    let status = if has_failed(explanation, !known.lacking.knows_losses) {
         1
     } else {
         0
@@ -260,7 +260,9 @@ fn people_text(
         ignored: &words.options.ignored,
         trace: words.file,
         labels: words.labels,
-        cut: known.cut.as_ref(),
+        lacking: known.lacking.told.as_str(),
+        knows_verdicts: known.lacking.knows_verdicts,
+        knows_losses: known.lacking.knows_losses,
         sources,
     };
     text(alloc, explanation, &known.labels, &screen)

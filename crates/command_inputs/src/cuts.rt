@@ -28,19 +28,23 @@ pub fn cut_of<O: Opener>(
         return Ok(None);
     };
     let name = format!(in alloc; "{file}.cut")?;
-    if !stands(alloc, files, name.as_str())? {
+    let Some(bytes) = read_standing(alloc, files, name.as_str())? else {
         return Ok(None);
-    }
-    let bytes = read_file(alloc, files, name.as_str())?;
+    };
     let cut = read_cut(alloc, name.as_str(), bytes.as_slice())?;
     Ok(Some(cut))
 }
 
-// Whether there is a file with this name.
-fn stands<O: Opener>(alloc: Global, files: &O, name: &str) -> Result<bool, Fault> {
+// The bytes of the file with this name, if there is one.
+pub(crate) fn read_standing<O: Opener>(
+    alloc: Global,
+    files: &O,
+    name: &str,
+) -> Result<Option<Vec<u8>>, Fault> {
     match files.size(name) {
-        Ok(size) => Ok(size.is_some()),
-        Err(OpenError::System(error)) if is_absent(error.kind()) => Ok(false),
+        Ok(Some(_)) => Ok(Some(read_file(alloc, files, name)?)),
+        Ok(None) => Ok(None),
+        Err(OpenError::System(error)) if is_absent(error.kind()) => Ok(None),
         Err(error) => Err(open_fault(alloc, name, error)),
     }
 }
@@ -64,7 +68,7 @@ fn read_cut(alloc: Global, name: &str, text: &[u8]) -> Result<Cut, Fault> {
     };
     match judged(line) {
         Some((event, why)) => Ok(Cut {
-            event: Some(event),
+            event: if event == 0 { None } else { Some(event) },
             why: String::from_str(alloc, why)?,
         }),
         None => Err(refused(alloc, name, line)?),

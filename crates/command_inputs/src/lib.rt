@@ -12,6 +12,7 @@ mod ignoring;
 mod input;
 mod inputs;
 mod labels;
+mod lacking;
 mod opener;
 mod origin;
 mod outputs;
@@ -36,6 +37,7 @@ pub use crate::inputs::{
     create_fault, labels_of, open_fault, opened, piece_fault, read_file, trace_of,
 };
 pub use crate::labels::label_of;
+pub use crate::lacking::{Lacking, lacking_of};
 pub use crate::opener::{OpenError, Opener, SystemFiles};
 pub use crate::origin::read_origin;
 pub use crate::outputs::{Output, check_apart, remove_all, write_named, write_outputs};

@@ -24,7 +24,7 @@ pub(crate) fn cut_text(
     let Some(cut) = whole else {
         return Ok(None);
     };
-    if cut.event.is_none() {
+    if cut.event.is_none() && cut.why.is_empty() {
         return Ok(Some(Vec::new(alloc)));
     }
     let why = cut.why.as_str();

@@ -7,7 +7,7 @@ use pmt_pen::Pen;
 use pmt_telling::{Telling, push_wrapped, tells_all};
 
 // Adds whether a crash can lose what is claimed, or at the end what was stored. Nothing if a part is asked for, or nothing was stored, or
-// the trace was cut and only stores that are not saved by then could be told.
+// the trace lacks so much that this is not known.
 pub(crate) fn push_answer(pen: &mut Pen, told: &Telling<'_>, counts: &Summary) {
     if !may_answer(told, counts) {
         return;
@@ -16,7 +16,7 @@ pub(crate) fn push_answer(pen: &mut Pen, told: &Telling<'_>, counts: &Summary) {
     if counts.failing > 0 {
         push_broken(&mut words, told, counts);
     } else if counts.never_persisted > 0 {
-        if told.screen.cut.is_some() {
+        if !told.screen.knows_losses {
             return;
         }
         push_lost(&mut words, counts);
@@ -26,9 +26,9 @@ pub(crate) fn push_answer(pen: &mut Pen, told: &Telling<'_>, counts: &Summary) {
     push_wrapped(pen, &words, 0);
 }
 
-// Whether all is told of a trace with a store.
+// Whether all is told of a trace with a store, the verdicts of which are known.
 fn may_answer(told: &Telling<'_>, counts: &Summary) -> bool {
-    counts.stores > 0 && tells_all(told.screen.choice)
+    counts.stores > 0 && tells_all(told.screen.choice) && told.screen.knows_verdicts
 }
 
 // Whether the answer names the first hint: it does if nothing is lost, neither what is claimed nor what is stored.
@@ -51,7 +51,7 @@ fn push_broken(pen: &mut Pen, told: &Telling<'_>, counts: &Summary) {
         pen.put("crashes that the model allows violate ");
         push_share(pen, counts.failing, counts.assertions, "assertions");
     }
-    if counts.never_persisted > 0 && told.screen.cut.is_none() {
+    if counts.never_persisted > 0 && told.screen.knows_losses {
         pen.put(", and a crash at the end of the trace can lose ");
         push_part(pen, counts);
     }

@@ -2,7 +2,7 @@
 
 use crate::answer::push_answer;
 use crate::ignored::push_ignored;
-use crate::unknown::{push_cut, push_unknown};
+use crate::unknown::push_unknown;
 use pmt_asked::Choice;
 use pmt_causes::AssertionKind;
 use pmt_explanation::{Summary, per_cent};
@@ -11,7 +11,7 @@ use pmt_telling::{Telling, failure_of, is_unflushed, push_count};
 
 // Adds the answer, the counts, and what the words mean.
 pub(crate) fn push_summary(pen: &mut Pen, told: &Telling<'_>, counts: &Summary) {
-    push_cut(pen, told);
+    pen.put(told.screen.lacking);
     push_answer(pen, told, counts);
     push_counts(pen, told, counts);
     push_ignored(pen, told, counts);

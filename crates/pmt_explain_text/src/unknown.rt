@@ -2,29 +2,6 @@
 
 use pmt_explanation::Summary;
 use pmt_pen::Pen;
-use pmt_telling::Telling;
-
-// Adds that the trace was cut, if it was.
-pub(crate) fn push_cut(pen: &mut Pen, told: &Telling<'_>) {
-    let Some(cut) = told.screen.cut else {
-        return;
-    };
-    pen.put("The trace was cut");
-    if let Some(event) = cut.event {
-        pen.fill(" after event #", &[event]);
-    }
-    if !cut.why.is_empty() {
-        pen.put(": ");
-        pen.put(cut.why.as_str());
-    }
-    pen.put(CUT);
-}
-
-const CUT: &str = "
-What it lacks at its end may have come later: a store that is never persisted here may be saved, and
-gives no status 1.
-
-";
 
 // Adds what the trace lacks, so that nothing is known of it, and what no trace tells.
 pub(crate) fn push_unknown(pen: &mut Pen, counts: &Summary) {

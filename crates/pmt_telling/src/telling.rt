@@ -1,6 +1,6 @@
 //! What each part of the text for people is told of.
 
-use pmt_asked::{Choice, Cut, Ignored, Kind, Labels};
+use pmt_asked::{Choice, Ignored, Kind, Labels};
 use pmt_explanation::Explanation;
 use pmt_model::{Op, Trace, line_of};
 use pmt_sources::Sources;
@@ -19,8 +19,12 @@ pub struct Screen<'a> {
     pub trace: Option<&'a str>,
     /// The file of the labels, if there is one.
     pub labels: Option<&'a str>,
-    /// Where and why the trace was cut, if it was.
-    pub cut: Option<&'a Cut>,
+    /// What the trace lacks of its run, as lines of which the last one is empty; no byte where that is nothing.
+    pub lacking: &'a str,
+    /// Whether the verdicts of claims in the trace are those that they have in the run.
+    pub knows_verdicts: bool,
+    /// Whether the stores that are never persisted in the trace are so in the run.
+    pub knows_losses: bool,
     /// What was read of source files, if a folder of them was named.
     pub sources: Option<&'a Sources<'a>>,
 }

@@ -11,11 +11,14 @@ use crate::tips::with_tip;
 use crate::trim::{stream, trim};
 use command_crash::{run_image, run_list, run_slice};
 use command_explain::{draw, run_explain};
-use command_inputs::{Fault, Opener, Recalls, Unwatched, Watch, write_answer, write_named};
+use command_inputs::{
+    Fault, Opener, Recalls, Unwatched, Watch, lacking_of, write_answer, write_named,
+};
 use command_parts::run_parts;
 use command_requests::Request;
 use command_stat::run_stat;
 use command_words::request_of;
+use std::alloc::Global;
 use std::convert::AsStr;
 use std::io::{Read, Write};
 use std::sync::Wait;
@@ -79,7 +82,10 @@ where
     let alloc = rt.alloc();
     let mut input = input;
     let done = match request_of(alloc, words) {
-        Ok(mut request) => answer(rt, &mut request, files, &mut input, out, terminals, watch),
+        Ok(mut request) => match tell_lacking(alloc, &request, files, faults) {
+            Ok(()) => answer(rt, &mut request, files, &mut input, out, terminals, watch),
+            Err(fault) => Err(fault),
+        },
         Err(fault) => Err(with_tip(alloc, files, words, fault)),
     };
     watch.end();
@@ -87,6 +93,20 @@ where
         Ok(status) => status,
         Err(fault) => fault.tell(alloc, faults),
     }
+}
+
+// Tells what a trace lacks whose report has no room for that.
+fn tell_lacking<O: Opener, F: Write>(
+    alloc: Global,
+    request: &Request<'_>,
+    files: &O,
+    faults: &mut F,
+) -> Result<(), Fault> {
+    if let Request::Check(words) = request {
+        let lacking = lacking_of(alloc, files, words.trace.file)?;
+        let _told = faults.write_all(lacking.told.as_bytes());
+    }
+    Ok(())
 }
 
 // Answers to the file that is to be written, or to `out`.
