@@ -15,7 +15,7 @@ from sarif_types import sarif_schema
 from schemas import complaints
 from suites import CLEAN, KNOWN_BUGS, NEW_BUG, RIGHT, SUITE, Programs, counting_pmtrim, files_in, ids_of, put_run, put_save, report_of, rows_of, suite
 
-sys.path.insert(0, str(TOP / "suite/lib"))
+sys.path[:0] = [str(TOP / "suite/lib"), str(TOP / "replay/lib")]
 from functions import spans_of  # noqa: E402  (the folder is known only now)
 from labels import Places  # noqa: E402
 

@@ -1,31 +1,20 @@
 """The program pmtrim, whose answers are proved: fronts, and images."""
 import os
 import re
-import shutil
-import signal
 import subprocess
 import tempfile
 
 from crashes import read_crash
 from faults import FILE_FAULT, WRONG_WORDS, Fault, of_file
 from pools import write_own_trace
+from programs import SIGNALS
 
-CODES = {number.value: number.name for number in signal.Signals}
 FRONT = re.compile(r"line 0x([0-9a-f]+) front (\d+) count (\d+)")
 
 
 def how_it_ended(code):
     """A status, or the signal by which a program died."""
-    return f"status {code}" if code >= 0 else f"died by {CODES.get(-code, f'signal {-code}')}"
-
-
-def find_program(here):
-    """The program that PMTRIM names, or that stands beside this one, in its repository, or on the way of commands."""
-    named = os.environ.get("PMTRIM")
-    for path in [named] if named else [here / "pmtrim", here.parent / "crates/pmtrim/out/pmtrim", shutil.which("pmtrim")]:
-        if path and os.access(path, os.X_OK) and not os.path.isdir(path):
-            return str(path)
-    raise Fault(FILE_FAULT, f"{named or 'pmtrim'}: there is no such program: PMTRIM in the environment names it, or ./pmtrim --prove builds it")
+    return f"status {code}" if code >= 0 else f"died by {SIGNALS.get(-code, f'signal {-code}')}"
 
 
 class Commands:

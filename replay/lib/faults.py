@@ -1,10 +1,10 @@
-"""What ends a run before its end, and with which status."""
+"""What ends a program before its end, and with which status."""
 
-WRONG_WORDS, REFUSED, FILE_FAULT, DISAGREEMENT = 2, 3, 4, 6
+NEW, WRONG_WORDS, REFUSED, FILE_FAULT, NO_MEMORY, DISAGREEMENT = 1, 2, 3, 4, 5, 6
 
 
 class Fault(Exception):
-    """A fault that is told in one line, and ends the run with a status."""
+    """A fault that is told in one line, with the status that it gives the program."""
 
     def __init__(self, status, text):
         super().__init__(text)

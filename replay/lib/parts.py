@@ -7,10 +7,11 @@ import subprocess
 import tempfile
 from typing import NamedTuple
 
-from commands import Commands, ImageMaker, find_program
+from commands import Commands, ImageMaker
 from crashes import Crash
 from faults import FILE_FAULT, REFUSED, WRONG_WORDS, Fault, of_file
 from pools import MADE_BY, check_stores, find_pools
+from programs import find_pmtrim
 from trace import Trace
 
 NAME = re.compile(r"(?P<prefix>.*)\.(?P<number>\d{4,})\.trace", re.S)
@@ -124,7 +125,7 @@ def make_base(path, here, processes):
     try:
         folder = pathlib.Path(tempfile.mkdtemp(prefix=".pmtrim-base.", dir=os.path.dirname(path) or "."))
         try:
-            stem, part = BaseMaker(find_program(here), processes).make(path, folder)
+            stem, part = BaseMaker(find_pmtrim(here), processes).make(path, folder)
             endings = base_files(stem)
             for ending in endings:
                 copy_sparse(f"{stem}{ending}", folder / f"made{ending}")

@@ -11,15 +11,17 @@ import threading
 import time
 
 from checks import Checker
-from commands import Commands, ImageMaker, find_program
+from commands import Commands, ImageMaker
 from faults import DISAGREEMENT, FILE_FAULT, WRONG_WORDS, Fault, of_file
 from foreseen import Memory
 from parts import make_base
 from pools import check_stores, find_pools
 from processes import Ended, Processes, Stopped
+from programs import find_pmtrim
+from progress import Progress
 from results import KeptResults, Results, identity_of, remove_tree
 from screen import shown
-from telling import MOST_STORES, Progress, Texts, next_words, summary, table
+from telling import MOST_STORES, Texts, next_words, summary, table
 from trace import Trace
 from words import HELP, part_asked, take_words
 
@@ -31,6 +33,9 @@ class Counts:
     """How many crashes were taken, of how many different images; how many of these were run now, were known, and failed."""
 
     crashes = images = run = known = failed = 0
+
+    def told(self, place, last):
+        return f"place {place} of {last}: {self.images} images, {self.run} run, {self.failed} failed"
 
 
 def check_is_there(path):
@@ -49,7 +54,7 @@ class Replay:
         self.options = options
         self.folder = folder
         self.processes = processes
-        self.commands = Commands(find_program(here), options.trace, self.processes)
+        self.commands = Commands(find_pmtrim(here), options.trace, self.processes)
         check_is_there(options.trace)
         self.commands.fronts(0, 1)
         self.trace = Trace(options.trace)
@@ -79,7 +84,7 @@ class Replay:
 
     def run(self):
         """Takes all crashes, and runs the checker on each image that is new."""
-        progress = Progress(self.last)
+        progress = Progress("pmtrim-replay")
         seen, room = set(), threading.BoundedSemaphore(2 * self.options.jobs)
         with concurrent.futures.ThreadPoolExecutor(self.options.jobs) as workers:
             try:
@@ -91,10 +96,10 @@ class Replay:
                         seen.add(name)
                         self.counts.images += 1
                         self.take(workers, room, name, crash, memory)
-                    progress.tell(crash.place, self.counts)
+                    progress.tell(self.counts.told(crash.place, self.last))
                 while not room_is_whole(room, 2 * self.options.jobs):
                     self.go_on()
-                    progress.tell(self.last, self.counts)
+                    progress.tell(self.counts.told(self.last, self.last))
             finally:
                 progress.clear()
                 if sys.exc_info()[0] is not None:
@@ -282,6 +287,7 @@ def silence(stream):
 
 def main(words, here):
     """The program. Answers its status."""
+    sys.stdout.reconfigure(errors="backslashreplace")
     try:
         if words in (["--help"], ["--version"]):
             print(HELP if words == ["--help"] else VERSION, flush=True)

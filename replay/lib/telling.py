@@ -1,42 +1,11 @@
-"""Progress, and the table at the end."""
+"""What is told at the end: counts, and the table of images that failed."""
 import shlex
-import sys
-import time
 
 MOST_FAILURES, MOST_STORES, MOST_LINES, MOST_TEXTS = 20, 6, 8, 4
-EVERY = {True: 0.2, False: 60.0}  # seconds between two lines of progress: on a terminal, and elsewhere
 
 
 def counted(number, thing):
     return f"{number} {thing}" if number == 1 else f"{number} {thing}s"
-
-
-class Progress:
-    """How far the run is, on standard error."""
-
-    def __init__(self, places):
-        self.places = places
-        self.terminal = sys.stderr.isatty()
-        self.told = time.monotonic()
-        self.width = 0
-
-    def tell(self, place, counts):
-        """Tells it, if it is time to."""
-        now = time.monotonic()
-        if now - self.told < EVERY[self.terminal]:
-            return
-        self.told = now
-        text = f"place {place} of {self.places}: {counts.images} images, {counts.run} run, {counts.failed} failed"
-        if self.terminal:
-            print(f"\r{text:{self.width}}", end="", file=sys.stderr, flush=True)
-            self.width = len(text)
-        else:
-            print(f"pmtrim-replay: {text}", file=sys.stderr, flush=True)
-
-    def clear(self):
-        if self.width:
-            print(f"\r{'':{self.width}}\r", end="", file=sys.stderr, flush=True)
-            self.width = 0
 
 
 def shorten(things, most, thing):

@@ -2,6 +2,7 @@
 import bisect
 import re
 
+from events import labels_in
 from faults import FILE_FAULT, REFUSED, WRONG_WORDS, Fault, of_file
 
 FENCES = ("sfence", "mfence")
@@ -21,7 +22,7 @@ class Trace:
         except ValueError as error:
             raise Fault(FILE_FAULT, f"{path}: it has changed while it was read") from error
         self.line_size = int(header.split(" ")[2]) if header.startswith("pmtrace 2") else 64
-        self.labels = read_labels(f"{path}.labels")
+        self.labels = dict(labels_in(path))
         self.ignored, self.places = read_ignored(f"{path}.ignore")
 
     def store(self, number):
@@ -94,19 +95,3 @@ def read_range(path, number, line):
     if found is None:
         raise Fault(REFUSED, f"{path}:{number}: {line!r} is no range as 0x1000:8")
     return int(found[1], 16), int(found[2])
-
-
-def read_labels(path):
-    """The labels beside a trace, by event; none where there is no such file."""
-    labels = {}
-    try:
-        with open(path, encoding="utf-8", errors="replace") as file:
-            for line in file:
-                number, _, label = line.rstrip("\n").partition(" ")
-                if number.isdecimal():
-                    labels[int(number)] = label
-    except FileNotFoundError:
-        pass
-    except OSError as error:
-        raise of_file(path, error) from error
-    return labels

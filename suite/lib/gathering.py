@@ -6,11 +6,11 @@ import shlex
 import subprocess
 from typing import NamedTuple
 
-from commands import signal_name
 from cutting import cut_if_long
 from faults import of_file
 from files import write_whole
 from functions import functions_beside
+from programs import signal_name
 from runs import TRACE, Run, label_texts
 
 HOW = re.compile(rb"(running|status|signal|became) *(\d*)(?: pools (\d))?")

@@ -7,10 +7,11 @@ import signal
 import subprocess
 import sys
 
-from commands import find_pmtrim, find_recorder, signal_name
+from commands import find_recorder
 from faults import FILE_FAULT, WRONG_WORDS, Fault, of_file
 from files import make_folder, read_text, write_whole
 from gathering import Gathered, gather
+from programs import find_pmtrim, signal_name
 from runs import RECORDING
 from stopping import Ended
 from telling import counted, printable

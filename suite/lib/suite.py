@@ -4,7 +4,7 @@ import shlex
 import sys
 
 from causes import FAILING
-from commands import Pmtrim, find_pmtrim
+from commands import Pmtrim
 from explaining import Explainer
 from faults import FILE_FAULT, NO_MEMORY, Fault
 from files import write_whole
@@ -12,6 +12,7 @@ from findings import told_lines
 from judging import Judged
 from junit import junit_text
 from pages import write_pages
+from programs import find_pmtrim
 from progress import Progress
 from recording import record
 from reports import Report, joined
@@ -70,7 +71,7 @@ def explained_report(explainer, options, report, progress):
 
 
 def run_report(options, here):
-    progress, pmtrim, runs = Progress(), None, []
+    progress, pmtrim, runs = Progress("pmtrim-suite"), None, []
     report = Report([str(options.folder)], [], {}, [], tuple(options.shard))
     source = [] if options.source == "." else ["--source", options.source]
     words = shlex.join(["pmtrim-suite", "report", options.folder, *source, *kind_words(options)])

@@ -8,7 +8,8 @@ EVERY = {True: 0.2, False: 60.0}  # seconds between two lines: on a terminal, an
 class Progress:
     """Tells it in one line that changes, on a terminal, or else in a line a minute."""
 
-    def __init__(self):
+    def __init__(self, program):
+        self.program = program
         self.terminal = sys.stderr.isatty()
         self.pause = 0.2 if self.terminal else 1.0
         self.told = time.monotonic()
@@ -23,7 +24,7 @@ class Progress:
             print(f"\r{text:{self.width}}", end="", file=sys.stderr, flush=True)
             self.width = len(text)
         else:
-            print(f"pmtrim-suite: {text}", file=sys.stderr, flush=True)
+            print(f"{self.program}: {text}", file=sys.stderr, flush=True)
 
     def clear(self):
         if self.width:

@@ -1,1 +1,0 @@
-../../replay/lib/screen.py
