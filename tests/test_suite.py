@@ -398,7 +398,8 @@ class Suites(Checks):
     def test_workflow(self):
         """The steps of the workflow that docs/SUITE.md shows, but what it installs: they pass where nothing is known, and fail for a new bug."""
         need_recorder()
-        _, *steps = re.findall(r"^ +(?:- )?run: (.*?)(?: #.*)?$", (TOP / "docs/SUITE.md").read_text().split("```yaml")[1].split("```")[0], re.M)
+        page = (TOP / "docs/SUITE.md").read_text().split("```yaml")[1].split("```")[0]
+        _, *steps = re.findall(r"^ +(?:- )?run: (.*?)(?: #.*)?$", page.replace("run: >-\n ", "run:").replace("\n          ", " "), re.M)
         known = {"PATH": f"{SUITE.parent}:{os.environ['PATH']}"}
         self.programs.add("right", RIGHT)
         (self.programs.folder / "Makefile").write_text("all:\n\t@true\ncheck:\n\t@./right\n")
@@ -406,7 +407,7 @@ class Suites(Checks):
             self.programs.add("right", body)
             told = [run(["sh", "-c", step], known, cwd=self.programs.folder) for step in steps]
             self.expect_equal("statuses", [each.status for each in told], wanted)
-        for name in ("crashes.sarif", "crashes.xml", "pages/index.html"):
+        for name in ("new.sarif", "new.xml", "pages/index.html"):
             self.expect(name, (self.programs.folder / name).is_file())
 
     def test_page(self):
