@@ -65,7 +65,7 @@ class Run(NamedTuple):
         if text is None:
             return None
         number, _, why = text.rstrip("\n").partition(" ")
-        return (int(number) if number.isdecimal() else None, why or "there was no room for more")
+        return (int(number) or None if number.isdecimal() else None, why or "there was no room for more")
 
 
 def first_line(path):
